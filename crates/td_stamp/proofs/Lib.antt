@@ -1,0 +1,9 @@
+pub mod Bags
+pub mod Batches
+pub mod Counts
+pub mod Listed
+pub mod Parts
+pub mod Rising
+pub mod Runs
+pub mod Sets
+pub mod TimeLaws

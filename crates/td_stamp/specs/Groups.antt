@@ -1,0 +1,36 @@
+-- What a vertex that groups by key is given of the records that arrive at it.
+use Rattle.std.specs.Prelude.{ℕ, List, [], ◌∷◌, ◌++◌, map, filter, ◌==◌, Option, Some, None}
+use Rattle.std.specs.Ordering.{nat_cmp}
+use Rattle.td_stamp.specs.declared.values.Item.{Item}
+use Rattle.td_stamp.specs.declared.values.Rec.{Rec}
+use Rattle.td_stamp.specs.declared.values.Arrival.{Arrival}
+use Rattle.td_stamp.specs.Orders.{item_cmp}
+use Rattle.td_stamp.specs.Bag.{bag_of, set_of}
+
+-- a record that arrives at a port
+abbrev pub arrival_of : ℕ → Rec → Arrival
+arrival_of port r = record { key = r.key; item = record { port = port; val = r.val } }
+
+-- the record that arrived
+abbrev pub rec_of : Arrival → Rec
+rec_of a = record { key = a.key; val = a.item.val }
+
+-- the items of a key, sorted
+abbrev pub items_of : ℕ → List Arrival → List Item
+items_of key arrivals = bag_of item_cmp (map (λ a. a.item) (filter (λ a. a.key == key) arrivals))
+
+-- each key that arrived, in order, with its sorted items
+abbrev pub groups : List Arrival → List (ℕ × List Item)
+groups arrivals = map (λ key. (key, items_of key arrivals)) (set_of nat_cmp (map (λ a. a.key) arrivals))
+
+-- the key of the last of some groups
+abbrev pub last_key : List (ℕ × List Item) → Option ℕ
+last_key [] = None
+last_key (g ∷ []) = Some g.0
+last_key (g ∷ h ∷ gs) = last_key (h ∷ gs)
+
+-- the groups with one more item in the last of them
+abbrev pub with_last_item : List (ℕ × List Item) → Item → List (ℕ × List Item)
+with_last_item [] i = []
+with_last_item (g ∷ []) i = (g.0, g.1 ++ i ∷ []) ∷ []
+with_last_item (g ∷ h ∷ gs) i = g ∷ with_last_item (h ∷ gs) i

@@ -1,0 +1,26 @@
+-- Kept states: a map from (vertex, key) to a state, as the list of its entries in the order of (vertex, key).
+use Rattle.std.specs.Prelude.{ℕ, List, Option, map}
+use Rattle.std.specs.Map.{lookup, remove_entry, keys_of}
+use Rattle.std.specs.BTreeMap.{insert_entry, is_at}
+use Rattle.std.specs.List.Sorted.{IsStrictlySortedBy}
+use Rattle.td_stamp.specs.declared.values.State.{State}
+use Rattle.td_stamp.specs.Orders.{state_key_cmp}
+
+abbrev pub StateList : Type 0
+StateList = List ((ℕ × ℕ) × State)
+
+-- the state that a vertex keeps for a key
+abbrev pub state_of : StateList → ℕ → ℕ → Option State
+state_of states vertex key = lookup (is_at (state_key_cmp (vertex, key))) states
+
+-- the states with this one at a vertex and key
+abbrev pub with_state : StateList → ℕ → ℕ → State → StateList
+with_state states vertex key state = insert_entry state_key_cmp states (vertex, key) state
+
+-- the states without that of a vertex and key
+abbrev pub without_state : StateList → ℕ → ℕ → StateList
+without_state states vertex key = remove_entry (is_at (state_key_cmp (vertex, key))) states
+
+-- a list that is such a map: its keys rise strictly
+abbrev pub AreStates : StateList → Type 0
+AreStates states = IsStrictlySortedBy state_key_cmp (keys_of states)

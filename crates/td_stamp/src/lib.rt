@@ -1,0 +1,25 @@
+//! Records, timestamps, bags and kept states: the values of which the rest of the engine speaks.
+#![tactic(auto)]
+
+mod bag;
+mod batch;
+mod epoch_out;
+mod error;
+mod groups;
+pub mod laws;
+mod member;
+mod members;
+mod states;
+mod time;
+mod values;
+
+pub use bag::Bag;
+pub use batch::Batch;
+pub use epoch_out::EpochOut;
+pub use error::StampError;
+pub use groups::Group;
+pub use member::Member;
+pub use members::Members;
+pub use states::States;
+pub use time::{LEVELS, Time};
+pub use values::{Arrival, Entry, FEW, Few, Item, Output, Rec, State};

@@ -1,0 +1,137 @@
+//! Timestamps.
+ghost use Rattle.std.specs.Prelude.{◌≡◌, ◌+◌, ◌-◌, ◌^◌, ◌<◌, ◌≤◌, ◌↔◌, [], length, reverse, IsTrue};
+ghost use Rattle.td_stamp.specs.Time.{depth, innermost, enter, leave, again, time_le, time_cmp, IsAtMost};
+
+use arrayvec::ArrayVec;
+use std::cmp::Ordering;
+use std::marker::Model;
+
+/// The most loops that a time is in.
+pub const LEVELS: usize = 3;
+
+/// A timestamp: an epoch, and a counter for each loop that it is in.
+///
+/// The counters stand in the order in which they are printed, the outermost first. Contracts see them with the
+/// innermost first.
+#[derive(Debug, Drop, PartialEq, Eq, Hash)]
+pub struct Time {
+    epoch: u64,
+    turns: ArrayVec<u32, LEVELS>,
+}
+
+impl Model for Time {
+    ghost use Rattle.std.specs.Prelude.{reverse};
+    ghost use Rattle.td_stamp.specs.Time.{Timestamp};
+
+    ghost Value = { Timestamp };
+
+    ghost view = { λ t. record { epoch = t.epoch; turns = reverse t.turns.items } };
+
+    ghost inverse = { λ t. record { epoch = t.epoch; turns = record { items = reverse t.turns } } };
+
+    ghost use Rattle.std.proofs.lemmas.List.{reverse-reverse};
+
+    ghost inverse_ok = { λ t h i. record { epoch = t.epoch; turns = record { items = reverse-reverse t.turns.items i } } };
+}
+
+impl Time {
+    /// The time of an epoch outside all loops.
+    pub fn new(epoch: u64) -> Self
+        ensures { result ≡ record { epoch = epoch; turns = [] } }
+    {
+        Time {
+            epoch,
+            turns: ArrayVec::new(),
+        }
+    }
+
+    /// The epoch.
+    pub fn epoch(&self) -> u64
+        ensures { result ≡ self.now.epoch }
+    {
+        self.epoch
+    }
+
+    /// The counters, the outermost first.
+    pub fn turns(&self) -> &[u32]
+        ensures { result.now ≡ reverse self.now.turns }
+    {
+        self.turns.as_slice()
+    }
+
+    /// How many loops the time is in.
+    pub fn depth(&self) -> usize
+        ensures value { result ≡ depth self.now }
+        ensures fits { result ≤ 3 }
+    {
+        self.turns.len()
+    }
+
+    /// The same time.
+    pub fn copy(&self) -> Self
+        ensures { result ≡ self.now }
+    {
+        let mut turns = ArrayVec::new();
+        for turn in self.turns.as_slice() {
+            turns.push(*turn);
+        }
+        Time {
+            epoch: self.epoch,
+            turns,
+        }
+    }
+
+    /// Whether this time is at most `other`, a time of the same depth: its epoch is not later, and its counters are not
+    /// later in lexicographic order. Of two times, it may be that neither is at most the other.
+    pub fn le(&self, other: &Time) -> bool
+        requires { depth self.now ≡ depth other.now }
+        ensures value { result ≡ time_le self.now other.now }
+        ensures meaning { IsTrue result ↔ IsAtMost self.now other.now }
+    {
+        self.epoch <= other.epoch && self.turns().cmp(&other.turns()).is_le()
+    }
+
+    /// The order in which lists of times are kept: by epoch, then depth, then counters from the outermost. It is total,
+    /// and it is not the order of `le`.
+    pub fn total_cmp(&self, other: &Time) -> Ordering
+        ensures { result ≡ time_cmp self.now other.now }
+    {
+        self.epoch
+            .cmp(&other.epoch)
+            .then(self.depth().cmp(&other.depth()))
+            .then(self.turns().cmp(&other.turns()))
+    }
+
+    /// The time in a loop that is entered now: one more counter, 0.
+    pub fn enter(&self) -> Self
+        requires { depth self.now < 3 }
+        ensures { result ≡ enter self.now }
+    {
+        let mut time = self.copy();
+        time.turns.push(0);
+        time
+    }
+
+    /// The time outside the innermost loop: without its counter.
+    pub fn leave(&self) -> Self
+        requires { 0 < depth self.now }
+        ensures { result ≡ leave self.now }
+    {
+        let mut time = self.copy();
+        let _ = time.turns.pop();
+        time
+    }
+
+    /// The time once more round the innermost loop: its counter rises by 1.
+    pub fn again(&self) -> Self
+        requires inside { 0 < depth self.now }
+        requires fits { innermost self.now.turns < 2 ^ 32 - 1 }
+        ensures { result ≡ again self.now }
+    {
+        let mut time = self.copy();
+        if let Some(turn) = time.turns.pop() {
+            time.turns.push(turn + 1);
+        }
+        time
+    }
+}
