@@ -1,8 +1,7 @@
 -- The records of one input, entry by entry.
-use Rattle.std.proofs.Common.{◌≡◌, ◌==◌, ℕ, List, [], ◌∷◌, ◌++◌, ap, sym, ◌∙◌, refl, map, filter, cond, true, false, append-nil, eq-eqb, ne_eqb, Bool}
+use Rattle.std.proofs.Common.{◌≡◌, ◌==◌, ℕ, List, [], ◌∷◌, ◌++◌, ap, ◌∙◌, map, filter, cond, append-nil, eq-eqb, ne_eqb, Bool}
 use Rattle.std.proofs.lemmas.List.{map-append}
 use Rattle.std.proofs.lemmas.List.Elements.{filter-append}
-use Rattle.td_stamp.specs.declared.values.Rec.{Rec}
 use Rattle.td_stamp.specs.declared.values.Entry.{Entry}
 use Rattle.td_stamp.specs.Orders.{rec_cmp}
 use Rattle.td_stamp.specs.OrderLaws.{rec_total, rec_apart}

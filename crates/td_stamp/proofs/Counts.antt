@@ -3,13 +3,13 @@ use Rattle.std.proofs.Common.{◌≡◌, ℕ, ◌+◌, ◌≤◌, suc, zero, Lis
 use Rattle.std.specs.Prelude.{unwrap_or, Option, Some, None, is_some, IsSome, All}
 use Rattle.std.specs.declared.cmp.Ordering.{Ordering}
 use Rattle.std.specs.declared.cmp.Ordering.TheVariants.{Less, Equal, Greater}
-use Rattle.std.specs.Ordering.{is_eq, match_ordering}
 use Rattle.std.specs.Cmp.{IsTotalOrder}
 use Rattle.std.proofs.lemmas.Cmp.{tied_itself}
 use Rattle.std.proofs.lemmas.List.{length-replicate, replicate-append-replicate, map-append}
 use Rattle.std.proofs.lemmas.List.Elements.{All-push, All-same, All-head, All-tail}
 use Rattle.std.specs.FinMap.{IsAntisymmetric}
-use Rattle.std.specs.List.{AllByRecursion}
+use Rattle.std.specs.List.{AllByRecursion, AllZip}
+use Rattle.std.proofs.lemmas.Map.Entries.{entries_from_clone}
 use Rattle.std.specs.List.Sorted.{IsStrictlySortedBy}
 use Rattle.std.specs.Map.{keys_of, lookup}
 use Rattle.std.specs.Map.Iter.{TakesFirst}
@@ -169,3 +169,7 @@ module _ {K : Type 0} (cmp : K → K → Ordering) (total : IsTotalOrder cmp) (s
   join-members_push n k before bag =
       join-swap cmp total same (replicate n k) (members before) bag ∙ ap (λ l. join cmp (members before) (join cmp l bag)) (sym (append-nil (replicate n k)))
       ∙ sym (join-append cmp total same (members before) (replicate n k ++ []) bag) ∙ ap (λ l. join cmp l bag) (sym (members-append before ((k, n) ∷ [])))
+
+-- a clone of the map holds the same bag, where a key's clone is the key
+pub members-clone : {K : Type 0} (C : K → K → Type 0) → ((x y : K) → C x y → y ≡ x) → (es fs : List (K × ℕ)) → AllZip (λ p q. C p.0 q.0 × (q.1 ≡ p.1)) es fs → members fs ≡ members es
+members-clone C same es fs zip = ap members (entries_from_clone C (λ v w. w ≡ v) same (λ v w e. e) es fs zip)

@@ -1,16 +1,15 @@
 -- Bags, sets and groups of what the elements of a list give do not depend on the order of the list.
-use Rattle.std.proofs.Common.{◌≡◌, ◌==◌, ℕ, List, [], ◌∷◌, ◌++◌, refl, ap, sym, ◌∙◌, Bool, true, false, cond, map, filter, flat_map}
+use Rattle.std.proofs.Common.{◌≡◌, ◌==◌, List, [], ◌∷◌, ◌++◌, refl, ap, sym, ◌∙◌, Bool, true, false, cond, map, filter, flat_map}
 use Rattle.std.specs.declared.cmp.Ordering.{Ordering}
 use Rattle.std.specs.declared.cmp.Ordering.TheVariants.{Less, Equal, Greater}
 use Rattle.std.specs.Ordering.{nat_cmp}
 use Rattle.std.specs.Cmp.{IsTotalOrder, nat_cmp_total}
 use Rattle.std.specs.FinMap.{IsAntisymmetric, nat_cmp-IsAntisymmetric}
-use Rattle.td_stamp.specs.declared.values.Item.{Item}
 use Rattle.td_stamp.specs.declared.values.Arrival.{Arrival}
 use Rattle.td_stamp.specs.Orders.{item_cmp}
 use Rattle.td_stamp.specs.OrderLaws.{item_total, item_apart}
 use Rattle.td_stamp.specs.Bag.{bag_insert, set_insert, join, bag_of, set_of}
-use Rattle.td_stamp.specs.Groups.{groups, items_of}
+use Rattle.td_stamp.specs.Groups.{groups}
 use Rattle.td_stamp.proofs.Bags.{insert_past, insert_before_less, insert_before_equal, join-swap, bag_of-append, bag_insert-bag_insert, set_insert-set_insert}
 
 module _ {X Y : Type 0} (cmp : X → X → Ordering) (total : IsTotalOrder cmp) (same : IsAntisymmetric cmp) (cmp' : Y → Y → Ordering) (total' : IsTotalOrder cmp') (same' : IsAntisymmetric cmp') where

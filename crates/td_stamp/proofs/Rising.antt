@@ -1,16 +1,16 @@
 -- Lists in which no element is above a later one: the bags.
-use Rattle.std.proofs.Common.{◌≡◌, ℕ, List, [], ◌∷◌, ◌++◌, refl, ap, sym, ◌∙◌, subst, Bool, true, false, cond, zero, suc, replicate, map, filter}
+use Rattle.std.proofs.Common.{◌≡◌, ℕ, List, [], ◌∷◌, ◌++◌, refl, ap, sym, ◌∙◌, subst, Bool, true, false, cond, zero, suc, replicate, filter}
 use Rattle.std.specs.declared.cmp.Ordering.{Ordering}
 use Rattle.std.specs.declared.cmp.Ordering.TheVariants.{Less, Equal, Greater}
-use Rattle.std.specs.Ordering.{is_gt, ordering_reverse}
+use Rattle.std.specs.Ordering.{is_gt}
 use Rattle.std.specs.Cmp.{IsTotalOrder}
 use Rattle.std.proofs.lemmas.Cmp.{tied_itself}
 use Rattle.std.specs.FinMap.{IsAntisymmetric}
 use Rattle.std.specs.List.{AllByRecursion}
 use Rattle.std.specs.List.Sorted.{IsStrictlySortedBy}
 use Rattle.std.specs.Map.{keys_of}
-use Rattle.td_stamp.specs.Bag.{bag_insert, join, bag_of, IsBag, members}
-use Rattle.td_stamp.proofs.Bags.{insert_past, insert_before_less, insert_before_equal, turned, turned_back}
+use Rattle.td_stamp.specs.Bag.{bag_insert, bag_of, IsBag, members}
+use Rattle.td_stamp.proofs.Bags.{insert_past, insert_before_less, insert_before_equal, turned_back}
 
 module _ {X : Type 0} (cmp : X → X → Ordering) where
   -- x is above none of these

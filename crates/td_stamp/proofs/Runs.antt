@@ -1,6 +1,6 @@
 -- The groups of arrivals that come in order are their runs of one key.
-use Rattle.std.proofs.Common.{◌≡◌, ℕ, ◌<◌, ◌==◌, List, [], ◌∷◌, ◌++◌, refl, ap, sym, ◌∙◌, subst, Bool, true, false, cond, map, filter, eq-eqb, ne_eqb, eqb-true, length, ◌-◌, get_or, arith, suc}
-use Rattle.std.specs.Prelude.{slice_set, slice_get, if◌then◌else◌, Option, Some, None, is_some, IsSome}
+use Rattle.std.proofs.Common.{◌≡◌, ℕ, ◌<◌, ◌==◌, List, [], ◌∷◌, ◌++◌, refl, ap, sym, ◌∙◌, Bool, true, false, cond, map, filter, eq-eqb, ne_eqb, eqb-true, length, ◌-◌, get_or, arith, suc}
+use Rattle.std.specs.Prelude.{slice_set, slice_get, Option, Some, None, IsSome}
 use Rattle.std.specs.Option.{option_map, option_eq}
 use Rattle.std.specs.declared.cmp.Ordering.{Ordering}
 use Rattle.std.specs.declared.cmp.Ordering.TheVariants.{Less, Equal, Greater}
@@ -13,7 +13,7 @@ use Rattle.td_stamp.specs.declared.values.Item.{Item}
 use Rattle.td_stamp.specs.declared.values.Arrival.{Arrival}
 use Rattle.td_stamp.specs.Orders.{item_cmp, arrival_cmp}
 use Rattle.td_stamp.specs.OrderLaws.{item_total, item_apart, arrival_total, arrival_apart}
-use Rattle.td_stamp.specs.Bag.{bag_of, bag_insert, set_of, set_insert, IsBag}
+use Rattle.td_stamp.specs.Bag.{bag_of, set_of, set_insert, IsBag}
 use Rattle.td_stamp.specs.Groups.{groups, items_of, last_key, with_last_item}
 use Rattle.td_stamp.proofs.Bags.{set_insert_less, set_insert_equal}
 use Rattle.td_stamp.proofs.Rising.{IsBelowAll, Rises, insert_front, below_bag_of, all_weaker, Rises-from_IsBag}

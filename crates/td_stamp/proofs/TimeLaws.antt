@@ -1,5 +1,5 @@
 -- What the orders of times keep to.
-use Rattle.std.specs.Prelude.{◌≡◌, ◌≢◌, ℕ, ◌+◌, ◌<◌, ◌≤◌, Bool, true, false, ◌&&◌, ◌⊎◌, ◌↔◌, List, [], ◌∷◌, ◌++◌, length, reverse, nat_le, nat_lt, ◌==◌, IsTrue}
+use Rattle.std.specs.Prelude.{◌≡◌, ℕ, ◌+◌, ◌<◌, ◌≤◌, true, ◌⊎◌, List, [], ◌∷◌, ◌++◌, length, reverse, nat_le}
 use Rattle.std.proofs.Common.{refl, sym, ap, ◌∙◌, subst, arith, inl, inr}
 use Rattle.std.specs.declared.cmp.Ordering.{Ordering}
 use Rattle.std.specs.declared.cmp.Ordering.TheVariants.{Less, Equal, Greater}
@@ -10,7 +10,7 @@ use Rattle.std.specs.FinMap.{IsAntisymmetric, nat_cmp-IsAntisymmetric}
 use Rattle.std.proofs.lemmas.List.{reverse-append, reverse-reverse, length-reverse}
 use Rattle.std.proofs.lemmas.Bool.{cases_lt, leb-true, le-leb, and_parts, and_from}
 use Rattle.td_stamp.specs.OrderLaws.{both_tie}
-use Rattle.td_stamp.specs.Time.{Timestamp, depth, outer_turns, raised, enter, leave, rounds, AreEarlier, AreNotLater, IsAtMost, turns_cmp, time_le, time_cmp}
+use Rattle.td_stamp.specs.Time.{Timestamp, depth, outer_turns, raised, AreEarlier, AreNotLater, IsAtMost, turns_cmp, time_le, time_cmp}
 
 -- ---- the relation
 

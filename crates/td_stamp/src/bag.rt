@@ -1,5 +1,5 @@
 //! Bags.
-ghost use Rattle.std.specs.Prelude.{◌≡◌, ◌+◌, ◌^◌, ◌<◌, OnOk, OnErr, IfOk, [], All, length};
+ghost use Rattle.std.specs.Prelude.{◌≡◌, ◌+◌, ◌^◌, ◌<◌, ◌↔◌, OnOk, OnErr, IfOk, IsTrue, [], All, length};
 ghost use Rattle.std.specs.BTreeMap.{keys, ContainsKey};
 ghost use Rattle.td_stamp.specs.Bag.{bag_insert, join, members, IsBag};
 
@@ -10,9 +10,12 @@ use std::alloc::Global;
 use std::collections::BTreeMap;
 use std::marker::Model;
 
-/// A bag: a finite list whose order has no meaning and whose repeats count.
-#[derive(Drop)]
+/// A bag: a finite list whose order has no meaning and whose repeats count. Contracts see it as its sorted list.
+///
+/// A call costs O(log n) for each member that it puts in, wherever the member belongs, and n members take O(n) memory.
+#[derive(Debug, Drop)]
 pub struct Bag<T: Member> {
+    // How often each member stands in the bag, which may be 0 after a refusal.
     counts: BTreeMap<T, u64>,
     len: usize,
     alloc: Global,
@@ -48,7 +51,14 @@ impl<T: Member> Bag<T> {
         self.len
     }
 
-    /// One more of `member`. Refusal: `Memory`, with the bag unchanged.
+    /// Whether it has no members.
+    pub fn is_empty(&self) -> bool
+        ensures { IsTrue result ↔ (self.now ≡ []) }
+    {
+        self.len == 0
+    }
+
+    /// Adds one `member`. Refusal: `Memory`, with the bag unchanged; a bag of 2^64 - 1 members refuses as well.
     pub fn add(&mut self, member: T) -> Result<(), StampError>
         ensures ok { OnOk result (self.new ≡ bag_insert T.cmp member self.old) }
         ensures err { OnErr result (self.new ≡ self.old) }
@@ -57,13 +67,9 @@ impl<T: Member> Bag<T> {
             return Err(StampError::Memory);
         };
         let count = self.counts.get(&member).copied().unwrap_or(0);
-        match self.counts.insert(member, count + 1) {
-            Ok(_) => {
-                self.len = len;
-                Ok(())
-            }
-            Err(_) => Err(StampError::Memory),
-        }
+        self.counts.insert(member, count + 1)?;
+        self.len = len;
+        Ok(())
     }
 
     /// What the bag allocates with.
@@ -71,7 +77,7 @@ impl<T: Member> Bag<T> {
         self.alloc
     }
 
-    /// The members in order, a repeated one as often as it stands in the bag. It takes no memory.
+    /// The members in order, a repeated one as often as it stands in the bag. Takes no memory.
     pub fn list(&self) -> Members<'_, T>
         ensures all { result ≡ self.now }
         ensures sorted { IsBag T.cmp self.now }
@@ -79,7 +85,7 @@ impl<T: Member> Bag<T> {
         Members::of(self.counts.iter())
     }
 
-    /// Puts the members of `other` to this bag's. Refusal: `Memory`, with the bag unchanged.
+    /// Adds the members of `other`. Refusal: `Memory`, with the bag unchanged.
     pub fn join(&mut self, other: &Bag<T>) -> Result<(), StampError>
         ensures ok { OnOk result (self.new ≡ join T.cmp other.now self.old) }
         ensures err { OnErr result (self.new ≡ self.old) }
@@ -97,19 +103,15 @@ impl<T: Member> Bag<T> {
     pub fn copy(&self) -> Result<Bag<T>, StampError>
         ensures { IfOk result (λ bag. bag ≡ self.now) }
     {
-        match self.counts.clone() {
-            Ok(counts) => Ok(Bag {
-                counts,
-                len: self.len,
-                alloc: self.alloc,
-            }),
-            Err(_) => Err(StampError::Memory),
-        }
+        Ok(Bag {
+            counts: self.counts.clone()?,
+            len: self.len,
+            alloc: self.alloc,
+        })
     }
 }
 
-/// Gives each member of `other` an entry in `counts`, at which it stands as often as before. Some have one after a
-/// refusal too.
+/// Gives each member of `other` an entry in `counts`, where a new one stands 0 times. After a refusal some have one.
 fn make_room<T: Member>(
     counts: &mut BTreeMap<T, u64>,
     other: &BTreeMap<T, u64>,
@@ -119,10 +121,7 @@ fn make_room<T: Member>(
 {
     for member in other.keys() {
         if !counts.contains_key(member) {
-            match counts.insert(*member, 0) {
-                Ok(_) => {}
-                Err(_) => return Err(StampError::Memory),
-            }
+            counts.insert(*member, 0)?;
         }
     }
     Ok(())

@@ -9,7 +9,7 @@ use std::alloc::Global;
 use std::marker::Model;
 
 /// A key with the items that arrived for it, sorted by (port, val).
-#[derive(Drop)]
+#[derive(Debug, Drop)]
 pub struct Group {
     key: u64,
     items: Vec<Item>,
@@ -72,10 +72,8 @@ fn extend_last(groups: &mut Vec<Group>, item: Item) -> Result<(), StampError>
 {
     let last = groups.as_slice().len() - 1;
     let group = &mut groups[last];
-    match group.items.push(item) {
-        Ok(()) => Ok(()),
-        Err(_) => Err(StampError::Memory),
-    }
+    group.items.push(item)?;
+    Ok(())
 }
 
 /// One more group, of one arrival.
@@ -83,12 +81,8 @@ fn begin(groups: &mut Vec<Group>, alloc: Global, arrival: Arrival) -> Result<(),
     ensures { OnOk result (groups.new.items ≡ groups.old.items ++ (arrival.key, arrival.item ∷ []) ∷ []) }
 {
     let mut items = Vec::new(alloc);
-    if items.push(arrival.item).is_err() {
-        return Err(StampError::Memory);
-    }
+    items.push(arrival.item)?;
     let key = arrival.key;
-    match groups.push(Group { key, items }) {
-        Ok(()) => Ok(()),
-        Err(_) => Err(StampError::Memory),
-    }
+    groups.push(Group { key, items })?;
+    Ok(())
 }

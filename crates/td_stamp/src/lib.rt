@@ -10,6 +10,8 @@ pub mod laws;
 mod member;
 mod members;
 mod states;
+#[cfg(test)]
+mod tests;
 mod time;
 mod values;
 

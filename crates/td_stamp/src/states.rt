@@ -1,5 +1,5 @@
 //! The states that the folds of a plan keep.
-ghost use Rattle.std.specs.Prelude.{◌≡◌, OnOk, OnErr, IfOk, [], length};
+ghost use Rattle.std.specs.Prelude.{◌≡◌, ◌↔◌, OnOk, OnErr, IfOk, IsTrue, [], length};
 ghost use Rattle.td_stamp.specs.States.{state_of, with_state, without_state, AreStates};
 
 use crate::error::StampError;
@@ -10,7 +10,7 @@ use std::collections::btree_map::Iter;
 use std::marker::Model;
 
 /// The states that folds keep, by vertex and key.
-#[derive(Drop)]
+#[derive(Debug, Drop)]
 pub struct States {
     entries: BTreeMap<(u8, u64), State>,
 }
@@ -40,6 +40,13 @@ impl States {
         self.entries.len()
     }
 
+    /// Whether there is no state.
+    pub fn is_empty(&self) -> bool
+        ensures { IsTrue result ↔ (self.now ≡ []) }
+    {
+        self.entries.is_empty()
+    }
+
     /// The state that `vertex` keeps for `key`, if any.
     pub fn get(&self, vertex: u8, key: u64) -> Option<State>
         ensures { result ≡ state_of self.now vertex key }
@@ -52,13 +59,11 @@ impl States {
         ensures ok { OnOk result (self.new ≡ with_state self.old vertex key state) }
         ensures err { OnErr result (self.new ≡ self.old) }
     {
-        match self.entries.insert((vertex, key), state) {
-            Ok(_) => Ok(()),
-            Err(_) => Err(StampError::Memory),
-        }
+        self.entries.insert((vertex, key), state)?;
+        Ok(())
     }
 
-    /// Takes away the state that `vertex` keeps for `key`, and hands it out. It takes no memory.
+    /// Takes away the state that `vertex` keeps for `key`, and hands it out. Takes no memory.
     pub fn remove(&mut self, vertex: u8, key: u64) -> Option<State>
         ensures removed { result ≡ state_of self.old vertex key }
         ensures rest { self.new ≡ without_state self.old vertex key }
@@ -70,13 +75,11 @@ impl States {
     pub fn copy(&self) -> Result<States, StampError>
         ensures { IfOk result (λ states. states ≡ self.now) }
     {
-        match self.entries.clone() {
-            Ok(entries) => Ok(States { entries }),
-            Err(_) => Err(StampError::Memory),
-        }
+        let entries = self.entries.clone()?;
+        Ok(States { entries })
     }
 
-    /// The states in the order of (vertex, key), each as ((vertex, key), state). It takes no memory.
+    /// The states in the order of (vertex, key), each as ((vertex, key), state). Takes no memory.
     pub fn list(&self) -> Iter<'_, (u8, u64), State>
         ensures all { result ≡ self.now }
         ensures ordered { AreStates self.now }

@@ -96,10 +96,9 @@ impl Time {
     pub fn total_cmp(&self, other: &Time) -> Ordering
         ensures { result ≡ time_cmp self.now other.now }
     {
-        self.epoch
-            .cmp(&other.epoch)
-            .then(self.depth().cmp(&other.depth()))
-            .then(self.turns().cmp(&other.turns()))
+        let epochs = self.epoch.cmp(&other.epoch);
+        let depths = self.depth().cmp(&other.depth());
+        epochs.then(depths).then(self.turns().cmp(&other.turns()))
     }
 
     /// The time in a loop that is entered now: one more counter, 0.

@@ -1,5 +1,5 @@
-use Rattle.std.proofs.Common.{◌≡◌, ℕ, ◌+◌, ◌≤◌, ap, ◌∙◌, sym, map, ◌∷◌, ◌++◌, [], length, replicate, arith, true, false}
-use Rattle.std.specs.Prelude.{is_some, IsSome, Some, All, unwrap_or}
+use Rattle.std.proofs.Common.{◌≡◌, ◌+◌, ap, ◌∙◌, sym, map, ◌∷◌, ◌++◌, [], length, replicate, arith, true, false}
+use Rattle.std.specs.Prelude.{is_some, unwrap_or}
 use Rattle.std.specs.Map.{lookup}
 use Rattle.std.specs.BTreeMap.{ContainsKey, get, is_at, keys}
 use Rattle.std.specs.Map.Iter.{deref_pair}

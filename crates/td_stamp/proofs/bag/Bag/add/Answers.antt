@@ -1,4 +1,4 @@
-use Rattle.std.proofs.Common.{◌≡◌, ap, sym, ◌∙◌, arith, length}
+use Rattle.std.proofs.Common.{◌≡◌, ap, ◌∙◌, arith, length}
 use Rattle.std.specs.Prelude.{unwrap_or}
 use Rattle.std.specs.Map.{lookup}
 use Rattle.std.specs.BTreeMap.{is_at}
@@ -12,16 +12,16 @@ overflow_add-count g c =
     let told : c.unwrap_or-count.result ≡ unwrap_or (lookup (is_at (g.T.Ord.cmp c.args.member)) c.self.inside.counts.entries) 0 = c.unwrap_or-count.ensures ∙ ap (λ o. unwrap_or o 0) (c.copied.ensures ∙ c.get.ensures.value) in
     omega (arith, told, lookup-members (is_at (g.T.Ord.cmp c.args.member)) c.self.inside.counts.entries, c.self.invariant, c.in-Some.ensures)
 
--- one more of the member
-one_more : (g : _) (c : goal.After-self-1 g) → members c.insert.new.self.entries ≡ bag_insert g.T.Ord.cmp c.args.member (members c.self.inside.counts.entries)
-one_more g c =
-    more_counted g.T.Ord.cmp g.met.T.Ord.total g.met.T.Member.told_apart 1 c.unwrap_or-count.result c.args.member c.self.inside.counts.entries c.insert.new.self.entries c.in-Ok.ensures.was_ordered
-    (c.unwrap_or-count.ensures ∙ ap (λ o. unwrap_or o 0) (c.copied.ensures ∙ c.get.ensures.value)) c.in-Ok.ensures.entries
+pub invariant_of-self-2 : goal.invariant_of-self-2
+invariant_of-self-2 g c =
+    let was = members c.self.inside.counts.entries in
+    let one_more : members c.insert.new.self.entries ≡ bag_insert g.T.Ord.cmp c.args.member was =
+    more_counted g.T.Ord.cmp g.met.T.Ord.total g.met.T.Member.told_apart 1 c.unwrap_or-count.result c.args.member c.self.inside.counts.entries c.insert.new.self.entries c.in_ok-insert.ensures.was_ordered
+    (c.unwrap_or-count.ensures ∙ ap (λ o. unwrap_or o 0) (c.copied.ensures ∙ c.get.ensures.value)) c.in_ok-insert.ensures.entries in
+    let size : length (members c.insert.new.self.entries) ≡ length (bag_insert g.T.Ord.cmp c.args.member was) = ap length one_more in
+    omega (arith, size, length-bag_insert g.T.Ord.cmp c.args.member was, c.self.invariant, c.in-Some.ensures)
 
-pub invariant_of-self : goal.invariant_of-self
-invariant_of-self g c =
-    let e : length (members c.insert.new.self.entries) ≡ length (bag_insert g.T.Ord.cmp c.args.member (members c.self.inside.counts.entries)) = ap length (one_more g c) in
-    omega (arith, e, length-bag_insert g.T.Ord.cmp c.args.member (members c.self.inside.counts.entries), c.self.invariant, c.in-Some.ensures)
-
-pub returns-in-Ok-clause-ok : goal.returns-in-Ok-clause-ok
-returns-in-Ok-clause-ok g c = one_more g c ∙ ap (bag_insert g.T.Ord.cmp c.args.member) c.self.view_is
+pub returns-clause-ok : goal.returns-clause-ok
+returns-clause-ok g c =
+    more_counted g.T.Ord.cmp g.met.T.Ord.total g.met.T.Member.told_apart 1 c.unwrap_or-count.result c.args.member c.self.inside.counts.entries c.insert.new.self.entries c.in_ok-insert.ensures.was_ordered
+    (c.unwrap_or-count.ensures ∙ ap (λ o. unwrap_or o 0) (c.copied.ensures ∙ c.get.ensures.value)) c.in_ok-insert.ensures.entries ∙ ap (bag_insert g.T.Ord.cmp c.args.member) c.self.view_is

@@ -1,9 +1,8 @@
-use Rattle.std.proofs.Common.{◌≡◌, ◌≤◌, true, ◌&&◌, ap, sym, ◌∙◌, arith}
-use Rattle.std.specs.Prelude.{nat_le}
+use Rattle.std.proofs.Common.{◌≡◌, ◌≤◌, ◌&&◌, ap, sym, ◌∙◌, arith}
 use Rattle.std.specs.Ordering.{nat_cmp, is_le}
 use Rattle.std.specs.Cmp.Lexicographic.{slice_cmp}
 use Rattle.std.proofs.lemmas.Bool.{le-leb}
-use Rattle.td_stamp.specs.Time.{Timestamp, time_le, turns_cmp}
+use Rattle.td_stamp.specs.Time.{Timestamp, turns_cmp}
 use Rattle.td_stamp.proofs.TimeLaws.{turns_cmp-outermost_first, time_le-IsAtMost, IsAtMost-time_le}
 use Rattle.td_stamp.proofs.time.Time.le.Goals as goal
 

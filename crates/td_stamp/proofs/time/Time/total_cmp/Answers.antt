@@ -9,8 +9,8 @@ pub returns : goal.returns
 returns c =
     let mine : c.self.inside.epoch ≡ c.args.self.now.epoch = ap (λ (t : Timestamp). t.epoch) c.self.view_is in
     let others : c.other.inside.epoch ≡ c.args.other.now.epoch = ap (λ (t : Timestamp). t.epoch) c.other.view_is in
-    let epochs : c.cmp.result ≡ nat_cmp c.args.self.now.epoch c.args.other.now.epoch = c.cmp.ensures ∙ (λ i. nat_cmp (mine i) (others i)) in
-    let depths : c.cmp-2.result ≡ nat_cmp (depth c.args.self.now) (depth c.args.other.now) = c.cmp-2.ensures ∙ (λ i. nat_cmp (c.depth.ensures.value i) (c.depth-2.ensures.value i)) in
+    let epochs : c.cmp-epochs.result ≡ nat_cmp c.args.self.now.epoch c.args.other.now.epoch = c.cmp-epochs.ensures ∙ (λ i. nat_cmp (mine i) (others i)) in
+    let depths : c.cmp-depths.result ≡ nat_cmp (depth c.args.self.now) (depth c.args.other.now) = c.cmp-depths.ensures ∙ (λ i. nat_cmp (c.depth.ensures.value i) (c.depth-2.ensures.value i)) in
     c.then-2.ensures
-    ∙ (λ i. ordering_then ((c.then.ensures ∙ (λ j. ordering_then (epochs j) (depths j))) i) ((c.cmp-3.ensures ∙ (λ j. slice_cmp nat_cmp (c.turns.ensures j) (c.turns-2.ensures j))) i))
+    ∙ (λ i. ordering_then ((c.then.ensures ∙ (λ j. ordering_then (epochs j) (depths j))) i) ((c.cmp.ensures ∙ (λ j. slice_cmp nat_cmp (c.turns.ensures j) (c.turns-2.ensures j))) i))
     ∙ time_cmp-by_parts c.args.self.now c.args.other.now
