@@ -1,0 +1,42 @@
+use Rattle.std.specs.Prelude.{◌≡◌, ℕ, ◌-◌, ◌^◌, ◌<◌, ◌≤◌, Result, IsErr, ⊤}
+use Rattle.td_disk.specs.declared.error.Fault.{Fault}
+use Rattle.td_disk.specs.declared.fuse.FuseDisk.{FuseDisk}
+use Rattle.td_disk.specs.Disk.{CountsFailures}
+
+-- the disk to which calls are passed on
+abbrev pub inner_of : {D : Type 0} → FuseDisk D → D
+inner_of f = f.inner
+
+-- how many writes and syncs are left, the last of which stops the disk
+abbrev pub calls_left : {D : Type 0} → FuseDisk D → ℕ
+calls_left f = f.calls_left
+
+-- A call passed on: its answer is the inner disk's, and a failure is a failure there.
+pub record PassesOn {D : Type 0} (failures : D → ℕ) (gives : Result ⊤ Fault → D → Type 0) (result : Result ⊤ Fault) (old new : FuseDisk D) : Type 0 where
+  pub answer : gives result (inner_of new)
+  pub cause : CountsFailures result (failures (inner_of old)) (failures (inner_of new))
+
+-- The disk stopped: the call fails, and the inner disk is not called.
+pub record StaysStopped {D : Type 0} (result : Result ⊤ Fault) (old new : FuseDisk D) : Type 0 where
+  pub fails : IsErr result
+  pub inner : inner_of new ≡ inner_of old
+
+-- A read is passed on until the disk has stopped, and is not counted.
+pub record FuseReads {D : Type 0} (failures : D → ℕ) (gives : Result ⊤ Fault → D → Type 0) (count : ℕ) (result : Result ⊤ Fault) (old new : FuseDisk D) : Type 0 where
+  pub left : calls_left new ≡ calls_left old
+  pub stopped : calls_left old ≡ 0 → StaysStopped result old new
+  pub passed : 0 < calls_left old → count < 2 ^ 64 - 1 → PassesOn failures gives result old new
+
+-- A write is counted and passed on, and the last one is passed on and fails whatever became of it.
+pub record FuseWrites {D : Type 0} (failures : D → ℕ) (gives : Result ⊤ Fault → D → Type 0) (count : ℕ) (result : Result ⊤ Fault) (old new : FuseDisk D) : Type 0 where
+  pub left : calls_left new ≡ calls_left old - 1
+  pub stopped : calls_left old ≡ 0 → StaysStopped result old new
+  pub stops : calls_left old ≡ 1 → IsErr result
+  pub reaches : calls_left old ≡ 1 → count < 2 ^ 64 - 1 → (answer : Result ⊤ Fault) × gives answer (inner_of new)
+  pub passed : 1 < calls_left old → count < 2 ^ 64 - 1 → PassesOn failures gives result old new
+
+-- A sync is counted and passed on, but for the last one.
+pub record FuseSyncs {D : Type 0} (failures : D → ℕ) (gives : Result ⊤ Fault → D → Type 0) (count : ℕ) (result : Result ⊤ Fault) (old new : FuseDisk D) : Type 0 where
+  pub left : calls_left new ≡ calls_left old - 1
+  pub stopped : calls_left old ≤ 1 → StaysStopped result old new
+  pub passed : 1 < calls_left old → count < 2 ^ 64 - 1 → PassesOn failures gives result old new

@@ -1,0 +1,6 @@
+pub mod Disk
+pub mod Fuse
+pub mod MakeError
+pub mod MemoryDisk
+pub mod Record
+pub mod RecordLaws

@@ -1,0 +1,57 @@
+// The refusals of a disk's calls and of making one.
+ghost use Rattle.std.specs.Prelude.{◌≡◌};
+ghost use Rattle.td_disk.specs.MakeError.{number_of};
+ghost use Rattle.td_disk.specs.declared.error.MakeError.TheVariants.{Memory};
+
+use std::alloc::AllocError;
+use thiserror::Error;
+
+/// Why a call of a disk failed.
+#[derive(Clone, Copy, Debug, PartialEq, Eq, Error)]
+pub enum Fault {
+    /// The device failed, and the disk's count of failures rose.
+    #[error("the device failed")]
+    Device,
+}
+
+impl Fault {
+    /// The refusal's number.
+    pub fn number(&self) -> u8
+        ensures { result ≡ 1 }
+    {
+        match self {
+            Fault::Device => 1,
+        }
+    }
+}
+
+/// Why no disk was made.
+#[derive(Clone, Copy, Debug, PartialEq, Eq, Error)]
+pub enum MakeError {
+    /// The file could not be made, opened or measured.
+    #[error("the file could not be made, opened or measured")]
+    File,
+    /// Memory ran out.
+    #[error("out of memory")]
+    Memory,
+}
+
+impl MakeError {
+    /// The refusal's number.
+    pub fn number(&self) -> u8
+        ensures { result ≡ number_of self.now }
+    {
+        match self {
+            MakeError::File => 1,
+            MakeError::Memory => 2,
+        }
+    }
+}
+
+impl From<AllocError> for MakeError {
+    ghost from_gives = { λ _ e. e ≡ Memory };
+
+    fn from(_error: AllocError) -> MakeError {
+        MakeError::Memory
+    }
+}

@@ -1,0 +1,21 @@
+//! A disk of a fixed number of bytes, as code above is proved against it: between two syncs a crash
+//! may leave any bytes in each range that was written, and nothing else changes. The one contract
+//! is that of the trait [`Disk`]. [`MemoryDisk`] keeps it and can be crashed at every moment,
+//! [`FuseDisk`] keeps it where its inner disk does and stops at a chosen call, and [`FileDisk`] is
+//! a file, of which it is claimed for no value.
+#![tactic(auto)]
+
+mod disk;
+mod error;
+mod file;
+mod fuse;
+pub mod laws;
+mod memory;
+#[cfg(test)]
+mod tests;
+
+pub use disk::Disk;
+pub use error::{Fault, MakeError};
+pub use file::FileDisk;
+pub use fuse::FuseDisk;
+pub use memory::{Fill, MemoryDisk};

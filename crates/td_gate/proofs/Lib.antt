@@ -1,0 +1,4 @@
+mod CrashSafety
+mod Frame
+mod Images
+mod Steps

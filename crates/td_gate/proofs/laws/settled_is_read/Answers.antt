@@ -1,0 +1,9 @@
+use Rattle.std.proofs.Common.{◌∙◌, sym}
+use Rattle.td_gate.proofs.Frame.{opened_settled}
+use Rattle.td_gate.proofs.laws.settled_is_read.Goals as goal
+
+pub returns : goal.returns
+returns g c d r f lawful settled image =
+    let laws = g.met.D.Disk in
+    let state = g.D.Disk.state in
+    opened_settled r (state d) f (laws.image_size d f lawful image ∙ sym (laws.image_size d (state d).bytes lawful (laws.reads_image d lawful))) settled image

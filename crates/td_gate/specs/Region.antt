@@ -1,0 +1,66 @@
+-- A region of a disk: a payload, and the gate byte behind it.
+use Rattle.std.specs.Prelude.{◌≡◌, ◌≢◌, ◌⊎◌, ◌↔◌, ◌<◌, ◌≤◌, ℕ, ◌+◌, List, slice_index, Option, Some, None, Vec, if◌then◌else◌, ◌==◌}
+use Rattle.std.specs.declared.alloc.Global.{Global}
+use Rattle.td_disk.specs.Disk.{DiskState, bytes_at, SameOutside}
+use Rattle.td_gate.specs.declared.region.Region.{Region}
+
+-- the gate byte
+abbrev pub gate_of : Region → List ℕ → ℕ
+gate_of r image = slice_index image (r.at + r.len)
+
+-- the payload where the gate byte is 0xA5, else none
+abbrev pub opened : Region → List ℕ → Option (List ℕ)
+opened r image = if gate_of r image == 0xA5 then Some (bytes_at r.at r.len image) else None
+
+-- the same n bytes at that offset
+pub record SameWithin (at n : ℕ) (old new : List ℕ) : Type 0 where
+  pub each : (i : ℕ) → at ≤ i → i < at + n → slice_index new i ≡ slice_index old i
+
+-- Every image has in the region what is read there.
+abbrev pub IsSettled : Region → DiskState → Type 0
+IsSettled r state = (c : List ℕ) → state.images c → SameWithin r.at (r.len + 1) state.bytes c
+
+-- Every image has the gate closed.
+abbrev pub IsClosed : Region → DiskState → Type 0
+IsClosed r state = (c : List ℕ) → state.images c → gate_of r c ≢ 0xA5
+
+-- Every image has the gate closed and this payload before it.
+abbrev pub IsFilled : Region → List ℕ → DiskState → Type 0
+IsFilled r payload state = (c : List ℕ) → state.images c → (gate_of r c ≢ 0xA5) × (bytes_at r.at r.len c ≡ payload)
+
+-- The region is settled, and what is read and every image have it open with this payload.
+pub record IsOpen (r : Region) (payload : List ℕ) (state : DiskState) : Type 0 where
+  pub settled : IsSettled r state
+  pub read : opened r state.bytes ≡ Some payload
+  pub each : (c : List ℕ) → state.images c → opened r c ≡ Some payload
+
+-- Only the region changed, and it is as it was or closed.
+pub record Closes (r : Region) (old new : List ℕ) : Type 0 where
+  pub others : SameOutside r.at (r.len + 1) old new
+  pub region : (opened r new ≡ opened r old) ⊎ (opened r new ≡ None)
+
+-- Only the region changed, and it is closed.
+pub record Fills (r : Region) (old new : List ℕ) : Type 0 where
+  pub others : SameOutside r.at (r.len + 1) old new
+  pub region : opened r new ≡ None
+
+-- Only the region changed, and it is closed or open with the payload.
+pub record Opens (r : Region) (payload old new : List ℕ) : Type 0 where
+  pub others : SameOutside r.at (r.len + 1) old new
+  pub region : (opened r new ≡ None) ⊎ (opened r new ≡ Some payload)
+
+-- Only the region changed, and it is as it was, closed, or open with the payload.
+pub record Puts (r : Region) (payload old new : List ℕ) : Type 0 where
+  pub others : SameOutside r.at (r.len + 1) old new
+  pub region : (opened r new ≡ opened r old) ⊎ ((opened r new ≡ None) ⊎ (opened r new ≡ Some payload))
+
+-- What holds of any disk after any calls: its size stays, no failure is forgotten, and it is lawful where it was.
+pub record KeepsDisk {D : Type 0} (capacity failures : D → ℕ) (is_lawful : D → Type 0) (old new : D) : Type 0 where
+  pub size : capacity new ≡ capacity old
+  pub later : failures old ≤ failures new
+  pub lawful : is_lawful old ↔ is_lawful new
+
+-- the bytes of a payload that was read
+abbrev pub payload_of : Option (Vec ℕ Global) → Option (List ℕ)
+payload_of None = None
+payload_of (Some v) = Some v.items

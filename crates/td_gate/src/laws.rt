@@ -1,0 +1,106 @@
+//! What holds of regions by their definitions, for every lawful disk. A caller that needs one of
+//! these calls it, which does nothing, and learns its clause.
+ghost use Rattle.std.specs.Prelude.{◌≡◌, ◌++◌, [], ◌∷◌, ℕ, List};
+ghost use Rattle.td_disk.specs.Disk.{ImagesFollow, NoNewImages, TimePasses, IsDurable};
+ghost use Rattle.td_gate.specs.declared.region.Region.{Region as AnyRegion};
+ghost use Rattle.td_gate.specs.CrashSafe.{CrashSafe, Unchanged};
+ghost use Rattle.td_gate.specs.Region.{opened, IsSettled, IsOpen, Closes, Fills, Opens, Puts};
+ghost use Rattle.td_gate.specs.Regions.{Apart, ApartFromAll, KeepsRegion, Put, PutsDone, PutsInTurn};
+
+use td_disk::Disk;
+
+/// A put into one region leaves what an image has in a region apart from it.
+pub fn put_leaves_others()
+    ensures { (r s : AnyRegion) (payload old new : List ℕ)
+        → Apart r s
+        → Puts r payload old new
+        → opened s new ≡ opened s old }
+{}
+
+/// So does a sequence of puts, wherever it is cut off.
+pub fn puts_leave_others()
+    ensures { (puts : List Put) (s : AnyRegion) (old new : List ℕ)
+        → ApartFromAll s puts
+        → PutsInTurn puts old new
+        → opened s new ≡ opened s old }
+{}
+
+/// On a disk where a crash leaves what is read, each region is settled.
+pub fn durable_is_settled<D: Disk>()
+    ensures { (d : D) (r : AnyRegion) → IsDurable (D.state d) → IsSettled r (D.state d) }
+{}
+
+/// Where a region is settled, each image has it as it is read.
+pub fn settled_is_read<D: Disk>()
+    ensures { (d : D) (r : AnyRegion) (c : List ℕ)
+        → D.is_lawful d
+        → IsSettled r (D.state d)
+        → (D.state d).images c
+        → opened r c ≡ opened r (D.state d).bytes }
+{}
+
+/// Calls that make no new image, as reads and syncs, are a sequence of no puts.
+pub fn no_puts<D: Disk>()
+    ensures none { (d : D) → D.is_lawful d → CrashSafe (PutsInTurn []) (D.state d) (D.state d) }
+    ensures read { (old new : D)
+        → CrashSafe Unchanged (D.state old) (D.state new)
+        → CrashSafe (PutsInTurn []) (D.state old) (D.state new) }
+    ensures begun { (old new : D)
+        → D.is_lawful old
+        → NoNewImages (D.state old) (D.state new)
+        → TimePasses (D.state old) (D.state new)
+        → CrashSafe (PutsInTurn []) (D.state old) (D.state new) }
+    ensures done { (old new : D)
+        → NoNewImages (D.state old) (D.state new)
+        → ImagesFollow (PutsDone []) (D.state old) (D.state new) }
+{}
+
+/// One put is a sequence of one.
+pub fn one_put<D: Disk>()
+    ensures begun { (put : Put) (old new : D)
+        → CrashSafe (Puts put.region put.payload) (D.state old) (D.state new)
+        → CrashSafe (PutsInTurn (put ∷ [])) (D.state old) (D.state new) }
+    ensures done { (put : Put) (old new : D)
+        → D.is_lawful new
+        → CrashSafe (Puts put.region put.payload) (D.state old) (D.state new)
+        → IsOpen put.region put.payload (D.state new)
+        → ImagesFollow (PutsDone (put ∷ [])) (D.state old) (D.state new) }
+{}
+
+/// Each step of a put, made alone, is a put that was cut off or done.
+pub fn steps_are_puts<D: Disk>()
+    ensures close { (r : AnyRegion) (payload : List ℕ) (old new : D)
+        → CrashSafe (Closes r) (D.state old) (D.state new)
+        → CrashSafe (Puts r payload) (D.state old) (D.state new) }
+    ensures fill { (r : AnyRegion) (payload : List ℕ) (old new : D)
+        → CrashSafe (Fills r) (D.state old) (D.state new)
+        → CrashSafe (Puts r payload) (D.state old) (D.state new) }
+    ensures open { (r : AnyRegion) (payload : List ℕ) (old new : D)
+        → CrashSafe (Opens r payload) (D.state old) (D.state new)
+        → CrashSafe (Puts r payload) (D.state old) (D.state new) }
+{}
+
+/// A sequence of puts that are done, and another sequence after it.
+pub fn puts_in_turn<D: Disk>()
+    ensures begun { (puts more : List Put) (old mid new : D)
+        → CrashSafe (PutsInTurn puts) (D.state old) (D.state mid)
+        → ImagesFollow (PutsDone puts) (D.state old) (D.state mid)
+        → CrashSafe (PutsInTurn more) (D.state mid) (D.state new)
+        → CrashSafe (PutsInTurn (puts ++ more)) (D.state old) (D.state new) }
+    ensures done { (puts more : List Put) (old mid new : D)
+        → ImagesFollow (PutsDone puts) (D.state old) (D.state mid)
+        → ImagesFollow (PutsDone more) (D.state mid) (D.state new)
+        → ImagesFollow (PutsDone (puts ++ more)) (D.state old) (D.state new) }
+{}
+
+/// A sequence of puts keeps each settled region that is apart from theirs, in every image since its
+/// start, also where it was cut off.
+pub fn puts_keep_others<D: Disk>()
+    ensures { (puts : List Put) (s : AnyRegion) (old new : D)
+        → D.is_lawful old
+        → D.is_lawful new
+        → ApartFromAll s puts
+        → IsSettled s (D.state old)
+        → CrashSafe (PutsInTurn puts) (D.state old) (D.state new)
+        → KeepsRegion s (D.state old) (D.state new) }
+{}

@@ -1,0 +1,238 @@
+// A region behind a gate, and the three steps that replace its payload.
+ghost use Rattle.std.specs.Prelude.{◌≡◌, ◌⊎◌, ◌+◌, ◌≤◌, ◌↔◌, ℕ, List, length, None, Some, OnOk, IfOk, IfErr};
+ghost use Rattle.td_disk.specs.Disk.{CountsFailures, Rises};
+ghost use Rattle.td_gate.specs.CrashSafe.{CrashSafe};
+ghost use Rattle.td_gate.specs.declared.region.Region.{Region as AnyRegion};
+ghost use Rattle.td_gate.specs.Regions.{Apart, KeepsRegion};
+ghost use Rattle.td_gate.specs.States.{closed_region, closed_disk, filled_region, filled_disk};
+ghost use Rattle.td_gate.specs.Region.{opened, KeepsDisk, IsSettled, IsClosed, IsFilled, IsOpen, Closes, Fills, Opens, Puts};
+
+use crate::write_and_sync::write_and_sync;
+use td_disk::{Disk, Fault};
+
+/// The gate byte of an open region. Any other value is closed.
+pub(crate) const OPEN: u8 = 0xA5;
+
+/// What is written to a gate to close it.
+const CLOSED: u8 = 0;
+
+/// A payload of `len` bytes at the offset `at`, and one gate byte behind it.
+#[derive(Clone, Copy, Debug, PartialEq, Eq)]
+pub struct Region {
+    pub at: u64,
+    pub len: u64,
+}
+
+/// A region whose gate is closed, with its disk, which nobody else can use.
+#[derive(Drop)]
+pub struct Closed<'a, D: Disk> {
+    region: Region,
+    device: &'a mut D,
+}
+
+/// A region with a new payload before its closed gate, with its disk, which nobody else can use.
+#[derive(Drop)]
+pub struct Filled<'a, D: Disk> {
+    region: Region,
+    device: &'a mut D,
+}
+
+/// Closes the gate where it reads open.
+fn close_gate<D: Disk>(region: Region, device: &mut D) -> Result<(), Fault>
+    requires { region.at + region.len + 1 ≤ D.capacity device.old }
+    ensures size { D.capacity device.new ≡ D.capacity device.old }
+    ensures cause { CountsFailures result (D.failures device.old) (D.failures device.new) }
+    ensures lawful { D.is_lawful device.old ↔ D.is_lawful device.new }
+    ensures crash_safe { D.is_lawful device.old → IsSettled region (D.state device.old)
+        → CrashSafe (Closes region) (D.state device.old) (D.state device.new) }
+    ensures closed { OnOk result (D.is_lawful device.old → IsSettled region (D.state device.old)
+        → IsClosed region (D.state device.new)) }
+{
+    let _size = device.size();
+    let gate = region.at + region.len;
+    let mut byte = [0];
+    device.read(gate, &mut byte)?;
+    if byte[0] == OPEN {
+        write_and_sync(device, gate, &[CLOSED])?;
+    }
+    Ok(())
+}
+
+/// Writes a payload before a closed gate.
+fn fill_payload<D: Disk>(region: Region, device: &mut D, payload: &[u8]) -> Result<(), Fault>
+    requires room { region.at + region.len + 1 ≤ D.capacity device.old }
+    requires len { length payload.now ≡ region.len }
+    ensures size { D.capacity device.new ≡ D.capacity device.old }
+    ensures cause { CountsFailures result (D.failures device.old) (D.failures device.new) }
+    ensures lawful { D.is_lawful device.old ↔ D.is_lawful device.new }
+    ensures crash_safe { D.is_lawful device.old → IsClosed region (D.state device.old)
+        → CrashSafe (Fills region) (D.state device.old) (D.state device.new) }
+    ensures filled { OnOk result (D.is_lawful device.old → IsClosed region (D.state device.old)
+        → IsFilled region payload.now (D.state device.new)) }
+{
+    write_and_sync(device, region.at, payload)
+}
+
+/// Opens the gate.
+fn open_gate<D: Disk>(region: Region, device: &mut D) -> Result<(), Fault>
+    requires room { region.at + region.len + 1 ≤ D.capacity device.old }
+    ensures size { D.capacity device.new ≡ D.capacity device.old }
+    ensures cause { CountsFailures result (D.failures device.old) (D.failures device.new) }
+    ensures lawful { D.is_lawful device.old ↔ D.is_lawful device.new }
+    ensures crash_safe { D.is_lawful device.old → (payload : List ℕ)
+        → IsFilled region payload (D.state device.old)
+        → CrashSafe (Opens region payload) (D.state device.old) (D.state device.new) }
+    ensures open { OnOk result (D.is_lawful device.old → (payload : List ℕ)
+        → IsFilled region payload (D.state device.old)
+        → IsOpen region payload (D.state device.new)) }
+{
+    let _size = device.size();
+    write_and_sync(device, region.at + region.len, &[OPEN])
+}
+
+impl Region {
+    /// Closes the gate where it reads open, by a write and a sync. A gate that reads closed is not
+    /// written: torn, that write could read open over a torn payload. It refuses `Device` alone,
+    /// and then hands the disk back.
+    pub fn close<'a, D: Disk>(&self, device: &'a mut D) -> Result<Closed<'a, D>, (Fault, &'a mut D)>
+        requires { self.now.at + self.now.len + 1 ≤ D.capacity device.old }
+        ensures same_reference { IfOk result (λ closed. (closed_disk closed).ghost_name ≡ device.entry.ghost_name) }
+        ensures same_back { IfErr result (λ back. back.1.ghost_name ≡ device.entry.ghost_name) }
+        ensures region { IfOk result (λ closed. closed_region closed ≡ self.now) }
+        ensures step { IfOk result (λ closed. KeepsDisk D.capacity D.failures D.is_lawful device.old (closed_disk closed).now) }
+        ensures step_back { IfErr result (λ back. KeepsDisk D.capacity D.failures D.is_lawful device.old back.1.now) }
+        ensures device { IfErr result (λ back. Rises (D.failures device.old) (D.failures back.1.now)) }
+        ensures crash_safe { IfOk result (λ closed. D.is_lawful device.old
+            → IsSettled self.now (D.state device.old)
+            → CrashSafe (Closes self.now) (D.state device.old) (D.state (closed_disk closed).now)) }
+        ensures crash_safe_back { IfErr result (λ back. D.is_lawful device.old
+            → IsSettled self.now (D.state device.old)
+            → CrashSafe (Closes self.now) (D.state device.old) (D.state back.1.now)) }
+        ensures closed { IfOk result (λ closed. D.is_lawful device.old
+            → IsSettled self.now (D.state device.old)
+            → IsClosed self.now (D.state (closed_disk closed).now)) }
+    {
+        let region = *self;
+        match close_gate(region, device) {
+            Ok(()) => Ok(Closed { region, device }),
+            Err(fault) => Err((fault, device)),
+        }
+    }
+
+    /// Puts a payload in the place of the one that is there: six writes and syncs into an open
+    /// region, four into a closed one. On a settled region of a lawful disk a crash at any moment of
+    /// the call leaves the old payload, none, or the new one, and no other byte changes. It refuses
+    /// `Device` alone.
+    pub fn put<D: Disk>(&self, device: &mut D, payload: &[u8]) -> Result<(), Fault>
+        requires room { self.now.at + self.now.len + 1 ≤ D.capacity device.old }
+        requires len { length payload.now ≡ self.now.len }
+        ensures size { D.capacity device.new ≡ D.capacity device.old }
+        ensures cause { CountsFailures result (D.failures device.old) (D.failures device.new) }
+        ensures lawful { D.is_lawful device.old ↔ D.is_lawful device.new }
+
+        // Each image since the start of the call, by the image before from which it came.
+        ensures crash_safe { D.is_lawful device.old → IsSettled self.now (D.state device.old)
+            → CrashSafe (Puts self.now payload.now) (D.state device.old) (D.state device.new) }
+
+        // In each of them this region is as it was read, closed, or open with the new payload,
+        ensures region { D.is_lawful device.old → IsSettled self.now (D.state device.old)
+            → (c : List ℕ) → (D.state device.new).since (D.state device.old).moment c
+            → (opened self.now c ≡ opened self.now (D.state device.old).bytes) ⊎ ((opened self.now c ≡ None) ⊎ (opened self.now c ≡ Some payload.now)) }
+
+        // and each other settled region is as it was.
+        ensures others { D.is_lawful device.old → IsSettled self.now (D.state device.old)
+            → (s : AnyRegion) → Apart self.now s → IsSettled s (D.state device.old)
+            → KeepsRegion s (D.state device.old) (D.state device.new) }
+
+        ensures open { OnOk result (D.is_lawful device.old → IsSettled self.now (D.state device.old)
+            → IsOpen self.now payload.now (D.state device.new)) }
+    {
+        self.close_fill_open(device, payload)
+    }
+
+    /// The three steps of a put.
+    fn close_fill_open<D: Disk>(&self, device: &mut D, payload: &[u8]) -> Result<(), Fault>
+        requires room { self.now.at + self.now.len + 1 ≤ D.capacity device.old }
+        requires len { length payload.now ≡ self.now.len }
+        ensures size { D.capacity device.new ≡ D.capacity device.old }
+        ensures cause { CountsFailures result (D.failures device.old) (D.failures device.new) }
+        ensures lawful { D.is_lawful device.old ↔ D.is_lawful device.new }
+        ensures crash_safe { D.is_lawful device.old → IsSettled self.now (D.state device.old)
+            → CrashSafe (Puts self.now payload.now) (D.state device.old) (D.state device.new) }
+        ensures open { OnOk result (D.is_lawful device.old → IsSettled self.now (D.state device.old)
+            → IsOpen self.now payload.now (D.state device.new)) }
+    {
+        let closed = match self.close(device) {
+            Ok(closed) => closed,
+            Err((fault, _device)) => return Err(fault),
+        };
+        let filled = match closed.fill(payload) {
+            Ok(filled) => filled,
+            Err((fault, _device)) => return Err(fault),
+        };
+        match filled.open() {
+            Ok(_device) => Ok(()),
+            Err((fault, _device)) => Err(fault),
+        }
+    }
+}
+
+impl<'a, D: Disk> Closed<'a, D> {
+    /// Writes the payload before the closed gate, by a write and a sync. It refuses `Device` alone,
+    /// and then hands the disk back.
+    pub fn fill(self, payload: &[u8]) -> Result<Filled<'a, D>, (Fault, &'a mut D)>
+        requires room { (closed_region self).at + (closed_region self).len + 1 ≤ D.capacity (closed_disk self).now }
+        requires len { length payload.now ≡ (closed_region self).len }
+        ensures same_reference { IfOk result (λ filled. (filled_disk filled).ghost_name ≡ (closed_disk self.entry).ghost_name) }
+        ensures same_back { IfErr result (λ back. back.1.ghost_name ≡ (closed_disk self.entry).ghost_name) }
+        ensures region { IfOk result (λ filled. filled_region filled ≡ closed_region self.entry) }
+        ensures step { IfOk result (λ filled. KeepsDisk D.capacity D.failures D.is_lawful (closed_disk self.entry).now (filled_disk filled).now) }
+        ensures step_back { IfErr result (λ back. KeepsDisk D.capacity D.failures D.is_lawful (closed_disk self.entry).now back.1.now) }
+        ensures device { IfErr result (λ back. Rises (D.failures (closed_disk self.entry).now) (D.failures back.1.now)) }
+        ensures crash_safe { IfOk result (λ filled. D.is_lawful (closed_disk self.entry).now
+            → IsClosed (closed_region self.entry) (D.state (closed_disk self.entry).now)
+            → CrashSafe (Fills (closed_region self.entry)) (D.state (closed_disk self.entry).now) (D.state (filled_disk filled).now)) }
+        ensures crash_safe_back { IfErr result (λ back. D.is_lawful (closed_disk self.entry).now
+            → IsClosed (closed_region self.entry) (D.state (closed_disk self.entry).now)
+            → CrashSafe (Fills (closed_region self.entry)) (D.state (closed_disk self.entry).now) (D.state back.1.now)) }
+        ensures filled { IfOk result (λ filled. D.is_lawful (closed_disk self.entry).now
+            → IsClosed (closed_region self.entry) (D.state (closed_disk self.entry).now)
+            → IsFilled (closed_region self.entry) payload.now (D.state (filled_disk filled).now)) }
+    {
+        let Closed { region, device } = self;
+        match fill_payload(region, device, payload) {
+            Ok(()) => Ok(Filled { region, device }),
+            Err(fault) => Err((fault, device)),
+        }
+    }
+}
+
+impl<'a, D: Disk> Filled<'a, D> {
+    /// Opens the gate, by a write and a sync, and hands the disk back. It refuses `Device` alone.
+    pub fn open(self) -> Result<&'a mut D, (Fault, &'a mut D)>
+        requires room { (filled_region self).at + (filled_region self).len + 1 ≤ D.capacity (filled_disk self).now }
+        ensures same_reference { IfOk result (λ back. back.ghost_name ≡ (filled_disk self.entry).ghost_name) }
+        ensures same_back { IfErr result (λ back. back.1.ghost_name ≡ (filled_disk self.entry).ghost_name) }
+        ensures step { IfOk result (λ back. KeepsDisk D.capacity D.failures D.is_lawful (filled_disk self.entry).now back.now) }
+        ensures step_back { IfErr result (λ back. KeepsDisk D.capacity D.failures D.is_lawful (filled_disk self.entry).now back.1.now) }
+        ensures device { IfErr result (λ back. Rises (D.failures (filled_disk self.entry).now) (D.failures back.1.now)) }
+        ensures crash_safe { IfOk result (λ back. D.is_lawful (filled_disk self.entry).now
+            → (payload : List ℕ)
+            → IsFilled (filled_region self.entry) payload (D.state (filled_disk self.entry).now)
+            → CrashSafe (Opens (filled_region self.entry) payload) (D.state (filled_disk self.entry).now) (D.state back.now)) }
+        ensures crash_safe_back { IfErr result (λ back. D.is_lawful (filled_disk self.entry).now
+            → (payload : List ℕ)
+            → IsFilled (filled_region self.entry) payload (D.state (filled_disk self.entry).now)
+            → CrashSafe (Opens (filled_region self.entry) payload) (D.state (filled_disk self.entry).now) (D.state back.1.now)) }
+        ensures open { IfOk result (λ back. D.is_lawful (filled_disk self.entry).now
+            → (payload : List ℕ)
+            → IsFilled (filled_region self.entry) payload (D.state (filled_disk self.entry).now)
+            → IsOpen (filled_region self.entry) payload (D.state back.now)) }
+    {
+        let Filled { region, device } = self;
+        match open_gate(region, device) {
+            Ok(()) => Ok(device),
+            Err(fault) => Err((fault, device)),
+        }
+    }
+}
