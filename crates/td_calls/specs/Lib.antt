@@ -1,0 +1,6 @@
+pub mod Answers
+pub mod Codes
+pub mod Lawful
+pub mod Ranges
+pub mod Refusals
+pub mod Sample

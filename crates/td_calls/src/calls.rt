@@ -1,0 +1,164 @@
+//! Closures of all three kinds, and what the crates above know of them.
+ghost use Rattle.std.specs.Prelude.{◌≡◌, ◌↔◌, ◌⊎◌, ◌==◌, ◌||◌, ℕ, Bool, [], IsTrue, OnOk, OnErr, IfErr, IfSome, IsErrAnd, is_some};
+ghost use Rattle.td_calls.specs.Codes.{has_code};
+
+use crate::error::CallsError;
+use crate::law::{Coded, FoldCall, GroupCall, Law, MapCall};
+use crate::stored::Stored;
+use std::alloc::Global;
+use td_stamp::{Few, Item, Rec, State};
+
+/// Closures that answer a law, whatever keeps them. Each kind has its own codes.
+pub trait Closures<L: Law> {
+    /// Whether a map's closure of this code is stored.
+    ghost has_map: { Self → ℕ → Bool };
+
+    /// The same of a group's closure.
+    ghost has_group: { Self → ℕ → Bool };
+
+    /// The same of a fold's closure.
+    ghost has_fold: { Self → ℕ → Bool };
+
+    /// What the map's closure of this code sends for a record that arrives at `port`; none where no such closure is stored.
+    fn map(&self, code: u16, port: u8, rec: Rec) -> Option<Few>
+        ensures found { is_some result ≡ has_map self.now code }
+        ensures law { IfSome result (λ sent. sent.items ≡ L.answers.emit code port rec) };
+
+    /// What the group's closure of this code sends for a key and its sorted items.
+    fn group(&self, code: u16, key: u64, items: &[Item]) -> Option<Few>
+        ensures found { is_some result ≡ has_group self.now code }
+        ensures law { IfSome result (λ sent. sent.items ≡ L.answers.group code key items.now) };
+
+    /// The state that the fold's closure of this code keeps for a key, which had `state`, at these sorted items, and what it sends.
+    fn fold(
+        &self,
+        code: u16,
+        key: u64,
+        state: Option<State>,
+        items: &[Item],
+    ) -> Option<(Option<State>, Few)>
+        ensures found { is_some result ≡ has_fold self.now code }
+        ensures law { IfSome result (λ answer. (answer.0, answer.1.items) ≡ L.answers.fold code key state items.now) };
+
+    /// Whether a map's closure of this code is stored.
+    fn contains_map(&self, code: u16) -> bool
+        ensures { result ≡ has_map self.now code };
+
+    /// The same of a group's closure.
+    fn contains_group(&self, code: u16) -> bool
+        ensures { result ≡ has_group self.now code };
+
+    /// The same of a fold's closure.
+    fn contains_fold(&self, code: u16) -> bool
+        ensures { result ≡ has_fold self.now code };
+}
+
+/// Stored closures of all three kinds. Each kind has its own codes.
+#[derive(Drop)]
+pub struct Calls<M, G, F> {
+    pub maps: Stored<M>,
+    pub groups: Stored<G>,
+    pub folds: Stored<F>,
+}
+
+impl<M, G, F> Calls<M, G, F> {
+    /// No closures, in maps that allocate with `alloc`.
+    pub fn new(alloc: Global) -> Self
+        ensures maps { result.maps ≡ [] }
+        ensures groups { result.groups ≡ [] }
+        ensures folds { result.folds ≡ [] }
+    {
+        Calls {
+            maps: Stored::new(alloc),
+            groups: Stored::new(alloc),
+            folds: Stored::new(alloc),
+        }
+    }
+
+    /// Stores a map's closure under its code. Refusals, with the closure handed back and nothing changed: `CodeUsed`
+    /// where a map's closure of its code is stored, and `Memory`.
+    pub fn add_map(&mut self, call: M) -> Result<(), (CallsError, M)>
+    where
+        M: Coded + Drop,
+        ensures ok { OnOk result ((code : ℕ) → has_code M.code_of self.new.maps code ≡ ((code == M.code_of call) || has_code M.code_of self.old.maps code)) }
+        ensures used { IsErrAnd result (λ e. e.0 ≡ CallsError.CodeUsed) ↔ IsTrue (has_code M.code_of self.old.maps (M.code_of call)) }
+        ensures refusals { IfErr result (λ e. (e.0 ≡ CallsError.CodeUsed) ⊎ (e.0 ≡ CallsError.Memory)) }
+        ensures back { IfErr result (λ e. e.1 ≡ call) }
+        ensures err { OnErr result (self.new ≡ self.old) }
+        ensures other_groups { self.new.groups ≡ self.old.groups }
+        ensures other_folds { self.new.folds ≡ self.old.folds }
+    {
+        self.maps.add(call)
+    }
+
+    /// Stores a group's closure under its code, as `add_map` does a map's.
+    pub fn add_group(&mut self, call: G) -> Result<(), (CallsError, G)>
+    where
+        G: Coded + Drop,
+        ensures ok { OnOk result ((code : ℕ) → has_code G.code_of self.new.groups code ≡ ((code == G.code_of call) || has_code G.code_of self.old.groups code)) }
+        ensures used { IsErrAnd result (λ e. e.0 ≡ CallsError.CodeUsed) ↔ IsTrue (has_code G.code_of self.old.groups (G.code_of call)) }
+        ensures refusals { IfErr result (λ e. (e.0 ≡ CallsError.CodeUsed) ⊎ (e.0 ≡ CallsError.Memory)) }
+        ensures back { IfErr result (λ e. e.1 ≡ call) }
+        ensures err { OnErr result (self.new ≡ self.old) }
+        ensures other_maps { self.new.maps ≡ self.old.maps }
+        ensures other_folds { self.new.folds ≡ self.old.folds }
+    {
+        self.groups.add(call)
+    }
+
+    /// Stores a fold's closure under its code, as `add_map` does a map's.
+    pub fn add_fold(&mut self, call: F) -> Result<(), (CallsError, F)>
+    where
+        F: Coded + Drop,
+        ensures ok { OnOk result ((code : ℕ) → has_code F.code_of self.new.folds code ≡ ((code == F.code_of call) || has_code F.code_of self.old.folds code)) }
+        ensures used { IsErrAnd result (λ e. e.0 ≡ CallsError.CodeUsed) ↔ IsTrue (has_code F.code_of self.old.folds (F.code_of call)) }
+        ensures refusals { IfErr result (λ e. (e.0 ≡ CallsError.CodeUsed) ⊎ (e.0 ≡ CallsError.Memory)) }
+        ensures back { IfErr result (λ e. e.1 ≡ call) }
+        ensures err { OnErr result (self.new ≡ self.old) }
+        ensures other_maps { self.new.maps ≡ self.old.maps }
+        ensures other_groups { self.new.groups ≡ self.old.groups }
+    {
+        self.folds.add(call)
+    }
+}
+
+impl<L: Law, M: MapCall<L>, G: GroupCall<L>, F: FoldCall<L>> Closures<L> for Calls<M, G, F> {
+    ghost has_map = { λ c. has_code M.code_of c.maps };
+
+    ghost has_group = { λ c. has_code G.code_of c.groups };
+
+    ghost has_fold = { λ c. has_code F.code_of c.folds };
+
+    fn map(&self, code: u16, port: u8, rec: Rec) -> Option<Few> {
+        let call = self.maps.find(code)?;
+        Some(call.call(port, rec))
+    }
+
+    fn group(&self, code: u16, key: u64, items: &[Item]) -> Option<Few> {
+        let call = self.groups.find(code)?;
+        Some(call.call(key, items))
+    }
+
+    fn fold(
+        &self,
+        code: u16,
+        key: u64,
+        state: Option<State>,
+        items: &[Item],
+    ) -> Option<(Option<State>, Few)> {
+        let call = self.folds.find(code)?;
+        Some(call.call(key, state, items))
+    }
+
+    fn contains_map(&self, code: u16) -> bool {
+        self.maps.find(code).is_some()
+    }
+
+    fn contains_group(&self, code: u16) -> bool {
+        self.groups.find(code).is_some()
+    }
+
+    fn contains_fold(&self, code: u16) -> bool {
+        self.folds.find(code).is_some()
+    }
+}

@@ -1,0 +1,44 @@
+//! What closures answer, and closures that answer it.
+ghost use Rattle.std.specs.Prelude.{◌≡◌, ℕ};
+ghost use Rattle.td_calls.specs.Answers.{Answers, AnswerFew};
+
+use td_stamp::{Few, Item, Rec, State};
+
+/// What the closure of each code answers.
+pub trait Law {
+    /// The answers of maps, of groups and of folds, by code.
+    ghost answers: { Answers };
+
+    /// No closure sends more than eight records.
+    ghost few: { AnswerFew answers };
+}
+
+/// A closure that is stored under a code.
+pub trait Coded {
+    ghost code_of: { Self → ℕ };
+
+    /// The closure's code.
+    fn code(&self) -> u16
+        ensures { result ≡ code_of self.now };
+}
+
+/// A map's closure that answers the law for its code.
+pub trait MapCall<L: Law>: Coded {
+    /// What it sends for a record that arrives at `port`.
+    fn call(&self, port: u8, rec: Rec) -> Few
+        ensures { result.items ≡ L.answers.emit (Self.code_of self.now) port rec };
+}
+
+/// A group's closure that answers the law for its code.
+pub trait GroupCall<L: Law>: Coded {
+    /// What it sends for a key and its sorted items.
+    fn call(&self, key: u64, items: &[Item]) -> Few
+        ensures { result.items ≡ L.answers.group (Self.code_of self.now) key items.now };
+}
+
+/// A fold's closure that answers the law for its code.
+pub trait FoldCall<L: Law>: Coded {
+    /// The state that it keeps for a key, which had `state`, at these sorted items, and what it sends.
+    fn call(&self, key: u64, state: Option<State>, items: &[Item]) -> (Option<State>, Few)
+        ensures { (result.0, result.1.items) ≡ L.answers.fold (Self.code_of self.now) key state items.now };
+}
