@@ -226,3 +226,20 @@ fn folds_answer_by_key_and_state(rt: HostRuntime) -> Result<(), Fail> {
     assert_eq!(rt; back.call(7, None, &ITEMS).0, Some(State { a: 2, b: 0 }));
     Ok(())
 }
+
+#[test]
+fn refusals_have_numbers_and_texts(rt: HostRuntime) -> Result<(), Fail> {
+    let used = CallsError::CodeUsed;
+    assert_eq!(rt; used.number(), 1);
+    assert_eq!(rt; used.to_string(rt.alloc())?.as_str(), "code used");
+    let missing = CallsError::NoCall(3, 20);
+    assert_eq!(rt; missing.number(), 2);
+    assert_eq!(rt;
+        missing.to_string(rt.alloc())?.as_str(),
+        "vertex 3: no closure 20"
+    );
+    let memory = CallsError::Memory;
+    assert_eq!(rt; memory.number(), 3);
+    assert_eq!(rt; memory.to_string(rt.alloc())?.as_str(), "memory");
+    Ok(())
+}

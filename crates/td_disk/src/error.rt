@@ -10,7 +10,7 @@ use thiserror::Error;
 #[derive(Clone, Copy, Debug, PartialEq, Eq, Error)]
 pub enum Fault {
     /// The device failed, and the disk's count of failures rose.
-    #[error("the device failed")]
+    #[error("device")]
     Device,
 }
 
@@ -29,10 +29,10 @@ impl Fault {
 #[derive(Clone, Copy, Debug, PartialEq, Eq, Error)]
 pub enum MakeError {
     /// The file could not be made, opened or measured.
-    #[error("the file could not be made, opened or measured")]
+    #[error("file")]
     File,
     /// Memory ran out.
-    #[error("out of memory")]
+    #[error("memory")]
     Memory,
 }
 

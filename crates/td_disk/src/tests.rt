@@ -130,10 +130,14 @@ fn laws_are_called() {
 }
 
 #[test]
-fn numbers_of_refusals(rt: HostRuntime) {
+fn refusals_have_numbers_and_texts(rt: HostRuntime) -> Result<(), Fail> {
     assert_eq!(rt; Fault::Device.number(), 1);
+    assert_eq!(rt; Fault::Device.to_string(rt.alloc())?.as_str(), "device");
     assert_eq!(rt; MakeError::File.number(), 1);
+    assert_eq!(rt; MakeError::File.to_string(rt.alloc())?.as_str(), "file");
     assert_eq!(rt; MakeError::Memory.number(), 2);
+    assert_eq!(rt; MakeError::Memory.to_string(rt.alloc())?.as_str(), "memory");
+    Ok(())
 }
 
 /// The path of a file of this test alone.

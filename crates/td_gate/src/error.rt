@@ -11,10 +11,10 @@ use thiserror::Error;
 #[derive(Clone, Copy, Debug, PartialEq, Eq, Error)]
 pub enum GateError {
     /// The device failed, and its count of failures rose.
-    #[error("the device failed")]
+    #[error("device")]
     Device,
     /// Memory ran out.
-    #[error("out of memory")]
+    #[error("memory")]
     Memory,
 }
 

@@ -186,9 +186,16 @@ fn two_regions_of_one_disk(rt: HostRuntime) -> Result<(), Fail> {
 }
 
 #[test]
-fn numbers_and_laws(rt: HostRuntime) {
+fn refusals_have_numbers_and_texts(rt: HostRuntime) -> Result<(), Fail> {
     assert_eq!(rt; GateError::Device.number(), 1);
+    assert_eq!(rt; GateError::Device.to_string(rt.alloc())?.as_str(), "device");
     assert_eq!(rt; GateError::Memory.number(), 2);
+    assert_eq!(rt; GateError::Memory.to_string(rt.alloc())?.as_str(), "memory");
+    Ok(())
+}
+
+#[test]
+fn laws_are_called() {
     laws::put_leaves_others();
     laws::puts_leave_others();
     laws::durable_is_settled::<MemoryDisk>();

@@ -96,6 +96,16 @@ fn a_watch_may_have_no_reader(rt: HostRuntime) -> Result<(), Fail> {
     Ok(())
 }
 
+#[test]
+fn the_refusal_has_a_number_and_a_text(rt: HostRuntime) -> Result<(), Fail> {
+    assert_eq!(rt; WatchError::Memory.number(), 1);
+    assert_eq!(rt;
+        WatchError::Memory.to_string(rt.alloc())?.as_str(),
+        "memory"
+    );
+    Ok(())
+}
+
 // Run with each allocation failing in turn: the refusal is then the one for memory.
 #[test]
 fn a_refused_allocation_is_memory(rt: HostRuntime) {
