@@ -1,0 +1,13 @@
+pub mod Answered
+pub mod Canonical
+pub mod Cuts
+pub mod Flat
+pub mod Kept
+pub mod Lengths
+pub mod Listed
+pub mod Numerals
+pub mod Printing
+pub mod Readings
+pub mod Spelling
+pub mod Trees
+pub mod Unique

@@ -1,0 +1,50 @@
+-- Words that are printed one by one.
+use Rattle.std.proofs.Common.{◌≡◌, ℕ, ◌+◌, List, [], ◌∷◌, ◌++◌, map, refl, sym, ap, ◌∙◌, take, length, ◌<◌, get_or}
+use Rattle.std.specs.Prelude.{decimal}
+use Rattle.std.specs.List.{join_with_byte}
+use Rattle.std.proofs.lemmas.List.{append_assoc, append-nil, map-append, take_more}
+use Rattle.td_plan.specs.Lines.{Vertex, text_of, text_of_line, words_of_kind}
+use Rattle.td_plan.specs.Lines.Line.{vertex}
+use Rattle.td_plan.specs.Blocks.{PlacedVertex}
+use Rattle.td_plan.specs.Inside.{lines_of_vertices}
+use Rattle.td_plan.specs.Printed.{spaced, text_of_vertices}
+
+pub spaced-append : (xs ys : List (List ℕ)) → spaced (xs ++ ys) ≡ spaced xs ++ spaced ys
+spaced-append [] ys = refl
+spaced-append (x ∷ xs) ys = ap (λ r. (32 ∷ x) ++ r) (spaced-append xs ys) ∙ sym (append_assoc (32 ∷ x) (spaced xs) (spaced ys))
+
+joined : (w : List ℕ) (ws : List (List ℕ)) → join_with_byte 32 (w ∷ ws) ≡ w ++ spaced ws
+joined w [] = sym (append-nil w)
+joined w (v ∷ ws) = ap (λ r. w ++ (32 ∷ r)) (joined v ws)
+
+-- the line of a vertex
+pub line_printed : (v : Vertex) → text_of_line (vertex v) ≡ ((decimal v.number ++ spaced (words_of_kind v.kind)) ++ spaced (map decimal v.sources)) ++ 10 ∷ []
+line_printed v =
+    ap (λ r. r ++ 10 ∷ [])
+    (joined (decimal v.number) (words_of_kind v.kind ++ map decimal v.sources) ∙ ap (λ r. decimal v.number ++ r) (spaced-append (words_of_kind v.kind) (map decimal v.sources)) ∙ sym (append_assoc (decimal v.number) (spaced (words_of_kind v.kind)) (spaced (map decimal v.sources))))
+
+-- one source more
+pub spaced-push : (sources : List ℕ) (s : ℕ) → spaced (map decimal (sources ++ s ∷ [])) ≡ spaced (map decimal sources) ++ 32 ∷ decimal s
+spaced-push sources s = ap spaced (map-append decimal sources (s ∷ [])) ∙ spaced-append (map decimal sources) (decimal s ∷ []) ∙ ap (λ r. spaced (map decimal sources) ++ r) (append-nil (32 ∷ decimal s))
+
+-- the text of the lines of some vertices
+pub text_of-vertices : (placed : List PlacedVertex) → text_of_vertices placed ≡ text_of (lines_of_vertices placed)
+text_of-vertices [] = refl
+text_of-vertices (p ∷ placed) = ap (λ r. text_of_line (vertex p.vertex) ++ r) (text_of-vertices placed)
+
+-- the bytes after one source more
+pub sources_push : (before so_far after : List ℕ) (sources : List ℕ) (i : ℕ) → i < length sources → so_far ≡ before ++ spaced (map decimal (take i sources)) → after ≡ so_far ++ (32 ∷ decimal (get_or sources i 0))
+    → after ≡ before ++ spaced (map decimal (take (i + 1) sources))
+sources_push before so_far after sources i h e f =
+    f ∙ ap (λ r. r ++ (32 ∷ decimal (get_or sources i 0))) e ∙ append_assoc before (spaced (map decimal (take i sources))) (32 ∷ decimal (get_or sources i 0))
+    ∙ ap (λ r. before ++ r) (sym (spaced-push (take i sources) (get_or sources i 0)) ∙ ap (λ xs. spaced (map decimal xs)) (sym (take_more sources i 0 h)))
+
+-- the bytes after the line of a vertex
+pub vertex_printed : (v : Vertex) (b0 b1 b2 b3 b4 : List ℕ) → b1 ≡ b0 ++ decimal v.number → b2 ≡ b1 ++ spaced (words_of_kind v.kind) → b3 ≡ b2 ++ spaced (map decimal v.sources) → b4 ≡ b3 ++ 10 ∷ []
+    → b4 ≡ b0 ++ text_of_line (vertex v)
+vertex_printed v b0 b1 b2 b3 b4 e1 e2 e3 e4 =
+    let n = decimal v.number in
+    let k = spaced (words_of_kind v.kind) in
+    let s = spaced (map decimal v.sources) in
+    let all : b4 ≡ ((b0 ++ n) ++ k) ++ s ++ 10 ∷ [] = e4 ∙ ap (λ r. r ++ 10 ∷ []) (e3 ∙ ap (λ r. r ++ s) (e2 ∙ ap (λ r. r ++ k) e1)) in
+    all ∙ sym (ap (λ r. b0 ++ r) (line_printed v) ∙ sym (append_assoc b0 ((n ++ k) ++ s) (10 ∷ [])) ∙ ap (λ r. r ++ 10 ∷ []) (sym (append_assoc b0 (n ++ k) s) ∙ ap (λ r. r ++ s) (sym (append_assoc b0 n k))))

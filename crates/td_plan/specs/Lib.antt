@@ -1,0 +1,15 @@
+pub mod Refusals
+pub mod Text
+pub mod Lines
+pub mod Blocks
+pub mod Faults
+pub mod Tree
+pub mod Texts
+pub mod Reading
+pub mod Written
+pub mod Printed
+pub mod Inside
+pub mod Inputs
+pub mod Kept
+pub mod Named
+pub mod Examples

@@ -1,0 +1,41 @@
+//! Laws of the definitions. Each is the contract of a function that does nothing.
+ghost use Rattle.std.specs.Prelude.{[], ◌≡◌, ◌⊎◌, ◌≤◌, ℕ, List, length, true};
+ghost use Rattle.td_plan.specs.declared.error.PlanError.{PlanError as AnyError};
+ghost use Rattle.std.specs.List.{join_with_byte, list_all};
+ghost use Rattle.td_plan.specs.Text.{words};
+ghost use Rattle.td_plan.specs.Lines.{Line, has_form, is_taken, text_of, words_of};
+ghost use Rattle.td_plan.specs.Blocks.{vertices};
+ghost use Rattle.td_plan.specs.Tree.{tree_of, lines_of, placed_in, IsNumbered};
+ghost use Rattle.td_plan.specs.Faults.{IsPlan};
+ghost use Rattle.td_plan.specs.Texts.{PlanText, PlanFault};
+
+/// A text spells one plan, or has one refusal, and never both. The lines that the reader does not take yet count as
+/// syntax faults here: once it takes them, the law speaks of them too.
+pub fn one_answer()
+    ensures either { (text : List ℕ) → ((p : List Line) × PlanText text p) ⊎ ((e : AnyError) × PlanFault text e) }
+    ensures not_both { (text : List ℕ) (p : List Line) (e : AnyError) → PlanText text p → PlanFault text e → ⊥ }
+    ensures one_plan { (text : List ℕ) (p q : List Line) → PlanText text p → PlanText text q → p ≡ q }
+    ensures one_refusal { (text : List ℕ) (d e : AnyError) → PlanFault text d → PlanFault text e → d ≡ e }
+{}
+
+/// The words of a line tell the line, of every form.
+pub fn lines_by_words()
+    ensures apart { (a b : Line) → has_form a ≡ true → has_form b ≡ true → words_of a ≡ words_of b → a ≡ b }
+    ensures read_back { (line : Line) → has_form line ≡ true → words (join_with_byte 32 (words_of line)) ≡ words_of line }
+{}
+
+/// The canonical text of a plan spells that plan and no other, in at most 3,948 bytes. (Of the lines that the reader
+/// takes so far.)
+pub fn canonical_text()
+    ensures spells { (plan : List Line) → IsPlan plan → list_all is_taken plan ≡ true → PlanText (text_of plan) plan }
+    ensures no_other { (p q : List Line) → IsPlan p → list_all is_taken p ≡ true → PlanText (text_of p) q → q ≡ p }
+    ensures bytes { (plan : List Line) → IsPlan plan → list_all is_taken plan ≡ true → length (text_of plan) ≤ 3948 }
+{}
+
+/// The tree of a plan: its lines are the plan's, its vertices are the plan's in the order of their numbers, each with
+/// the loops in which it stands.
+pub fn trees()
+    ensures lines { (plan : List Line) → IsPlan plan → lines_of (tree_of plan) ≡ plan }
+    ensures numbers { (plan : List Line) → IsPlan plan → IsNumbered 0 (tree_of plan) }
+    ensures all { (plan : List Line) → IsPlan plan → placed_in [] 0 (tree_of plan) ≡ vertices plan }
+{}

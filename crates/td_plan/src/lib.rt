@@ -1,0 +1,18 @@
+//! Plans of a dataflow, and their text. Its one contract: `Plan::read` accepts exactly the texts that spell a plan, and
+//! refuses each other text for its first fault.
+#![tactic(auto)]
+
+mod error;
+pub mod laws;
+mod line;
+mod plan;
+mod printer;
+mod reader;
+#[cfg(test)]
+mod tests;
+pub mod text;
+mod vertex;
+
+pub use error::PlanError;
+pub use plan::Plan;
+pub use vertex::{EDGES, Edge, Kind, LEVELS, Loop, SOURCES, VERTICES, Vertex};
