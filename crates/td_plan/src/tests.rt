@@ -190,31 +190,24 @@ fn a_batch_is_accepted_where_each_entry_names_an_input(rt: HostRuntime) -> Resul
 }
 
 #[test]
-fn numbers_of_refusals(rt: HostRuntime) -> Result<(), Fail> {
+fn refusals_have_numbers_and_texts(rt: HostRuntime) -> Result<(), Fail> {
     let all = [
-        PlanError::Syntax(1),
-        PlanError::Number(1),
-        PlanError::Order(1),
-        PlanError::Nest(1),
-        PlanError::Bound(1),
-        PlanError::FoldInLoop(1),
-        PlanError::Again(1),
-        PlanError::TooMany(1),
-        PlanError::NoInputOrOutput,
-        PlanError::Memory,
+        (PlanError::Syntax(1), "plan line 1: syntax"),
+        (PlanError::Number(2), "plan line 2: number"),
+        (PlanError::Order(3), "plan line 3: order"),
+        (PlanError::Nest(4), "plan line 4: nest"),
+        (PlanError::Bound(5), "plan line 5: bound"),
+        (PlanError::FoldInLoop(12), "plan line 12: fold in loop"),
+        (PlanError::Again(7), "plan line 7: again"),
+        (PlanError::TooMany(65), "plan line 65: too many"),
+        (PlanError::NoInputOrOutput, "plan: no input or output"),
+        (PlanError::Memory, "memory"),
     ];
     let mut number = 1u8;
-    for error in all {
+    for (error, text) in all {
         assert_eq!(rt; error.number(), number);
+        assert_eq!(rt; error.to_string(rt.alloc())?.as_str(), text);
         number = number.wrapping_add(1);
     }
-    assert_eq!(rt;
-        PlanError::FoldInLoop(12).to_string(rt.alloc())?.as_str(),
-        "plan line 12: fold in loop"
-    );
-    assert_eq!(rt;
-        PlanError::NoInputOrOutput.to_string(rt.alloc())?.as_str(),
-        "plan: no input or output"
-    );
     Ok(())
 }
