@@ -1,6 +1,10 @@
 pub mod Answers
+pub mod Callbacks
 pub mod Codes
+pub mod Fits
 pub mod Lawful
 pub mod Ranges
 pub mod Refusals
 pub mod Sample
+pub mod Stock
+pub mod StockFew

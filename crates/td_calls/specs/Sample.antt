@@ -1,5 +1,5 @@
 -- A small law, for tests: map 1 sends the record, group 20 the number of items, fold 40 the number of items so far.
-use Rattle.std.specs.Prelude.{ℕ, ◌-◌, ◌^◌, ◌≤◌, ◌==◌, Bool, true, false, ℤ, pos, ◌+ℤ◌, List, [], ◌∷◌, length, min, Option, Some, None, unwrap_or, if◌then◌else◌, cond}
+use Rattle.std.specs.Prelude.{ℕ, ◌-◌, ◌^◌, ◌≤◌, ◌==◌, Bool, true, false, ℤ, pos, ◌+ℤ◌, List, [], ◌∷◌, length, min, Option, Some, unwrap_or, if◌then◌else◌, cond}
 use Rattle.std.proofs.Common.{lit≤}
 use Rattle.std.specs.Int.{saturate_signed, w64}
 use Rattle.td_stamp.specs.declared.values.Rec.{Rec}

@@ -1,11 +1,14 @@
 //! Closures of all three kinds, and what the crates above know of them.
 ghost use Rattle.std.specs.Prelude.{◌≡◌, ◌↔◌, ◌⊎◌, ◌==◌, ◌||◌, ℕ, Bool, [], IsTrue, OnOk, OnErr, IfErr, IfSome, IsErrAnd, is_some};
+ghost use Rattle.td_plan.specs.Blocks.{vertices};
 ghost use Rattle.td_calls.specs.Codes.{has_code};
+ghost use Rattle.td_calls.specs.Fits.{lacking_code, first_lack};
 
 use crate::error::CallsError;
 use crate::law::{Coded, FoldCall, GroupCall, Law, MapCall};
 use crate::stored::Stored;
 use std::alloc::Global;
+use td_plan::{Kind, Plan};
 use td_stamp::{Few, Item, Rec, State};
 
 /// Closures that answer a law, whatever keeps them. Each kind has its own codes.
@@ -51,6 +54,32 @@ pub trait Closures<L: Law> {
     /// The same of a fold's closure.
     fn contains_fold(&self, code: u16) -> bool
         ensures { result ≡ has_fold self.now code };
+
+    /// Whether each vertex of a plan has a closure of its kind and code. Refusal: `NoCall` with the lowest vertex that
+    /// lacks its closure, and the code. It takes no memory.
+    fn fits(&self, plan: &Plan) -> Result<(), CallsError>
+        ensures ok { OnOk result (first_lack (has_map self.now) (has_group self.now) (has_fold self.now) (vertices plan.now) ≡ None) }
+        ensures err { IfErr result (λ e. first_lack (has_map self.now) (has_group self.now) (has_fold self.now) (vertices plan.now) ≡ Some e) }
+    {
+        for vertex in plan.vertices() {
+            if let Some(code) = self.lacking_code(vertex.kind()) {
+                return Err(CallsError::NoCall(vertex.number(), code));
+            }
+        }
+        Ok(())
+    }
+
+    /// The code for which a vertex of this kind lacks a closure.
+    fn lacking_code(&self, kind: Kind) -> Option<u16>
+        ensures { result ≡ lacking_code (has_map self.now) (has_group self.now) (has_fold self.now) kind }
+    {
+        match kind {
+            Kind::Map(code) if !self.contains_map(code) => Some(code),
+            Kind::Group(code) if !self.contains_group(code) => Some(code),
+            Kind::Fold(code) if !self.contains_fold(code) => Some(code),
+            _ => None,
+        }
+    }
 }
 
 /// Stored closures of all three kinds. Each kind has its own codes.

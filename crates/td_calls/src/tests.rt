@@ -5,6 +5,7 @@ ghost use Rattle.td_calls.specs.Sample.{sample, sample_few, one, counted, counte
 
 use crate::{Calls, CallsError, Closures, Coded, FoldCall, GroupCall, Law, MapCall};
 use std::test::Fail;
+use td_plan::Plan;
 use td_stamp::{Few, Item, Rec, State};
 
 struct Sample;
@@ -224,6 +225,28 @@ fn folds_answer_by_key_and_state(rt: HostRuntime) -> Result<(), Fail> {
     };
     assert_eq!(rt; error, CallsError::CodeUsed);
     assert_eq!(rt; back.call(7, None, &ITEMS).0, Some(State { a: 2, b: 0 }));
+    Ok(())
+}
+
+#[test]
+fn closures_fit_a_plan(rt: HostRuntime) -> Result<(), Fail> {
+    let text = "0 input\n1 map 1 0\n2 group 20 1\n3 output 2\n";
+    let plan = Plan::read(rt.alloc(), text)?;
+    let mut calls: SampleCalls = Calls::new(rt.alloc());
+    assert_eq!(rt; calls.fits(&plan), Err(CallsError::NoCall(1, 1)));
+    let map: MapBox = Box::new(rt.alloc(), |port: u8, rec: Rec| same(port, rec))?;
+    assert!(rt; calls.add_map(SampleMap { code: 1, run: map }).is_ok());
+    assert_eq!(rt; calls.fits(&plan), Err(CallsError::NoCall(2, 20)));
+    let group: GroupBox = Box::new(rt.alloc(), |key: u64, items: &[Item]| count(key, items))?;
+    assert!(rt;
+        calls
+            .add_group(SampleGroup {
+                code: 20,
+                run: group
+            })
+            .is_ok()
+    );
+    assert_eq!(rt; calls.fits(&plan), Ok(()));
     Ok(())
 }
 

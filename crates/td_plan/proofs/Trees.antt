@@ -1,13 +1,15 @@
 -- The tree of lines without a fault: its lines, its numbers and its vertices.
 use Rattle.std.proofs.Common.{◌≡◌, ℕ, suc, ◌+◌, Bool, true, false, ◌==◌, List, [], ◌∷◌, ◌++◌, length, refl, ap, sym, ◌∙◌, subst, arith, length-append}
-use Rattle.std.specs.Prelude.{Some, is_none, fold}
+use Rattle.std.specs.Prelude.{Some, is_none, fold, find, not, ◌&&◌, ◌||◌, cond, drop}
+use Rattle.std.specs.List.{list_all}
 use Rattle.std.proofs.lemmas.List.{append_assoc, append-nil, length_push}
 use Rattle.std.proofs.lemmas.Bool.{eqb-true}
 use Rattle.td_plan.specs.declared.vertex.Loop.{Loop}
 use Rattle.td_plan.specs.Lines.{Vertex, Line}
 use Rattle.td_plan.specs.Lines.Line.{vertex, loop, end}
-use Rattle.td_plan.specs.Blocks.{PlacedVertex, Scope, no_scope, scope_after, vertices}
-use Rattle.td_plan.specs.Faults.{Fault, fault_of, is_faultless, is_nil, IsPlan}
+use Rattle.td_plan.specs.Blocks.{PlacedVertex, Scope, no_scope, scope_after, vertices, reading_loops, is_source_on}
+use Rattle.td_plan.specs.Faults.{Fault, has_fault, fault_of, faults, is_faultless, is_nil, is_fold, is_feedback, is_in_loop, is_of_outermost, is_of_loops, IsPlan}
+use Rattle.td_plan.specs.Sources.{ReadsAmong, ReadEarlier}
 use Rattle.td_plan.specs.Tree.{Nodes, Rest, opened, rest_of, tree_of, lines_of, size, placed_in, IsNumbered}
 use Rattle.td_plan.specs.Tree.Nodes.{done, node, block}
 use Rattle.td_plan.proofs.Readings.{both}
@@ -75,15 +77,56 @@ numbered vs ls v e = by (v.number == length vs) refl
     by true t = eqb-true v.number (length vs) t
     by false t = absurd (let r : fault_of (scope vs ls) (vertex v) ≡ Some Fault.number = rw t refl in let q : is_none (fault_of (scope vs ls) (vertex v)) ≡ false = ap is_none r in cc)
 
+-- where none is found, the first is not such a one, and none is found among the others
+none_found : {X : Type 0} (p : X → Bool) (x : X) (xs : List X) → is_none (find p (x ∷ xs)) ≡ true → (p x ≡ false) × (is_none (find p xs) ≡ true)
+none_found p x xs e = by (p x) refl e
+  where
+    by : (b : Bool) → p x ≡ b → is_none (cond b (Some x) (find p xs)) ≡ true → (p x ≡ false) × (is_none (find p xs) ≡ true)
+    by true t e = absurd (cc)
+    by false t e = (t, e)
+
+neither : (a b : Bool) → (a || b) ≡ false → (a ≡ false) × (b ≡ false)
+neither true b e = absurd (cc)
+neither false b e = (refl, e)
+
+-- what is left of the fault Nest, where the others that it leaves aside do not hold
+read_there : (feedback fold all : Bool) → (not feedback && not fold && not all) ≡ false → fold ≡ false → feedback ≡ false → all ≡ true
+read_there true fold all e f g = absurd (cc)
+read_there false true all e f g = absurd (cc)
+read_there false false true e f g = refl
+read_there false false false e f g = absurd (cc)
+
+-- a vertex without a fault reads among those before it
+sourced : (vs : List PlacedVertex) (ls : List Loop) (v : Vertex) → is_none (fault_of (scope vs ls) (vertex v)) ≡ true → ReadsAmong vs (record { vertex = v; loops = ls })
+sourced vs ls v e no_feedback =
+    let p : Fault → Bool = has_fault (scope vs ls) (vertex v) in
+    let a = none_found p Fault.syntax (drop 1 faults) e in
+    let b = none_found p Fault.number (drop 2 faults) a.1 in
+    let c = none_found p Fault.order (drop 3 faults) b.1 in
+    let d = none_found p Fault.nest (drop 4 faults) c.1 in
+    let f = none_found p Fault.bound (drop 5 faults) d.1 in
+    let g = none_found p Fault.fold_in_loop (drop 6 faults) f.1 in
+    let all = list_all (is_source_on (reading_loops v.kind ls) vs) v.sources in
+    let elsewhere = not (is_feedback v.kind) && not (is_fold v.kind && is_in_loop ls) && not all in
+    let last : elsewhere ≡ false = (neither ((is_in_loop ls && is_of_outermost v.kind) || (not (is_in_loop ls) && is_of_loops v.kind)) elsewhere d.0).1 in
+    read_there (is_feedback v.kind) (is_fold v.kind && is_in_loop ls) all last g.0 no_feedback
+
+-- vertices one after the other
+read_on : (before ps qs : List PlacedVertex) → ReadEarlier before ps → ReadEarlier (before ++ ps) qs → ReadEarlier before (ps ++ qs)
+read_on before [] qs h k = subst (λ ws. ReadEarlier ws qs) (append-nil before) k
+read_on before (p ∷ ps) qs h k = (h.0, read_on (before ++ p ∷ []) ps qs h.1 (subst (λ ws. ReadEarlier ws qs) (sym (append_assoc before (p ∷ []) ps)) k))
+
 -- Of the lines of some nodes and others after them: the nodes are numbered on, and the others follow them
 pub record Walked (ns : Nodes) (vs : List PlacedVertex) (ls : List Loop) (lines : List Line) : Type 0 where
   pub numbers : IsNumbered (length vs) ns
+  pub sources : ReadEarlier vs (placed_in ls (length vs) ns)
   pub faultless : is_faultless (scope (vs ++ placed_in ls (length vs) ns) ls) lines ≡ true
   pub scope_is : fold scope_after (scope vs ls) (lines_of ns ++ lines) ≡ fold scope_after (scope (vs ++ placed_in ls (length vs) ns) ls) lines
 
 walk : (ns : Nodes) (vs : List PlacedVertex) (ls : List Loop) (lines : List Line) → is_faultless (scope vs ls) (lines_of ns ++ lines) ≡ true → Walked ns vs ls lines
 walk done vs ls lines f = record {
   numbers = tt;
+  sources = tt;
   faultless = ap (λ ws. is_faultless (scope ws ls) lines) (append-nil vs) ∙ f;
   scope_is = ap (λ ws. fold scope_after (scope ws ls) lines) (sym (append-nil vs));
 }
@@ -96,6 +139,7 @@ walk (node v rest) vs ls lines f =
     append_assoc vs (here ∷ []) (placed_in ls (length (vs ++ here ∷ [])) rest) ∙ ap (λ n. vs ++ here ∷ placed_in ls n rest) longer in
     record {
       numbers = (numbered vs ls v parts.0, subst (λ n. IsNumbered n rest) longer r.numbers);
+      sources = (sourced vs ls v parts.0, subst (λ n. ReadEarlier (vs ++ here ∷ []) (placed_in ls n rest)) longer r.sources);
       faultless = ap (λ ws. is_faultless (scope ws ls) lines) (sym same) ∙ r.faultless;
       scope_is = r.scope_is ∙ ap (λ ws. fold scope_after (scope ws ls) lines) same;
     }
@@ -112,6 +156,7 @@ walk (block b body rest) vs ls lines f =
     append_assoc vs inside (placed_in ls (length (vs ++ inside)) rest) ∙ ap (λ n. vs ++ (inside ++ placed_in ls n rest)) longer in
     record {
       numbers = (inner.numbers, subst (λ n. IsNumbered n rest) longer r.numbers);
+      sources = read_on vs inside (placed_in ls (length vs + size body) rest) inner.sources (subst (λ n. ReadEarlier (vs ++ inside) (placed_in ls n rest)) longer r.sources);
       faultless = ap (λ ws. is_faultless (scope ws ls) lines) (sym same) ∙ r.faultless;
       scope_is = ap (fold scope_after (scope vs ls)) split ∙ inner.scope_is ∙ r.scope_is ∙ ap (λ ws. fold scope_after (scope ws ls) lines) same;
     }
@@ -124,3 +169,6 @@ tree_numbered plan p = (plan_walked plan p).numbers
 
 pub tree_vertices : (plan : List Line) → IsPlan plan → placed_in [] 0 (tree_of plan) ≡ vertices plan
 tree_vertices plan p = sym (ap (λ lines. (fold scope_after no_scope lines).vertices) (sym (append-nil (lines_of (tree_of plan)) ∙ tree_lines plan p)) ∙ ap (λ s. s.vertices) (plan_walked plan p).scope_is)
+
+pub vertices_read : (plan : List Line) → IsPlan plan → ReadEarlier [] (vertices plan)
+vertices_read plan p = subst (ReadEarlier []) (tree_vertices plan p) (plan_walked plan p).sources

@@ -4,6 +4,7 @@ pub mod Lines
 pub mod Blocks
 pub mod Faults
 pub mod Tree
+pub mod Sources
 pub mod Texts
 pub mod Reading
 pub mod Written

@@ -7,6 +7,7 @@ ghost use Rattle.td_plan.specs.Lines.{Line, has_form, is_taken, text_of, words_o
 ghost use Rattle.td_plan.specs.Blocks.{vertices};
 ghost use Rattle.td_plan.specs.Tree.{tree_of, lines_of, placed_in, IsNumbered};
 ghost use Rattle.td_plan.specs.Faults.{IsPlan};
+ghost use Rattle.td_plan.specs.Sources.{ReadEarlier};
 ghost use Rattle.td_plan.specs.Texts.{PlanText, PlanFault};
 
 /// A text spells one plan, or has one refusal, and never both. The lines that the reader does not take yet count as
@@ -38,4 +39,10 @@ pub fn trees()
     ensures lines { (plan : List Line) → IsPlan plan → lines_of (tree_of plan) ≡ plan }
     ensures numbers { (plan : List Line) → IsPlan plan → IsNumbered 0 (tree_of plan) }
     ensures all { (plan : List Line) → IsPlan plan → placed_in [] 0 (tree_of plan) ≡ vertices plan }
+{}
+
+/// Each source of a plan's vertices, but for that of a feedback, comes before its reader, and is read on the block on
+/// which its reader reads.
+pub fn sources()
+    ensures { (plan : List Line) → IsPlan plan → ReadEarlier [] (vertices plan) }
 {}

@@ -1,7 +1,7 @@
 //! Plans.
-ghost use Rattle.std.specs.Prelude.{◌≡◌, ◌⊎◌, ◌↔◌, IsTrue, IfOk, IfErr, string_bytes};
+ghost use Rattle.std.specs.Prelude.{◌≡◌, ◌⊎◌, ◌↔◌, IsTrue, IfOk, IfErr, string_bytes, true};
 ghost use Rattle.std.specs.List.{list_all};
-ghost use Rattle.td_plan.specs.Lines.{text_of};
+ghost use Rattle.td_plan.specs.Lines.{is_taken, text_of};
 ghost use Rattle.td_plan.specs.Blocks.{vertices, edges, loops};
 ghost use Rattle.td_plan.specs.Faults.{IsPlan};
 ghost use Rattle.td_plan.specs.Inputs.{is_input_of};
@@ -50,10 +50,11 @@ impl Plan {
         })
     }
 
-    /// The vertices, in the order of their numbers.
+    /// The vertices, in the order of their numbers. (So far each is of a line that the reader takes.)
     pub fn vertices(&self) -> &[Vertex]
         ensures all { result.now ≡ vertices self.now }
         ensures lawful { IsPlan self.now }
+        ensures taken { list_all is_taken self.now ≡ true }
     {
         self.lines.vertices()
     }

@@ -51,7 +51,8 @@ impl Lines {
 
     /// The vertices, in the order of their numbers.
     pub(crate) fn vertices(&self) -> &[Vertex]
-        ensures { result.now ≡ vertices self.now }
+        ensures all { result.now ≡ vertices self.now }
+        ensures taken { list_all is_taken self.now ≡ true }
     {
         self.vertices.as_slice()
     }

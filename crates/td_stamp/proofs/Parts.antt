@@ -1,12 +1,13 @@
 -- Bags, sets and groups of what the elements of a list give do not depend on the order of the list.
 use Rattle.std.proofs.Common.{◌≡◌, ◌==◌, List, [], ◌∷◌, ◌++◌, refl, ap, sym, ◌∙◌, Bool, true, false, cond, map, filter, flat_map}
+use Rattle.std.proofs.lemmas.List.{append_assoc}
 use Rattle.std.specs.declared.cmp.Ordering.{Ordering}
 use Rattle.std.specs.declared.cmp.Ordering.TheVariants.{Less, Equal, Greater}
 use Rattle.std.specs.Ordering.{nat_cmp}
 use Rattle.std.specs.Cmp.{IsTotalOrder, nat_cmp_total}
 use Rattle.std.specs.FinMap.{IsAntisymmetric, nat_cmp-IsAntisymmetric}
 use Rattle.td_stamp.specs.declared.values.Arrival.{Arrival}
-use Rattle.td_stamp.specs.Orders.{item_cmp}
+use Rattle.td_stamp.specs.Orders.{item_cmp, arrival_cmp}
 use Rattle.td_stamp.specs.OrderLaws.{item_total, item_apart}
 use Rattle.td_stamp.specs.Bag.{bag_insert, set_insert, join, bag_of, set_of}
 use Rattle.td_stamp.specs.Groups.{groups}
@@ -67,3 +68,26 @@ module _ {X Y : Type 0} (cmp : X → X → Ordering) (total : IsTotalOrder cmp) 
 pub groups-middle : (xs : List Arrival) (a : Arrival) (ys : List Arrival) → groups (xs ++ a ∷ ys) ≡ groups (a ∷ xs ++ ys)
 groups-middle xs a ys =
     λ i. map (λ key. (key, bag_of-filter-middle item_cmp item_total item_apart (λ (x : Arrival). x.item) (λ b. b.key == key) xs a ys i)) (set_of-map-middle nat_cmp nat_cmp_total nat_cmp-IsAntisymmetric (λ (b : Arrival). b.key) xs a ys i)
+
+-- an arrival put into a sorted list of arrivals may as well come before it, whatever comes before them
+groups-insert : (before : List Arrival) (a : Arrival) (zs : List Arrival) → groups (before ++ bag_insert arrival_cmp a zs) ≡ groups (before ++ a ∷ zs)
+groups-insert before a [] = refl
+groups-insert before a (y ∷ ys) = by (arrival_cmp a y) (groups-insert (before ++ y ∷ []) a ys)
+  where
+    by : (s : Ordering) → groups ((before ++ y ∷ []) ++ bag_insert arrival_cmp a ys) ≡ groups ((before ++ y ∷ []) ++ a ∷ ys)
+        → groups (before ++ elim s [ Greater ↦ y ∷ bag_insert arrival_cmp a ys | _ ↦ a ∷ y ∷ ys ]) ≡ groups (before ++ a ∷ y ∷ ys)
+    by Less h = refl
+    by Equal h = refl
+    by Greater h =
+        ap groups (sym (append_assoc before (y ∷ []) (bag_insert arrival_cmp a ys))) ∙ h ∙ groups-middle (before ++ y ∷ []) a ys
+        ∙ ap (λ l. groups (a ∷ l)) (append_assoc before (y ∷ []) ys) ∙ sym (groups-middle before a (y ∷ ys))
+
+-- the groups of arrivals are those of their bag
+groups-before : (before xs : List Arrival) → groups (before ++ bag_of arrival_cmp xs) ≡ groups (before ++ xs)
+groups-before before [] = refl
+groups-before before (x ∷ xs) =
+    groups-insert before x (bag_of arrival_cmp xs) ∙ ap groups (sym (append_assoc before (x ∷ []) (bag_of arrival_cmp xs))) ∙ groups-before (before ++ x ∷ []) xs
+    ∙ ap groups (append_assoc before (x ∷ []) xs)
+
+pub groups-of_bag : (xs : List Arrival) → groups (bag_of arrival_cmp xs) ≡ groups xs
+groups-of_bag xs = groups-before [] xs

@@ -77,6 +77,11 @@ pub fn groups_in_any_order()
     ensures { (xs ys : List AnyArrival) (a : AnyArrival) → groups (xs ++ a ∷ ys) ≡ groups (a ∷ xs ++ ys) }
 {}
 
+/// The groups of arrivals are those of their bag.
+pub fn groups_of_a_bag()
+    ensures { (xs : List AnyArrival) → groups (bag_of arrival_cmp xs) ≡ groups xs }
+{}
+
 /// The order of times.
 pub fn time_order()
     ensures reflexive { (t : Timestamp) → IsAtMost t t }

@@ -1,5 +1,6 @@
 //! The plain values.
 ghost use Rattle.std.specs.Prelude.{◌≡◌, ◌%◌, ◌<◌};
+ghost use Rattle.td_stamp.specs.Groups.{arrival_of, rec_of};
 
 use arrayvec::ArrayVec;
 
@@ -45,6 +46,28 @@ pub struct Item {
 pub struct Arrival {
     pub key: u64,
     pub item: Item,
+}
+
+impl Arrival {
+    /// A record that arrives at a port.
+    pub fn new(port: u8, rec: Rec) -> Arrival
+        ensures { result ≡ arrival_of port rec }
+    {
+        Arrival {
+            key: rec.key,
+            item: Item { port, val: rec.val },
+        }
+    }
+
+    /// The record that arrived.
+    pub fn rec(&self) -> Rec
+        ensures { result ≡ rec_of self.now }
+    {
+        Rec {
+            key: self.key,
+            val: self.item.val,
+        }
+    }
 }
 
 /// A record that a batch gives an input vertex. Entries are ordered by (input, key, val).

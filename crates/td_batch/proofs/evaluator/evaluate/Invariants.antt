@@ -1,0 +1,12 @@
+use Rattle.std.proofs.Common.{◌≡◌, ◌+◌, take}
+use Rattle.td_plan.specs.Tree.{tree_of}
+use Rattle.td_batch.specs.Meaning.{run}
+use Rattle.td_batch.specs.Evaluated.{numbered}
+use Rattle.td_batch.proofs.evaluator.evaluate.Given as goal
+
+abbrev pub invariant-loop-batch : goal.invariant-loop-batch
+invariant-loop-batch g l = record {
+  epoch_is : l.epoch ≡ l.first + l.batch-index;
+  stay : (run g.L.Law.answers (tree_of l.plan) l.states (take l.batch-index l.batches)).states ≡ l.states;
+  so_far : l.outs.items ≡ numbered l.first (run g.L.Law.answers (tree_of l.plan) l.states (take l.batch-index l.batches)).outs;
+}

@@ -1,0 +1,4 @@
+pub mod Meaning
+pub mod Flow
+pub mod Evaluated
+pub mod Examples

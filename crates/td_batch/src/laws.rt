@@ -1,0 +1,52 @@
+//! Laws of the definitions. Each is the contract of a function that does nothing, or calls the laws that it follows from.
+ghost use Rattle.std.specs.Prelude.{◌≡◌, [], ◌∷◌, ◌++◌, ℕ, List};
+ghost use Rattle.td_stamp.specs.declared.values.Arrival.{Arrival};
+ghost use Rattle.td_stamp.specs.declared.values.Entry.{Entry};
+ghost use Rattle.td_stamp.specs.Orders.{output_cmp};
+ghost use Rattle.td_stamp.specs.Bag.{IsBag};
+ghost use Rattle.td_stamp.specs.States.{StateList};
+ghost use Rattle.td_plan.specs.declared.vertex.Kind.{Kind};
+ghost use Rattle.td_plan.specs.Lines.{Vertex};
+ghost use Rattle.td_plan.specs.Tree.{Nodes};
+ghost use Rattle.td_batch.specs.Meaning.{EpochInput, answer, states_by, run, epoch_result, result_of};
+ghost use Rattle.td_batch.specs.Flow.{Flow, Solves, IsPlacedTree};
+
+use td_calls::Law;
+use td_stamp::{Output, Rec, laws};
+
+/// Epochs after one another: the later ones go on from the states that the earlier ones leave.
+pub fn run_joins<L: Law>()
+    ensures states { (nodes : Nodes) (states : StateList) (x y : List (List Entry)) →
+        (run L.answers nodes states (x ++ y)).states ≡ (run L.answers nodes (run L.answers nodes states x).states y).states }
+    ensures outs { (nodes : Nodes) (states : StateList) (x y : List (List Entry)) →
+        (run L.answers nodes states (x ++ y)).outs ≡ (run L.answers nodes states x).outs ++ (run L.answers nodes (run L.answers nodes states x).states y).outs }
+{}
+
+/// What a vertex emits, and the states that a fold keeps, are the same in whatever order records arrive: each may as well
+/// arrive first.
+pub fn arrivals_in_any_order()
+    ensures sent { (epoch : EpochInput) (v : ℕ) (kind : Kind) (xs : List Arrival) (a : Arrival) (ys : List Arrival) →
+        answer epoch v kind (xs ++ a ∷ ys) ≡ answer epoch v kind (a ∷ xs ++ ys) }
+    ensures states { (epoch : EpochInput) (v : Vertex) (kind : Kind) (xs : List Arrival) (a : Arrival) (ys : List Arrival) (states : StateList) →
+        states_by epoch v kind (xs ++ a ∷ ys) states ≡ states_by epoch v kind (a ∷ xs ++ ys) states }
+{
+    laws::joins::<Rec>();
+    laws::bags::<Rec>();
+    laws::sets::<Rec>();
+    laws::groups_in_any_order();
+}
+
+/// Where bags at all times answer one another, as those of an engine do that passes messages, an epoch gives what they
+/// give: every solution of the flat equations is the batch meaning, of every plan whose sources are read where their
+/// readers read.
+pub fn one_meaning()
+    ensures { (epoch : EpochInput) (nodes : Nodes) (flow : Flow) → IsPlacedTree nodes → Solves epoch flow [] nodes →
+        epoch_result epoch nodes ≡ result_of epoch nodes (λ v. flow v []) }
+{}
+
+/// The outputs of an epoch are a bag: its sorted list.
+pub fn outputs_are_sorted()
+    ensures { (epoch : EpochInput) (nodes : Nodes) → IsBag output_cmp (epoch_result epoch nodes).outs }
+{
+    laws::bags::<Output>();
+}

@@ -1,0 +1,93 @@
+//! What vertices send, bag by bag.
+ghost use Rattle.std.specs.Prelude.{◌≡◌, IsTrue, IfOk, OnOk, map, flat_map};
+ghost use Rattle.td_stamp.specs.Orders.{rec_cmp, output_cmp, arrival_cmp};
+ghost use Rattle.td_stamp.specs.Bag.{bag_of, join, IsBag};
+ghost use Rattle.td_stamp.specs.Groups.{arrival_of, groups};
+
+use crate::error::BatchError;
+use std::alloc::Global;
+use td_calls::{Closures, Law};
+use td_stamp::{Arrival, Bag, Output, Rec, laws};
+
+/// What a map sends of the records that arrive at its port 0. Refusal: `Memory`.
+pub(crate) fn mapped<L: Law, C: Closures<L>>(
+    alloc: Global,
+    calls: &C,
+    code: u16,
+    records: &Bag<Rec>,
+) -> Result<Bag<Rec>, BatchError>
+    requires stored { IsTrue (C.has_map calls.now code) }
+    ensures { IfOk result (λ sent. sent ≡ bag_of rec_cmp (flat_map (λ rec. L.answers.emit code 0 rec) records.now)) }
+{
+    laws::joins::<Rec>();
+    let mut sent = Bag::new(alloc);
+    for rec in records.list() {
+        let Some(few) = calls.map(code, 0, rec) else {
+            unreachable!();
+        };
+        add_all(&mut sent, few.as_slice())?;
+    }
+    Ok(sent)
+}
+
+/// What a group sends of the records that arrive at its port 0. Refusal: `Memory`.
+pub(crate) fn grouped<L: Law, C: Closures<L>>(
+    alloc: Global,
+    calls: &C,
+    code: u16,
+    records: &Bag<Rec>,
+) -> Result<Bag<Rec>, BatchError>
+    requires stored { IsTrue (C.has_group calls.now code) }
+    ensures { IfOk result (λ sent. sent ≡ bag_of rec_cmp (flat_map (λ g. L.answers.group code g.0 g.1) (groups (map (arrival_of 0) records.now)))) }
+{
+    laws::joins::<Rec>();
+    laws::groups_of_a_bag();
+    let arrivals = arriving(alloc, records)?;
+    let mut sent = Bag::new(alloc);
+    for group in &arrivals.groups()? {
+        let Some(few) = calls.group(code, group.key(), group.items()) else {
+            unreachable!();
+        };
+        add_all(&mut sent, few.as_slice())?;
+    }
+    Ok(sent)
+}
+
+/// Records as they arrive at port 0. Refusal: `Memory`.
+fn arriving(alloc: Global, records: &Bag<Rec>) -> Result<Bag<Arrival>, BatchError>
+    ensures { IfOk result (λ arrivals. arrivals ≡ bag_of arrival_cmp (map (arrival_of 0) records.now)) }
+{
+    laws::joins::<Arrival>();
+    let mut arrivals = Bag::new(alloc);
+    for rec in records.list() {
+        arrivals.add(Arrival::new(0, rec))?;
+    }
+    Ok(arrivals)
+}
+
+/// Adds records to a bag. After a refusal, which is `Memory`, some of them are in it.
+fn add_all(sent: &mut Bag<Rec>, records: &[Rec]) -> Result<(), BatchError>
+    ensures { OnOk result (sent.new ≡ join rec_cmp records.now sent.old) }
+{
+    laws::joins::<Rec>();
+    for rec in records {
+        sent.add(*rec)?;
+    }
+    Ok(())
+}
+
+/// Adds the records that arrive at an output vertex. After a refusal, which is `Memory`, some of them are there.
+pub(crate) fn put_out(
+    outputs: &mut Bag<Output>,
+    vertex: u8,
+    records: &Bag<Rec>,
+) -> Result<(), BatchError>
+    ensures sorted { IsBag rec_cmp records.now }
+    ensures put { OnOk result (outputs.new ≡ join output_cmp (map (λ r. record { vertex = vertex; rec = r }) records.now) outputs.old) }
+{
+    laws::joins::<Output>();
+    for rec in records.list() {
+        outputs.add(Output { vertex, rec })?;
+    }
+    Ok(())
+}

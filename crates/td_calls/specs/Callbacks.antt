@@ -1,0 +1,63 @@
+-- What a vertex does with what arrives (Naiad, section 2.2, OnRecv and OnNotify), kind by kind.
+use Rattle.std.specs.Prelude.{ℕ, not, List, [], ◌∷◌, ◌++◌, map, filter, flat_map, Option, if◌then◌else◌}
+use Rattle.std.specs.List.{enumerate_from}
+use Rattle.td_stamp.specs.declared.values.Rec.{Rec}
+use Rattle.td_stamp.specs.declared.values.Item.{Item}
+use Rattle.td_stamp.specs.declared.values.State.{State}
+use Rattle.td_stamp.specs.declared.values.Arrival.{Arrival}
+use Rattle.td_stamp.specs.Orders.{rec_cmp}
+use Rattle.td_stamp.specs.Bag.{bag_of, set_of, has}
+use Rattle.td_stamp.specs.Groups.{arrival_of, rec_of, groups}
+use Rattle.td_plan.specs.declared.vertex.Kind.{Kind}
+use Rattle.td_plan.specs.declared.vertex.Kind.TheVariants.{Input, Map, Distinct, Group, Fold}
+use Rattle.td_calls.specs.Answers.{Answers}
+
+-- what arrives at a vertex, from the bag at each of its ports
+abbrev pub arrivals : List (List Rec) → List Arrival
+arrivals bags = flat_map (λ b. map (arrival_of b.0) b.1) (enumerate_from 0 bags)
+
+-- What a vertex has kept of a time so far: the records that a distinct has seen, and the arrivals that a group or a fold
+-- keeps for its notification
+pub record Kept : Type 0 where
+  pub seen : List Rec
+  pub buffered : List Arrival
+
+abbrev pub nothing_kept : Kept
+nothing_kept = record { seen = []; buffered = [] }
+
+-- What a callback adds to that, and what it sends
+pub record Added : Type 0 where
+  pub seen : List Rec
+  pub buffered : List Arrival
+  pub sent : List Rec
+
+abbrev pub only_sent : List Rec → Added
+only_sent sent = record { seen = []; buffered = []; sent = sent }
+
+-- of a record that arrives (OnRecv)
+abbrev pub on_arrival : Answers → Kind → Kept → Arrival → Added
+on_arrival answers Input kept a = only_sent []
+on_arrival answers (Map code) kept a = only_sent (answers.emit code a.item.port (rec_of a))
+on_arrival answers Distinct kept a =
+    if has rec_cmp (rec_of a) kept.seen then only_sent [] else record { seen = rec_of a ∷ []; buffered = []; sent = rec_of a ∷ [] }
+on_arrival answers (Group code) kept a = record { seen = []; buffered = a ∷ []; sent = [] }
+on_arrival answers (Fold code) kept a = record { seen = []; buffered = a ∷ []; sent = [] }
+on_arrival answers _ kept a = only_sent (rec_of a ∷ [])
+
+-- of a notification (OnNotify), for a key with its state and its sorted items: the state that is kept, and what is sent
+abbrev pub on_notification : Answers → Kind → ℕ → Option State → List Item → Option State × List Rec
+on_notification answers (Group code) key state items = (state, answers.group code key items)
+on_notification answers (Fold code) key state items = answers.fold code key state items
+on_notification answers _ key state items = (state, [])
+
+-- ALL THAT A VERTEX SENDS AT A TIME, in what order the records ever arrive: it has kept this so far, and these still
+-- arrive. `state` is the state of each key before the epoch
+abbrev pub sends : Answers → (ℕ → Option State) → Kind → Kept → List Arrival → List Rec
+sends answers state Input kept arrived = []
+sends answers state (Map code) kept arrived = bag_of rec_cmp (flat_map (λ a. answers.emit code a.item.port (rec_of a)) arrived)
+sends answers state Distinct kept arrived = filter (λ r. not (has rec_cmp r kept.seen)) (set_of rec_cmp (map rec_of arrived))
+sends answers state (Group code) kept arrived =
+    bag_of rec_cmp (flat_map (λ g. (on_notification answers (Group code) g.0 (state g.0) g.1).1) (groups (kept.buffered ++ arrived)))
+sends answers state (Fold code) kept arrived =
+    bag_of rec_cmp (flat_map (λ g. (on_notification answers (Fold code) g.0 (state g.0) g.1).1) (groups (kept.buffered ++ arrived)))
+sends answers state _ kept arrived = bag_of rec_cmp (map rec_of arrived)
