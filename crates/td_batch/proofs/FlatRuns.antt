@@ -7,8 +7,7 @@ use Rattle.td_stamp.specs.declared.epoch_out.EpochOut.{EpochOut}
 use Rattle.td_stamp.specs.States.{StateList}
 use Rattle.td_plan.specs.Tree.{Nodes}
 use Rattle.td_calls.specs.Answers.{Answers}
-use Rattle.td_batch.specs.Meaning.{EpochResult, epoch_result, run}
-use Rattle.td_batch.specs.Evaluated.{numbered}
+use Rattle.td_batch.specs.Meaning.{EpochResult, epoch_result, run, numbered}
 use Rattle.td_batch.proofs.Flat.{input_of}
 use Rattle.td_batch.proofs.Runs.{states-append, outs-append}
 

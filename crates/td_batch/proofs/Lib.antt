@@ -2,11 +2,13 @@ pub mod AnyOrder
 pub mod Flows
 pub mod Lists
 pub mod Meanings
+pub mod Ranges
 pub mod Runs
 pub mod Solutions
 pub mod Turns
+pub mod TurnsSolve
 mod Joins
 mod Listed
 mod Flat
-mod Outcomes
 mod FlatRuns
+mod OpenRuns

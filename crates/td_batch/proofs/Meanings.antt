@@ -11,7 +11,8 @@ use Rattle.td_plan.specs.Tree.{Nodes, size}
 use Rattle.td_plan.specs.Tree.Nodes.{done, node, block}
 use Rattle.td_calls.specs.Callbacks.{arrivals}
 use Rattle.td_batch.specs.Meaning.{EpochInput, Bags, emitted, epoch_bags, epoch_result, result_of, outputs_at, outputs_in, states_by, states_in}
-use Rattle.td_batch.specs.Flow.{Flow, Solves, IsWellPlaced, IsPlacedTree, readable, read_of, read_in, leaves_of}
+use Rattle.td_plan.specs.Placed.{IsWellPlaced, IsPlacedTree, readable, read_of, read_in, leaves_of}
+use Rattle.td_batch.specs.Flow.{Flow, Solves}
 use Rattle.td_batch.proofs.Lists.{AreAmong, pick, all_append, all_left, all_right, all_map, map_alike}
 use Rattle.td_batch.proofs.Flows.{EndsAs, AllEndAs, IsFlow, solution_is_flow}
 use Rattle.td_batch.proofs.Solutions.{turn_ends, ends_read}

@@ -13,7 +13,8 @@ use Rattle.td_plan.specs.Tree.{Nodes, size}
 use Rattle.td_plan.specs.Tree.Nodes.{done, node, block}
 use Rattle.td_calls.specs.Callbacks.{arrivals}
 use Rattle.td_batch.specs.Meaning.{EpochInput, Bags, emitted, answer, bags_read, emission, turns, over_turns, turn}
-use Rattle.td_batch.specs.Flow.{Flow, read_at, answer_at, leave_at, numbers_from, leave_of, leaves_of, read_of, read_in, readable, IsWellPlaced}
+use Rattle.td_plan.specs.Placed.{leave_of, leaves_of, read_of, read_in, readable, IsWellPlaced}
+use Rattle.td_batch.specs.Flow.{Flow, read_at, answer_at, leave_at, numbers_from}
 use Rattle.td_batch.proofs.Lists.{AreAmong, pick, all_append, all_map, map_alike}
 use Rattle.td_batch.proofs.Flows.{EndsAs, AllEndAs, Sends, SendsOut, LeavesSend, IsFlow}
 use Rattle.td_batch.proofs.Turns.{length-over_turns, emitted-over_turns, length-turn, turn_keeps, loop_bags, length-loop_bags, ends_more, ends_later}

@@ -7,7 +7,7 @@ use Rattle.td_plan.specs.Named.{count_plan, sum_plan, toggle_plan, loop_plan, ne
 use Rattle.td_plan.specs.Tree.{tree_of}
 use Rattle.td_calls.specs.Stock.{stock}
 use Rattle.td_batch.specs.Meaning.{run}
-use Rattle.td_batch.specs.Flow.{IsPlacedTree}
+use Rattle.td_plan.specs.Placed.{IsPlacedTree}
 
 -- an entry of a batch, and an output
 abbrev pub entry : ℕ → ℕ → ℤ → Entry

@@ -1,15 +1,14 @@
 -- The flat meaning: a bag for each vertex at each list of loop counters, where the bags determine one another as in an
 -- engine that passes messages. Counters stand innermost first: a loop is entered by `0 ∷ _`, left by the tail, and gone
 -- round again by `suc` at the head.
-use Rattle.std.specs.Prelude.{◌≡◌, ℕ, zero, suc, ◌+◌, ◌<◌, ◌==◌, true, List, [], ◌∷◌, ◌++◌, map, flat_map}
-use Rattle.std.specs.List.{AllByRecursion, list_any}
+use Rattle.std.specs.Prelude.{◌≡◌, ℕ, zero, suc, ◌<◌, List, [], ◌∷◌, map, flat_map}
 use Rattle.td_stamp.specs.declared.values.Rec.{Rec}
 use Rattle.td_stamp.specs.Orders.{rec_cmp}
 use Rattle.td_stamp.specs.Bag.{bag_of}
 use Rattle.td_plan.specs.declared.vertex.Kind.{Kind}
 use Rattle.td_plan.specs.declared.vertex.Kind.TheVariants.{Enter, Feedback, Leave}
 use Rattle.td_plan.specs.Lines.{Vertex}
-use Rattle.td_plan.specs.Tree.{Nodes, size}
+use Rattle.td_plan.specs.Tree.{Nodes}
 use Rattle.td_plan.specs.Tree.Nodes.{done, node, block}
 use Rattle.td_calls.specs.Callbacks.{arrivals}
 use Rattle.td_batch.specs.Meaning.{EpochInput, answer}
@@ -70,42 +69,3 @@ abbrev pub Solves : EpochInput → Flow → List ℕ → Nodes → Type 0
 Solves epoch flow bounds done = Unit {0}
 Solves epoch flow bounds (node v rest) = Equation epoch flow bounds v v.kind × Solves epoch flow bounds rest
 Solves epoch flow bounds (block bound body rest) = Solves epoch flow (bound ∷ bounds) body × Solves epoch flow bounds rest
-
--- the numbers of the leaves of a loop, which are read on the block around it
-abbrev pub leave_of : Vertex → Kind → List ℕ
-leave_of v Leave = v.number ∷ []
-leave_of v _ = []
-
-abbrev pub leaves_of : Nodes → List ℕ
-leaves_of done = []
-leaves_of (node v rest) = leave_of v v.kind ++ leaves_of rest
-leaves_of (block bound body rest) = leaves_of rest
-
--- the numbers of the vertices that are read on a block (an output among them, which nothing reads)
-abbrev pub read_of : Vertex → Kind → List ℕ
-read_of v Leave = []
-read_of v _ = v.number ∷ []
-
-abbrev pub read_in : Nodes → List ℕ
-read_in done = []
-read_in (node v rest) = read_of v v.kind ++ read_in rest
-read_in (block bound body rest) = leaves_of body ++ read_in rest
-
--- where a kind may have its sources: an enter outside, a feedback anywhere on its block, all others on the block so far
-abbrev pub readable : List ℕ → List ℕ → List ℕ → Kind → List ℕ
-readable all outer own Enter = outer
-readable all outer own Feedback = all
-readable all outer own _ = own
-
--- numbers count up from n, and each source is read where its reader reads
-abbrev pub IsWellPlaced : List ℕ → List ℕ → List ℕ → ℕ → Nodes → Type 0
-IsWellPlaced all outer own n done = Unit {0}
-IsWellPlaced all outer own n (node v rest) =
-    (v.number ≡ n) × AllByRecursion (λ s. list_any (λ x. x == s) (readable all outer own v.kind) ≡ true) v.sources
-    × IsWellPlaced all outer (own ++ read_of v v.kind) (n + 1) rest
-IsWellPlaced all outer own n (block bound body rest) =
-    IsWellPlaced (read_in body) own [] n body × IsWellPlaced all outer (own ++ leaves_of body) (n + size body) rest
-
--- of a whole plan
-abbrev pub IsPlacedTree : Nodes → Type 0
-IsPlacedTree nodes = IsWellPlaced (read_in nodes) [] [] 0 nodes

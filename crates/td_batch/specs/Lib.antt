@@ -1,4 +1,6 @@
 pub mod Meaning
 pub mod Flow
+pub mod BagAt
 pub mod Evaluated
 pub mod Examples
+pub mod BagAtExamples

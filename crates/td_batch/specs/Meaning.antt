@@ -1,9 +1,11 @@
 -- The batch meaning of a plan: whole bags down its tree, one turn of a block after another, with no messages, no
 -- notifications and no order.
 use Rattle.std.specs.Prelude.{ℕ, zero, suc, ◌+◌, List, [], ◌∷◌, ◌++◌, map, flat_map, fold, length, take, get_or, Option, Some, None}
+use Rattle.std.specs.List.{enumerate_from}
 use Rattle.td_stamp.specs.declared.values.Rec.{Rec}
 use Rattle.td_stamp.specs.declared.values.Entry.{Entry}
 use Rattle.td_stamp.specs.declared.values.Output.{Output}
+use Rattle.td_stamp.specs.declared.epoch_out.EpochOut.{EpochOut}
 use Rattle.td_stamp.specs.declared.values.State.{State}
 use Rattle.td_stamp.specs.declared.values.Arrival.{Arrival}
 use Rattle.td_stamp.specs.Orders.{rec_cmp, output_cmp}
@@ -133,3 +135,7 @@ run answers nodes states (batch ∷ later) =
 -- the states after the first n of some batches
 abbrev pub states_after : Answers → Nodes → StateList → List (List Entry) → ℕ → StateList
 states_after answers nodes states batches n = (run answers nodes states (take n batches)).states
+
+-- the outputs of each epoch, numbered from the first on
+abbrev pub numbered : ℕ → List (List Output) → List EpochOut
+numbered first outs = map (λ o. record { epoch = o.0; recs = o.1 }) (enumerate_from first outs)

@@ -11,12 +11,13 @@ ghost use Rattle.td_calls.specs.Callbacks.{arrivals};
 ghost use Rattle.td_batch.specs.Meaning.{emitted, emission, epoch_result};
 ghost use Rattle.td_batch.specs.Evaluated.{is_read_by, AreAlikeFor};
 
+use crate::emitted::Emitted;
 use crate::error::BatchError;
 use crate::sent::{grouped, mapped, put_out};
 use std::alloc::Global;
 use td_calls::{Closures, Law};
 use td_plan::{Kind, Plan, Vertex, laws as plan_laws};
-use td_stamp::{Bag, Batch, Output, Rec, laws};
+use td_stamp::{Bag, Batch, Output, laws};
 
 /// The outputs of an epoch. The states stay: no vertex of a plan that is read so far keeps one. Each bag is let go when
 /// its last reader has had it. Refusal: `Memory`.
@@ -43,7 +44,7 @@ pub(crate) fn epoch_outputs<L: Law, C: Closures<L>>(
                 vertex.number(),
                 arriving(bags.as_slice(), vertex),
             )?;
-            Bag::new(alloc)
+            Emitted::nothing(alloc)
         } else {
             emission::<L, C>(alloc, calls, batch, bags.as_slice(), vertex)?
         };
@@ -55,13 +56,13 @@ pub(crate) fn epoch_outputs<L: Law, C: Closures<L>>(
 }
 
 /// What a vertex emits that is no output, from the bags of the vertices before it. Refusal: `Memory`.
-fn emission<L: Law, C: Closures<L>>(
+fn emission<'a, L: Law, C: Closures<L>>(
     alloc: Global,
     calls: &C,
-    batch: &Batch,
-    bags: &[Bag<Rec>],
+    batch: &'a Batch,
+    bags: &[Emitted<'a>],
     vertex: &Vertex,
-) -> Result<Bag<Rec>, BatchError>
+) -> Result<Emitted<'a>, BatchError>
     requires stored { lacking_code (C.has_map calls.now) (C.has_group calls.now) (C.has_fold calls.now) vertex.now.vertex.kind ≡ None }
     requires taken { is_flat_kind vertex.now.vertex.kind (length vertex.now.vertex.sources) ≡ true }
     requires output { is_output vertex.now.vertex.kind ≡ false }
@@ -70,15 +71,21 @@ fn emission<L: Law, C: Closures<L>>(
         bag ≡ emission (record { answers = L.answers; states = states; batch = batch.now }) None bags.now vertex.now.vertex) }
 {
     match vertex.kind() {
-        Kind::Input => Ok(batch.records(vertex.number())?),
-        Kind::Map(code) => mapped::<L, C>(alloc, calls, code, arriving(bags, vertex)),
-        Kind::Group(code) => grouped::<L, C>(alloc, calls, code, arriving(bags, vertex)),
+        Kind::Input => Ok(Emitted::given(alloc, batch, vertex.number())),
+        Kind::Map(code) => {
+            let sent = mapped::<L, C>(alloc, calls, code, arriving(bags, vertex))?;
+            Ok(Emitted::own(sent))
+        }
+        Kind::Group(code) => {
+            let sent = grouped::<L, C>(alloc, calls, code, arriving(bags, vertex))?;
+            Ok(Emitted::own(sent))
+        }
         _ => unreachable!(),
     }
 }
 
 /// The bag of a vertex's one source.
-fn arriving<'a>(bags: &'a [Bag<Rec>], vertex: &Vertex) -> &'a Bag<Rec>
+fn arriving<'a, 'b>(bags: &'b [Emitted<'a>], vertex: &Vertex) -> &'b Emitted<'a>
     requires one { length vertex.now.vertex.sources ≡ 1 }
     requires sources { All (λ s. s < length bags.now) vertex.now.vertex.sources }
     ensures { arrivals (map (emitted bags.now) vertex.now.vertex.sources) ≡ map (arrival_of 0) result.now }
@@ -88,14 +95,14 @@ fn arriving<'a>(bags: &'a [Bag<Rec>], vertex: &Vertex) -> &'a Bag<Rec>
 }
 
 /// Lets go of the bags of these sources that no later vertex reads.
-fn forget_unread(alloc: Global, bags: &mut Vec<Bag<Rec>>, sources: &[u8], later: &[Vertex])
+fn forget_unread(alloc: Global, bags: &mut Vec<Emitted<'_>>, sources: &[u8], later: &[Vertex])
     requires sources { All (λ s. s < length bags.old.items) sources.now }
     ensures length { length bags.new.items ≡ length bags.old.items }
     ensures alike { AreAlikeFor later.now bags.new.items bags.old.items }
 {
     for source in sources {
         if !is_read_by(later, *source) {
-            bags[usize::from(*source)] = Bag::new(alloc);
+            bags[usize::from(*source)] = Emitted::nothing(alloc);
         }
     }
 }

@@ -5,8 +5,7 @@ ghost use Rattle.td_plan.specs.Blocks.{vertices};
 ghost use Rattle.td_plan.specs.Inputs.{is_input_of};
 ghost use Rattle.td_plan.specs.Tree.{tree_of};
 ghost use Rattle.td_calls.specs.Fits.{first_lack};
-ghost use Rattle.td_batch.specs.Meaning.{run};
-ghost use Rattle.td_batch.specs.Evaluated.{numbered};
+ghost use Rattle.td_batch.specs.Meaning.{run, numbered};
 
 use crate::epoch::epoch_outputs;
 use crate::error::BatchError;

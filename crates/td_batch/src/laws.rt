@@ -6,10 +6,13 @@ ghost use Rattle.td_stamp.specs.Orders.{output_cmp};
 ghost use Rattle.td_stamp.specs.Bag.{IsBag};
 ghost use Rattle.td_stamp.specs.States.{StateList};
 ghost use Rattle.td_plan.specs.declared.vertex.Kind.{Kind};
-ghost use Rattle.td_plan.specs.Lines.{Vertex};
-ghost use Rattle.td_plan.specs.Tree.{Nodes};
+ghost use Rattle.td_plan.specs.Lines.{Vertex, Line};
+ghost use Rattle.td_plan.specs.Tree.{Nodes, tree_of};
+ghost use Rattle.td_plan.specs.Faults.{IsPlan};
+ghost use Rattle.td_plan.specs.Placed.{IsPlacedTree};
 ghost use Rattle.td_batch.specs.Meaning.{EpochInput, answer, states_by, run, epoch_result, result_of};
-ghost use Rattle.td_batch.specs.Flow.{Flow, Solves, IsPlacedTree};
+ghost use Rattle.td_batch.specs.Flow.{Flow, Solves};
+ghost use Rattle.td_batch.specs.BagAt.{bag_at};
 
 use td_calls::Law;
 use td_stamp::{Output, Rec, laws};
@@ -43,6 +46,19 @@ pub fn one_meaning()
     ensures { (epoch : EpochInput) (nodes : Nodes) (flow : Flow) → IsPlacedTree nodes → Solves epoch flow [] nodes →
         epoch_result epoch nodes ≡ result_of epoch nodes (λ v. flow v []) }
 {}
+
+/// The bags of the nested turns, at all times, solve the flat equations of every plan whose sources are read where their
+/// readers read.
+pub fn turns_solve()
+    ensures { (epoch : EpochInput) (nodes : Nodes) → IsPlacedTree nodes → Solves epoch (bag_at epoch nodes) [] nodes }
+{}
+
+/// A plan without faults has its sources read where their readers read: the laws on such trees hold of each plan.
+pub fn plans_are_well_placed()
+    ensures { (plan : List Line) → IsPlan plan → IsPlacedTree (tree_of plan) }
+{
+    td_plan::laws::well_placed();
+}
 
 /// The outputs of an epoch are a bag: its sorted list.
 pub fn outputs_are_sorted()

@@ -1,6 +1,7 @@
 //! The batch meaning of a plan, and its plain evaluator. Its one contract: `evaluate` answers exactly the batch meaning.
 #![tactic(auto)]
 
+mod emitted;
 mod epoch;
 mod error;
 mod evaluator;

@@ -1,20 +1,22 @@
 //! What vertices send, bag by bag.
-ghost use Rattle.std.specs.Prelude.{◌≡◌, IsTrue, IfOk, OnOk, map, flat_map};
-ghost use Rattle.td_stamp.specs.Orders.{rec_cmp, output_cmp, arrival_cmp};
+ghost use Rattle.std.specs.Prelude.{◌≡◌, [], IsTrue, IfOk, OnOk, map, flat_map};
+ghost use Rattle.td_stamp.specs.Orders.{rec_cmp, output_cmp};
 ghost use Rattle.td_stamp.specs.Bag.{bag_of, join, IsBag};
 ghost use Rattle.td_stamp.specs.Groups.{arrival_of, groups};
+ghost use Rattle.td_batch.specs.Evaluated.{open_runs};
 
+use crate::emitted::Emitted;
 use crate::error::BatchError;
 use std::alloc::Global;
 use td_calls::{Closures, Law};
-use td_stamp::{Arrival, Bag, Output, Rec, laws};
+use td_stamp::{Arrival, Bag, Item, Output, Rec, laws};
 
 /// What a map sends of the records that arrive at its port 0. Refusal: `Memory`.
 pub(crate) fn mapped<L: Law, C: Closures<L>>(
     alloc: Global,
     calls: &C,
     code: u16,
-    records: &Bag<Rec>,
+    records: &Emitted<'_>,
 ) -> Result<Bag<Rec>, BatchError>
     requires stored { IsTrue (C.has_map calls.now code) }
     ensures { IfOk result (λ sent. sent ≡ bag_of rec_cmp (flat_map (λ rec. L.answers.emit code 0 rec) records.now)) }
@@ -30,39 +32,52 @@ pub(crate) fn mapped<L: Law, C: Closures<L>>(
     Ok(sent)
 }
 
-/// What a group sends of the records that arrive at its port 0. Refusal: `Memory`.
+/// What a group sends of the records that arrive at its port 0. They come in order, so the items of one key at a time
+/// are kept. Refusal: `Memory`.
 pub(crate) fn grouped<L: Law, C: Closures<L>>(
     alloc: Global,
     calls: &C,
     code: u16,
-    records: &Bag<Rec>,
+    records: &Emitted<'_>,
 ) -> Result<Bag<Rec>, BatchError>
     requires stored { IsTrue (C.has_group calls.now code) }
     ensures { IfOk result (λ sent. sent ≡ bag_of rec_cmp (flat_map (λ g. L.answers.group code g.0 g.1) (groups (map (arrival_of 0) records.now)))) }
 {
     laws::joins::<Rec>();
-    laws::groups_of_a_bag();
-    let arrivals = arriving(alloc, records)?;
+    laws::groups_are_runs();
     let mut sent = Bag::new(alloc);
-    for group in &arrivals.groups()? {
-        let Some(few) = calls.group(code, group.key(), group.items()) else {
-            unreachable!();
-        };
-        add_all(&mut sent, few.as_slice())?;
+    let mut key = 0;
+    let mut items = Vec::new(alloc);
+    for rec in records.list() {
+        if rec.key != key {
+            send_group::<L, C>(calls, code, key, &items, &mut sent)?;
+            items.clear();
+        }
+        key = rec.key;
+        items.push(Arrival::new(0, rec).item)?;
     }
+    send_group::<L, C>(calls, code, key, &items, &mut sent)?;
     Ok(sent)
 }
 
-/// Records as they arrive at port 0. Refusal: `Memory`.
-fn arriving(alloc: Global, records: &Bag<Rec>) -> Result<Bag<Arrival>, BatchError>
-    ensures { IfOk result (λ arrivals. arrivals ≡ bag_of arrival_cmp (map (arrival_of 0) records.now)) }
+/// Adds what a group sends for a key and its items, if there are any. Refusal: `Memory`.
+fn send_group<L: Law, C: Closures<L>>(
+    calls: &C,
+    code: u16,
+    key: u64,
+    items: &[Item],
+    sent: &mut Bag<Rec>,
+) -> Result<(), BatchError>
+    requires stored { IsTrue (C.has_group calls.now code) }
+    ensures { OnOk result (sent.new ≡ join rec_cmp (flat_map (λ g. L.answers.group code g.0 g.1) (open_runs key items.now [])) sent.old) }
 {
-    laws::joins::<Arrival>();
-    let mut arrivals = Bag::new(alloc);
-    for rec in records.list() {
-        arrivals.add(Arrival::new(0, rec))?;
+    if items.is_empty() {
+        return Ok(());
     }
-    Ok(arrivals)
+    let Some(few) = calls.group(code, key, items) else {
+        unreachable!();
+    };
+    add_all(sent, few.as_slice())
 }
 
 /// Adds records to a bag. After a refusal, which is `Memory`, some of them are in it.
@@ -80,7 +95,7 @@ fn add_all(sent: &mut Bag<Rec>, records: &[Rec]) -> Result<(), BatchError>
 pub(crate) fn put_out(
     outputs: &mut Bag<Output>,
     vertex: u8,
-    records: &Bag<Rec>,
+    records: &Emitted<'_>,
 ) -> Result<(), BatchError>
     ensures sorted { IsBag rec_cmp records.now }
     ensures put { OnOk result (outputs.new ≡ join output_cmp (map (λ r. record { vertex = vertex; rec = r }) records.now) outputs.old) }

@@ -6,7 +6,9 @@ pub mod Kept
 pub mod Lengths
 pub mod Listed
 pub mod Numerals
+pub mod Placed
 pub mod Printing
+pub mod ReadOn
 pub mod Readings
 pub mod Spelling
 pub mod Trees

@@ -14,7 +14,7 @@ use Rattle.td_plan.specs.Tree.{Nodes, Rest, opened, rest_of, tree_of, lines_of, 
 use Rattle.td_plan.specs.Tree.Nodes.{done, node, block}
 use Rattle.td_plan.proofs.Readings.{both}
 
-abbrev scope : List PlacedVertex → List Loop → Scope
+abbrev pub scope : List PlacedVertex → List Loop → Scope
 scope vs ls = record { vertices = vs; loops = ls }
 
 nil_length : (ls : List Loop) → is_nil ls ≡ true → 0 ≡ length ls
@@ -38,7 +38,7 @@ opened_back bound r n e = by r.inside r.after e
     by inside [] e = absurd (omega (arith, e))
     by inside (next ∷ outer) e = (ap (λ l. loop bound ∷ l) (append_assoc (lines_of inside) (end ∷ lines_of next) (flat outer)), omega (arith, e))
 
-rest_faultless : (s : Scope) (line : Line) (lines : List Line) → is_faultless s (line ∷ lines) ≡ true → is_faultless (scope_after s line) lines ≡ true
+pub rest_faultless : (s : Scope) (line : Line) (lines : List Line) → is_faultless s (line ∷ lines) ≡ true → is_faultless (scope_after s line) lines ≡ true
 rest_faultless s line lines f = (both (is_none (fault_of s line)) (is_faultless (scope_after s line) lines) f).1
 
 back : (lines : List Line) (vs : List PlacedVertex) (ls : List Loop) → is_faultless (scope vs ls) lines ≡ true → is_nil (fold scope_after (scope vs ls) lines).loops ≡ true
@@ -61,7 +61,7 @@ tree_lines plan p = let r = back plan [] [] p.faultless p.closed in by (rest_of 
     by (ns ∷ after) e p = absurd (omega (arith, e))
 
 -- THE VERTICES OF THE TREE
-length-placed : (ns : Nodes) (ls : List Loop) (n : ℕ) → length (placed_in ls n ns) ≡ size ns
+pub length-placed : (ns : Nodes) (ls : List Loop) (n : ℕ) → length (placed_in ls n ns) ≡ size ns
 length-placed done ls n = refl
 length-placed (node v rest) ls n = let r = length-placed rest ls (n + 1) in omega (arith, r)
 length-placed (block b body rest) ls n =
@@ -70,7 +70,7 @@ length-placed (block b body rest) ls n =
     omega (arith, r, q, length-append (placed_in (record { first = n; bound = b } ∷ ls) n body) (placed_in ls (n + size body) rest))
 
 -- the number of a vertex without a fault is the count of those before it
-numbered : (vs : List PlacedVertex) (ls : List Loop) (v : Vertex) → is_none (fault_of (scope vs ls) (vertex v)) ≡ true → v.number ≡ length vs
+pub numbered : (vs : List PlacedVertex) (ls : List Loop) (v : Vertex) → is_none (fault_of (scope vs ls) (vertex v)) ≡ true → v.number ≡ length vs
 numbered vs ls v e = by (v.number == length vs) refl
   where
     by : (b : Bool) → (v.number == length vs) ≡ b → v.number ≡ length vs
@@ -78,14 +78,14 @@ numbered vs ls v e = by (v.number == length vs) refl
     by false t = absurd (let r : fault_of (scope vs ls) (vertex v) ≡ Some Fault.number = rw t refl in let q : is_none (fault_of (scope vs ls) (vertex v)) ≡ false = ap is_none r in cc)
 
 -- where none is found, the first is not such a one, and none is found among the others
-none_found : {X : Type 0} (p : X → Bool) (x : X) (xs : List X) → is_none (find p (x ∷ xs)) ≡ true → (p x ≡ false) × (is_none (find p xs) ≡ true)
+pub none_found : {X : Type 0} (p : X → Bool) (x : X) (xs : List X) → is_none (find p (x ∷ xs)) ≡ true → (p x ≡ false) × (is_none (find p xs) ≡ true)
 none_found p x xs e = by (p x) refl e
   where
     by : (b : Bool) → p x ≡ b → is_none (cond b (Some x) (find p xs)) ≡ true → (p x ≡ false) × (is_none (find p xs) ≡ true)
     by true t e = absurd (cc)
     by false t e = (t, e)
 
-neither : (a b : Bool) → (a || b) ≡ false → (a ≡ false) × (b ≡ false)
+pub neither : (a b : Bool) → (a || b) ≡ false → (a ≡ false) × (b ≡ false)
 neither true b e = absurd (cc)
 neither false b e = (refl, e)
 
@@ -97,7 +97,7 @@ read_there false false true e f g = refl
 read_there false false false e f g = absurd (cc)
 
 -- a vertex without a fault reads among those before it
-sourced : (vs : List PlacedVertex) (ls : List Loop) (v : Vertex) → is_none (fault_of (scope vs ls) (vertex v)) ≡ true → ReadsAmong vs (record { vertex = v; loops = ls })
+pub sourced : (vs : List PlacedVertex) (ls : List Loop) (v : Vertex) → is_none (fault_of (scope vs ls) (vertex v)) ≡ true → ReadsAmong vs (record { vertex = v; loops = ls })
 sourced vs ls v e no_feedback =
     let p : Fault → Bool = has_fault (scope vs ls) (vertex v) in
     let a = none_found p Fault.syntax (drop 1 faults) e in
@@ -123,7 +123,7 @@ pub record Walked (ns : Nodes) (vs : List PlacedVertex) (ls : List Loop) (lines 
   pub faultless : is_faultless (scope (vs ++ placed_in ls (length vs) ns) ls) lines ≡ true
   pub scope_is : fold scope_after (scope vs ls) (lines_of ns ++ lines) ≡ fold scope_after (scope (vs ++ placed_in ls (length vs) ns) ls) lines
 
-walk : (ns : Nodes) (vs : List PlacedVertex) (ls : List Loop) (lines : List Line) → is_faultless (scope vs ls) (lines_of ns ++ lines) ≡ true → Walked ns vs ls lines
+pub walk : (ns : Nodes) (vs : List PlacedVertex) (ls : List Loop) (lines : List Line) → is_faultless (scope vs ls) (lines_of ns ++ lines) ≡ true → Walked ns vs ls lines
 walk done vs ls lines f = record {
   numbers = tt;
   sources = tt;

@@ -5,6 +5,7 @@ pub mod Blocks
 pub mod Faults
 pub mod Tree
 pub mod Sources
+pub mod Placed
 pub mod Texts
 pub mod Reading
 pub mod Written

@@ -8,6 +8,7 @@ ghost use Rattle.td_plan.specs.Blocks.{vertices};
 ghost use Rattle.td_plan.specs.Tree.{tree_of, lines_of, placed_in, IsNumbered};
 ghost use Rattle.td_plan.specs.Faults.{IsPlan};
 ghost use Rattle.td_plan.specs.Sources.{ReadEarlier};
+ghost use Rattle.td_plan.specs.Placed.{IsPlacedTree};
 ghost use Rattle.td_plan.specs.Texts.{PlanText, PlanFault};
 
 /// A text spells one plan, or has one refusal, and never both. The lines that the reader does not take yet count as
@@ -45,4 +46,10 @@ pub fn trees()
 /// which its reader reads.
 pub fn sources()
     ensures { (plan : List Line) → IsPlan plan → ReadEarlier [] (vertices plan) }
+{}
+
+/// Each source of a plan's vertices is read where its reader reads: that of an enter outside its loop and before it, that
+/// of a feedback anywhere on its block, and any other on the block before its reader.
+pub fn well_placed()
+    ensures { (plan : List Line) → IsPlan plan → IsPlacedTree (tree_of plan) }
 {}

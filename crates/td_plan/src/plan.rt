@@ -1,5 +1,5 @@
 //! Plans.
-ghost use Rattle.std.specs.Prelude.{◌≡◌, ◌⊎◌, ◌↔◌, IsTrue, IfOk, IfErr, string_bytes, true};
+ghost use Rattle.std.specs.Prelude.{◌≡◌, ◌≤◌, ◌⊎◌, ◌↔◌, length, IsTrue, IfOk, IfErr, string_bytes, true};
 ghost use Rattle.std.specs.List.{list_all};
 ghost use Rattle.td_plan.specs.Lines.{is_taken, text_of};
 ghost use Rattle.td_plan.specs.Blocks.{vertices, edges, loops};
@@ -55,6 +55,7 @@ impl Plan {
         ensures all { result.now ≡ vertices self.now }
         ensures lawful { IsPlan self.now }
         ensures taken { list_all is_taken self.now ≡ true }
+        ensures few { length result.now ≤ 64 }
     {
         self.lines.vertices()
     }

@@ -53,6 +53,7 @@ impl Lines {
     pub(crate) fn vertices(&self) -> &[Vertex]
         ensures all { result.now ≡ vertices self.now }
         ensures taken { list_all is_taken self.now ≡ true }
+        ensures few { length result.now ≤ 64 }
     {
         self.vertices.as_slice()
     }

@@ -1,5 +1,5 @@
 //! Lines, words and numbers of a text.
-ghost use Rattle.std.specs.Prelude.{◌≡◌, ◌==◌, ℕ, ◌<◌, ◌^◌, [], ◌∷◌, length, MatchOption, IfSome, IfNone};
+ghost use Rattle.std.specs.Prelude.{◌≡◌, ◌⊎◌, ◌++◌, ◌==◌, ℕ, ◌<◌, ◌^◌, [], ◌∷◌, length, MatchOption, IfSome, IfNone};
 ghost use Rattle.std.specs.List.{list_all, slice_split};
 ghost use Rattle.std.specs.Option.{option_map_or};
 ghost use Rattle.std.specs.Char.{is_ascii_digit};
@@ -11,6 +11,7 @@ fn cut(text: &str, at: char) -> (&str, Option<&str>)
     requires { at < 128 }
     ensures split { slice_split (λ b. b == at) text.now ≡ result.0.now ∷ option_map_or (λ rest. slice_split (λ b. b == at) rest.now) result.1 [] }
     ensures whole { IfNone result.1 (result.0.now ≡ text.now) }
+    ensures around { IfSome result.1 (λ rest. text.now ≡ result.0.now ++ at ∷ rest.now) }
     ensures shorter { IfSome result.1 (λ rest. length rest.now < length text.now) }
 {
     match text.split_once(at) {
@@ -22,6 +23,7 @@ fn cut(text: &str, at: char) -> (&str, Option<&str>)
 /// The first line of a text, without its line feed, and the text after it.
 pub fn next_line(text: &str) -> Option<(&str, &str)>
     ensures lines { MatchOption result (text_lines text.now ≡ []) (λ p. text_lines text.now ≡ p.0.now ∷ text_lines p.1.now) }
+    ensures bytes { IfSome result (λ p. (text.now ≡ p.0.now ++ 10 ∷ p.1.now) ⊎ ((text.now ≡ p.0.now) × (p.1.now ≡ []))) }
     ensures shorter { IfSome result (λ p. length p.1.now < length text.now) }
 {
     if text.is_empty() {

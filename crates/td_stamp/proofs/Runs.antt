@@ -14,20 +14,10 @@ use Rattle.td_stamp.specs.declared.values.Arrival.{Arrival}
 use Rattle.td_stamp.specs.Orders.{item_cmp, arrival_cmp}
 use Rattle.td_stamp.specs.OrderLaws.{item_total, item_apart, arrival_total, arrival_apart}
 use Rattle.td_stamp.specs.Bag.{bag_of, set_of, set_insert, IsBag}
-use Rattle.td_stamp.specs.Groups.{groups, items_of, last_key, with_last_item}
+use Rattle.td_stamp.specs.Groups.{groups, items_of, with_first, runs, last_key, with_last_item}
 use Rattle.td_stamp.proofs.Bags.{set_insert_less, set_insert_equal}
 use Rattle.td_stamp.proofs.Rising.{IsBelowAll, Rises, insert_front, below_bag_of, all_weaker, Rises-from_IsBag}
 use Rattle.td_stamp.proofs.Sets.{all_set_of, all_from_set_of, set_of-IsStrictlySortedBy}
-
--- groups with an arrival that comes before all others
-abbrev pub with_first : Arrival → List (ℕ × List Item) → List (ℕ × List Item)
-with_first a [] = (a.key, a.item ∷ []) ∷ []
-with_first a (g ∷ gs) = cond (a.key == g.0) ((g.0, a.item ∷ g.1) ∷ gs) ((a.key, a.item ∷ []) ∷ g ∷ gs)
-
--- the runs of one key
-abbrev pub runs : List Arrival → List (ℕ × List Item)
-runs [] = []
-runs (a ∷ rest) = with_first a (runs rest)
 
 -- ---- one more arrival at the end
 

@@ -1,5 +1,5 @@
 -- What a vertex that groups by key is given of the records that arrive at it.
-use Rattle.std.specs.Prelude.{ℕ, List, [], ◌∷◌, ◌++◌, map, filter, ◌==◌, Option, Some, None}
+use Rattle.std.specs.Prelude.{ℕ, List, [], ◌∷◌, ◌++◌, map, filter, ◌==◌, cond, Option, Some, None}
 use Rattle.std.specs.Ordering.{nat_cmp}
 use Rattle.td_stamp.specs.declared.values.Item.{Item}
 use Rattle.td_stamp.specs.declared.values.Rec.{Rec}
@@ -22,6 +22,16 @@ items_of key arrivals = bag_of item_cmp (map (λ a. a.item) (filter (λ a. a.key
 -- each key that arrived, in order, with its sorted items
 abbrev pub groups : List Arrival → List (ℕ × List Item)
 groups arrivals = map (λ key. (key, items_of key arrivals)) (set_of nat_cmp (map (λ a. a.key) arrivals))
+
+-- groups with an arrival that comes before all others: it goes into the first, where this has its key
+abbrev pub with_first : Arrival → List (ℕ × List Item) → List (ℕ × List Item)
+with_first a [] = (a.key, a.item ∷ []) ∷ []
+with_first a (g ∷ gs) = cond (a.key == g.0) ((g.0, a.item ∷ g.1) ∷ gs) ((a.key, a.item ∷ []) ∷ g ∷ gs)
+
+-- the runs of one key
+abbrev pub runs : List Arrival → List (ℕ × List Item)
+runs [] = []
+runs (a ∷ rest) = with_first a (runs rest)
 
 -- the key of the last of some groups
 abbrev pub last_key : List (ℕ × List Item) → Option ℕ

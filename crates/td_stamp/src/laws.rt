@@ -10,7 +10,7 @@ ghost use Rattle.td_stamp.specs.declared.values.Entry.{Entry as AnyEntry};
 ghost use Rattle.td_stamp.specs.declared.values.Output.{Output as AnyOutput};
 ghost use Rattle.td_stamp.specs.Orders.{rec_cmp, item_cmp, arrival_cmp, entry_cmp, output_cmp, state_key_cmp};
 ghost use Rattle.td_stamp.specs.Bag.{bag_insert, bag_remove, bag_of, join, set_insert, set_of, set_has, has, IsBag};
-ghost use Rattle.td_stamp.specs.Groups.{groups};
+ghost use Rattle.td_stamp.specs.Groups.{groups, runs};
 ghost use Rattle.td_stamp.specs.Time.{Timestamp, depth, enter, leave, rounds, time_le, time_cmp, IsAtMost};
 
 use crate::member::Member;
@@ -75,6 +75,11 @@ pub fn sets<T: Member>()
 /// Groups do not depend on the order in which records arrive.
 pub fn groups_in_any_order()
     ensures { (xs ys : List AnyArrival) (a : AnyArrival) → groups (xs ++ a ∷ ys) ≡ groups (a ∷ xs ++ ys) }
+{}
+
+/// The groups of arrivals that come in order are their runs of one key.
+pub fn groups_are_runs()
+    ensures { (xs : List AnyArrival) → IsBag arrival_cmp xs → groups xs ≡ runs xs }
 {}
 
 /// The groups of arrivals are those of their bag.

@@ -16,7 +16,7 @@ mod time;
 mod values;
 
 pub use bag::Bag;
-pub use batch::Batch;
+pub use batch::{Batch, Records};
 pub use epoch_out::EpochOut;
 pub use error::StampError;
 pub use groups::Group;

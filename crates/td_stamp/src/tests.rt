@@ -93,7 +93,7 @@ fn arrivals_are_grouped_by_key(rt: HostRuntime) -> Result<(), Fail> {
 }
 
 #[test]
-fn a_batch_gives_each_input_its_records(rt: HostRuntime) -> Result<(), Fail> {
+fn a_batch_lends_each_input_its_records(rt: HostRuntime) -> Result<(), Fail> {
     let mut batch: Batch = Bag::new(rt.alloc());
     for (input, rec) in [
         (2, rec(9, 1)),
@@ -103,12 +103,15 @@ fn a_batch_gives_each_input_its_records(rt: HostRuntime) -> Result<(), Fail> {
     ] {
         batch.add(Entry { input, rec })?;
     }
-    let two = [rec(1, 1), rec(9, 1), rec(9, 1)];
+    let mut two = Vec::new(rt.alloc());
+    for rec in batch.records(2) {
+        two.push(rec)?;
+    }
     assert_eq!(rt;
-        listed(rt.alloc(), &batch.records(2)?)?.as_slice(),
-        two.as_slice()
+        two.as_slice(),
+        [rec(1, 1), rec(9, 1), rec(9, 1)].as_slice()
     );
-    assert_eq!(rt; batch.records(1)?.len(), 0);
+    assert!(rt; batch.records(1).next().is_none());
     Ok(())
 }
 

@@ -79,7 +79,7 @@ loop-vertex-preserved g c =
     elim c.if-is_output.branch [
       | then-is_output+in_ok-put_out w ↦
           let records : List Rec = w.arriving.result.now in
-          let none : bag ≡ [] = w.bag-is ∙ w.new-bag.ensures in
+          let none : bag ≡ [] = w.bag-is ∙ w.nothing-bag.ensures in
           let out : ℕ → Rec → Output = λ n r. record { vertex = n; rec = r } in
           past_output answers batch maps groups folds all c.joins.ensures.swaps p ps bags more records c.loop-vertex.outputs c.if-is_output.outputs here (sym w.if-is_output.ensures)
           (ap (λ (xs : Bags). arrivals (map (emitted xs) p.vertex.sources)) (sym w.as_slice.ensures.value) ∙ w.arriving.ensures) w.in_ok-put_out.ensures.sorted

@@ -1,7 +1,6 @@
 use Rattle.std.proofs.Common.{◌≡◌, ◌+◌, take}
 use Rattle.td_plan.specs.Tree.{tree_of}
-use Rattle.td_batch.specs.Meaning.{run}
-use Rattle.td_batch.specs.Evaluated.{numbered}
+use Rattle.td_batch.specs.Meaning.{run, numbered}
 use Rattle.td_batch.proofs.evaluator.evaluate.Given as goal
 
 abbrev pub invariant-loop-batch : goal.invariant-loop-batch

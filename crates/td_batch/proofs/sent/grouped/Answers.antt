@@ -1,16 +1,44 @@
-use Rattle.std.proofs.Common.{◌≡◌, ℕ, List, sym, ◌∙◌, get_or}
+use Rattle.std.proofs.Common.{◌≡◌, ℕ, List, [], ◌∷◌, ◌++◌, map, flat_map, ap, sym, ◌∙◌}
+use Rattle.td_stamp.specs.declared.values.Rec.{Rec}
 use Rattle.td_stamp.specs.declared.values.Item.{Item}
 use Rattle.td_stamp.specs.Orders.{rec_cmp}
-use Rattle.td_stamp.specs.Bag.{join}
-use Rattle.td_batch.proofs.Joins.{parts-next}
+use Rattle.td_stamp.specs.Bag.{bag_of, join}
+use Rattle.td_stamp.specs.Groups.{arrival_of}
+use Rattle.td_batch.specs.Evaluated.{open_runs}
+use Rattle.td_batch.proofs.OpenRuns.{open_runs-same, open_runs-other, sent_first, arrive_in_order}
 use Rattle.td_batch.proofs.sent.grouped.Goals as goal
+use Rattle.td_batch.proofs.sent.grouped.Goals.{then-rec-key+in_ok-send_group, else-rec-key}
 
-pub loop-group-preserved : goal.loop-group-preserved
-loop-group-preserved g c =
-    let all = c.deref-group-items.result.now in
-    let group : ℕ × List Item = c.group-item.result in
-    let here : group ≡ get_or all c.loop-group.group-index group = c.group-item.is in
-    let sent : c.as_slice.result.now ≡ g.L.Law.answers.group c.args.code group.0 group.1 = c.as_slice.ensures.value ∙ c.in-Some.ensures.law ∙ (λ i. g.L.Law.answers.group c.args.code (c.key.ensures i) (c.items.ensures i)) in
-    let there : g.L.Law.answers.group c.args.code group.0 group.1 ≡ g.L.Law.answers.group c.args.code (get_or all c.loop-group.group-index group).0 (get_or all c.loop-group.group-index group).1 = λ i. g.L.Law.answers.group c.args.code (here i).0 (here i).1 in
-    c.in_ok-add_all.ensures ∙ (λ i. join rec_cmp ((sent ∙ there) i) (c.loop-group.invariant i))
-    ∙ sym (parts-next rec_cmp (λ (p : ℕ × List Item). g.L.Law.answers.group c.args.code p.0 p.1) c.joins.ensures.swaps all c.loop-group.group-index group c.loop-group-test.true)
+pub loop-rec-preserved : goal.loop-rec-preserved
+loop-rec-preserved g c =
+    let f : ℕ × List Item → List Rec = λ p. g.L.Law.answers.group c.args.code p.0 p.1 in
+    let rec : Rec = c.in-Some.rec in
+    let key = c.loop-rec.key in
+    let items : List Item = c.loop-rec.items.items in
+    let later : List Rec = c.next.new.self in
+    let sent : List Rec = c.loop-rec.sent in
+    let item : Item = (arrival_of 0 rec).item in
+    let pushed : c.push.new.self.items ≡ c.if-rec-key.items.items ++ item ∷ [] = c.in_ok-push.ensures.items ∙ ap (λ a. c.if-rec-key.items.items ++ a.item ∷ []) c.new.ensures in
+    elim c.if-rec-key.branch [
+      | then-rec-key+in_ok-send_group w ↦
+          let none : c.push.new.self.items ≡ item ∷ [] = pushed ∙ ap (λ v. v.items ++ item ∷ []) w.items-is ∙ ap (λ l. l ++ item ∷ []) w.clear.ensures.items in
+          let now : c.if-rec-key.sent ≡ join rec_cmp (flat_map f (open_runs key items [])) sent =
+          w.sent-is ∙ w.in_ok-send_group.ensures ∙ ap (λ l. join rec_cmp (flat_map f (open_runs key l [])) sent) w.deref.ensures.value in
+          (λ i. join rec_cmp (flat_map f (open_runs rec.key (none i) later)) (now i))
+          ∙ sym (sent_first c.joins.ensures.swaps f (open_runs key items []) (open_runs rec.key (item ∷ []) later) sent)
+          ∙ ap (λ l. join rec_cmp (flat_map f l) sent) (sym (open_runs-other key items rec later w.if-rec-key.true))
+          ∙ ap (λ l. join rec_cmp (flat_map f (open_runs key items l)) sent) (sym c.in-Some.ensures.steps) ∙ c.loop-rec.invariant
+      | else-rec-key w ↦
+          let more : c.push.new.self.items ≡ items ++ item ∷ [] = pushed ∙ ap (λ v. v.items ++ item ∷ []) w.items-is in
+          (λ i. join rec_cmp (flat_map f (open_runs rec.key (more i) later)) (w.sent-is i))
+          ∙ ap (λ l. join rec_cmp (flat_map f l) sent) (sym (open_runs-same key items rec later w.if-rec-key.false))
+          ∙ ap (λ l. join rec_cmp (flat_map f (open_runs key items l)) sent) (sym c.in-Some.ensures.steps) ∙ c.loop-rec.invariant
+    ]
+
+pub returns : goal.returns
+returns g c =
+    let f : ℕ × List Item → List Rec = λ p. g.L.Law.answers.group c.args.code p.0 p.1 in
+    let records : List Rec = c.args.records.now in
+    c.in_ok-send_group-2.ensures ∙ ap (λ l. join rec_cmp (flat_map f (open_runs c.loop-rec.key l [])) c.loop-rec.sent) c.deref-2.ensures.value
+    ∙ ap (λ l. join rec_cmp (flat_map f (open_runs c.loop-rec.key c.loop-rec.items.items l)) c.loop-rec.sent) (sym c.in-None.ensures.steps.0) ∙ c.loop-rec.invariant
+    ∙ ap (λ gs. bag_of rec_cmp (flat_map f gs)) (sym (c.groups_are_runs.ensures (map (arrival_of 0) records) (arrive_in_order records c.list-rec-items.ensures.sorted)))

@@ -1,0 +1,18 @@
+-- Whether closures of all these codes are stored.
+use Rattle.std.specs.Prelude.{◌≡◌, ℕ, true, List, map}
+use Rattle.std.specs.List.{AllByRecursion}
+use Rattle.td_calls.specs.Codes.{has_code}
+use Rattle.td_calls.specs.Stock.{map_answers, group_answers, fold_answers}
+
+abbrev pub HasEach : {C : Type 0} → (C → ℕ) → List (ℕ × C) → List ℕ → Type 0
+HasEach code_of calls codes = AllByRecursion (λ code. has_code code_of calls code ≡ true) codes
+
+-- the codes of the catalogue
+abbrev pub map_codes : List ℕ
+map_codes = map (λ row. row.0) map_answers
+
+abbrev pub group_codes : List ℕ
+group_codes = map (λ row. row.0) group_answers
+
+abbrev pub fold_codes : List ℕ
+fold_codes = map (λ row. row.0) fold_answers

@@ -1,0 +1,122 @@
+//! Makes the closures of the catalogue, and does what the program's words ask for.
+#![tactic(auto)]
+
+ghost use Rattle.td.specs.Whole.{HasEach, map_codes, group_codes, fold_codes};
+
+mod store;
+
+use crate::store::{store_fold, store_group, store_map};
+use std::process::ExitCode;
+use std::rt::Env;
+use std::{env, io};
+use td_calls::Calls;
+use td_console::words::{self, Job, WordsError};
+use td_console::{
+    Fault, FoldBox, GroupBox, MapBox, StdReader, StdWriter, Stock, StockCalls, batch, fault_line,
+    stock,
+};
+use td_stamp::{Item, Rec, State};
+
+fn main(rt: HostRuntime) -> ExitCode {
+    match asked(&rt) {
+        Ok(Job::Batch) => {}
+        Ok(Job::Help(text)) => {
+            let _ = print!(rt; "{text}");
+            return ExitCode::SUCCESS;
+        }
+        Err(WordsError::Words) => {
+            let _ = eprintln!(rt; "td: words");
+            return ExitCode::from(2);
+        }
+        Err(WordsError::Memory) => return told(&rt, Fault::Memory),
+    }
+    match run_batch(&rt) {
+        Ok(()) => ExitCode::SUCCESS,
+        Err(fault) => told(&rt, fault),
+    }
+}
+
+/// What the program's own words ask for. A word that is no text is none of the program's.
+fn asked<R: Env + AllocGlobal>(rt: &R) -> Result<Job, WordsError> {
+    let given = match env::args(rt) {
+        Ok(args) => args,
+        Err(error) if error.kind() == io::ErrorKind::OutOfMemory => return Err(WordsError::Memory),
+        Err(_) => return Err(WordsError::Words),
+    };
+    let Ok(given) = given.collect::<Vec<String>>(rt.alloc()) else {
+        return Err(WordsError::Memory);
+    };
+    words::words(rt.alloc(), &given)
+}
+
+/// Answers standard input with the closures of the catalogue. The closures are made here, since a function may not hand
+/// out one that it makes.
+fn run_batch<R: Input + Print + AllocGlobal>(rt: &R) -> Result<(), Fault> {
+    let alloc = rt.alloc();
+    let mut calls: StockCalls = Calls::new(alloc);
+    let same: MapBox = Box::new(alloc, |port: u8, rec: Rec| stock::same(port, rec))?;
+    store_map(&mut calls, 1, same)?;
+    let less: MapBox = Box::new(alloc, |port: u8, rec: Rec| stock::less(port, rec))?;
+    store_map(&mut calls, 2, less)?;
+    let even: MapBox = Box::new(alloc, |port: u8, rec: Rec| stock::even(port, rec))?;
+    store_map(&mut calls, 3, even)?;
+    let odd: MapBox = Box::new(alloc, |port: u8, rec: Rec| stock::odd(port, rec))?;
+    store_map(&mut calls, 4, odd)?;
+    let halved_key: MapBox = Box::new(alloc, |port: u8, rec: Rec| stock::halved_key(port, rec))?;
+    store_map(&mut calls, 5, halved_key)?;
+    let twice: MapBox = Box::new(alloc, |port: u8, rec: Rec| stock::twice(port, rec))?;
+    store_map(&mut calls, 6, twice)?;
+    let port: MapBox = Box::new(alloc, |port: u8, rec: Rec| stock::port(port, rec))?;
+    store_map(&mut calls, 7, port)?;
+    let above_zero: MapBox = Box::new(alloc, |port: u8, rec: Rec| stock::above_zero(port, rec))?;
+    store_map(&mut calls, 8, above_zero)?;
+    let next_key: MapBox = Box::new(alloc, |port: u8, rec: Rec| stock::next_key(port, rec))?;
+    store_map(&mut calls, 9, next_key)?;
+    let count: GroupBox = Box::new(alloc, |key: u64, items: &[Item]| stock::count(key, items))?;
+    store_group(&mut calls, 20, count)?;
+    let sum: GroupBox = Box::new(alloc, |key: u64, items: &[Item]| stock::sum(key, items))?;
+    store_group(&mut calls, 21, sum)?;
+    let least: GroupBox = Box::new(alloc, |key: u64, items: &[Item]| stock::least(key, items))?;
+    store_group(&mut calls, 22, least)?;
+    let greatest: GroupBox = Box::new(
+        alloc,
+        |key: u64, items: &[Item]| stock::greatest(key, items),
+    )?;
+    store_group(&mut calls, 23, greatest)?;
+    let join_least: GroupBox = Box::new(
+        alloc,
+        |key: u64, items: &[Item]| stock::join_least(key, items),
+    )?;
+    store_group(&mut calls, 24, join_least)?;
+    let totalled: FoldBox = Box::new(
+        alloc,
+        |key: u64, state: Option<State>, items: &[Item]| stock::totalled(key, state, items),
+    )?;
+    store_fold(&mut calls, 40, totalled)?;
+    let toggled: FoldBox = Box::new(
+        alloc,
+        |key: u64, state: Option<State>, items: &[Item]| stock::toggled(key, state, items),
+    )?;
+    store_fold(&mut calls, 41, toggled)?;
+    answer(rt, &calls)
+}
+
+/// Answers standard input with the whole catalogue.
+fn answer<R: Input + Print + AllocGlobal>(rt: &R, calls: &StockCalls) -> Result<(), Fault>
+    requires maps { HasEach (λ c. c.code) calls.now.maps map_codes }
+    requires groups { HasEach (λ c. c.code) calls.now.groups group_codes }
+    requires folds { HasEach (λ c. c.code) calls.now.folds fold_codes }
+{
+    let mut reader = StdReader(rt.reader());
+    let mut writer = StdWriter(io::writer(rt));
+    batch::<_, _, Stock, StockCalls>(rt.alloc(), &mut reader, &mut writer, calls)
+}
+
+/// Prints a fault on standard error.
+fn told<R: Eprint + AllocGlobal>(rt: &R, fault: Fault) -> ExitCode {
+    let _ = match fault_line(rt.alloc(), fault) {
+        Ok(line) => rt.eprint(line.as_str()),
+        Err(_) => rt.eprint("td: memory\n"),
+    };
+    ExitCode::FAILURE
+}

@@ -1,0 +1,52 @@
+-- What the reader of data lines answers, line by line. No definition of an answer rests on this file: it is what the
+-- reader's functions say of one another.
+use Rattle.std.specs.Prelude.{◌≡◌, ◌⊎◌, ℕ, ◌+◌, List, [], ◌∷◌, ◌++◌, if◌then◌else◌, Option, Some, None, Result, Ok, Err}
+use Rattle.td_stamp.specs.declared.values.Entry.{Entry}
+use Rattle.td_stamp.specs.Orders.{entry_cmp}
+use Rattle.td_stamp.specs.Bag.{bag_insert}
+use Rattle.td_plan.specs.Lines.{Line as PlanLine}
+use Rattle.td_plan.specs.Inputs.{is_input_of}
+use Rattle.td_console.specs.declared.data_line.DataLine.{DataLine}
+use Rattle.td_console.specs.declared.data_line.DataLine.TheVariants.{PassedOver, Record, Close}
+use Rattle.td_console.specs.declared.faults.LineFault.TheVariants.{Syntax, NoSuchInput, NotClosed}
+use Rattle.td_console.specs.declared.faults.Fault.{Fault}
+use Rattle.td_console.specs.declared.faults.Fault.TheVariants.{Line, Memory}
+use Rattle.td_console.specs.Data.{data_line_of}
+
+-- Epochs read so far: the batches of those that are closed, and that of the one which is not
+pub record Epochs : Type 0 where
+  pub closed : List (List Entry)
+  pub current : List Entry
+
+-- before the first line
+abbrev pub no_epochs : Epochs
+no_epochs = record { closed = []; current = [] }
+
+-- with one more line, which has the number n, or its fault
+abbrev pub with_data_line : List PlanLine → ℕ → Epochs → Option DataLine → Result Epochs Fault
+with_data_line plan n epochs None = Err (Line n Syntax)
+with_data_line plan n epochs (Some PassedOver) = Ok epochs
+with_data_line plan n epochs (Some Close) = Ok (record { closed = epochs.closed ++ epochs.current ∷ []; current = [] })
+with_data_line plan n epochs (Some (Record input rec)) =
+    if is_input_of plan input then Ok (record { closed = epochs.closed; current = bag_insert entry_cmp (record { input = input; rec = rec }) epochs.current })
+    else Err (Line n NoSuchInput)
+
+-- what comes after an answer, unless it is a fault
+abbrev pub epochs_then : (Epochs → Result (List (List Entry)) Fault) → Result Epochs Fault → Result (List (List Entry)) Fault
+epochs_then next (Ok epochs) = next epochs
+epochs_then next (Err fault) = Err fault
+
+-- the batches at the end of the data
+abbrev pub closed_batches : ℕ → List (List Entry) → List Entry → Result (List (List Entry)) Fault
+closed_batches n closed [] = Ok closed
+closed_batches n closed (entry ∷ entries) = Err (Line n NotClosed)
+
+-- the batches with some more lines, of which the first has the number n
+abbrev pub read_from : List PlanLine → ℕ → Epochs → List (List ℕ) → Result (List (List Entry)) Fault
+read_from plan n epochs [] = closed_batches n epochs.closed epochs.current
+read_from plan n epochs (line ∷ lines) = epochs_then (λ more. read_from plan (n + 1) more lines) (with_data_line plan n epochs (data_line_of line))
+
+-- a call gave this answer, or was refused a growth
+abbrev pub Gives : Result Epochs Fault → Result Epochs Fault → Type 0
+Gives (Ok epochs) wanted = wanted ≡ Ok epochs
+Gives (Err fault) wanted = (fault ≡ Memory) ⊎ (wanted ≡ Err fault)

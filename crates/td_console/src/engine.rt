@@ -1,0 +1,71 @@
+//! Reads all, computes, writes all.
+ghost use Rattle.std.specs.Prelude.{◌≡◌, ◌≢◌, ◌⊎◌, ℕ, List, IfOk, IfErr, OnOk, IfSome, Ok, Err, length, ◌≤◌, ◌^◌, string_bytes};
+ghost use Rattle.std.specs.Io.KnownBytes.{Appends, IsAtEnd};
+ghost use Rattle.td_console.specs.Answer.{stored_by, IsAnswer};
+
+use crate::answer::answer;
+use crate::faults::Fault;
+use crate::sink::Sink;
+use crate::source::Source;
+use std::alloc::Global;
+use std::io::ErrorKind;
+use td_calls::{Closures, Law};
+
+/// How often it reads at most, and how many bytes at a time.
+const READS: u64 = 4_294_967_296;
+
+const PIECE: usize = 4096;
+
+/// Writes the answer text of what it reads: an input as `td batch` takes it. Faults, where nothing was written: the
+/// first fault of the input; `Memory`; `Input` where a read failed, or the end did not come within 2^32 reads of at
+/// most 4,096 bytes. Where the writer failed, `Output`, and some may have been written.
+pub fn batch<R: Source, W: Sink, L: Law, C: Closures<L>>(
+    alloc: Global,
+    reader: &mut R,
+    writer: &mut W,
+    calls: &C,
+) -> Result<(), Fault>
+    ensures ok { OnOk result (IfSome (R.remaining reader.old) (λ input. (text : List ℕ) × IsAnswer (stored_by L.answers (C.has_map calls.now) (C.has_group calls.now) (C.has_fold calls.now)) input (Ok text) × Appends (W.contents writer.old) (W.contents writer.new) text)) }
+    ensures fault { IfErr result (λ f. (f ≡ Fault.Input) ⊎ ((f ≡ Fault.Output) ⊎ ((f ≡ Fault.Memory) ⊎ IfSome (R.remaining reader.old) (λ input. IsAnswer (stored_by L.answers (C.has_map calls.now) (C.has_group calls.now) (C.has_fold calls.now)) input (Err f))))) }
+    // Where no read fails, and the end comes within the bound, the fault is none of the reader's.
+    ensures input { R.EndsWithin reader.old (2 ^ 32) → IfErr result (λ f. f ≢ Fault.Input) }
+    // Where the writer fails, there was an answer, and it had no room for it.
+    ensures output { IfErr result (λ f. f ≡ Fault.Output → IfSome (R.remaining reader.old) (λ input. (text : List ℕ) × IsAnswer (stored_by L.answers (C.has_map calls.now) (C.has_group calls.now) (C.has_fold calls.now)) input (Ok text) × ¬ (W.HasRoom writer.old (length text)))) }
+    // A writer that has room for any text does not fail.
+    ensures room { ((n : ℕ) → W.HasRoom writer.old n) → IfErr result (λ f. f ≢ Fault.Output) }
+    ensures nothing { IfErr result (λ f. (f ≡ Fault.Output) ⊎ (writer.new ≡ writer.old)) }
+{
+    let input = read_all(alloc, reader)?;
+    let text = answer::<L, C>(alloc, &input, calls)?;
+    match writer.write_text(text.as_bytes()) {
+        Ok(()) => Ok(()),
+        Err(_) => Err(Fault::Output),
+    }
+}
+
+/// All that a reader gives.
+fn read_all<R: Source>(alloc: Global, reader: &mut R) -> Result<Vec<u8>, Fault>
+    ensures ok { IfOk result (λ bytes. IfSome (R.remaining reader.old) (λ input. bytes.items ≡ input)) }
+    ensures few { IfOk result (λ bytes. length bytes.items ≤ 2 ^ 44) }
+    ensures err { IfErr result (λ f. (f ≡ Fault.Input) ⊎ (f ≡ Fault.Memory)) }
+    ensures steady { R.EndsWithin reader.old (2 ^ 32) → IfErr result (λ f. f ≡ Fault.Memory) }
+{
+    let mut bytes = Vec::new(alloc);
+    let mut piece = [0u8; PIECE];
+    for read in 0..READS {
+        match reader.read_piece(&mut piece) {
+            Ok(0) => return Ok(bytes),
+            Ok(n) => {
+                if bytes.extend_from_slice(&piece[..n]).is_err() {
+                    return Err(Fault::Memory);
+                }
+            }
+            Err(e) => {
+                if e.kind() != ErrorKind::Interrupted {
+                    return Err(Fault::Input);
+                }
+            }
+        }
+    }
+    Err(Fault::Input)
+}

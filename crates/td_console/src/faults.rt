@@ -1,0 +1,143 @@
+//! What can go wrong, and what is printed of it.
+ghost use Rattle.std.specs.Prelude.{◌≡◌, ◌++◌, [], ◌∷◌, IfOk, codes, string_bytes, Some};
+ghost use Rattle.td_console.specs.declared.faults.Fault.TheVariants.{Memory};
+ghost use Rattle.td_console.specs.Refusals.{number_of, fault_text, line_fault_text};
+
+use std::alloc::{AllocError, AllocFailed, Global};
+use std::error::Error;
+use std::fmt;
+use td_batch::BatchError;
+use td_plan::PlanError;
+use td_stamp::StampError;
+
+/// What is wrong with a data line.
+#[derive(Clone, Copy, Debug, PartialEq, Eq)]
+pub enum LineFault {
+    /// It has none of the forms of a data line.
+    Syntax,
+    /// Its input is no input vertex of the plan.
+    NoSuchInput,
+    /// Records stand after the last line that closes an epoch.
+    NotClosed,
+}
+
+impl fmt::Display for LineFault {
+    ghost output = { λ f. Some (line_fault_text f) };
+
+    fn fmt<W: fmt::Write>(&self, f: &mut fmt::Formatter<W>) -> fmt::Result {
+        match self {
+            LineFault::Syntax => write!(f, "syntax"),
+            LineFault::NoSuchInput => write!(f, "no such input"),
+            LineFault::NotClosed => write!(f, "epoch not closed"),
+        }
+    }
+}
+
+/// Why an input has no answer, or the answer was not written.
+#[derive(Clone, Copy, Debug, PartialEq, Eq)]
+pub enum Fault {
+    /// The plan text spells no plan.
+    Plan(PlanError),
+    /// The vertex with this number has a closure code for which no closure is stored.
+    NoCall(u8, u16),
+    /// A data line, by its number in the whole input, from 1.
+    Line(u64, LineFault),
+    /// The reader failed, or did not come to an end.
+    Input,
+    /// The writer failed.
+    Output,
+    /// An allocation was refused.
+    Memory,
+}
+
+impl Fault {
+    /// The fault's number, 1 to 6, in the order in which they are declared.
+    pub fn number(&self) -> u8
+        ensures { result ≡ number_of self.now }
+    {
+        match self {
+            Fault::Plan(_) => 1,
+            Fault::NoCall(..) => 2,
+            Fault::Line(..) => 3,
+            Fault::Input => 4,
+            Fault::Output => 5,
+            Fault::Memory => 6,
+        }
+    }
+}
+
+impl fmt::Display for Fault {
+    ghost output = { λ f. Some (fault_text f) };
+
+    fn fmt<W: fmt::Write>(&self, f: &mut fmt::Formatter<W>) -> fmt::Result {
+        match self {
+            Fault::Plan(error) => match error {
+                PlanError::Syntax(line) => write!(f, "plan line {line}: syntax"),
+                PlanError::Number(line) => write!(f, "plan line {line}: number"),
+                PlanError::Order(line) => write!(f, "plan line {line}: order"),
+                PlanError::Nest(line) => write!(f, "plan line {line}: nest"),
+                PlanError::Bound(line) => write!(f, "plan line {line}: bound"),
+                PlanError::FoldInLoop(line) => write!(f, "plan line {line}: fold in loop"),
+                PlanError::Again(line) => write!(f, "plan line {line}: again"),
+                PlanError::TooMany(line) => write!(f, "plan line {line}: too many"),
+                PlanError::NoInputOrOutput => write!(f, "plan: no input or output"),
+                PlanError::Memory => write!(f, "memory"),
+            },
+            Fault::NoCall(vertex, code) => write!(f, "vertex {vertex}: no closure {code}"),
+            Fault::Line(line, fault) => write!(f, "line {line}: {fault}"),
+            Fault::Input => write!(f, "input"),
+            Fault::Output => write!(f, "output"),
+            Fault::Memory => write!(f, "memory"),
+        }
+    }
+}
+
+impl Error for Fault {}
+
+impl From<AllocError> for Fault {
+    ghost from_gives = { λ _ f. f ≡ Memory };
+
+    fn from(_error: AllocError) -> Fault {
+        Fault::Memory
+    }
+}
+
+impl<T: Drop> From<AllocFailed<T>> for Fault {
+    ghost from_gives = { λ _ f. f ≡ Memory };
+
+    fn from(_failed: AllocFailed<T>) -> Fault {
+        Fault::Memory
+    }
+}
+
+impl From<StampError> for Fault {
+    ghost from_gives = { λ _ f. f ≡ Memory };
+
+    fn from(_error: StampError) -> Fault {
+        Fault::Memory
+    }
+}
+
+impl From<BatchError> for Fault {
+    ghost from_gives = { λ _ f. f ≡ Memory };
+
+    fn from(_error: BatchError) -> Fault {
+        Fault::Memory
+    }
+}
+
+/// A text in memory is all that this crate formats, so that fails for want of memory alone.
+impl From<fmt::Error> for Fault {
+    ghost from_gives = { λ _ f. f ≡ Memory };
+
+    fn from(_error: fmt::Error) -> Fault {
+        Fault::Memory
+    }
+}
+
+/// The line that a program prints of a fault: `td: `, the fault's text, and a line feed.
+pub fn fault_line(alloc: Global, fault: Fault) -> Result<String, AllocError>
+    ensures { IfOk result (λ line. string_bytes line ≡ codes "td: " ++ fault_text fault ++ 10 ∷ []) }
+{
+    format!(in alloc; "td: {fault}\n")
+}
