@@ -62,21 +62,21 @@ impl GroupCall<Stock> for Summary {
     }
 }
 
-/// There are no folds here.
+/// Code 0, which the catalogue does not have: the state stays, and nothing is sent.
 #[derive(Drop)]
-enum NoFold {}
+struct Still;
 
-impl Coded for NoFold {
+impl Coded for Still {
     ghost code_of = { λ _. 0 };
 
     fn code(&self) -> u16 {
-        match *self {}
+        0
     }
 }
 
-impl FoldCall<Stock> for NoFold {
-    fn call(&self, _key: u64, _state: Option<State>, _items: &[Item]) -> (Option<State>, Few) {
-        match *self {}
+impl FoldCall<Stock> for Still {
+    fn call(&self, _key: u64, state: Option<State>, _items: &[Item]) -> (Option<State>, Few) {
+        (state, Few::new())
     }
 }
 
@@ -100,13 +100,14 @@ fn sum(items: &[Item]) -> i64
     sum
 }
 
-type Catalogue = Calls<Same, Summary, NoFold>;
+type Catalogue = Calls<Same, Summary, Still>;
 
 fn catalogue(alloc: Global) -> Result<Catalogue, Fail> {
     let mut calls = Calls::new(alloc);
     let added = calls.add_map(Same).is_ok()
         && calls.add_group(Summary { is_sum: false }).is_ok()
-        && calls.add_group(Summary { is_sum: true }).is_ok();
+        && calls.add_group(Summary { is_sum: true }).is_ok()
+        && calls.add_fold(Still).is_ok();
     if added { Ok(calls) } else { Err("memory")? }
 }
 
