@@ -1,10 +1,11 @@
 #!/usr/bin/env python3
 """Times `td batch` beside a plain program for the same job, on data that it makes itself.
 
-    bench/run.py            needs crates/td/out/td (see the README), rustc and GNU time
+    bench/run.py            needs the kit, rustc and GNU time
 
-Both programs read the same text; their outputs must be equal. Each case runs three times, in turn, and the best time
-counts; the memory is the most that was resident at once."""
+It builds both first, and `td` is proved on the way where it is not yet. Both programs read the same text; their outputs
+must be equal. Each case runs three times, in turn, and the best time counts; the memory is the most that was resident
+at once."""
 
 import pathlib
 import random
@@ -45,9 +46,14 @@ def run(command, text, output):
     return float(seconds), int(memory)
 
 
+def build_td():
+    folder = ROOT / "crates/td"
+    with open(folder / "stdin") as given:
+        subprocess.run(["rt", "run", "--", "batch"], cwd=folder, stdin=given, stdout=subprocess.DEVNULL, check=True)
+
+
 def main():
-    if not TD.exists():
-        sys.exit(f"{TD} is not there: cd crates/td && rt run")
+    build_td()
     with tempfile.TemporaryDirectory() as folder:
         place = pathlib.Path(folder)
         plain = place / "plain"

@@ -7,10 +7,9 @@ use Rattle.td_stamp.specs.declared.values.Item.{Item}
 use Rattle.std.specs.declared.cmp.Ordering.{Ordering}
 use Rattle.std.specs.declared.cmp.Ordering.TheVariants.{Less, Equal, Greater}
 use Rattle.td_stamp.specs.Orders.{rec_cmp, arrival_cmp}
-use Rattle.td_stamp.specs.Bag.{bag_insert, bag_of, join, IsBag}
+use Rattle.td_stamp.specs.Bag.{bag_insert, bag_of, IsBag}
 use Rattle.td_stamp.specs.Groups.{arrival_of, with_first, runs}
 use Rattle.td_batch.specs.Evaluated.{with_run, open_runs}
-use Rattle.td_batch.proofs.Joins.{Swaps, join-more}
 
 abbrev item_of : Rec → Item
 item_of r = (arrival_of 0 r).item
@@ -65,9 +64,8 @@ open_runs-other key [] r rs other = with_run-first r (rest_runs rs)
 open_runs-other key (i ∷ items) r rs other = with_run-other key (i ∷ items) r (rest_runs rs) other ∙ ap (λ l. (key, i ∷ items) ∷ l) (with_run-first r (rest_runs rs))
 
 -- what a group sends, where the run at hand is sent first
-pub sent_first : (swaps : Swaps rec_cmp) (f : ℕ × List Item → List Rec) (now later : List (ℕ × List Item)) (sent : List Rec)
-    → join rec_cmp (flat_map f (now ++ later)) sent ≡ join rec_cmp (flat_map f later) (join rec_cmp (flat_map f now) sent)
-sent_first swaps f now later sent = ap (λ l. join rec_cmp l sent) (flat_map-append f now later) ∙ join-more rec_cmp swaps (flat_map f now) (flat_map f later) sent
+pub sent_first : (f : ℕ × List Item → List Rec) (now later : List (ℕ × List Item)) (sent : List Rec) → (sent ++ flat_map f now) ++ flat_map f later ≡ sent ++ flat_map f (now ++ later)
+sent_first f now later sent = append_assoc sent (flat_map f now) (flat_map f later) ∙ ap (λ l. sent ++ l) (sym (flat_map-append f now later))
 
 -- records in order arrive in order, at one port
 arrive_insert : (x : Rec) (ys : List Rec) → bag_insert arrival_cmp (arrival_of 0 x) (map (arrival_of 0) ys) ≡ map (arrival_of 0) (bag_insert rec_cmp x ys)

@@ -1,5 +1,5 @@
 -- Worked examples of bags at loop counters: each holds by computing.
-use Rattle.std.specs.Prelude.{◌≡◌, ℕ, List, [], ◌∷◌, ℤ, pos, refl}
+use Rattle.std.specs.Prelude.{◌≡◌, List, [], ◌∷◌, ℤ, pos, refl}
 use Rattle.td_stamp.specs.declared.values.Rec.{Rec}
 use Rattle.td_plan.specs.Named.{loop_plan, nest_plan}
 use Rattle.td_plan.specs.Tree.{tree_of}

@@ -1,5 +1,5 @@
 //! What vertices send, bag by bag.
-ghost use Rattle.std.specs.Prelude.{◌≡◌, [], IsTrue, IfOk, OnOk, map, flat_map};
+ghost use Rattle.std.specs.Prelude.{◌≡◌, [], ◌++◌, IsTrue, IfOk, OnOk, map, flat_map};
 ghost use Rattle.td_stamp.specs.Orders.{rec_cmp, output_cmp};
 ghost use Rattle.td_stamp.specs.Bag.{bag_of, join, IsBag};
 ghost use Rattle.td_stamp.specs.Groups.{arrival_of, groups};
@@ -21,15 +21,14 @@ pub(crate) fn mapped<L: Law, C: Closures<L>>(
     requires stored { IsTrue (C.has_map calls.now code) }
     ensures { IfOk result (λ sent. sent ≡ bag_of rec_cmp (flat_map (λ rec. L.answers.emit code 0 rec) records.now)) }
 {
-    laws::joins::<Rec>();
-    let mut sent = Bag::new(alloc);
+    let mut sent = Vec::new(alloc);
     for rec in records.list() {
         let Some(few) = calls.map(code, 0, rec) else {
             unreachable!();
         };
-        add_all(&mut sent, few.as_slice())?;
+        sent.extend_from_slice(few.as_slice())?;
     }
-    Ok(sent)
+    Ok(Bag::from_vec(alloc, sent))
 }
 
 /// What a group sends of the records that arrive at its port 0. They come in order, so the items of one key at a time
@@ -43,9 +42,8 @@ pub(crate) fn grouped<L: Law, C: Closures<L>>(
     requires stored { IsTrue (C.has_group calls.now code) }
     ensures { IfOk result (λ sent. sent ≡ bag_of rec_cmp (flat_map (λ g. L.answers.group code g.0 g.1) (groups (map (arrival_of 0) records.now)))) }
 {
-    laws::joins::<Rec>();
     laws::groups_are_runs();
-    let mut sent = Bag::new(alloc);
+    let mut sent = Vec::new(alloc);
     let mut key = 0;
     let mut items = Vec::new(alloc);
     for rec in records.list() {
@@ -57,19 +55,19 @@ pub(crate) fn grouped<L: Law, C: Closures<L>>(
         items.push(Arrival::new(0, rec).item)?;
     }
     send_group::<L, C>(calls, code, key, &items, &mut sent)?;
-    Ok(sent)
+    Ok(Bag::from_vec(alloc, sent))
 }
 
-/// Adds what a group sends for a key and its items, if there are any. Refusal: `Memory`.
+/// Appends what a group sends for a key and its items, if there are any. Refusal: `Memory`.
 fn send_group<L: Law, C: Closures<L>>(
     calls: &C,
     code: u16,
     key: u64,
     items: &[Item],
-    sent: &mut Bag<Rec>,
+    sent: &mut Vec<Rec>,
 ) -> Result<(), BatchError>
     requires stored { IsTrue (C.has_group calls.now code) }
-    ensures { OnOk result (sent.new ≡ join rec_cmp (flat_map (λ g. L.answers.group code g.0 g.1) (open_runs key items.now [])) sent.old) }
+    ensures { OnOk result (sent.new.items ≡ sent.old.items ++ flat_map (λ g. L.answers.group code g.0 g.1) (open_runs key items.now [])) }
 {
     if items.is_empty() {
         return Ok(());
@@ -77,17 +75,7 @@ fn send_group<L: Law, C: Closures<L>>(
     let Some(few) = calls.group(code, key, items) else {
         unreachable!();
     };
-    add_all(sent, few.as_slice())
-}
-
-/// Adds records to a bag. After a refusal, which is `Memory`, some of them are in it.
-fn add_all(sent: &mut Bag<Rec>, records: &[Rec]) -> Result<(), BatchError>
-    ensures { OnOk result (sent.new ≡ join rec_cmp records.now sent.old) }
-{
-    laws::joins::<Rec>();
-    for rec in records {
-        sent.add(*rec)?;
-    }
+    sent.extend_from_slice(few.as_slice())?;
     Ok(())
 }
 

@@ -1,18 +1,16 @@
 -- What the reader of data lines answers line by line is what the definitions say of all lines.
 use Rattle.std.proofs.Common.{◌≡◌, ℕ, suc, ◌+◌, Bool, true, false, List, [], ◌∷◌, ◌++◌, map, length, Option, Some, None, Result, Ok, Err, refl, ap, sym, ◌∙◌, cond, arith, append-nil, IfOk, IfErr, ◌⊎◌, inl, inr}
 use Rattle.std.proofs.lemmas.List.{append_assoc}
-use Rattle.std.specs.declared.cmp.Ordering.{Ordering}
-use Rattle.std.specs.declared.cmp.Ordering.TheVariants.{Less, Equal, Greater}
 use Rattle.std.specs.List.{filter_map, slice_split, slice_get, enumerate_from, onto_first, cons_option}
 use Rattle.td_stamp.specs.declared.values.Entry.{Entry}
 use Rattle.td_stamp.specs.declared.values.Rec.{Rec}
 use Rattle.td_stamp.specs.Orders.{entry_cmp}
-use Rattle.td_stamp.specs.Bag.{bag_of, bag_insert}
+use Rattle.td_stamp.specs.Bag.{bag_of}
 use Rattle.td_plan.specs.Lines.{Line as PlanLine}
 use Rattle.td_plan.specs.Inputs.{is_input_of}
 use Rattle.td_console.specs.declared.data_line.DataLine.{DataLine}
 use Rattle.td_console.specs.declared.data_line.DataLine.TheVariants.{PassedOver, Record, Close}
-use Rattle.td_console.specs.declared.faults.LineFault.TheVariants.{NoSuchInput, NotClosed}
+use Rattle.td_console.specs.declared.faults.LineFault.TheVariants.{NoSuchInput}
 use Rattle.td_console.specs.declared.faults.Fault.{Fault}
 use Rattle.td_console.specs.declared.faults.Fault.TheVariants.{Line, Memory}
 use Rattle.td_console.specs.Data.{data_line_of, closes, entry_of, but_last, last, batches_of, line_fault, end_faults, data_fault}
@@ -69,12 +67,12 @@ abbrev entry : ℕ → Rec → Entry
 entry input rec = record { input = input; rec = rec }
 
 onto-record : (xs : List Entry) (input : ℕ) (rec : Rec) (said : List DataLine) →
-    onto xs (lists_of (Record input rec ∷ said)) ≡ onto xs (onto (entry input rec ∷ []) (lists_of said))
+    onto xs (lists_of (Record input rec ∷ said)) ≡ onto (xs ++ entry input rec ∷ []) (lists_of said)
 onto-record xs input rec said = by (slice_split closes said)
   where
-    by : (parts : List (List DataLine)) → onto xs (map (filter_map entry_of) (onto_first (Record input rec) parts)) ≡ onto xs (onto (entry input rec ∷ []) (map (filter_map entry_of) parts))
+    by : (parts : List (List DataLine)) → onto xs (map (filter_map entry_of) (onto_first (Record input rec) parts)) ≡ onto (xs ++ entry input rec ∷ []) (map (filter_map entry_of) parts)
     by [] = refl
-    by (part ∷ parts) = refl
+    by (part ∷ parts) = ap (λ l. l ∷ map (filter_map entry_of) parts) (sym (append_assoc xs (entry input rec ∷ []) (filter_map entry_of part)))
 
 -- a line that closes begins a new list
 judged-close : (closed : List (List Entry)) (xs : List Entry) (faults : List Fault) (n : ℕ) (said : List DataLine) →
@@ -86,76 +84,49 @@ judged-close closed xs faults n said = let s = some_list said in rw s.2 (by s.0 
         ap (λ ys. judged closed faults n (ys ∷ p ∷ ps)) (append-nil xs)
         ∙ ap (λ bs. answer bs (slice_get (faults ++ end_faults n (last (p ∷ ps))) 0)) (sym (append_assoc closed (bag_of entry_cmp xs ∷ []) (bags_of (p ∷ ps))))
 
--- AN ENTRY MAY STAND ANYWHERE in a bag, by the law of bags
-abbrev pub AnyPlace : Type 0
-AnyPlace = (xs ys : List Entry) (x : Entry) → bag_of entry_cmp (xs ++ x ∷ ys) ≡ bag_insert entry_cmp x (bag_of entry_cmp (xs ++ ys))
-
-end_faults-move : (n : ℕ) (xs : List Entry) (e : Entry) (ys : List Entry) → end_faults n (xs ++ e ∷ ys) ≡ end_faults n (e ∷ xs ++ ys)
-end_faults-move n [] e ys = refl
-end_faults-move n (x ∷ xs) e ys = refl
-
--- so it may as well stand before those read so far
-judged-record : AnyPlace → (closed : List (List Entry)) (xs : List Entry) (e : Entry) (faults : List Fault) (n : ℕ) (said : List DataLine) →
-    judged closed faults n (onto xs (onto (e ∷ []) (lists_of said))) ≡ judged closed faults n (onto (e ∷ xs) (lists_of said))
-judged-record law closed xs e faults n said = let s = some_list said in rw s.2 (by s.0 s.1)
-  where
-    by : (p : List Entry) (ps : List (List Entry)) → judged closed faults n ((xs ++ e ∷ p) ∷ ps) ≡ judged closed faults n ((e ∷ xs ++ p) ∷ ps)
-    by p [] = ap (λ es. answer (closed ++ []) (slice_get (faults ++ es) 0)) (end_faults-move n xs e p)
-    by p (q ∷ ps) = ap (λ b. answer (closed ++ b ∷ map (bag_of entry_cmp) (but_last (q ∷ ps))) (slice_get (faults ++ end_faults n (last (q ∷ ps))) 0)) (law xs p e)
-
 -- at the end
-insert-some : (n : ℕ) (closed : List (List Entry)) (e : Entry) (bag : List Entry) → closed_batches n closed (bag_insert entry_cmp e bag) ≡ Err (Line n NotClosed)
-insert-some n closed e [] = refl
-insert-some n closed e (x ∷ bag) = by (entry_cmp e x)
-  where
-    by : (o : Ordering) → closed_batches n closed (elim o [ Greater ↦ x ∷ bag_insert entry_cmp e bag | _ ↦ e ∷ x ∷ bag ]) ≡ Err (Line n NotClosed)
-    by Less = refl
-    by Equal = refl
-    by Greater = refl
-
-at_end : (n : ℕ) (closed : List (List Entry)) (xs : List Entry) → closed_batches n closed (bag_of entry_cmp xs) ≡ judged closed [] n (onto xs (lists_of []))
+at_end : (n : ℕ) (closed : List (List Entry)) (xs : List Entry) → closed_batches n closed xs ≡ judged closed [] n (onto xs (lists_of []))
 at_end n closed [] = ap Ok (sym (append-nil closed))
-at_end n closed (e ∷ xs) = insert-some n closed e (bag_of entry_cmp xs)
+at_end n closed (e ∷ xs) = refl
 
 -- one more line, where the answer is known of those after it
-step : AnyPlace → (plan : List PlanLine) (n : ℕ) (closed : List (List Entry)) (xs : List Entry) (lines : List (List ℕ)) →
-    ((closed : List (List Entry)) (xs : List Entry) → read_from plan (n + 1) (record { closed = closed; current = bag_of entry_cmp xs }) lines ≡ judged closed (line_faults plan (n + 1) lines) (n + suc (length lines)) (onto xs (lists_of (filter_map data_line_of lines)))) →
-    (o : Option DataLine) → epochs_then (λ more. read_from plan (n + 1) more lines) (with_data_line plan n (record { closed = closed; current = bag_of entry_cmp xs }) o)
+step : (plan : List PlanLine) (n : ℕ) (closed : List (List Entry)) (xs : List Entry) (lines : List (List ℕ)) →
+    ((closed : List (List Entry)) (xs : List Entry) → read_from plan (n + 1) (record { closed = closed; current = xs }) lines ≡ judged closed (line_faults plan (n + 1) lines) (n + suc (length lines)) (onto xs (lists_of (filter_map data_line_of lines)))) →
+    (o : Option DataLine) → epochs_then (λ more. read_from plan (n + 1) more lines) (with_data_line plan n (record { closed = closed; current = xs }) o)
     ≡ judged closed (cons_option (line_fault plan n o) (line_faults plan (n + 1) lines)) (n + suc (length lines)) (onto xs (lists_of (cons_option o (filter_map data_line_of lines))))
-step law plan n closed xs lines more None = refl
-step law plan n closed xs lines more (Some PassedOver) =
+step plan n closed xs lines more None = refl
+step plan n closed xs lines more (Some PassedOver) =
     more closed xs ∙ ap (judged closed (line_faults plan (n + 1) lines) (n + suc (length lines))) (sym (onto-passed xs (filter_map data_line_of lines)))
-step law plan n closed xs lines more (Some Close) =
+step plan n closed xs lines more (Some Close) =
     more (closed ++ bag_of entry_cmp xs ∷ []) [] ∙ sym (judged-close closed xs (line_faults plan (n + 1) lines) (n + suc (length lines)) (filter_map data_line_of lines))
-step law plan n closed xs lines more (Some (Record input rec)) = by (is_input_of plan input)
+step plan n closed xs lines more (Some (Record input rec)) = by (is_input_of plan input)
   where
     by : (b : Bool) →
-        epochs_then (λ more. read_from plan (n + 1) more lines) (cond b (Ok (record { closed = closed; current = bag_of entry_cmp (entry input rec ∷ xs) })) (Err (Line n NoSuchInput)))
+        epochs_then (λ more. read_from plan (n + 1) more lines) (cond b (Ok (record { closed = closed; current = xs ++ entry input rec ∷ [] })) (Err (Line n NoSuchInput)))
         ≡ judged closed (cons_option (cond b None (Some (Line n NoSuchInput))) (line_faults plan (n + 1) lines)) (n + suc (length lines)) (onto xs (lists_of (Record input rec ∷ filter_map data_line_of lines)))
     by true =
-        more closed (entry input rec ∷ xs)
-        ∙ sym (judged-record law closed xs (entry input rec) (line_faults plan (n + 1) lines) (n + suc (length lines)) (filter_map data_line_of lines))
+        more closed (xs ++ entry input rec ∷ [])
         ∙ ap (judged closed (line_faults plan (n + 1) lines) (n + suc (length lines))) (sym (onto-record xs input rec (filter_map data_line_of lines)))
     by false = refl
 
 -- THE READER'S ANSWER from some epochs on
-answered : AnyPlace → (plan : List PlanLine) (n : ℕ) (closed : List (List Entry)) (xs : List Entry) (lines : List (List ℕ)) →
-    read_from plan n (record { closed = closed; current = bag_of entry_cmp xs }) lines
+answered : (plan : List PlanLine) (n : ℕ) (closed : List (List Entry)) (xs : List Entry) (lines : List (List ℕ)) →
+    read_from plan n (record { closed = closed; current = xs }) lines
     ≡ judged closed (line_faults plan n lines) (n + length lines) (onto xs (lists_of (filter_map data_line_of lines)))
-answered law plan n closed xs [] = let e : n + 0 ≡ n = omega arith in rw e (at_end n closed xs)
-answered law plan n closed xs (line ∷ lines) =
+answered plan n closed xs [] = let e : n + 0 ≡ n = omega arith in rw e (at_end n closed xs)
+answered plan n closed xs (line ∷ lines) =
     let e : (n + 1) + length lines ≡ n + suc (length lines) = omega arith in
-    step law plan n closed xs lines (λ closed xs. answered law plan (n + 1) closed xs lines ∙ ap (λ m. judged closed (line_faults plan (n + 1) lines) m (onto xs (lists_of (filter_map data_line_of lines)))) e) (data_line_of line)
+    step plan n closed xs lines (λ closed xs. answered plan (n + 1) closed xs lines ∙ ap (λ m. judged closed (line_faults plan (n + 1) lines) m (onto xs (lists_of (filter_map data_line_of lines)))) e) (data_line_of line)
 
 -- AND FROM THE START
-pub read_is : AnyPlace → (plan : List PlanLine) (n : ℕ) (lines : List (List ℕ)) → read_from plan n no_epochs lines ≡ answer (batches_of lines) (data_fault plan n lines)
-read_is law plan n lines =
-    answered law plan n [] [] lines ∙ ap (judged [] (line_faults plan n lines) (n + length lines)) (onto-nil (filter_map data_line_of lines))
+pub read_is : (plan : List PlanLine) (n : ℕ) (lines : List (List ℕ)) → read_from plan n no_epochs lines ≡ answer (batches_of lines) (data_fault plan n lines)
+read_is plan n lines =
+    answered plan n [] [] lines ∙ ap (judged [] (line_faults plan n lines) (n + length lines)) (onto-nil (filter_map data_line_of lines))
 
 -- in the words of a call's result
-module _ {V : Type 0} (items : V → List (List Entry)) (plan : List PlanLine) (n : ℕ) (lines : List (List ℕ)) (law : AnyPlace) where
+module _ {V : Type 0} (items : V → List (List Entry)) (plan : List PlanLine) (n : ℕ) (lines : List (List ℕ)) where
   pub batches_are : (r : Result V Fault) → IfOk r (λ b. read_from plan n no_epochs lines ≡ Ok (items b)) → IfOk r (λ b. items b ≡ batches_of lines)
-  batches_are (Ok b) h = by (data_fault plan n lines) (sym (read_is law plan n lines) ∙ h)
+  batches_are (Ok b) h = by (data_fault plan n lines) (sym (read_is plan n lines) ∙ h)
     where
       by : (o : Option Fault) → answer (batches_of lines) o ≡ Ok (items b) → items b ≡ batches_of lines
       by None e = cc
@@ -163,7 +134,7 @@ module _ {V : Type 0} (items : V → List (List Entry)) (plan : List PlanLine) (
   batches_are (Err f) h = tt
 
   pub faultless : (r : Result V Fault) → IfOk r (λ b. read_from plan n no_epochs lines ≡ Ok (items b)) → IfOk r (λ b. data_fault plan n lines ≡ None)
-  faultless (Ok b) h = by (data_fault plan n lines) (sym (read_is law plan n lines) ∙ h)
+  faultless (Ok b) h = by (data_fault plan n lines) (sym (read_is plan n lines) ∙ h)
     where
       by : (o : Option Fault) → answer (batches_of lines) o ≡ Ok (items b) → o ≡ None
       by None e = refl
@@ -173,7 +144,7 @@ module _ {V : Type 0} (items : V → List (List Entry)) (plan : List PlanLine) (
   pub fault_is : (r : Result V Fault) → IfErr r (λ f. (f ≡ Memory) ⊎ (read_from plan n no_epochs lines ≡ Err f)) → IfErr r (λ f. (f ≡ Memory) ⊎ (data_fault plan n lines ≡ Some f))
   fault_is (Ok b) h = tt
   fault_is (Err f) (inl e) = inl e
-  fault_is (Err f) (inr e) = inr (by (data_fault plan n lines) (sym (read_is law plan n lines) ∙ e))
+  fault_is (Err f) (inr e) = inr (by (data_fault plan n lines) (sym (read_is plan n lines) ∙ e))
     where
       by : (o : Option Fault) → answer (batches_of lines) o ≡ Err f → o ≡ Some f
       by None e = cc

@@ -3,7 +3,7 @@
 use Rattle.std.specs.Prelude.{◌≡◌, ◌⊎◌, ℕ, ◌+◌, List, [], ◌∷◌, ◌++◌, if◌then◌else◌, Option, Some, None, Result, Ok, Err}
 use Rattle.td_stamp.specs.declared.values.Entry.{Entry}
 use Rattle.td_stamp.specs.Orders.{entry_cmp}
-use Rattle.td_stamp.specs.Bag.{bag_insert}
+use Rattle.td_stamp.specs.Bag.{bag_of}
 use Rattle.td_plan.specs.Lines.{Line as PlanLine}
 use Rattle.td_plan.specs.Inputs.{is_input_of}
 use Rattle.td_console.specs.declared.data_line.DataLine.{DataLine}
@@ -13,7 +13,7 @@ use Rattle.td_console.specs.declared.faults.Fault.{Fault}
 use Rattle.td_console.specs.declared.faults.Fault.TheVariants.{Line, Memory}
 use Rattle.td_console.specs.Data.{data_line_of}
 
--- Epochs read so far: the batches of those that are closed, and that of the one which is not
+-- Epochs read so far: the batches of those that are closed, and the entries of the one which is not, as they were read
 pub record Epochs : Type 0 where
   pub closed : List (List Entry)
   pub current : List Entry
@@ -26,9 +26,9 @@ no_epochs = record { closed = []; current = [] }
 abbrev pub with_data_line : List PlanLine → ℕ → Epochs → Option DataLine → Result Epochs Fault
 with_data_line plan n epochs None = Err (Line n Syntax)
 with_data_line plan n epochs (Some PassedOver) = Ok epochs
-with_data_line plan n epochs (Some Close) = Ok (record { closed = epochs.closed ++ epochs.current ∷ []; current = [] })
+with_data_line plan n epochs (Some Close) = Ok (record { closed = epochs.closed ++ bag_of entry_cmp epochs.current ∷ []; current = [] })
 with_data_line plan n epochs (Some (Record input rec)) =
-    if is_input_of plan input then Ok (record { closed = epochs.closed; current = bag_insert entry_cmp (record { input = input; rec = rec }) epochs.current })
+    if is_input_of plan input then Ok (record { closed = epochs.closed; current = epochs.current ++ record { input = input; rec = rec } ∷ [] })
     else Err (Line n NoSuchInput)
 
 -- what comes after an answer, unless it is a fault

@@ -1,6 +1,6 @@
 //! Reads all, computes, writes all.
-ghost use Rattle.std.specs.Prelude.{◌≡◌, ◌≢◌, ◌⊎◌, ℕ, List, IfOk, IfErr, OnOk, IfSome, Ok, Err, length, ◌≤◌, ◌^◌, string_bytes};
-ghost use Rattle.std.specs.Io.KnownBytes.{Appends, IsAtEnd};
+ghost use Rattle.std.specs.Prelude.{◌≡◌, ◌≢◌, [], ◌⊎◌, ℕ, List, IfOk, IfErr, OnOk, IfSome, Ok, Err, length, ◌≤◌, ◌^◌, string_bytes};
+ghost use Rattle.std.specs.Io.KnownBytes.{Appends};
 ghost use Rattle.td_console.specs.Answer.{stored_by, IsAnswer};
 
 use crate::answer::answer;
@@ -27,7 +27,9 @@ pub fn batch<R: Source, W: Sink, L: Law, C: Closures<L>>(
 ) -> Result<(), Fault>
     ensures ok { OnOk result (IfSome (R.remaining reader.old) (λ input. (text : List ℕ) × IsAnswer (stored_by L.answers (C.has_map calls.now) (C.has_group calls.now) (C.has_fold calls.now)) input (Ok text) × Appends (W.contents writer.old) (W.contents writer.new) text)) }
     ensures fault { IfErr result (λ f. (f ≡ Fault.Input) ⊎ ((f ≡ Fault.Output) ⊎ ((f ≡ Fault.Memory) ⊎ IfSome (R.remaining reader.old) (λ input. IsAnswer (stored_by L.answers (C.has_map calls.now) (C.has_group calls.now) (C.has_fold calls.now)) input (Err f))))) }
-    // Where no read fails, and the end comes within the bound, the fault is none of the reader's.
+    // It has read all.
+    ensures end { OnOk result (IfSome (R.remaining reader.new) (λ rest. rest ≡ [])) }
+    // Where the end comes within the bound, and no read fails but for an interruption, the fault is none of the reader's.
     ensures input { R.EndsWithin reader.old (2 ^ 32) → IfErr result (λ f. f ≢ Fault.Input) }
     // Where the writer fails, there was an answer, and it had no room for it.
     ensures output { IfErr result (λ f. f ≡ Fault.Output → IfSome (R.remaining reader.old) (λ input. (text : List ℕ) × IsAnswer (stored_by L.answers (C.has_map calls.now) (C.has_group calls.now) (C.has_fold calls.now)) input (Ok text) × ¬ (W.HasRoom writer.old (length text)))) }
@@ -46,6 +48,7 @@ pub fn batch<R: Source, W: Sink, L: Law, C: Closures<L>>(
 /// All that a reader gives.
 fn read_all<R: Source>(alloc: Global, reader: &mut R) -> Result<Vec<u8>, Fault>
     ensures ok { IfOk result (λ bytes. IfSome (R.remaining reader.old) (λ input. bytes.items ≡ input)) }
+    ensures end { OnOk result (IfSome (R.remaining reader.new) (λ rest. rest ≡ [])) }
     ensures few { IfOk result (λ bytes. length bytes.items ≤ 2 ^ 44) }
     ensures err { IfErr result (λ f. (f ≡ Fault.Input) ⊎ (f ≡ Fault.Memory)) }
     ensures steady { R.EndsWithin reader.old (2 ^ 32) → IfErr result (λ f. f ≡ Fault.Memory) }

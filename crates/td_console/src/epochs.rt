@@ -15,15 +15,14 @@ use std::alloc::Global;
 use std::marker::Model;
 use td_plan::Plan;
 use td_plan::text::next_line;
-use td_stamp::laws::bags;
 use td_stamp::{Batch, Entry, Rec};
 
 /// Epochs that were read so far.
 #[derive(Drop)]
 struct Epochs {
-    // The batches of those that are closed, and that of the one which is not.
+    // The batches of those that are closed, and the entries of the one which is not, in the order of their lines.
     closed: Vec<Batch>,
-    current: Batch,
+    current: Vec<Entry>,
     alloc: Global,
 }
 
@@ -32,7 +31,7 @@ impl Model for Epochs {
 
     ghost Value = { Epochs };
 
-    ghost view = { λ e. record { closed = e.closed.items; current = e.current } };
+    ghost view = { λ e. record { closed = e.closed.items; current = e.current.items } };
 }
 
 impl Epochs {
@@ -42,7 +41,7 @@ impl Epochs {
     {
         Epochs {
             closed: Vec::new(alloc),
-            current: Batch::new(alloc),
+            current: Vec::new(alloc),
             alloc,
         }
     }
@@ -72,10 +71,10 @@ impl Epochs {
             current,
             alloc,
         } = self;
-        closed.push(current)?;
+        closed.push(Batch::from_vec(alloc, current))?;
         Ok(Epochs {
             closed,
-            current: Batch::new(alloc),
+            current: Vec::new(alloc),
             alloc,
         })
     }
@@ -109,7 +108,7 @@ impl Epochs {
             mut current,
             alloc,
         } = self;
-        current.add(Entry { input, rec })?;
+        current.push(Entry { input, rec })?;
         Ok(Epochs {
             closed,
             current,
@@ -145,7 +144,6 @@ pub(crate) fn read_batches(
     ensures err { IfErr result (λ f. (f ≡ Fault.Memory) ⊎ (data_fault plan.now first (text_lines text.now) ≡ Some f)) }
     ensures own { IfErr result IsOfInput }
 {
-    bags::<Entry>();
     read_each(alloc, plan, text, first)
 }
 

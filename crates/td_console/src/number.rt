@@ -10,6 +10,9 @@ use td_plan::text::natural;
 /// is not 0; -9223372036854775808 to 9223372036854775807.
 pub fn integer(word: &str) -> Option<i64>
     ensures exact { result ≡ integer_of word.now }
+    // What is read is what that number prints, and what a number prints is read.
+    ensures printed { IfSome result (λ z. word.now ≡ signed_decimal z) }
+    ensures none { IfNone result ((z : ℤ) → FitsSigned w64 z → word.now ≡ signed_decimal z → ⊥) }
 {
     match word.strip_prefix('-') {
         Some(digits) => negative(natural(digits)?),

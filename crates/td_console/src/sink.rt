@@ -1,5 +1,5 @@
 //! Writers, with a word for one that does not fail.
-ghost use Rattle.std.specs.Prelude.{ℕ, ◌≤◌, List, Option, None, length};
+ghost use Rattle.std.specs.Prelude.{ℕ, ◌+◌, ◌≤◌, List, Option, None, Some, length, vec_len, vec_capacity};
 ghost use Rattle.std.specs.Result.{OnOk, IsOk};
 ghost use Rattle.std.specs.Io.KnownBytes.{Appends};
 ghost use Rattle.td_console.specs.Streams.{never};
@@ -30,6 +30,20 @@ impl Sink for &mut [u8] {
             return Err(Error::from(ErrorKind::WriteZero));
         }
         Ok(())
+    }
+}
+
+/// It has room for what its capacity holds beyond its bytes.
+impl Sink for Vec<u8> {
+    ghost contents = { λ v. Some v.items };
+
+    ghost HasRoom = { λ v n. vec_len v + n ≤ vec_capacity v };
+
+    fn write_text(&mut self, text: &[u8]) -> Result<()> {
+        match self.extend_from_slice(text) {
+            Ok(()) => Ok(()),
+            Err(_) => Err(Error::from(ErrorKind::OutOfMemory)),
+        }
     }
 }
 

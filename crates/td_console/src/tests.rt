@@ -74,17 +74,16 @@ impl Closures<Sample> for Counting {
 /// What was written, and the line of the fault, if there is one.
 fn answer_to(rt: &HostRuntime, input: &[u8]) -> Result<(String, String), Fail> {
     let mut reader = input;
-    let mut writer = StdWriter(Vec::new(rt.alloc()));
+    let mut bytes = Vec::new(rt.alloc());
     let fault = match batch::<_, _, Sample, Counting>(
         rt.alloc(),
         &mut reader,
-        &mut writer,
+        &mut bytes,
         &Counting,
     ) {
         Ok(()) => String::new(rt.alloc()),
         Err(fault) => fault_line(rt.alloc(), fault)?,
     };
-    let StdWriter(bytes) = writer;
     let text = String::from_utf8(bytes)?;
     Ok((text, fault))
 }
@@ -175,8 +174,6 @@ fn signed_numbers(rt: HostRuntime) -> Result<(), Fail> {
     }
     Ok(())
 }
-
-const COUNT: &str = "0 input\n1 group 20 0\n2 output 1\n";
 
 #[test]
 fn first_faults(rt: HostRuntime) -> Result<(), Fail> {
@@ -289,6 +286,37 @@ fn slow_and_failing_readers(rt: HostRuntime) -> Result<(), Fail> {
         let StdWriter(bytes) = writer;
         assert!(rt; bytes.is_empty());
     }
+    Ok(())
+}
+
+/// A reader whose first read is interrupted, and whose second one gives all.
+#[derive(Drop)]
+struct Interrupted<'a> {
+    bytes: &'a [u8],
+    before: bool,
+}
+
+impl Read for Interrupted<'_> {
+    fn read(&mut self, buf: &mut [u8]) -> std::io::Result<usize> {
+        if self.before {
+            self.before = false;
+            return Err(Error::from(ErrorKind::Interrupted));
+        }
+        self.bytes.read(buf)
+    }
+}
+
+#[test]
+fn interrupted_reads_are_tried_again(rt: HostRuntime) -> Result<(), Fail> {
+    let input = "0 input\n1 group 20 0\n2 output 1\n--\n0 7 1\n.\n";
+    let mut reader = StdReader(Interrupted {
+        bytes: input.as_bytes(),
+        before: true,
+    });
+    let mut bytes = Vec::new(rt.alloc());
+    let answer = batch::<_, _, Sample, Counting>(rt.alloc(), &mut reader, &mut bytes, &Counting);
+    assert_eq!(rt; answer, Ok(()));
+    assert_eq!(rt; bytes.as_slice(), "1 2 7 1\n".as_bytes());
     Ok(())
 }
 

@@ -1,14 +1,12 @@
 -- The records of one input of a batch are a bag.
 use Rattle.std.proofs.Common.{◌≡◌, ◌==◌, ℕ, List, [], ◌∷◌, refl, ap, sym, ◌∙◌, map, filter, cond, eqb-true, Bool, true, false}
-use Rattle.std.specs.declared.cmp.Ordering.{Ordering}
 use Rattle.std.specs.declared.cmp.Ordering.TheVariants.{Equal}
 use Rattle.std.specs.Ordering.{nat_cmp, is_gt, ordering_then}
 use Rattle.std.specs.Cmp.{nat_cmp_is}
-use Rattle.td_stamp.specs.declared.values.Rec.{Rec}
 use Rattle.td_stamp.specs.declared.values.Entry.{Entry}
 use Rattle.td_stamp.specs.Orders.{rec_cmp, entry_cmp}
 use Rattle.td_stamp.specs.OrderLaws.{rec_total, rec_apart, entry_total, entry_apart}
-use Rattle.td_stamp.specs.Bag.{bag_of, IsBag}
+use Rattle.td_stamp.specs.Bag.{IsBag}
 use Rattle.td_stamp.specs.Batch.{records_for}
 use Rattle.td_stamp.proofs.Rising.{IsBelowAll, Rises, IsBag-from_Rises, Rises-from_IsBag}
 

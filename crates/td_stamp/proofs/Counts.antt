@@ -1,23 +1,19 @@
 -- A bag that is kept as pairs of a member and how often it stands in it, in the members' order.
-use Rattle.std.proofs.Common.{◌≡◌, ℕ, ◌+◌, ◌≤◌, suc, zero, List, [], ◌∷◌, ◌++◌, length, replicate, refl, ap, sym, ◌∙◌, subst, Bool, true, false, cond, arith, length-append, zero-add, append_assoc, append-nil, map, rules}
-use Rattle.std.specs.Prelude.{unwrap_or, Option, Some, None, is_some, IsSome, All}
+use Rattle.std.proofs.Common.{◌≡◌, ℕ, ◌+◌, ◌≤◌, suc, zero, List, [], ◌∷◌, ◌++◌, length, replicate, refl, ap, sym, ◌∙◌, subst, Bool, true, false, cond, arith, length-append, zero-add, append_assoc, rules}
+use Rattle.std.specs.Prelude.{unwrap_or, Option, Some, None, is_some, IsSome}
 use Rattle.std.specs.declared.cmp.Ordering.{Ordering}
 use Rattle.std.specs.declared.cmp.Ordering.TheVariants.{Less, Equal, Greater}
 use Rattle.std.specs.Cmp.{IsTotalOrder}
 use Rattle.std.proofs.lemmas.Cmp.{tied_itself}
-use Rattle.std.proofs.lemmas.List.{length-replicate, replicate-append-replicate, map-append}
-use Rattle.std.proofs.lemmas.List.Elements.{All-push, All-same, All-head, All-tail}
+use Rattle.std.proofs.lemmas.List.{length-replicate, replicate-append-replicate}
 use Rattle.std.specs.FinMap.{IsAntisymmetric}
 use Rattle.std.specs.List.{AllByRecursion, AllZip}
 use Rattle.std.proofs.lemmas.Map.Entries.{entries_from_clone}
 use Rattle.std.specs.List.Sorted.{IsStrictlySortedBy}
 use Rattle.std.specs.Map.{keys_of, lookup}
-use Rattle.std.specs.Map.Iter.{TakesFirst}
-use Rattle.std.specs.Iterator.{Yields}
-use Rattle.std.proofs.lemmas.Map.Iter.{rest_so_far, rest_more}
 use Rattle.std.specs.BTreeMap.{insert_entry, is_at}
 use Rattle.td_stamp.specs.Bag.{bag_insert, join, members}
-use Rattle.td_stamp.proofs.Bags.{insert_past, insert_before_less, insert_before_equal, join-swap, join-append}
+use Rattle.td_stamp.proofs.Bags.{insert_past, insert_before_less, insert_before_equal}
 
 -- how often a member stands in the bag is no more than there are members
 pub lookup-members : {K : Type 0} (test : K → Bool) (es : List (K × ℕ)) → unwrap_or (lookup test es) 0 ≤ length (members es)
@@ -125,11 +121,6 @@ module _ {K : Type 0} (cmp : K → K → Ordering) (total : IsTotalOrder cmp) (s
   pub more_counted : (n was : ℕ) (k : K) (es new : List (K × ℕ)) → IsStrictlySortedBy cmp (keys_of es) → was ≡ unwrap_or (lookup (is_at (cmp k)) es) 0 → new ≡ insert_entry cmp es k (was + n) → members new ≡ join cmp (replicate n k) (members es)
   more_counted n was k es new sorted told put = ap members put ∙ ap (λ w. members (insert_entry cmp es k (w + n))) told ∙ members-insert_entry n k es sorted
 
--- the members of entries that follow one another
-pub members-append : {K : Type 0} (es fs : List (K × ℕ)) → members (es ++ fs) ≡ members es ++ members fs
-members-append [] fs = refl
-members-append (e ∷ es) fs = ap (λ l. replicate e.1 e.0 ++ l) (members-append es fs) ∙ sym (append_assoc (replicate e.1 e.0) (members es) (members fs))
-
 -- a look-up that finds nothing
 pub absent_is_0 : (o : Option ℕ) → is_some o ≡ false → 0 ≡ unwrap_or o 0
 absent_is_0 None e = refl
@@ -139,36 +130,6 @@ absent_is_0 (Some n) e = cc
 pub some_either : {X : Type 0} (b : Bool) (w : X) (o : Option X) → IsSome o → IsSome (cond b (Some w) o)
 some_either true w o h = search rules
 some_either false w o h = h
-
--- one more element of a list that is mapped
-pub All-map_push : {X Y : Type 0} (P : X → Type 0) (f : Y → X) (ys : List Y) (y : Y) → All P (map f ys) → P (f y) → All P (map f (ys ++ y ∷ []))
-All-map_push P f ys y all h = All-same P (map f (ys ++ y ∷ [])) (map f ys ++ f y ∷ []) (map-append f ys (y ∷ [])) (All-push P (map f ys) (f y) all h)
-
--- in a `for` over what `all` has, at the item x: those before it, x, and those after it
-pub all_at_item : {A X : Type 0} (shows : A → X) (all : List X) (xs : List A) (s t u : List X) (r : Option A) (x : A) → s ≡ all → Yields (TakesFirst shows) s xs t → r ≡ Some x → TakesFirst shows t r u → all ≡ map shows xs ++ shows x ∷ u
-all_at_item shows all xs s t u r x start yields is step = sym start ∙ rest_so_far shows xs s t yields ∙ ap (λ l. map shows xs ++ l) (rest_more shows t u r x is step)
-
--- the entry that a loop has come to counts no more than the members from it on
-pub count_at_item : {K : Type 0} (all before after : List (K × ℕ)) (k : K) (n : ℕ) → all ≡ before ++ (k, n) ∷ after → length (members before) + n ≤ length (members all)
-count_at_item all before after k n e =
-    let whole : length (members all) ≡ length (members before) + length (replicate n k ++ members after) =
-    ap (λ es. length (members es)) e ∙ ap length (members-append before ((k, n) ∷ after)) ∙ length-append (members before) (replicate n k ++ members after) in
-    omega (arith, whole, length-append (replicate n k) (members after), length-replicate n k)
-
--- a key that each of these entries has, at the entry that a loop has come to
-pub All_at_item : {K : Type 0} (P : K → Type 0) (all before after : List (K × ℕ)) (k : K) (n : ℕ) → all ≡ before ++ (k, n) ∷ after → All P (keys_of all) → P k
-All_at_item {K = K} P all before after k n e h = All-head P k (keys_of after) (split before (All-same P (keys_of (before ++ (k, n) ∷ after)) (keys_of all) (ap keys_of (sym e)) h))
-  where
-    split : (es : List (K × ℕ)) → All P (keys_of (es ++ (k, n) ∷ after)) → All P (k ∷ keys_of after)
-    split [] h = h
-    split (f ∷ es) h = split es (All-tail P f.0 (keys_of (es ++ (k, n) ∷ after)) h)
-
-module _ {K : Type 0} (cmp : K → K → Ordering) (total : IsTotalOrder cmp) (same : IsAntisymmetric cmp) where
-  -- n more of k, where the entries before it were joined already
-  pub join-members_push : (n : ℕ) (k : K) (before : List (K × ℕ)) (bag : List K) → join cmp (replicate n k) (join cmp (members before) bag) ≡ join cmp (members (before ++ (k, n) ∷ [])) bag
-  join-members_push n k before bag =
-      join-swap cmp total same (replicate n k) (members before) bag ∙ ap (λ l. join cmp (members before) (join cmp l bag)) (sym (append-nil (replicate n k)))
-      ∙ sym (join-append cmp total same (members before) (replicate n k ++ []) bag) ∙ ap (λ l. join cmp l bag) (sym (members-append before ((k, n) ∷ [])))
 
 -- a clone of the map holds the same bag, where a key's clone is the key
 pub members-clone : {K : Type 0} (C : K → K → Type 0) → ((x y : K) → C x y → y ≡ x) → (es fs : List (K × ℕ)) → AllZip (λ p q. C p.0 q.0 × (q.1 ≡ p.1)) es fs → members fs ≡ members es

@@ -6,4 +6,5 @@ pub mod Parts
 pub mod Rising
 pub mod Runs
 pub mod Sets
+pub mod Sorted
 pub mod TimeLaws

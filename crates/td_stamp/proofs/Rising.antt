@@ -51,7 +51,7 @@ module _ {X : Type 0} (cmp : X → X → Ordering) (total : IsTotalOrder cmp) (s
   not_above x y e = ap is_gt (turned_back cmp total same x y e)
 
   -- what is not above y, and y, are not above what y is not above
-  below_through : (x y : X) (zs : List X) → is_gt (cmp x y) ≡ false → IsBelowAll cmp y zs → IsBelowAll cmp x zs
+  pub below_through : (x y : X) (zs : List X) → is_gt (cmp x y) ≡ false → IsBelowAll cmp y zs → IsBelowAll cmp x zs
   below_through x y [] h b = tt
   below_through x y (z ∷ zs) h b = (one (cmp x y) refl (cmp y z) refl h b.0, below_through x y zs h b.1)
     where

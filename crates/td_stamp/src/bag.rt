@@ -1,8 +1,8 @@
 //! Bags.
-ghost use Rattle.std.specs.Prelude.{◌≡◌, ◌+◌, ◌^◌, ◌<◌, ◌↔◌, OnOk, OnErr, IfOk, IsTrue, [], All, length};
-ghost use Rattle.std.specs.BTreeMap.{keys, ContainsKey};
-ghost use Rattle.td_stamp.specs.Bag.{bag_insert, join, members, IsBag};
+ghost use Rattle.std.specs.Prelude.{◌≡◌, ◌↔◌, ◌++◌, ◌∷◌, OnOk, OnErr, IfOk, IsTrue, [], length};
+ghost use Rattle.td_stamp.specs.Bag.{bag_insert, bag_of, join, IsBag};
 
+use crate::counting::{add_members, count_in, count_one, make_room};
 use crate::error::StampError;
 use crate::member::Member;
 use crate::members::Members;
@@ -12,24 +12,27 @@ use std::marker::Model;
 
 /// A bag: a finite list whose order has no meaning and whose repeats count. Contracts see it as its sorted list.
 ///
-/// A call costs O(log n) for each member that it puts in, wherever the member belongs, and n members take O(n) memory.
+/// Members that come in order are kept in a list, at O(1) each on average. The first that belongs before another moves
+/// them into a tree, once; from then on each costs O(log n), wherever it belongs. Either way n members take O(n) memory.
 #[derive(Debug, Drop)]
 pub struct Bag<T: Member> {
-    // How often each member stands in the bag, which may be 0 after a refusal.
+    // The members in order, as long as none came that belongs before another.
+    in_order: Vec<T>,
+    // From then on how often each stands in the bag, which may be 0 after a refusal. One of the two has no members.
     counts: BTreeMap<T, u64>,
     len: usize,
     alloc: Global,
 }
 
 impl<T: Member> Model for Bag<T> {
-    ghost use Rattle.std.specs.Prelude.{List, length, ◌≡◌};
-    ghost use Rattle.td_stamp.specs.Bag.{members};
+    ghost use Rattle.std.specs.Prelude.{List, [], ◌++◌, ◌+◌, length, ◌≡◌, ◌⊎◌};
+    ghost use Rattle.td_stamp.specs.Bag.{members, IsBag};
 
     ghost Value = { List T };
 
-    ghost view = { λ b. members b.counts.entries };
+    ghost view = { λ b. b.in_order.items ++ members b.counts.entries };
 
-    ghost invariant = { λ b. b.len ≡ length (members b.counts.entries) };
+    ghost invariant = { λ b. (b.len ≡ length b.in_order.items + length (members b.counts.entries)) × ((b.in_order.items ≡ []) ⊎ (members b.counts.entries ≡ [])) × IsBag T.cmp b.in_order.items };
 }
 
 impl<T: Member> Bag<T> {
@@ -38,8 +41,25 @@ impl<T: Member> Bag<T> {
         ensures { result ≡ [] }
     {
         Bag {
+            in_order: Vec::new(alloc),
             counts: BTreeMap::new(alloc),
             len: 0,
+            alloc,
+        }
+    }
+
+    /// The bag of these members, which may come in any order. They are sorted where they stand, in O(n log n), without
+    /// memory.
+    pub fn from_vec(alloc: Global, members: Vec<T>) -> Self
+        ensures { result ≡ bag_of T.cmp members.items }
+    {
+        let mut in_order = members;
+        in_order.sort_unstable();
+        let len = in_order.len();
+        Bag {
+            in_order,
+            counts: BTreeMap::new(alloc),
+            len,
             alloc,
         }
     }
@@ -66,8 +86,12 @@ impl<T: Member> Bag<T> {
         let Some(len) = self.len.checked_add(1) else {
             return Err(StampError::Memory);
         };
-        let count = self.counts.get(&member).copied().unwrap_or(0);
-        self.counts.insert(member, count + 1)?;
+        if self.in_order.len() == self.len && belongs_last(self.in_order.as_slice(), &member) {
+            self.in_order.push(member)?;
+        } else {
+            count_in(self.alloc, &mut self.in_order, &mut self.counts)?;
+            count_one(&mut self.counts, member)?;
+        }
         self.len = len;
         Ok(())
     }
@@ -82,10 +106,10 @@ impl<T: Member> Bag<T> {
         ensures all { result ≡ self.now }
         ensures sorted { IsBag T.cmp self.now }
     {
-        Members::of(self.counts.iter())
+        Members::of(self.in_order.as_slice(), self.counts.iter())
     }
 
-    /// Adds the members of `other`. Refusal: `Memory`, with the bag unchanged.
+    /// Adds the members of `other`, each in O(log n). Refusal: `Memory`, with the bag unchanged.
     pub fn join(&mut self, other: &Bag<T>) -> Result<(), StampError>
         ensures ok { OnOk result (self.new ≡ join T.cmp other.now self.old) }
         ensures err { OnErr result (self.new ≡ self.old) }
@@ -93,8 +117,9 @@ impl<T: Member> Bag<T> {
         let Some(len) = self.len.checked_add(other.len) else {
             return Err(StampError::Memory);
         };
-        make_room(&mut self.counts, &other.counts)?;
-        add_counts(&mut self.counts, &other.counts);
+        count_in(self.alloc, &mut self.in_order, &mut self.counts)?;
+        make_room(&mut self.counts, other)?;
+        add_members(&mut self.counts, other);
         self.len = len;
         Ok(())
     }
@@ -104,6 +129,7 @@ impl<T: Member> Bag<T> {
         ensures { IfOk result (λ bag. bag ≡ self.now) }
     {
         Ok(Bag {
+            in_order: self.in_order.clone()?,
             counts: self.counts.clone()?,
             len: self.len,
             alloc: self.alloc,
@@ -111,33 +137,13 @@ impl<T: Member> Bag<T> {
     }
 }
 
-/// Gives each member of `other` an entry in `counts`, where a new one stands 0 times. After a refusal some have one.
-fn make_room<T: Member>(
-    counts: &mut BTreeMap<T, u64>,
-    other: &BTreeMap<T, u64>,
-) -> Result<(), StampError>
-    ensures same { members counts.new.entries ≡ members counts.old.entries }
-    ensures ok { OnOk result (All (ContainsKey T.cmp counts.new) (keys other.now)) }
+/// Whether a member belongs after all these, which stand in order.
+fn belongs_last<T: Member>(in_order: &[T], member: &T) -> bool
+    requires { IsBag T.cmp in_order.now }
+    ensures { IsTrue result → bag_insert T.cmp member.now in_order.now ≡ in_order.now ++ member.now ∷ [] }
 {
-    for member in other.keys() {
-        if !counts.contains_key(member) {
-            counts.insert(*member, 0)?;
-        }
-    }
-    Ok(())
-}
-
-/// Adds what `other` counts to `counts`, which has an entry for each of its members.
-fn add_counts<T: Member>(counts: &mut BTreeMap<T, u64>, other: &BTreeMap<T, u64>)
-    requires room { All (ContainsKey T.cmp counts.old) (keys other.now) }
-    requires fits { length (members counts.old.entries) + length (members other.now.entries) < 2 ^ 64 }
-    ensures { members counts.new.entries ≡ join T.cmp (members other.now.entries) (members counts.old.entries) }
-{
-    for (member, more) in other {
-        let count = counts.get(member).copied().unwrap_or(0);
-        match counts.insert(*member, count + *more) {
-            Ok(_) => {}
-            Err(_) => unreachable!(),
-        }
+    match in_order.last() {
+        Some(last) => last.cmp(member).is_le(),
+        None => true,
     }
 }

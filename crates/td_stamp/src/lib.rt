@@ -3,6 +3,7 @@
 
 mod bag;
 mod batch;
+mod counting;
 mod epoch_out;
 mod error;
 mod groups;

@@ -53,6 +53,39 @@ fn members_come_sorted_with_repeats(rt: HostRuntime) -> Result<(), Fail> {
 }
 
 #[test]
+fn members_may_come_at_once(rt: HostRuntime) -> Result<(), Fail> {
+    let mut members = Vec::new(rt.alloc());
+    for member in [rec(9, 0), rec(7, 1), rec(7, -2), rec(7, 1)] {
+        members.push(member)?;
+    }
+    let mut bag = Bag::from_vec(rt.alloc(), members);
+    let sorted = [rec(7, -2), rec(7, 1), rec(7, 1), rec(9, 0)];
+    assert_eq!(rt; listed(rt.alloc(), &bag)?.as_slice(), sorted.as_slice());
+    assert_eq!(rt; bag.len(), 4);
+    bag.add(rec(9, 0))?;
+    bag.add(rec(7, 1))?;
+    bag.add(rec(10, 0))?;
+    let more = [
+        rec(7, -2),
+        rec(7, 1),
+        rec(7, 1),
+        rec(7, 1),
+        rec(9, 0),
+        rec(9, 0),
+        rec(10, 0),
+    ];
+    assert_eq!(rt; listed(rt.alloc(), &bag)?.as_slice(), more.as_slice());
+    assert_eq!(rt;
+        listed(rt.alloc(), &bag.copy()?)?.as_slice(),
+        more.as_slice()
+    );
+    assert_eq!(rt; bag.len(), 7);
+    let none: Bag<Rec> = Bag::from_vec(rt.alloc(), Vec::new(rt.alloc()));
+    assert!(rt; none.is_empty());
+    Ok(())
+}
+
+#[test]
 fn bags_are_joined(rt: HostRuntime) -> Result<(), Fail> {
     let mut left = bag(rt.alloc(), &[rec(9, 0), rec(7, 1)])?;
     let right = bag(rt.alloc(), &[rec(8, 2), rec(7, 1), rec(7, 1)])?;
@@ -63,6 +96,9 @@ fn bags_are_joined(rt: HostRuntime) -> Result<(), Fail> {
     assert_eq!(rt; right.len(), 3);
     left.join(&Bag::new(rt.alloc()))?;
     assert_eq!(rt; left.len(), 5);
+    let mut none = Bag::new(rt.alloc());
+    none.join(&left)?;
+    assert_eq!(rt; listed(rt.alloc(), &none)?.as_slice(), both.as_slice());
     Ok(())
 }
 

@@ -8,7 +8,10 @@ use Rattle.td_console.proofs.engine.read_all.Goals as goal
 pub returns-then-ne-clause-steady : goal.returns-then-ne-clause-steady
 returns-then-ne-clause-steady g c =
     λ e. let room = c.loop-read.invariant.room in
-    absurd (c.in-Err.ensures.steady (2 ^ 32 - (c.loop-read.read + 1)) (subst (g.R.Source.EndsWithin c.loop-read.reader) (left_suc c.loop-read.read c.loop-read-test.true) (c.loop-read.invariant.steady e)) (omega arith))
+    let interrupted = (c.in-Err.ensures.steady (2 ^ 32 - (c.loop-read.read + 1)) (subst (g.R.Source.EndsWithin c.loop-read.reader) (left_suc c.loop-read.read c.loop-read-test.true) (c.loop-read.invariant.steady e)) (omega arith)).0 in
+    let is = c.kind.ensures ∙ interrupted in
+    let no = sym c.if-ne.true ∙ (rw is at c.ne.ensures) in
+    cc
 
 pub loop-read-preserved : goal.loop-read-preserved
 loop-read-preserved g c =
@@ -38,7 +41,7 @@ loop-read-preserved g c =
             so_far =
                 subst (Consumes (g.R.Source.remaining c.args.reader.now) (g.R.Source.remaining c.read_piece.new.self)) (sym same)
                 (consumed_still (g.R.Source.remaining c.args.reader.now) (g.R.Source.remaining c.loop-read.reader) (g.R.Source.remaining c.read_piece.new.self) c.loop-read.bytes.items c.loop-read.invariant.so_far w.in-Err.ensures.bytes);
-            steady = λ e. absurd (w.in-Err.ensures.steady (2 ^ 32 - (c.loop-read.read + 1)) (subst (g.R.Source.EndsWithin c.loop-read.reader) (left_suc c.loop-read.read c.loop-read-test.true) (c.loop-read.invariant.steady e)) (omega arith));
+            steady = λ e. (w.in-Err.ensures.steady (2 ^ 32 - (c.loop-read.read + 1)) (subst (g.R.Source.EndsWithin c.loop-read.reader) (left_suc c.loop-read.read c.loop-read-test.true) (c.loop-read.invariant.steady e)) (omega arith)).1;
             room = buf ∙ room;
             few = omega arith;
           }

@@ -1,27 +1,34 @@
-use Rattle.std.proofs.Common.{◌≡◌, ap, ◌∙◌, arith, length}
-use Rattle.std.specs.Prelude.{unwrap_or}
-use Rattle.std.specs.Map.{lookup}
-use Rattle.std.specs.BTreeMap.{is_at}
-use Rattle.td_stamp.specs.Bag.{bag_insert, members}
-use Rattle.td_stamp.proofs.Counts.{lookup-members, more_counted}
-use Rattle.td_stamp.proofs.Bags.{length-bag_insert}
+use Rattle.std.proofs.Common.{◌≡◌, ◌++◌, ◌∷◌, [], List, ap, ◌∙◌, sym, subst, refl, arith, length, length-append, inl, inr}
+use Rattle.td_stamp.specs.Bag.{bag_insert, IsBag, members}
+use Rattle.td_stamp.proofs.Bags.{length-bag_insert, join-IsBag}
 use Rattle.td_stamp.proofs.bag.Bag.add.Goals as goal
+use Rattle.td_stamp.proofs.bag.Bag.add.Goals.{then-len-self+then-belongs_last+in_ok-push, else-len-self+in_ok-count_in+in_ok-count_one}
 
-pub overflow_add-count : goal.overflow_add-count
-overflow_add-count g c =
-    let told : c.unwrap_or-count.result ≡ unwrap_or (lookup (is_at (g.T.Ord.cmp c.args.member)) c.self.inside.counts.entries) 0 = c.unwrap_or-count.ensures ∙ ap (λ o. unwrap_or o 0) (c.copied.ensures ∙ c.get.ensures.value) in
-    omega (arith, told, lookup-members (is_at (g.T.Ord.cmp c.args.member)) c.self.inside.counts.entries, c.self.invariant, c.in-Some.ensures)
+empty : {X : Type 0} (xs : List X) → length xs ≡ 0 → xs ≡ []
+empty [] e = refl
+empty (x ∷ xs) e = absurd (omega (arith, e))
 
 pub invariant_of-self-2 : goal.invariant_of-self-2
 invariant_of-self-2 g c =
-    let was = members c.self.inside.counts.entries in
-    let one_more : members c.insert.new.self.entries ≡ bag_insert g.T.Ord.cmp c.args.member was =
-    more_counted g.T.Ord.cmp g.met.T.Ord.total g.met.T.Member.told_apart 1 c.unwrap_or-count.result c.args.member c.self.inside.counts.entries c.insert.new.self.entries c.in_ok-insert.ensures.was_ordered
-    (c.unwrap_or-count.ensures ∙ ap (λ o. unwrap_or o 0) (c.copied.ensures ∙ c.get.ensures.value)) c.in_ok-insert.ensures.entries in
-    let size : length (members c.insert.new.self.entries) ≡ length (bag_insert g.T.Ord.cmp c.args.member was) = ap length one_more in
-    omega (arith, size, length-bag_insert g.T.Ord.cmp c.args.member was, c.self.invariant, c.in-Some.ensures)
-
-pub returns-clause-ok : goal.returns-clause-ok
-returns-clause-ok g c =
-    more_counted g.T.Ord.cmp g.met.T.Ord.total g.met.T.Member.told_apart 1 c.unwrap_or-count.result c.args.member c.self.inside.counts.entries c.insert.new.self.entries c.in_ok-insert.ensures.was_ordered
-    (c.unwrap_or-count.ensures ∙ ap (λ o. unwrap_or o 0) (c.copied.ensures ∙ c.get.ensures.value)) c.in_ok-insert.ensures.entries ∙ ap (bag_insert g.T.Ord.cmp c.args.member) c.self.view_is
+    let cmp = g.T.Ord.cmp in
+    let listed = c.self.inside.in_order.items in
+    let counted = members c.self.inside.counts.entries in
+    let k = c.args.member in
+    elim c.if-len-self.branch [
+      | then-len-self+then-belongs_last+in_ok-push w ↦
+          let none : counted ≡ [] = empty counted (omega (arith, w.if-len-self.true, c.len.ensures, c.self.inside.in_order.ok.0, c.self.invariant.0)) in
+          let pushed : w.push.new.self.items ≡ bag_insert cmp k listed = w.in_ok-push.ensures.items ∙ sym (subst (λ l. bag_insert cmp k l ≡ l ++ k ∷ []) w.as_slice.ensures.value (w.if-belongs_last.ensures refl)) in
+          rw w.self-inside-is (
+            omega (arith, c.in-Some.ensures, c.self.invariant.0, ap length pushed, length-bag_insert cmp k listed),
+            inr none,
+            subst (IsBag cmp) (sym pushed) (join-IsBag cmp g.met.T.Ord.total g.met.T.Member.told_apart (k ∷ []) listed c.self.invariant.2),
+          )
+      | else-len-self+in_ok-count_in+in_ok-count_one w ↦
+          let none : w.count_in.new.in_order.items ≡ [] = w.in_ok-count_in.ensures.ok in
+          let all : members w.count_one.new.counts.entries ≡ bag_insert cmp k (listed ++ counted) = w.in_ok-count_one.ensures.ok ∙ ap (bag_insert cmp k) w.in_ok-count_in.ensures.all in
+          rw w.self-inside-is (
+            omega (arith, c.in-Some.ensures, c.self.invariant.0, ap length none, ap length all, length-bag_insert cmp k (listed ++ counted), length-append listed counted),
+            inl none,
+            subst (IsBag cmp) (sym none) refl,
+          )
+    ]

@@ -1,0 +1,36 @@
+/* Stands before the C library's allocator, and refuses the allocation with the number REFUSED, counted from 1; with
+   REFUSED_ON set, every later one as well. */
+#include <errno.h>
+#include <stddef.h>
+#include <stdlib.h>
+
+extern void *__libc_malloc(size_t);
+extern void *__libc_calloc(size_t, size_t);
+extern void *__libc_realloc(void *, size_t);
+
+static int is_refused(void)
+{
+    static long calls;
+    const char *refused = getenv("REFUSED");
+    long number = refused ? atol(refused) : 0;
+    calls++;
+    if (number == 0 || calls < number || (calls > number && !getenv("REFUSED_ON")))
+        return 0;
+    errno = ENOMEM;
+    return 1;
+}
+
+void *malloc(size_t size)
+{
+    return is_refused() ? NULL : __libc_malloc(size);
+}
+
+void *calloc(size_t count, size_t size)
+{
+    return is_refused() ? NULL : __libc_calloc(count, size);
+}
+
+void *realloc(void *block, size_t size)
+{
+    return is_refused() ? NULL : __libc_realloc(block, size);
+}
