@@ -49,7 +49,9 @@ def run(command, text, output):
 def build_td():
     folder = ROOT / "crates/td"
     with open(folder / "stdin") as given:
-        subprocess.run(["rt", "run", "--", "batch"], cwd=folder, stdin=given, stdout=subprocess.DEVNULL, check=True)
+        done = subprocess.run(["rt", "run", "--", "batch"], cwd=folder, stdin=given, capture_output=True, text=True)
+    if done.returncode != 0:
+        sys.exit(done.stderr)
 
 
 def main():
