@@ -20,19 +20,6 @@ pub trait Sink {
         ensures room { HasRoom self.old (length text.now) → IsOk result };
 }
 
-impl Sink for &mut [u8] {
-    ghost contents = { λ _. None };
-
-    ghost HasRoom = { λ s n. n ≤ length s.now };
-
-    fn write_text(&mut self, text: &[u8]) -> Result<()> {
-        if self.write(text)? < text.len() {
-            return Err(Error::from(ErrorKind::WriteZero));
-        }
-        Ok(())
-    }
-}
-
 /// It has room for what its capacity holds beyond its bytes.
 impl Sink for Vec<u8> {
     ghost contents = { λ v. Some v.items };

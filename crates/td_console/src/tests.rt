@@ -348,14 +348,45 @@ fn answers(rt: HostRuntime) -> Result<(), Fail> {
     Ok(())
 }
 
-/// A writer with too little room, and one with enough.
+/// A writer that takes one byte at a time, and fails when it is full.
+#[derive(Drop)]
+struct Narrow {
+    bytes: Vec<u8>,
+    room: usize,
+}
+
+impl Write for Narrow {
+    fn write(&mut self, buf: &[u8]) -> std::io::Result<usize> {
+        if buf.is_empty() {
+            return Ok(0);
+        }
+        if self.room == 0 {
+            return Err(Error::from(ErrorKind::StorageFull));
+        }
+        if self.bytes.push(buf[0]).is_err() {
+            return Err(Error::from(ErrorKind::OutOfMemory));
+        }
+        self.room -= 1;
+        Ok(1)
+    }
+
+    fn flush(&mut self) -> std::io::Result<()> {
+        Ok(())
+    }
+}
+
 #[test]
-fn writers_with_little_room(rt: HostRuntime) -> Result<(), Fail> {
-    for (room, want) in [(7, Err(Fault::Output)), (16, Ok(()))] {
+fn slow_and_failing_writers(rt: HostRuntime) -> Result<(), Fail> {
+    for (room, want, written) in [
+        (7, Err(Fault::Output), "1 2 7 2"),
+        (16, Ok(()), "1 2 7 2\n1 2 9 1\n"),
+    ] {
         let mut reader =
             "0 input\n1 group 20 0\n2 output 1\n--\n0 7 1\n0 7 1\n0 9 0\n.\n".as_bytes();
-        let mut bytes = [0u8; 32];
-        let mut writer = &mut bytes[..room];
+        let mut writer = StdWriter(Narrow {
+            bytes: Vec::new(rt.alloc()),
+            room,
+        });
         let answer = batch::<_, _, Sample, Counting>(
             rt.alloc(),
             &mut reader,
@@ -363,6 +394,8 @@ fn writers_with_little_room(rt: HostRuntime) -> Result<(), Fail> {
             &Counting,
         );
         assert_eq!(rt; answer, want);
+        let StdWriter(Narrow { bytes, room: _ }) = writer;
+        assert_eq!(rt; bytes.as_slice(), written.as_bytes());
     }
     Ok(())
 }
