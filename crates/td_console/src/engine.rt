@@ -18,7 +18,8 @@ const PIECE: usize = 4096;
 
 /// Writes the answer text of what it reads: an input as `td batch` takes it. Faults, where nothing was written: the
 /// first fault of the input; `Memory`; `Input` where a read failed, or the end did not come within 2^32 reads of at
-/// most 4,096 bytes. Where the writer failed, `Output`, and some may have been written.
+/// most 4,096 bytes. A read that is interrupted counts as one and is tried again. Where the writer failed, `Output`, and
+/// some may have been written.
 pub fn batch<R: Source, W: Sink, L: Law, C: Closures<L>>(
     alloc: Global,
     reader: &mut R,
