@@ -6,11 +6,11 @@ use Rattle.std.specs.declared.cmp.Ordering.TheVariants.{Less, Equal, Greater}
 use Rattle.std.specs.Ordering.{nat_cmp, ordering_then, is_le, MatchOrdering}
 use Rattle.std.specs.Cmp.{IsTotalOrder, then_total, on_total, nat_cmp_total, ranks}
 use Rattle.std.specs.Cmp.Lexicographic.{slice_cmp, lists_total}
-use Rattle.std.specs.FinMap.{IsAntisymmetric, nat_cmp-IsAntisymmetric}
+use Rattle.std.specs.FinMap.{IsAntisymmetric, nat_cmp-IsAntisymmetric, slice_cmp-IsAntisymmetric}
 use Rattle.std.proofs.lemmas.List.{reverse-append, reverse-reverse, length-reverse}
 use Rattle.std.proofs.lemmas.Bool.{cases_lt, leb-true, le-leb, and_parts, and_from}
 use Rattle.td_stamp.specs.OrderLaws.{both_tie}
-use Rattle.td_stamp.specs.Time.{Timestamp, depth, outer_turns, raised, AreEarlier, AreNotLater, IsAtMost, turns_cmp, time_le, time_cmp}
+use Rattle.td_stamp.specs.Time.{Timestamp, depth, outer_turns, raised, AreEarlier, AreNotLater, IsAtMost, counters_cmp, time_le, time_cmp}
 
 -- ---- the relation
 
@@ -48,12 +48,19 @@ AreNotLater-antisymmetric xs ys (inr p) q = p
 AreNotLater-antisymmetric xs ys (inl p) (inr q) = sym q
 AreNotLater-antisymmetric xs ys (inl p) (inl q) = absurd (AreEarlier-irrefl xs (AreEarlier-trans xs ys xs p q))
 
--- of counters of one depth, the comparison tells which are earlier
-pub turns_cmp-ranks : (xs ys : List ℕ) → length xs ≡ length ys → MatchOrdering (turns_cmp xs ys) (AreEarlier xs ys) (xs ≡ ys) (AreEarlier ys xs)
-turns_cmp-ranks [] [] e = refl
-turns_cmp-ranks [] (k ∷ ys) e = absurd (omega (arith, e))
-turns_cmp-ranks (j ∷ xs) [] e = absurd (omega (arith, e))
-turns_cmp-ranks (j ∷ xs) (k ∷ ys) e = by (turns_cmp xs ys) (turns_cmp-ranks xs ys (omega (arith, e))) (nat_cmp j k) (ranks j k)
+-- ---- the comparison
+
+-- the comparison of counters of one depth by recursion, the outermost first
+abbrev by_turns : List ℕ → List ℕ → Ordering
+by_turns [] ys = Equal
+by_turns (j ∷ xs) [] = Equal
+by_turns (j ∷ xs) (k ∷ ys) = ordering_then (by_turns xs ys) (nat_cmp j k)
+
+by_turns-ranks : (xs ys : List ℕ) → length xs ≡ length ys → MatchOrdering (by_turns xs ys) (AreEarlier xs ys) (xs ≡ ys) (AreEarlier ys xs)
+by_turns-ranks [] [] e = refl
+by_turns-ranks [] (k ∷ ys) e = absurd (omega (arith, e))
+by_turns-ranks (j ∷ xs) [] e = absurd (omega (arith, e))
+by_turns-ranks (j ∷ xs) (k ∷ ys) e = by (by_turns xs ys) (by_turns-ranks xs ys (omega (arith, e))) (nat_cmp j k) (ranks j k)
   where
     by : (r : Ordering) → MatchOrdering r (AreEarlier xs ys) (xs ≡ ys) (AreEarlier ys xs) → (s : Ordering) → MatchOrdering s (j < k) (j ≡ k) (k < j)
         → MatchOrdering (ordering_then r s) (AreEarlier (j ∷ xs) (k ∷ ys)) (j ∷ xs ≡ k ∷ ys) (AreEarlier (k ∷ ys) (j ∷ xs))
@@ -63,9 +70,45 @@ turns_cmp-ranks (j ∷ xs) (k ∷ ys) e = by (turns_cmp xs ys) (turns_cmp-ranks 
     by Equal h Equal t = λ i. t i ∷ h i
     by Equal h Greater t = inr (sym h, t)
 
+then_Equal : (r : Ordering) → r ≡ ordering_then r Equal
+then_Equal Less = refl
+then_Equal Equal = refl
+then_Equal Greater = refl
+
+then_assoc : (q r s : Ordering) → ordering_then (ordering_then q r) s ≡ ordering_then q (ordering_then r s)
+then_assoc Less r s = refl
+then_assoc Equal r s = refl
+then_assoc Greater r s = refl
+
+-- the outermost counter decides first
+by_turns-outermost : (xs ys : List ℕ) (i j : ℕ) → length xs ≡ length ys → by_turns (xs ++ i ∷ []) (ys ++ j ∷ []) ≡ ordering_then (nat_cmp i j) (by_turns xs ys)
+by_turns-outermost [] [] i j e = then_Equal (nat_cmp i j)
+by_turns-outermost [] (l ∷ ys) i j e = absurd (omega (arith, e))
+by_turns-outermost (k ∷ xs) [] i j e = absurd (omega (arith, e))
+by_turns-outermost (k ∷ xs) (l ∷ ys) i j e =
+    ap (λ r. ordering_then r (nat_cmp k l)) (by_turns-outermost xs ys i j (omega (arith, e))) ∙ then_assoc (nat_cmp i j) (by_turns xs ys) (nat_cmp k l)
+
+by_turns-same_depth : (xs ys : List ℕ) → length xs ≡ length ys → by_turns (reverse xs) (reverse ys) ≡ slice_cmp nat_cmp xs ys
+by_turns-same_depth [] [] e = refl
+by_turns-same_depth [] (y ∷ ys) e = absurd (omega (arith, e))
+by_turns-same_depth (x ∷ xs) [] e = absurd (omega (arith, e))
+by_turns-same_depth (x ∷ xs) (y ∷ ys) e =
+    let f : length xs ≡ length ys = omega (arith, e) in
+    (λ i. by_turns (reverse-append (x ∷ []) xs i) (reverse-append (y ∷ []) ys i))
+    ∙ by_turns-outermost (reverse xs) (reverse ys) x y (length-reverse xs ∙ f ∙ sym (length-reverse ys)) ∙ ap (ordering_then (nat_cmp x y)) (by_turns-same_depth xs ys f)
+
+-- counters of one depth compared as lists from the outermost tell which are earlier
+pub counters_cmp-ranks : (xs ys : List ℕ) → length xs ≡ length ys → MatchOrdering (counters_cmp xs ys) (AreEarlier xs ys) (xs ≡ ys) (AreEarlier ys xs)
+counters_cmp-ranks xs ys e = subst (λ r. MatchOrdering r (AreEarlier xs ys) (xs ≡ ys) (AreEarlier ys xs)) same (by_turns-ranks xs ys e)
+  where
+    same : by_turns xs ys ≡ counters_cmp xs ys
+    same =
+        (λ i. by_turns (sym (reverse-reverse xs) i) (sym (reverse-reverse ys) i))
+        ∙ by_turns-same_depth (reverse xs) (reverse ys) (length-reverse xs ∙ e ∙ sym (length-reverse ys))
+
 -- of one depth, one of two is not later than the other
 pub AreNotLater-total : (xs ys : List ℕ) → length xs ≡ length ys → AreNotLater xs ys ⊎ AreNotLater ys xs
-AreNotLater-total xs ys e = by (turns_cmp xs ys) (turns_cmp-ranks xs ys e)
+AreNotLater-total xs ys e = by (counters_cmp xs ys) (counters_cmp-ranks xs ys e)
   where
     by : (r : Ordering) → MatchOrdering r (AreEarlier xs ys) (xs ≡ ys) (AreEarlier ys xs) → AreNotLater xs ys ⊎ AreNotLater ys xs
     by Less h = inl (inl h)
@@ -128,10 +171,10 @@ IsAtMost-total t u e f = by (AreNotLater-total t.turns u.turns e)
 
 -- the test of two times of one depth
 pub time_le-IsAtMost : (t u : Timestamp) → depth t ≡ depth u → time_le t u ≡ true → IsAtMost t u
-time_le-IsAtMost t u e h = record { epoch = leb-true t.epoch u.epoch both.0; turns = by (turns_cmp t.turns u.turns) (turns_cmp-ranks t.turns u.turns e) both.1 }
+time_le-IsAtMost t u e h = record { epoch = leb-true t.epoch u.epoch both.0; turns = by (counters_cmp t.turns u.turns) (counters_cmp-ranks t.turns u.turns e) both.1 }
   where
-    both : (nat_le t.epoch u.epoch ≡ true) × (is_le (turns_cmp t.turns u.turns) ≡ true)
-    both = and_parts (nat_le t.epoch u.epoch) (is_le (turns_cmp t.turns u.turns)) h
+    both : (nat_le t.epoch u.epoch ≡ true) × (is_le (counters_cmp t.turns u.turns) ≡ true)
+    both = and_parts (nat_le t.epoch u.epoch) (is_le (counters_cmp t.turns u.turns)) h
 
     by : (r : Ordering) → MatchOrdering r (AreEarlier t.turns u.turns) (t.turns ≡ u.turns) (AreEarlier u.turns t.turns) → is_le r ≡ true → AreNotLater t.turns u.turns
     by Less m l = inl m
@@ -140,7 +183,7 @@ time_le-IsAtMost t u e h = record { epoch = leb-true t.epoch u.epoch both.0; tur
 
 pub IsAtMost-time_le : (t u : Timestamp) → depth t ≡ depth u → IsAtMost t u → time_le t u ≡ true
 IsAtMost-time_le t u e h =
-    and_from (nat_le t.epoch u.epoch) (is_le (turns_cmp t.turns u.turns)) (le-leb t.epoch u.epoch h.epoch) (by (turns_cmp t.turns u.turns) (turns_cmp-ranks t.turns u.turns e) h.turns)
+    and_from (nat_le t.epoch u.epoch) (is_le (counters_cmp t.turns u.turns)) (le-leb t.epoch u.epoch h.epoch) (by (counters_cmp t.turns u.turns) (counters_cmp-ranks t.turns u.turns e) h.turns)
   where
     by : (r : Ordering) → MatchOrdering r (AreEarlier t.turns u.turns) (t.turns ≡ u.turns) (AreEarlier u.turns t.turns) → AreNotLater t.turns u.turns → is_le r ≡ true
     by Less m n = refl
@@ -150,96 +193,27 @@ IsAtMost-time_le t u e h =
 
 -- ---- the total order
 
--- fewer counters come first
-turns_cmp-fewer : (xs ys : List ℕ) → length xs < length ys → turns_cmp xs ys ≡ Less
-turns_cmp-fewer [] [] h = absurd (omega (arith, h))
-turns_cmp-fewer [] (k ∷ ys) h = refl
-turns_cmp-fewer (j ∷ xs) [] h = absurd (omega (arith, h))
-turns_cmp-fewer (j ∷ xs) (k ∷ ys) h = ap (λ r. ordering_then r (nat_cmp j k)) (turns_cmp-fewer xs ys (omega (arith, h)))
-
-turns_cmp-more : (xs ys : List ℕ) → length ys < length xs → turns_cmp xs ys ≡ Greater
-turns_cmp-more [] [] h = absurd (omega (arith, h))
-turns_cmp-more (j ∷ xs) [] h = refl
-turns_cmp-more [] (k ∷ ys) h = absurd (omega (arith, h))
-turns_cmp-more (j ∷ xs) (k ∷ ys) h = ap (λ r. ordering_then r (nat_cmp j k)) (turns_cmp-more xs ys (omega (arith, h)))
-
-then_Equal : (r : Ordering) → r ≡ ordering_then r Equal
-then_Equal Less = refl
-then_Equal Equal = refl
-then_Equal Greater = refl
-
-then_assoc : (q r s : Ordering) → ordering_then (ordering_then q r) s ≡ ordering_then q (ordering_then r s)
-then_assoc Less r s = refl
-then_assoc Equal r s = refl
-then_assoc Greater r s = refl
-
--- the outermost counter decides first
-turns_cmp-outermost : (xs ys : List ℕ) (i j : ℕ) → length xs ≡ length ys → turns_cmp (xs ++ i ∷ []) (ys ++ j ∷ []) ≡ ordering_then (nat_cmp i j) (turns_cmp xs ys)
-turns_cmp-outermost [] [] i j e = then_Equal (nat_cmp i j)
-turns_cmp-outermost [] (l ∷ ys) i j e = absurd (omega (arith, e))
-turns_cmp-outermost (k ∷ xs) [] i j e = absurd (omega (arith, e))
-turns_cmp-outermost (k ∷ xs) (l ∷ ys) i j e =
-    ap (λ r. ordering_then r (nat_cmp k l)) (turns_cmp-outermost xs ys i j (omega (arith, e))) ∙ then_assoc (nat_cmp i j) (turns_cmp xs ys) (nat_cmp k l)
-
-turns_cmp-same_depth : (xs ys : List ℕ) → length xs ≡ length ys → turns_cmp (reverse xs) (reverse ys) ≡ slice_cmp nat_cmp xs ys
-turns_cmp-same_depth [] [] e = refl
-turns_cmp-same_depth [] (y ∷ ys) e = absurd (omega (arith, e))
-turns_cmp-same_depth (x ∷ xs) [] e = absurd (omega (arith, e))
-turns_cmp-same_depth (x ∷ xs) (y ∷ ys) e =
-    let f : length xs ≡ length ys = omega (arith, e) in
-    (λ i. turns_cmp (reverse-append (x ∷ []) xs i) (reverse-append (y ∷ []) ys i))
-    ∙ turns_cmp-outermost (reverse xs) (reverse ys) x y (length-reverse xs ∙ f ∙ sym (length-reverse ys)) ∙ ap (ordering_then (nat_cmp x y)) (turns_cmp-same_depth xs ys f)
-
--- the comparison told from counters with the outermost first: their numbers, and then the first that differ
-pub turns_cmp-reverse : (xs ys : List ℕ) → turns_cmp (reverse xs) (reverse ys) ≡ ordering_then (nat_cmp (length xs) (length ys)) (slice_cmp nat_cmp xs ys)
-turns_cmp-reverse xs ys = by (nat_cmp (length xs) (length ys)) (ranks (length xs) (length ys))
-  where
-    by : (r : Ordering) → MatchOrdering r (length xs < length ys) (length xs ≡ length ys) (length ys < length xs) → turns_cmp (reverse xs) (reverse ys) ≡ ordering_then r (slice_cmp nat_cmp xs ys)
-    by Less h = turns_cmp-fewer (reverse xs) (reverse ys) (omega (arith, h, length-reverse xs, length-reverse ys))
-    by Equal h = turns_cmp-same_depth xs ys h
-    by Greater h = turns_cmp-more (reverse xs) (reverse ys) (omega (arith, h, length-reverse xs, length-reverse ys))
-
--- by depth, and then by the counters from the outermost
-by_depth_cmp : List ℕ → List ℕ → Ordering
-by_depth_cmp xs ys = ordering_then (nat_cmp (length xs) (length ys)) (slice_cmp nat_cmp (reverse xs) (reverse ys))
-
-by_depth_cmp-is : (xs ys : List ℕ) → by_depth_cmp xs ys ≡ turns_cmp xs ys
-unfolding by_depth_cmp
-by_depth_cmp-is xs ys =
-    (λ i. ordering_then (nat_cmp (sym (length-reverse xs) i) (sym (length-reverse ys) i)) (slice_cmp nat_cmp (reverse xs) (reverse ys)))
-    ∙ sym (turns_cmp-reverse (reverse xs) (reverse ys)) ∙ (λ i. turns_cmp (reverse-reverse xs i) (reverse-reverse ys i))
-
--- the comparisons as the code makes them
-pub turns_cmp-outermost_first : (xs ys : List ℕ) → length xs ≡ length ys → slice_cmp nat_cmp (reverse xs) (reverse ys) ≡ turns_cmp xs ys
-turns_cmp-outermost_first xs ys e =
-    sym (turns_cmp-same_depth (reverse xs) (reverse ys) (length-reverse xs ∙ e ∙ sym (length-reverse ys))) ∙ (λ i. turns_cmp (reverse-reverse xs i) (reverse-reverse ys i))
-
-pub time_cmp-by_parts : (t u : Timestamp)
-    → ordering_then (ordering_then (nat_cmp t.epoch u.epoch) (nat_cmp (depth t) (depth u))) (slice_cmp nat_cmp (reverse t.turns) (reverse u.turns)) ≡ time_cmp t u
-unfolding by_depth_cmp
-time_cmp-by_parts t u =
-    then_assoc (nat_cmp t.epoch u.epoch) (nat_cmp (depth t) (depth u)) (slice_cmp nat_cmp (reverse t.turns) (reverse u.turns)) ∙ ap (ordering_then (nat_cmp t.epoch u.epoch)) (by_depth_cmp-is t.turns u.turns)
-
-by_depth_total : IsTotalOrder by_depth_cmp
-unfolding by_depth_cmp
-by_depth_total = then_total (on_total length nat_cmp_total) (on_total reverse (lists_total nat_cmp_total))
-
-pub turns_total : IsTotalOrder turns_cmp
-turns_total = subst IsTotalOrder (λ i xs ys. by_depth_cmp-is xs ys i) by_depth_total
-
 pub time_total : IsTotalOrder time_cmp
-time_total = then_total (on_total (λ t. t.epoch) nat_cmp_total) (on_total (λ t. t.turns) turns_total)
-
-pub turns_apart : IsAntisymmetric turns_cmp
-turns_apart [] [] e = refl
-turns_apart [] (k ∷ ys) e = cc
-turns_apart (j ∷ xs) [] e = cc
-turns_apart (j ∷ xs) (k ∷ ys) e =
-    let tied = both_tie (turns_cmp xs ys) (nat_cmp j k) e in
-    let rest = turns_apart xs ys tied.0 in λ i. nat_cmp-IsAntisymmetric j k tied.1 i ∷ rest i
+time_total = then_total (on_total (λ t. t.epoch) nat_cmp_total) (on_total (λ t. reverse t.turns) (lists_total nat_cmp_total))
 
 -- only the same times tie
 pub time_apart : IsAntisymmetric time_cmp
 time_apart t u e =
-    let tied = both_tie (nat_cmp t.epoch u.epoch) (turns_cmp t.turns u.turns) e in
-    λ i. record { epoch = nat_cmp-IsAntisymmetric t.epoch u.epoch tied.0 i; turns = turns_apart t.turns u.turns tied.1 i }
+    let tied = both_tie (nat_cmp t.epoch u.epoch) (counters_cmp t.turns u.turns) e in
+    let backwards = slice_cmp-IsAntisymmetric nat_cmp-IsAntisymmetric (reverse t.turns) (reverse u.turns) tied.1 in
+    let turns = sym (reverse-reverse t.turns) ∙ ap reverse backwards ∙ reverse-reverse u.turns in
+    λ i. record { epoch = nat_cmp-IsAntisymmetric t.epoch u.epoch tied.0 i; turns = turns i }
+
+-- a time that is at most another of its depth is not after it in the total order
+pub IsAtMost-time_cmp : (t u : Timestamp) → depth t ≡ depth u → IsAtMost t u → is_le (time_cmp t u) ≡ true
+IsAtMost-time_cmp t u e h = by (nat_cmp t.epoch u.epoch) (ranks t.epoch u.epoch) (counters_cmp t.turns u.turns) (counters_cmp-ranks t.turns u.turns e) h.turns
+  where
+    by : (r : Ordering) → MatchOrdering r (t.epoch < u.epoch) (t.epoch ≡ u.epoch) (u.epoch < t.epoch)
+        → (s : Ordering) → MatchOrdering s (AreEarlier t.turns u.turns) (t.turns ≡ u.turns) (AreEarlier u.turns t.turns)
+        → AreNotLater t.turns u.turns → is_le (ordering_then r s) ≡ true
+    by Less l s m n = refl
+    by Greater l s m n = absurd (omega (arith, l, h.epoch))
+    by Equal l Less m n = refl
+    by Equal l Equal m n = refl
+    by Equal l Greater m (inl n) = absurd (AreEarlier-irrefl t.turns (AreEarlier-trans t.turns u.turns t.turns n m))
+    by Equal l Greater m (inr n) = absurd (AreEarlier-irrefl u.turns (subst (AreEarlier u.turns) n m))

@@ -1,9 +1,9 @@
 -- Timestamps (Naiad, section 2.1): an epoch, and a counter for each loop that the time is in. Here the innermost
 -- counter stands first, so that entering, leaving and going round a loop are steps at the head of the list.
-use Rattle.std.specs.Prelude.{◌≡◌, ℕ, ◌+◌, ◌<◌, ◌≤◌, Bool, ◌&&◌, ◌⊎◌, List, [], ◌∷◌, length, nat_le}
+use Rattle.std.specs.Prelude.{◌≡◌, ℕ, ◌+◌, ◌<◌, ◌≤◌, Bool, ◌&&◌, ◌⊎◌, List, [], ◌∷◌, length, reverse, nat_le}
 use Rattle.std.specs.declared.cmp.Ordering.{Ordering}
-use Rattle.std.specs.declared.cmp.Ordering.TheVariants.{Less, Equal, Greater}
 use Rattle.std.specs.Ordering.{nat_cmp, ordering_then, is_le}
+use Rattle.std.specs.Cmp.Lexicographic.{slice_cmp}
 
 pub record Timestamp : Type 0 where
   pub epoch : ℕ
@@ -60,17 +60,15 @@ pub record IsAtMost (t u : Timestamp) : Type 0 where
   pub epoch : t.epoch ≤ u.epoch
   pub turns : AreNotLater t.turns u.turns
 
--- the counters compared: fewer come before more, and else the lexicographic order decides, the outermost first
-abbrev pub turns_cmp : List ℕ → List ℕ → Ordering
-turns_cmp [] [] = Equal
-turns_cmp [] (k ∷ cs) = Less
-turns_cmp (j ∷ bs) [] = Greater
-turns_cmp (j ∷ bs) (k ∷ cs) = ordering_then (turns_cmp bs cs) (nat_cmp j k)
+-- counters compared as lists, the outermost first: the first that differ decide, and of two lists of which one begins the
+-- other the shorter comes first
+abbrev pub counters_cmp : List ℕ → List ℕ → Ordering
+counters_cmp bs cs = slice_cmp nat_cmp (reverse bs) (reverse cs)
 
 -- the order of times as a test
 abbrev pub time_le : Timestamp → Timestamp → Bool
-time_le t u = nat_le t.epoch u.epoch && is_le (turns_cmp t.turns u.turns)
+time_le t u = nat_le t.epoch u.epoch && is_le (counters_cmp t.turns u.turns)
 
--- a total order of times, in which lists of times are kept: by epoch, then depth, then counters from the outermost
+-- a total order of times, in which lists of times are kept: by epoch, then by counters
 abbrev pub time_cmp : Timestamp → Timestamp → Ordering
-time_cmp t u = ordering_then (nat_cmp t.epoch u.epoch) (turns_cmp t.turns u.turns)
+time_cmp t u = ordering_then (nat_cmp t.epoch u.epoch) (counters_cmp t.turns u.turns)

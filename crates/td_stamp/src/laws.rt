@@ -2,6 +2,7 @@
 ghost use Rattle.std.specs.Prelude.{◌≡◌, ◌+◌, ◌<◌, ◌≤◌, ◌⊎◌, ◌↔◌, ℕ, Bool, List, [], ◌∷◌, ◌++◌, length, filter, true};
 ghost use Rattle.std.specs.List.{flat_map};
 ghost use Rattle.std.specs.Cmp.{IsTotalOrder};
+ghost use Rattle.std.specs.Ordering.{is_le, MatchOrdering};
 ghost use Rattle.std.specs.FinMap.{IsAntisymmetric};
 ghost use Rattle.td_stamp.specs.declared.values.Rec.{Rec as AnyRec};
 ghost use Rattle.td_stamp.specs.declared.values.Item.{Item as AnyItem};
@@ -11,7 +12,7 @@ ghost use Rattle.td_stamp.specs.declared.values.Output.{Output as AnyOutput};
 ghost use Rattle.td_stamp.specs.Orders.{rec_cmp, item_cmp, arrival_cmp, entry_cmp, output_cmp, state_key_cmp};
 ghost use Rattle.td_stamp.specs.Bag.{bag_insert, bag_remove, bag_of, join, set_insert, set_of, set_has, has, IsBag};
 ghost use Rattle.td_stamp.specs.Groups.{groups, runs};
-ghost use Rattle.td_stamp.specs.Time.{Timestamp, depth, enter, leave, rounds, time_le, time_cmp, IsAtMost};
+ghost use Rattle.td_stamp.specs.Time.{Timestamp, depth, enter, leave, rounds, counters_cmp, time_le, time_cmp, AreEarlier, AreNotLater, IsAtMost};
 
 use crate::member::Member;
 use crate::values::{Arrival, Entry, Item, Output, Rec};
@@ -105,8 +106,16 @@ pub fn time_steps()
     ensures added_rounds { (m n : ℕ) (t : Timestamp) → rounds n (rounds m t) ≡ rounds (m + n) t }
 {}
 
-/// The total order of times.
+/// The order of counters, by which times of one epoch are compared: both lists have the innermost first.
+pub fn counter_order()
+    ensures transitive { (bs cs ds : List ℕ) → AreNotLater bs cs → AreNotLater cs ds → AreNotLater bs ds }
+    ensures antisymmetric { (bs cs : List ℕ) → AreNotLater bs cs → AreNotLater cs bs → bs ≡ cs }
+    ensures compared { (bs cs : List ℕ) → length bs ≡ length cs → MatchOrdering (counters_cmp bs cs) (AreEarlier bs cs) (bs ≡ cs) (AreEarlier cs bs) }
+{}
+
+/// The total order of times, in which one that is at most another of its depth does not come after it.
 pub fn time_list_order()
     ensures total { IsTotalOrder time_cmp }
     ensures told_apart { IsAntisymmetric time_cmp }
+    ensures keeps { (t u : Timestamp) → depth t ≡ depth u → IsAtMost t u → is_le (time_cmp t u) ≡ true }
 {}

@@ -91,14 +91,13 @@ impl Time {
         self.epoch <= other.epoch && self.turns().cmp(&other.turns()).is_le()
     }
 
-    /// The order in which lists of times are kept: by epoch, then depth, then counters from the outermost. It is total,
-    /// and it is not the order of `le`.
+    /// The order in which lists of times are kept: by epoch, then by the counters as a list from the outermost, as slices
+    /// are compared, so that `1<0,0>` comes before `1<1>`. It is total; `le` orders fewer times, and none the other way.
     pub fn total_cmp(&self, other: &Time) -> Ordering
         ensures { result ≡ time_cmp self.now other.now }
     {
         let epochs = self.epoch.cmp(&other.epoch);
-        let depths = self.depth().cmp(&other.depth());
-        epochs.then(depths).then(self.turns().cmp(&other.turns()))
+        epochs.then(self.turns().cmp(&other.turns()))
     }
 
     /// The time in a loop that is entered now: one more counter, 0.

@@ -2,8 +2,8 @@ use Rattle.std.proofs.Common.{◌≡◌, ◌≤◌, ◌&&◌, ap, sym, ◌∙◌
 use Rattle.std.specs.Ordering.{nat_cmp, is_le}
 use Rattle.std.specs.Cmp.Lexicographic.{slice_cmp}
 use Rattle.std.proofs.lemmas.Bool.{le-leb}
-use Rattle.td_stamp.specs.Time.{Timestamp, turns_cmp}
-use Rattle.td_stamp.proofs.TimeLaws.{turns_cmp-outermost_first, time_le-IsAtMost, IsAtMost-time_le}
+use Rattle.td_stamp.specs.Time.{Timestamp, counters_cmp}
+use Rattle.td_stamp.proofs.TimeLaws.{time_le-IsAtMost, IsAtMost-time_le}
 use Rattle.td_stamp.proofs.time.Time.le.Goals as goal
 
 pub returns-then-self-other-clause-value : goal.returns-then-self-other-clause-value
@@ -12,8 +12,8 @@ returns-then-self-other-clause-value c =
     let others : c.other.inside.epoch ≡ c.args.other.now.epoch = ap (λ (t : Timestamp). t.epoch) c.other.view_is in
     let not_later : c.args.self.now.epoch ≤ c.args.other.now.epoch = omega (arith, c.if-self-other.true) in
     c.is_le.ensures
-    ∙ ap is_le (c.cmp.ensures ∙ (λ i. slice_cmp nat_cmp (c.turns.ensures i) (c.turns-then-self-other.ensures i)) ∙ turns_cmp-outermost_first c.args.self.now.turns c.args.other.now.turns c.requires)
-    ∙ sym (ap (λ b. b && is_le (turns_cmp c.args.self.now.turns c.args.other.now.turns)) (le-leb c.args.self.now.epoch c.args.other.now.epoch not_later))
+    ∙ ap is_le (c.cmp.ensures ∙ (λ i. slice_cmp nat_cmp (c.turns.ensures i) (c.turns-then-self-other.ensures i)))
+    ∙ sym (ap (λ b. b && is_le (counters_cmp c.args.self.now.turns c.args.other.now.turns)) (le-leb c.args.self.now.epoch c.args.other.now.epoch not_later))
 
 pub returns-then-self-other-clause-meaning : goal.returns-then-self-other-clause-meaning
 returns-then-self-other-clause-meaning c =
