@@ -11,8 +11,8 @@ use Rattle.std.proofs.lemmas.List.{set_split, get_or-set_same, get_or-set_other,
 use Rattle.std.proofs.lemmas.Bool.{cases_eq}
 use Rattle.std.proofs.lemmas.List.Edits.{swap_is}
 use Rattle.std.proofs.lemmas.List.Sorted.{IsPermutation-keeps}
-use Rattle.td_stamp.specs.Bag.{bag_insert, bag_of, IsBag}
-use Rattle.td_stamp.proofs.Bags.{join-middle, bag_insert_cancel, bag_of-push}
+use Rattle.td_stamp.specs.Bag.{bag_insert, bag_of, join, IsBag}
+use Rattle.td_stamp.proofs.Bags.{join-middle, join_comm, bag_insert_cancel, bag_of-append, bag_of-push}
 use Rattle.td_stamp.proofs.Rising.{Rises, IsBag-from_Rises, Rises-from_IsBag, below_through}
 
 module _ {X : Type 0} (cmp : X → X → Ordering) (total : IsTotalOrder cmp) (same : IsAntisymmetric cmp) where
@@ -66,6 +66,10 @@ module _ {X : Type 0} (cmp : X → X → Ordering) (total : IsTotalOrder cmp) (s
   sorted_is_bag xs ys moved sorted =
       sym (IsBag-from_Rises cmp total same ys (Rises-from_IsSorted ys sorted))
       ∙ IsPermutation-keeps xs (λ l. bag_of cmp l ≡ bag_of cmp xs) refl (λ l i j p q h. bag_of-exchange l i j p q ∙ h) ys moved
+
+  -- two bags, one after the other, make the bag of both
+  pub bag_of-both : (xs ys : List X) → IsBag cmp xs → IsBag cmp ys → bag_of cmp (xs ++ ys) ≡ join cmp ys xs
+  bag_of-both xs ys a b = bag_of-append cmp total same xs ys ∙ ap (join cmp xs) b ∙ join_comm cmp total same xs ys a b
 
   -- x after the last element, which is not above it
   rises_with_last : (x l : X) (xs : List X) → Rises cmp xs → slice_get xs (length xs - 1) ≡ Some l → is_gt (cmp l x) ≡ false → Rises cmp (xs ++ x ∷ [])

@@ -2,7 +2,7 @@
 ghost use Rattle.std.specs.Prelude.{◌≡◌, ◌↔◌, ◌++◌, ◌∷◌, OnOk, OnErr, IfOk, IsTrue, [], length};
 ghost use Rattle.td_stamp.specs.Bag.{bag_insert, bag_of, join, IsBag};
 
-use crate::counting::{add_members, count_in, count_one, make_room};
+use crate::counting::{count_in, count_one};
 use crate::error::StampError;
 use crate::member::Member;
 use crate::members::Members;
@@ -109,19 +109,34 @@ impl<T: Member> Bag<T> {
         Members::of(self.in_order.as_slice(), self.counts.iter())
     }
 
-    /// Adds the members of `other`, each in O(log n). Refusal: `Memory`, with the bag unchanged.
+    /// Adds the members of `other`, by a merge of the two lists in order: O(n + m) for n and m members. An empty `other`
+    /// costs nothing. Refusal: `Memory`, with the bag unchanged.
     pub fn join(&mut self, other: &Bag<T>) -> Result<(), StampError>
         ensures ok { OnOk result (self.new ≡ join T.cmp other.now self.old) }
         ensures err { OnErr result (self.new ≡ self.old) }
     {
-        let Some(len) = self.len.checked_add(other.len) else {
-            return Err(StampError::Memory);
-        };
-        count_in(self.alloc, &mut self.in_order, &mut self.counts)?;
-        make_room(&mut self.counts, other)?;
-        add_members(&mut self.counts, other);
-        self.len = len;
+        if !other.is_empty() {
+            *self = self.merged(other)?;
+        }
         Ok(())
+    }
+
+    /// A bag of the members of both. Refusal: `Memory`.
+    fn merged(&self, other: &Bag<T>) -> Result<Bag<T>, StampError>
+        ensures { IfOk result (λ bag. bag ≡ join T.cmp other.now self.now) }
+    {
+        let mut in_order = Vec::new(self.alloc);
+        append(&mut in_order, self)?;
+        append(&mut in_order, other)?;
+        // Two runs in order: the sort finds them and merges them.
+        in_order.sort()?;
+        let len = in_order.len();
+        Ok(Bag {
+            in_order,
+            counts: BTreeMap::new(self.alloc),
+            len,
+            alloc: self.alloc,
+        })
     }
 
     /// The same bag, in memory of its own. Refusal: `Memory`.
@@ -135,6 +150,18 @@ impl<T: Member> Bag<T> {
             alloc: self.alloc,
         })
     }
+}
+
+/// Puts the members of a bag at the end of a list. Refusal: `Memory`.
+fn append<T: Member>(list: &mut Vec<T>, bag: &Bag<T>) -> Result<(), StampError>
+    ensures all { OnOk result (list.new.items ≡ list.old.items ++ bag.now) }
+    ensures sorted { OnOk result (IsBag T.cmp bag.now) }
+{
+    list.reserve(bag.len)?;
+    for member in bag.list() {
+        list.push(member)?;
+    }
+    Ok(())
 }
 
 /// Whether a member belongs after all these, which stand in order.

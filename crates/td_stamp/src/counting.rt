@@ -1,9 +1,7 @@
 //! Bags that are kept as a tree, with how often each member stands in them.
-ghost use Rattle.std.specs.Prelude.{◌≡◌, ◌+◌, ◌^◌, ◌<◌, ◌++◌, ◌⊎◌, OnOk, OnErr, IfOk, [], All, length};
-ghost use Rattle.std.specs.BTreeMap.{ContainsKey};
-ghost use Rattle.td_stamp.specs.Bag.{bag_insert, bag_of, join, members, IsBag};
+ghost use Rattle.std.specs.Prelude.{◌≡◌, ◌+◌, ◌^◌, ◌<◌, ◌++◌, ◌⊎◌, OnOk, OnErr, IfOk, [], length};
+ghost use Rattle.td_stamp.specs.Bag.{bag_insert, bag_of, members, IsBag};
 
-use crate::bag::Bag;
 use crate::error::StampError;
 use crate::member::Member;
 use std::alloc::Global;
@@ -53,35 +51,4 @@ fn counted<T: Member>(alloc: Global, list: &[T]) -> Result<BTreeMap<T, u64>, Sta
         count_one(&mut counts, *member)?;
     }
     Ok(counts)
-}
-
-/// Gives each member of `other` an entry, where a new one stands 0 times. After a refusal some have one.
-pub(crate) fn make_room<T: Member>(
-    counts: &mut BTreeMap<T, u64>,
-    other: &Bag<T>,
-) -> Result<(), StampError>
-    ensures same { members counts.new.entries ≡ members counts.old.entries }
-    ensures ok { OnOk result (All (ContainsKey T.cmp counts.new) other.now) }
-{
-    for member in other.list() {
-        if !counts.contains_key(&member) {
-            counts.insert(member, 0)?;
-        }
-    }
-    Ok(())
-}
-
-/// Counts the members of `other`, each of which has an entry.
-pub(crate) fn add_members<T: Member>(counts: &mut BTreeMap<T, u64>, other: &Bag<T>)
-    requires room { All (ContainsKey T.cmp counts.old) other.now }
-    requires fits { length (members counts.old.entries) + length other.now < 2 ^ 64 }
-    ensures { members counts.new.entries ≡ join T.cmp other.now (members counts.old.entries) }
-{
-    for member in other.list() {
-        let count = counts.get(&member).copied().unwrap_or(0);
-        match counts.insert(member, count + 1) {
-            Ok(_) => {}
-            Err(_) => unreachable!(),
-        }
-    }
 }
