@@ -5,6 +5,7 @@ pub mod Listed
 pub mod Parts
 pub mod Rising
 pub mod Runs
+pub mod SameMembers
 pub mod Sets
 pub mod Sorted
 pub mod TimeLaws

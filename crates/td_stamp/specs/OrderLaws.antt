@@ -4,10 +4,11 @@ use Rattle.std.proofs.Common.{refl}
 use Rattle.std.specs.declared.cmp.Ordering.{Ordering}
 use Rattle.std.specs.declared.cmp.Ordering.TheVariants.{Less, Equal, Greater}
 use Rattle.std.specs.Ordering.{ordering_then, nat_cmp, int_cmp}
-use Rattle.std.specs.Cmp.{IsTotalOrder, then_total, on_total, nat_cmp_total}
-use Rattle.std.proofs.lemmas.Cmp.{int_cmp_total}
+use Rattle.std.specs.Cmp.{IsTotalOrder, IsEquivalence, then_total, on_total, on_equiv, and_equiv, nat_cmp_total, nat_eq_equiv}
+use Rattle.std.proofs.lemmas.Cmp.{int_cmp_total, int_eq_equiv}
 use Rattle.std.specs.FinMap.{IsAntisymmetric, nat_cmp-IsAntisymmetric, int_cmp-IsAntisymmetric}
 use Rattle.td_stamp.specs.Orders.{rec_cmp, item_cmp, arrival_cmp, entry_cmp, output_cmp, state_key_cmp}
+use Rattle.td_stamp.specs.States.{same_entry}
 
 -- where two orders in turn tie, each does
 pub both_tie : (r s : Ordering) → ordering_then r s ≡ Equal → (r ≡ Equal) × (s ≡ Equal)
@@ -57,3 +58,8 @@ pub output_apart : IsAntisymmetric output_cmp
 output_apart x y e =
     let tied = both_tie (nat_cmp x.vertex y.vertex) (rec_cmp x.rec y.rec) e in
     λ i. record { vertex = nat_cmp-IsAntisymmetric x.vertex y.vertex tied.0 i; rec = rec_apart x.rec y.rec tied.1 i }
+
+pub same_entry_equiv : IsEquivalence same_entry
+same_entry_equiv =
+    and_equiv (on_equiv (λ e. e.0) (and_equiv (on_equiv (λ k. k.0) nat_eq_equiv) (on_equiv (λ k. k.1) nat_eq_equiv)))
+    (on_equiv (λ e. e.1) (and_equiv (on_equiv (λ s. s.a) int_eq_equiv) (on_equiv (λ s. s.b) int_eq_equiv)))

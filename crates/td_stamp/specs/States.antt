@@ -1,5 +1,6 @@
 -- Kept states: a map from (vertex, key) to a state, as the list of its entries in the order of (vertex, key).
-use Rattle.std.specs.Prelude.{ℕ, List, Option}
+use Rattle.std.specs.Prelude.{ℕ, ◌==◌, Bool, ◌&&◌, List, Option}
+use Rattle.std.specs.Ordering.{int_eq}
 use Rattle.std.specs.Map.{lookup, remove_entry, keys_of}
 use Rattle.std.specs.BTreeMap.{insert_entry, is_at}
 use Rattle.std.specs.List.Sorted.{IsStrictlySortedBy}
@@ -24,3 +25,7 @@ without_state states vertex key = remove_entry (is_at (state_key_cmp (vertex, ke
 -- a list that is such a map: its keys rise strictly
 abbrev pub AreStates : StateList → Type 0
 AreStates states = IsStrictlySortedBy state_key_cmp (keys_of states)
+
+-- whether two entries are the same
+abbrev pub same_entry : (ℕ × ℕ) × State → (ℕ × ℕ) × State → Bool
+same_entry d e = (d.0.0 == e.0.0 && d.0.1 == e.0.1) && (int_eq d.1.a e.1.a && int_eq d.1.b e.1.b)

@@ -4,6 +4,7 @@
 mod bag;
 mod batch;
 mod counting;
+mod equal;
 mod epoch_out;
 mod error;
 mod groups;

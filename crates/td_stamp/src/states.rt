@@ -71,6 +71,13 @@ impl States {
         self.entries.remove(&(vertex, key))
     }
 
+    /// The map itself.
+    pub(crate) fn entries(&self) -> &BTreeMap<(u8, u64), State>
+        ensures { result.now.entries ≡ self.now }
+    {
+        &self.entries
+    }
+
     /// The same states, in memory of their own. Refusal: `Memory`.
     pub fn copy(&self) -> Result<States, StampError>
         ensures { IfOk result (λ states. states ≡ self.now) }
