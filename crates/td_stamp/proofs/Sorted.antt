@@ -1,5 +1,5 @@
 -- A list that is sorted in place becomes its bag.
-use Rattle.std.proofs.Common.{◌≡◌, ℕ, ◌+◌, ◌<◌, suc, zero, List, [], ◌∷◌, ◌++◌, length, refl, ap, sym, ◌∙◌, true, false, ◌-◌, arith, take, drop, get_or, set, slice_get, Some, ⊎_elim}
+use Rattle.std.proofs.Common.{◌≡◌, ℕ, ◌+◌, ◌<◌, suc, zero, List, [], ◌∷◌, ◌++◌, length, refl, ap, sym, ◌∙◌, subst, true, false, ◌-◌, arith, take, drop, get_or, set, slice_get, Some, ⊎_elim}
 use Rattle.std.specs.declared.cmp.Ordering.{Ordering}
 use Rattle.std.specs.declared.cmp.Ordering.TheVariants.{Less, Equal, Greater}
 use Rattle.std.specs.Ordering.{is_gt, is_lt, ordering_reverse}
@@ -10,10 +10,10 @@ use Rattle.std.specs.List.Sorted.{IsPermutation, IsSorted}
 use Rattle.std.proofs.lemmas.List.{set_split, get_or-set_same, get_or-set_other, set-get_or, length-set}
 use Rattle.std.proofs.lemmas.Bool.{cases_eq}
 use Rattle.std.proofs.lemmas.List.Edits.{swap_is}
-use Rattle.std.proofs.lemmas.List.Sorted.{IsPermutation-keeps}
+use Rattle.std.proofs.lemmas.List.Sorted.{IsPermutation-keeps, IsPermutation-refl, IsPermutation-sym, IsPermutation-trans, IsPermutation-cons, IsPermutation-middle}
 use Rattle.td_stamp.specs.Bag.{bag_insert, bag_of, join, IsBag}
-use Rattle.td_stamp.proofs.Bags.{join-middle, join_comm, bag_insert_cancel, bag_of-append, bag_of-push}
-use Rattle.td_stamp.proofs.Rising.{Rises, IsBag-from_Rises, Rises-from_IsBag, below_through}
+use Rattle.td_stamp.proofs.Bags.{insert_past, insert_before_less, insert_before_equal, join-middle, join_comm, bag_insert_cancel, bag_of-append, bag_of-push}
+use Rattle.td_stamp.proofs.Rising.{Rises, Rises-bag_of, IsBag-from_Rises, Rises-from_IsBag, below_through}
 
 module _ {X : Type 0} (cmp : X → X → Ordering) (total : IsTotalOrder cmp) (same : IsAntisymmetric cmp) where
   -- all elements but that at i
@@ -60,6 +60,45 @@ module _ {X : Type 0} (cmp : X → X → Ordering) (total : IsTotalOrder cmp) (s
       let rest = Rises-from_IsSorted (y ∷ ys) (λ k d low lt. ap (λ n. is_lt (cmp (get_or (x ∷ y ∷ ys) n d) (get_or (y ∷ ys) k d))) (later k) ∙ h (suc k) d (omega arith) (omega arith)) in
       let first : is_gt (cmp x y) ≡ false = not_above-from_not_below x y (h zero x (omega arith) (omega arith)) in
       ((first, below_through cmp total same x y ys first rest.0), rest)
+
+  not_below-from_not_above : (x y : X) → is_gt (cmp x y) ≡ false → is_lt (cmp y x) ≡ false
+  not_below-from_not_above x y e = by (cmp x y) refl e
+    where
+      by : (r : Ordering) → cmp x y ≡ r → is_gt (cmp x y) ≡ false → is_lt (cmp y x) ≡ false
+      by Less f n = ap is_lt (total.antisymm y x ∙ ap ordering_reverse f)
+      by Equal f n = ap is_lt (total.antisymm y x ∙ ap ordering_reverse f)
+      by Greater f n = let c : true ≡ false = sym (ap is_gt f) ∙ n in cc
+
+  -- and what rises is what a sort leaves
+  IsSorted-from_Rises : (xs : List X) → Rises cmp xs → IsSorted cmp xs
+  IsSorted-from_Rises [] h k d low lt = absurd (omega arith)
+  IsSorted-from_Rises (x ∷ []) h k d low lt = absurd (omega arith)
+  IsSorted-from_Rises (x ∷ y ∷ ys) h zero d low lt = not_below-from_not_above x y h.0.0
+  IsSorted-from_Rises (x ∷ y ∷ ys) h (suc k) d low lt =
+      let later : suc k + 1 ≡ suc (k + 1) = omega arith in
+      ap (λ n. is_lt (cmp (get_or (x ∷ y ∷ ys) n d) (get_or (y ∷ ys) k d))) later ∙ IsSorted-from_Rises (y ∷ ys) h.1 k d (omega arith) (omega arith)
+
+  pub IsSorted-bag_of : (xs : List X) → IsSorted cmp (bag_of cmp xs)
+  IsSorted-bag_of xs = IsSorted-from_Rises (bag_of cmp xs) (Rises-bag_of cmp total same xs)
+
+  -- a bag has the elements of its list
+  moved_in : (x : X) (ys : List X) → IsPermutation (x ∷ ys) (bag_insert cmp x ys)
+  moved_in x [] = IsPermutation-refl (x ∷ [])
+  moved_in x (y ∷ ys) = by (cmp x y) refl (moved_in x ys)
+    where
+      by : (r : Ordering) → cmp x y ≡ r → IsPermutation (x ∷ ys) (bag_insert cmp x ys) → IsPermutation (x ∷ y ∷ ys) (bag_insert cmp x (y ∷ ys))
+      by Less e rest = subst (IsPermutation (x ∷ y ∷ ys)) (sym (insert_before_less cmp total same x y ys e)) (IsPermutation-refl (x ∷ y ∷ ys))
+      by Equal e rest = subst (IsPermutation (x ∷ y ∷ ys)) (sym (insert_before_equal cmp total same x y ys e)) (IsPermutation-refl (x ∷ y ∷ ys))
+      by Greater e rest =
+          subst (IsPermutation (x ∷ y ∷ ys)) (sym (insert_past cmp total same x y ys e))
+          (IsPermutation-trans (x ∷ y ∷ ys) (y ∷ x ∷ ys) (y ∷ bag_insert cmp x ys)
+          (IsPermutation-sym (y ∷ x ∷ ys) (x ∷ y ∷ ys) (IsPermutation-middle (y ∷ []) x ys))
+          (IsPermutation-cons y (x ∷ ys) (bag_insert cmp x ys) rest))
+
+  pub IsPermutation-bag_of : (xs : List X) → IsPermutation xs (bag_of cmp xs)
+  IsPermutation-bag_of [] = IsPermutation-refl []
+  IsPermutation-bag_of (x ∷ xs) =
+      IsPermutation-trans (x ∷ xs) (x ∷ bag_of cmp xs) (bag_of cmp (x ∷ xs)) (IsPermutation-cons x xs (bag_of cmp xs) (IsPermutation-bag_of xs)) (moved_in x (bag_of cmp xs))
 
   -- A SORT MAKES THE BAG
   pub sorted_is_bag : (xs ys : List X) → IsPermutation xs ys → IsSorted cmp ys → ys ≡ bag_of cmp xs

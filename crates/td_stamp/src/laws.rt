@@ -1,6 +1,7 @@
 //! Laws of the definitions. Each is the contract of a function that does nothing.
 ghost use Rattle.std.specs.Prelude.{◌≡◌, ◌+◌, ◌<◌, ◌≤◌, ◌⊎◌, ◌↔◌, ℕ, Bool, List, [], ◌∷◌, ◌++◌, length, filter, true};
 ghost use Rattle.std.specs.List.{flat_map};
+ghost use Rattle.std.specs.List.Sorted.{IsPermutation, IsSorted};
 ghost use Rattle.std.specs.Cmp.{IsTotalOrder};
 ghost use Rattle.std.specs.Ordering.{is_le, MatchOrdering};
 ghost use Rattle.std.specs.FinMap.{IsAntisymmetric};
@@ -58,6 +59,13 @@ pub fn bags<T: Member>()
     ensures inserts_swap { (x y : T) (zs : List T) → bag_insert T.cmp x (bag_insert T.cmp y zs) ≡ bag_insert T.cmp y (bag_insert T.cmp x zs) }
     ensures removes { (x : T) (ys : List T) → bag_remove T.cmp x (bag_insert T.cmp x ys) ≡ ys }
     ensures filtered { (p : T → Bool) (xs : List T) → IsBag T.cmp xs → IsBag T.cmp (filter p xs) }
+{}
+
+/// The bag of a list is its sorted permutation, of which there is one.
+pub fn sorted_permutation<T: Member>()
+    ensures sorted { (xs : List T) → IsSorted T.cmp (bag_of T.cmp xs) }
+    ensures permutation { (xs : List T) → IsPermutation xs (bag_of T.cmp xs) }
+    ensures only_one { (xs ys : List T) → IsPermutation xs ys → IsSorted T.cmp ys → ys ≡ bag_of T.cmp xs }
 {}
 
 /// What the members of a bag give, put together.
