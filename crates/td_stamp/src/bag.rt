@@ -1,6 +1,6 @@
 //! Bags.
 ghost use Rattle.std.specs.Prelude.{◌≡◌, ◌↔◌, ◌++◌, ◌∷◌, OnOk, OnErr, IfOk, IsTrue, [], length};
-ghost use Rattle.td_stamp.specs.Bag.{bag_insert, bag_of, join, IsBag};
+ghost use Rattle.td_stamp.specs.Bag.{bag_insert, bag_of, join, members, IsBag};
 
 use crate::counting::{count_in, count_one};
 use crate::error::StampError;
@@ -8,6 +8,7 @@ use crate::member::Member;
 use crate::members::Members;
 use std::alloc::Global;
 use std::collections::BTreeMap;
+use std::collections::btree_map::Iter;
 use std::marker::Model;
 
 /// A bag: a finite list whose order has no meaning and whose repeats count. Contracts see it as its sorted list.
@@ -101,12 +102,22 @@ impl<T: Member> Bag<T> {
         self.alloc
     }
 
+    /// The members that stand in order, and those that are counted.
+    pub(crate) fn parts(&self) -> (&[T], Iter<'_, T, u64>)
+        ensures all { result.0.now ++ members result.1 ≡ self.now }
+        ensures in_order { IsBag T.cmp result.0.now }
+        ensures sorted { IsBag T.cmp self.now }
+    {
+        (self.in_order.as_slice(), self.counts.iter())
+    }
+
     /// The members in order, a repeated one as often as it stands in the bag. Takes no memory.
     pub fn list(&self) -> Members<'_, T>
         ensures all { result ≡ self.now }
         ensures sorted { IsBag T.cmp self.now }
     {
-        Members::of(self.in_order.as_slice(), self.counts.iter())
+        let (in_order, counts) = self.parts();
+        Members::of(in_order, counts)
     }
 
     /// Adds the members of `other`, by a merge of the two lists in order: O(n + m) for n and m members. An empty `other`

@@ -1,7 +1,7 @@
 use Rattle.std.proofs.Common.{◌++◌, subst, ap, sym, ◌∙◌, append-nil, ⊎_elim}
 use Rattle.td_stamp.specs.Bag.{IsBag, members}
 use Rattle.td_stamp.proofs.Rising.{IsBag-members}
-use Rattle.td_stamp.proofs.bag.Bag.list.Goals as goal
+use Rattle.td_stamp.proofs.bag.Bag.parts.Goals as goal
 
 pub returns-clause-sorted : goal.returns-clause-sorted
 returns-clause-sorted g c =
