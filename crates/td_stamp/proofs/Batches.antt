@@ -13,7 +13,7 @@ use Rattle.std.specs.Ordering.{nat_cmp, is_gt, is_lt, ordering_then, MatchOrderi
 use Rattle.std.specs.Cmp.{nat_cmp_is, ranks}
 use Rattle.td_stamp.specs.declared.values.Entry.{Entry}
 use Rattle.td_stamp.specs.Orders.{rec_cmp, entry_cmp}
-use Rattle.td_stamp.specs.OrderLaws.{rec_total, rec_apart, entry_total, entry_apart}
+use Rattle.td_stamp.specs.ProvedOrders.{rec_total, rec_apart, entry_total, entry_apart}
 use Rattle.td_stamp.specs.Bag.{IsBag}
 use Rattle.td_stamp.specs.Batch.{records_for}
 use Rattle.td_stamp.proofs.Sorted.{IsSorted-bag_of}

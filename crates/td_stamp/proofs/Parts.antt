@@ -8,7 +8,7 @@ use Rattle.std.specs.Cmp.{IsTotalOrder, nat_cmp_total}
 use Rattle.std.specs.FinMap.{IsAntisymmetric, nat_cmp-IsAntisymmetric}
 use Rattle.td_stamp.specs.declared.values.Arrival.{Arrival}
 use Rattle.td_stamp.specs.Orders.{item_cmp, arrival_cmp}
-use Rattle.td_stamp.specs.OrderLaws.{item_total, item_apart}
+use Rattle.td_stamp.specs.ProvedOrders.{item_total, item_apart}
 use Rattle.td_stamp.specs.Bag.{bag_insert, set_insert, join, bag_of, set_of}
 use Rattle.td_stamp.specs.Groups.{groups}
 use Rattle.td_stamp.proofs.Bags.{insert_past, insert_before_less, insert_before_equal, join-swap, bag_of-append, bag_insert-bag_insert, set_insert-set_insert}

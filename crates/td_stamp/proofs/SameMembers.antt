@@ -15,7 +15,7 @@ use Rattle.std.proofs.lemmas.Bool.{and_parts}
 use Rattle.std.proofs.lemmas.Bool.Decides.{Decides-int_eq}
 use Rattle.td_stamp.specs.declared.values.State.{State}
 use Rattle.td_stamp.specs.States.{StateList, same_entry}
-use Rattle.td_stamp.specs.OrderLaws.{same_entry_equiv}
+use Rattle.td_stamp.specs.ProvedOrders.{same_entry_equiv}
 
 module _ {X : Type 0} (cmp : X → X → Ordering) (total : IsTotalOrder cmp) (same : IsAntisymmetric cmp) (eq : X → X → Bool) (matches : (x y : X) → eq x y ≡ is_eq (cmp x y)) where
   -- the test of two members

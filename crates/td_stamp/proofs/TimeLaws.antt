@@ -9,7 +9,7 @@ use Rattle.std.specs.Cmp.Lexicographic.{slice_cmp, lists_total}
 use Rattle.std.specs.FinMap.{IsAntisymmetric, nat_cmp-IsAntisymmetric, slice_cmp-IsAntisymmetric}
 use Rattle.std.proofs.lemmas.List.{reverse-append, reverse-reverse, length-reverse}
 use Rattle.std.proofs.lemmas.Bool.{cases_lt, leb-true, le-leb, and_parts, and_from}
-use Rattle.td_stamp.specs.OrderLaws.{both_tie}
+use Rattle.td_stamp.specs.ProvedOrders.{both_tie}
 use Rattle.td_stamp.specs.Time.{Timestamp, depth, outer_turns, raised, AreEarlier, AreNotLater, IsAtMost, counters_cmp, time_le, time_cmp}
 
 -- ---- the relation

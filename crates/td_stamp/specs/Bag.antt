@@ -1,6 +1,6 @@
 -- Bags: finite lists whose order has no meaning and whose repeats count. A bag is kept as its sorted list, so two
 -- bags are equal exactly when their lists are.
-use Rattle.std.specs.Prelude.{◌≡◌, ℕ, List, [], ◌∷◌, ◌++◌, replicate, Bool, true, false, ◌||◌, Option, Some, None}
+use Rattle.std.specs.Prelude.{◌≡◌, ℕ, List, [], ◌∷◌, ◌++◌, replicate, Bool, true, false, ◌||◌}
 use Rattle.std.specs.declared.cmp.Ordering.{Ordering}
 use Rattle.std.specs.declared.cmp.Ordering.TheVariants.{Less, Equal, Greater}
 use Rattle.std.specs.Ordering.{is_eq}
@@ -53,8 +53,3 @@ module _ {X : Type 0} (cmp : X → X → Ordering) where
 abbrev pub members : {X : Type 0} → List (X × ℕ) → List X
 members [] = []
 members (e ∷ es) = replicate e.1 e.0 ++ members es
-
--- a member that stands some times more
-abbrev pub repeats : {X : Type 0} → Option (X × ℕ) → List X
-repeats None = []
-repeats (Some p) = replicate p.1 p.0

@@ -1,5 +1,5 @@
 -- What a vertex that groups by key is given of the records that arrive at it.
-use Rattle.std.specs.Prelude.{ℕ, List, [], ◌∷◌, ◌++◌, map, filter, ◌==◌, cond, Option, Some, None}
+use Rattle.std.specs.Prelude.{ℕ, List, [], ◌∷◌, ◌++◌, map, filter, ◌==◌, cond}
 use Rattle.std.specs.Ordering.{nat_cmp}
 use Rattle.td_stamp.specs.declared.values.Item.{Item}
 use Rattle.td_stamp.specs.declared.values.Rec.{Rec}
@@ -32,15 +32,3 @@ with_first a (g ∷ gs) = cond (a.key == g.0) ((g.0, a.item ∷ g.1) ∷ gs) ((a
 abbrev pub runs : List Arrival → List (ℕ × List Item)
 runs [] = []
 runs (a ∷ rest) = with_first a (runs rest)
-
--- the key of the last of some groups
-abbrev pub last_key : List (ℕ × List Item) → Option ℕ
-last_key [] = None
-last_key (g ∷ []) = Some g.0
-last_key (g ∷ h ∷ gs) = last_key (h ∷ gs)
-
--- the groups with one more item in the last of them
-abbrev pub with_last_item : List (ℕ × List Item) → Item → List (ℕ × List Item)
-with_last_item [] i = []
-with_last_item (g ∷ []) i = (g.0, g.1 ++ i ∷ []) ∷ []
-with_last_item (g ∷ h ∷ gs) i = g ∷ with_last_item (h ∷ gs) i

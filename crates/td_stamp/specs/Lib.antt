@@ -1,8 +1,9 @@
 pub mod Orders
-pub mod OrderLaws
 pub mod Bag
 pub mod Groups
 pub mod Batch
 pub mod Time
 pub mod States
+pub mod ProvedOrders
+pub mod Steps
 pub mod Examples

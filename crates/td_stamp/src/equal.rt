@@ -2,7 +2,7 @@
 ghost use Rattle.std.specs.Prelude.{◌≡◌, ◌↔◌, ◌&&◌, IsTrue};
 ghost use Rattle.std.specs.Cmp.Lexicographic.{pointwise, lists_per, lists_equiv};
 ghost use Rattle.td_stamp.specs.States.{same_entry};
-ghost use Rattle.td_stamp.specs.OrderLaws.{same_entry_equiv};
+ghost use Rattle.td_stamp.specs.ProvedOrders.{same_entry_equiv};
 ghost use Rattle.std.specs.Cmp.{partial_equiv_from_equiv};
 
 use crate::bag::Bag;

@@ -1,6 +1,7 @@
 //! The arrivals at a vertex, by key.
 ghost use Rattle.std.specs.Prelude.{◌≡◌, ◌∷◌, ◌++◌, [], IfOk, OnOk, IsSome};
-ghost use Rattle.td_stamp.specs.Groups.{groups, last_key, with_last_item};
+ghost use Rattle.td_stamp.specs.Groups.{groups};
+ghost use Rattle.td_stamp.specs.Steps.{last_key, with_last_item};
 
 use crate::bag::Bag;
 use crate::error::StampError;

@@ -1,6 +1,6 @@
 //! What a bag may have as its members.
 ghost use Rattle.std.specs.FinMap.{IsAntisymmetric};
-ghost use Rattle.td_stamp.specs.OrderLaws.{rec_apart, item_apart, arrival_apart, entry_apart, output_apart};
+ghost use Rattle.td_stamp.specs.ProvedOrders.{rec_apart, item_apart, arrival_apart, entry_apart, output_apart};
 ghost use Rattle.std.specs.Prelude.{◌≡◌};
 
 use crate::values::{Arrival, Entry, Item, Output, Rec};

@@ -17,7 +17,8 @@ pub struct Members<'a, T: Member> {
 
 impl<'a, T: Member> Model for Members<'a, T> {
     ghost use Rattle.std.specs.Prelude.{List, ◌++◌};
-    ghost use Rattle.td_stamp.specs.Bag.{members, repeats};
+    ghost use Rattle.td_stamp.specs.Bag.{members};
+    ghost use Rattle.td_stamp.specs.Steps.{repeats};
 
     ghost Value = { List T };
 

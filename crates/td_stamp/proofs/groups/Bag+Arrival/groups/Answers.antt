@@ -1,7 +1,8 @@
 use Rattle.std.proofs.Common.{ap, sym, ◌∙◌, ◌++◌, ◌∷◌, [], ◌==◌}
 use Rattle.std.specs.Prelude.{Some}
 use Rattle.std.specs.Option.{option_eq}
-use Rattle.td_stamp.specs.Groups.{last_key, with_last_item, runs}
+use Rattle.td_stamp.specs.Groups.{runs}
+use Rattle.td_stamp.specs.Steps.{last_key, with_last_item}
 use Rattle.td_stamp.proofs.Runs.{runs-same_key, runs-other_key, groups-runs, key_is, key_is_not}
 use Rattle.td_stamp.proofs.Listed.{all_listed}
 use Rattle.td_stamp.proofs.groups.Bag+Arrival.groups.Goals as goal

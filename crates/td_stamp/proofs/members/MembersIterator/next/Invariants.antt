@@ -1,5 +1,6 @@
 use Rattle.std.proofs.Common.{◌≡◌, ◌++◌, [], length}
-use Rattle.td_stamp.specs.Bag.{members, repeats}
+use Rattle.td_stamp.specs.Bag.{members}
+use Rattle.td_stamp.specs.Steps.{repeats}
 use Rattle.td_stamp.proofs.members.MembersIterator.next.Given as goal
 
 abbrev pub invariant-loop-self : goal.invariant-loop-self

@@ -1,4 +1,5 @@
--- The orders of the plain values are total, and they tell different values apart.
+-- Proofs: the orders of the plain values are total and tell different values apart, and equality of entries is an
+-- equivalence. They stand here and not in proofs/ since the impls of traits take from specs/ alone.
 use Rattle.std.specs.Prelude.{◌≡◌}
 use Rattle.std.proofs.Common.{refl}
 use Rattle.std.specs.declared.cmp.Ordering.{Ordering}
