@@ -1,5 +1,5 @@
 -- What a vertex that groups by key is given of the records that arrive at it.
-use Rattle.std.specs.Prelude.{ℕ, List, [], ◌∷◌, ◌++◌, map, filter, ◌==◌, cond}
+use Rattle.std.specs.Prelude.{ℕ, List, [], ◌∷◌, map, filter, ◌==◌, cond}
 use Rattle.std.specs.Ordering.{nat_cmp}
 use Rattle.td_stamp.specs.declared.values.Item.{Item}
 use Rattle.td_stamp.specs.declared.values.Rec.{Rec}

@@ -4,8 +4,8 @@
 mod bag;
 mod batch;
 mod counting;
-mod equal;
 mod epoch_out;
+mod equal;
 mod error;
 mod groups;
 pub mod laws;

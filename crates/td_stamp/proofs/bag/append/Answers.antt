@@ -1,4 +1,4 @@
-use Rattle.std.proofs.Common.{ap, sym, ◌∙◌, ◌++◌}
+use Rattle.std.proofs.Common.{ap, ◌∙◌, ◌++◌}
 use Rattle.td_stamp.proofs.Listed.{all_listed}
 use Rattle.td_stamp.proofs.bag.append.Goals as goal
 

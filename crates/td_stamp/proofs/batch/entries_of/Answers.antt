@@ -14,6 +14,6 @@ returns c =
     let own = c.split_at_input-2.result.0.now in
     let later = c.split_at_input-2.result.1.now in
     sym (ap (records_for c.args.input) (sym c.split_at_input.ensures.both ∙ ap (λ l. before ++ l) (sym c.split_at_input-2.ensures.both))
-      ∙ records-of_middle c.args.input before own later
-      (subst (λ n. All (λ (e : Entry). e.input < n) before) c.from.ensures c.split_at_input.ensures.before)
-      (subst (λ n. All (λ (e : Entry). n + 1 ≤ e.input) later) c.from-2.ensures c.split_at_input-2.ensures.others))
+    ∙ records-of_middle c.args.input before own later
+    (subst (λ n. All (λ (e : Entry). e.input < n) before) c.from.ensures c.split_at_input.ensures.before)
+    (subst (λ n. All (λ (e : Entry). n + 1 ≤ e.input) later) c.from-2.ensures c.split_at_input-2.ensures.others))

@@ -1,6 +1,6 @@
 use Rattle.std.proofs.Common.{◌≡◌, ◌++◌, [], ap, sym, ◌∙◌, subst, append-nil, inr, arith, length}
 use Rattle.std.specs.List.Sorted.{IsPermutation}
-use Rattle.td_stamp.specs.Bag.{IsBag, bag_of, join, members}
+use Rattle.td_stamp.specs.Bag.{IsBag, bag_of, members}
 use Rattle.td_stamp.proofs.Bags.{bag_of-IsBag}
 use Rattle.td_stamp.proofs.Sorted.{sorted_is_bag, bag_of-both}
 use Rattle.td_stamp.proofs.bag.Bag.merged.Goals as goal

@@ -1,5 +1,4 @@
-use Rattle.std.proofs.Common.{◌≡◌, ◌++◌, ◌∷◌, [], List, refl, ap, sym, ◌∙◌, true, false, ◌+◌, length, length-append, append_assoc, append-nil, arith}
-use Rattle.std.specs.Bool.{Decides}
+use Rattle.std.proofs.Common.{◌≡◌, ◌++◌, ◌∷◌, [], List, refl, ap, sym, ◌∙◌, true, false, length, length-append, append_assoc, append-nil, arith}
 use Rattle.td_stamp.proofs.SameMembers.{told_by, next_is, next_is_not}
 use Rattle.td_stamp.proofs.Listed.{all_listed, listed_at_item}
 use Rattle.td_stamp.proofs.equal.BagPartialEq.eq.Goals as goal
@@ -25,13 +24,16 @@ loop-mine-preserved g c =
     ∙ sym (append_assoc yielded (c.in-Some.mine ∷ []) rest)
 
 pub returns-then-ne-clause-same : goal.returns-then-ne-clause-same
-returns-then-ne-clause-same g c = (λ h. cc, λ e.
+returns-then-ne-clause-same g c = (
+  λ h. cc,
+  λ e.
       let here : c.args.self.now ≡ c.loop-mine.yielded ++ c.in-Some.mine ∷ c.next.new.self =
       listed_at_item c.args.self.now c.loop-mine.yielded c.into_iter-mine-iterator.result c.loop-mine.mine-iterator c.next.new.self c.next.result c.in-Some.mine
       (c.into_iter-mine-iterator.ensures.into_iter_gives ∙ c.list-mine-items.ensures.all) c.loop-mine.yielded_by c.in-Some.ensures.steps in
       let there = after_same c.loop-mine.yielded c.loop-mine.theirs (c.in-Some.mine ∷ c.next.new.self) (sym c.loop-mine.invariant ∙ sym e ∙ here) in
       absurd (next_is_not g.T.Ord.cmp g.met.T.Ord.total g.met.T.Member.told_apart g.T.PartialEq.eq g.met.T.Ord.matches_eq c.next-in-loop-mine.result c.loop-mine.theirs c.next-in-loop-mine.new.self
-          c.next.new.self c.in-Some.mine c.next-in-loop-mine.ensures.steps (sym c.ne.ensures ∙ c.if-ne.true) there))
+      c.next.new.self c.in-Some.mine c.next-in-loop-mine.ensures.steps (sym c.ne.ensures ∙ c.if-ne.true) there),
+)
 
 pub returns-then-ne-clause-gives : goal.returns-then-ne-clause-gives
 returns-then-ne-clause-gives g c =
