@@ -15,25 +15,79 @@ import tempfile
 
 ROOT = pathlib.Path(__file__).resolve().parent.parent
 TD = ROOT / "crates/td/out/td"
-COUNT = "0 input\n1 group 20 0\n2 output 1\n--\n"
-SUM = "0 input\n1 group 21 0\n2 output 1\n--\n"
+COUNT = "0 input\n1 group 20 0\n2 output 1\n"
+SUM = "0 input\n1 group 21 0\n2 output 1\n"
+TOTAL = "0 input\n1 fold 40 0\n2 output 1\n"
+BOTH = "0 input\n1 input\n2 group 24 0 1\n3 output 2\n"
+UNREAD = COUNT + "".join(f"{3 + number} map 1 0\n" for number in range(20))
+LOOP = """0 input
+loop 1000
+1 enter 0
+2 feedback 3
+3 map 2 1 2
+4 leave 3
+end
+5 output 4
+"""
+RING = """0 input
+loop 10
+1 enter 0
+2 feedback 4
+3 distinct 1 2
+4 map 9 3
+5 leave 3
+end
+6 group 20 5
+7 output 6
+"""
+# Three loops in one another. A record with an odd value goes through once, and never comes back.
+NESTED = """0 input
+loop 1000
+1 enter 0
+2 feedback 13
+3 map 1 1 2
+loop 1000
+4 enter 3
+5 feedback 11
+6 map 1 4 5
+loop 1000
+7 enter 6
+8 feedback 9
+9 map 3 7 8
+10 leave 7
+end
+11 map 3 10
+12 leave 10
+end
+13 map 3 12
+14 leave 12
+end
+15 output 14
+"""
 
 
-def records(count, keys, epochs, seed):
+def records(count, keys, epochs, seed, inputs=1, values=(-1000, 1000)):
     """Data lines: so many records with random keys and values, in equal epochs."""
     rng = random.Random(seed)
     each = count // epochs
     for _ in range(epochs):
         for _ in range(each):
-            yield f"0 {rng.randrange(keys)} {rng.randrange(-1000, 1000)}\n"
+            yield f"{rng.randrange(inputs)} {rng.randrange(keys)} {rng.randrange(*values)}\n"
         yield ".\n"
 
 
+# A name, the plain program's words, a plan, and the data.
 CASES = [
-    ("COUNT, 1,000,000 records, 100,000 keys, 1 epoch", "count", COUNT, (1_000_000, 100_000, 1)),
-    ("COUNT, 1,000,000 records, 100,000 keys, 1,000 epochs", "count", COUNT, (1_000_000, 100_000, 1000)),
-    ("SUM, 1,000,000 records, 1 key, 1 epoch", "sum", SUM, (1_000_000, 1, 1)),
-    ("COUNT, 2,000,000 records, 100,000 keys, 1 epoch", "count", COUNT, (2_000_000, 100_000, 1)),
+    ("COUNT, 1,000,000 records, 100,000 keys, 1 epoch", ["count"], COUNT, dict(count=1_000_000, keys=100_000, epochs=1)),
+    ("COUNT, 2,000,000 records, 100,000 keys, 1 epoch", ["count"], COUNT, dict(count=2_000_000, keys=100_000, epochs=1)),
+    ("COUNT and 20 maps that nobody reads, 1,000,000 records", ["count"], UNREAD, dict(count=1_000_000, keys=100_000, epochs=1)),
+    ("COUNT, 1,000,000 records, 100,000 keys, 1,000 epochs", ["count"], COUNT, dict(count=1_000_000, keys=100_000, epochs=1000)),
+    ("SUM, 1,000,000 records, 1 key, 1 epoch", ["sum"], SUM, dict(count=1_000_000, keys=1, epochs=1)),
+    ("TOTAL, 1,000,000 records, 100,000 keys, 1,000 epochs", ["total"], TOTAL, dict(count=1_000_000, keys=100_000, epochs=1000)),
+    ("BOTH, 1,000,000 records, 100,000 keys, 1 epoch", ["both"], BOTH, dict(count=1_000_000, keys=100_000, epochs=1, inputs=2)),
+    ("LOOP of 1,000 turns, 1,000 records", ["loop", "1000"], LOOP, dict(count=1000, keys=100_000, epochs=1)),
+    ("RING, 100,000 records of 4 keys", ["ring", "10"], RING, dict(count=100_000, keys=4, epochs=1, values=(0, 1_000_000))),
+    ("three nested loops of 1,000 turns, 1 record", ["nested"], NESTED, dict(count=1, keys=1, epochs=1, values=(1, 2))),
 ]
 
 
@@ -59,32 +113,30 @@ def main():
     with tempfile.TemporaryDirectory() as folder:
         place = pathlib.Path(folder)
         plain = place / "plain"
-        subprocess.run(["rustc", "-O", "-o", plain, ROOT / "bench/plain.rs"], check=True)
+        subprocess.run(["rustc", "--edition", "2021", "-O", "-o", plain, ROOT / "bench/plain.rs"], check=True)
         print("| Case | td, s | plain, s | ratio | td, MB | plain, MB | ratio |")
         print("|---|---|---|---|---|---|---|")
-        times = []
-        for number, (name, mode, plan, size) in enumerate(CASES):
+        times, rooms = {}, {}
+        for number, (name, job, plan, data) in enumerate(CASES):
             text = place / "text"
             with open(text, "w") as file:
-                file.write(plan)
-                file.writelines(records(*size, seed=number))
+                file.write(f"{plan}--\n")
+                file.writelines(records(seed=number, **data))
             best = {}
             for _ in range(3):
-                for who, command in (("td", [TD, "batch"]), ("plain", [plain, mode])):
-                    seconds, memory = run(command, text, place / who_file(who))
+                for who, command in (("td", [TD, "batch"]), ("plain", [plain, *job])):
+                    seconds, memory = run(command, text, place / f"{who}.out")
                     known = best.get(who, (seconds, memory))
                     best[who] = (min(known[0], seconds), max(known[1], memory))
-            if (place / who_file("td")).read_bytes() != (place / who_file("plain")).read_bytes():
+            if (place / "td.out").read_bytes() != (place / "plain.out").read_bytes():
                 sys.exit(f"{name}: the outputs differ")
             (td_s, td_kb), (plain_s, plain_kb) = best["td"], best["plain"]
-            times.append(td_s)
-            print(f"| {name} | {td_s:.2f} | {plain_s:.2f} | {td_s / plain_s:.1f} "
-                  f"| {td_kb / 1024:.0f} | {plain_kb / 1024:.0f} | {td_kb / plain_kb:.1f} |")
-        print(f"\nGrowth of td from one to two million records: {times[3] / times[0]:.2f} times.")
-
-
-def who_file(who):
-    return f"{who}.out"
+            times[name], rooms[name] = td_s, td_kb
+            print(f"| {name} | {td_s:.2f} | {plain_s:.2f} | {td_s / max(plain_s, 0.01):.1f} "
+                  f"| {td_kb / 1024:.0f} | {plain_kb / 1024:.0f} | {td_kb / plain_kb:.1f} |", flush=True)
+        once, twice, unread = list(times)[:3]
+        print(f"\nFrom one to two million records td takes {times[twice] / times[once]:.2f} times as long; "
+              f"20 maps that nobody reads take {rooms[unread] / rooms[once]:.2f} times the memory of none.")
 
 
 main()
