@@ -8,3 +8,4 @@ pub mod Refusals
 pub mod Sample
 pub mod Stock
 pub mod StockFew
+pub mod Vals
