@@ -3,6 +3,7 @@ pub mod Callbacks
 pub mod Codes
 pub mod Fits
 pub mod Lawful
+pub mod Laws
 pub mod Ranges
 pub mod Refusals
 pub mod Sample

@@ -6,6 +6,7 @@ mod calls;
 mod closures;
 mod error;
 mod law;
+pub mod laws;
 pub mod stock;
 #[cfg(test)]
 mod stock_tests;
