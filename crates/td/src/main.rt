@@ -9,12 +9,9 @@ use crate::store::{store_fold, store_group, store_map};
 use std::process::ExitCode;
 use std::rt::Env;
 use std::{env, io};
-use td_calls::Calls;
+use td_calls::{Calls, FoldBox, GroupBox, MapBox, Stock, StockCalls, stock};
 use td_console::words::{self, Job, WordsError};
-use td_console::{
-    Fault, FoldBox, GroupBox, MapBox, StdReader, StdWriter, Stock, StockCalls, batch, fault_line,
-    stock,
-};
+use td_console::{Fault, StdReader, StdWriter, batch, fault_line};
 use td_stamp::{Item, Rec, State};
 
 fn main(rt: HostRuntime) -> ExitCode {

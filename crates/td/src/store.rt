@@ -4,7 +4,8 @@ ghost use Rattle.td_calls.specs.Lawful.{IsLawfulMap, IsLawfulGroup, IsLawfulFold
 ghost use Rattle.td_calls.specs.Stock.{stock};
 ghost use Rattle.td.specs.Whole.{HasEach};
 
-use td_console::{Fault, FoldBox, GroupBox, MapBox, StockCalls, StockFold, StockGroup, StockMap};
+use td_calls::{FoldBox, GroupBox, MapBox, StockCalls, StockFold, StockGroup, StockMap};
+use td_console::Fault;
 
 /// Stores a map's closure under this code, beside those that are stored. Refusal: `Memory`; a code that is used counts as
 /// one, since the program uses each once.

@@ -3,8 +3,10 @@ pub mod Callbacks
 pub mod Codes
 pub mod Fits
 pub mod Lawful
+pub mod Laws
 pub mod Ranges
 pub mod Refusals
 pub mod Sample
 pub mod Stock
 pub mod StockFew
+pub mod Vals

@@ -6,4 +6,3 @@ pub mod Answer
 pub mod Reading
 pub mod Streams
 pub mod Command
-pub mod Vals

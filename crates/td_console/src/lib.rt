@@ -1,9 +1,8 @@
-//! What the program `td` does: its words, its catalogue of closures, and the engine behind `td batch` over any reader and
-//! writer. Its one contract: `batch` writes exactly the answer text of what it reads, or answers its first fault.
+//! What the program `td` does: its words, and the engine behind `td batch` over any reader and writer. Its one contract:
+//! `batch` writes exactly the answer text of what it reads, or answers its first fault.
 #![tactic(auto)]
 
 mod answer;
-mod closures;
 mod data_line;
 mod engine;
 mod epochs;
@@ -13,7 +12,6 @@ mod number;
 mod parts;
 mod sink;
 mod source;
-pub mod stock;
 #[cfg(test)]
 mod stock_tests;
 #[cfg(test)]
@@ -22,11 +20,9 @@ pub mod words;
 #[cfg(test)]
 mod words_tests;
 
-pub use closures::{FoldBox, GroupBox, MapBox, StockCalls, StockFold, StockGroup, StockMap};
 pub use data_line::DataLine;
 pub use engine::batch;
 pub use faults::{Fault, LineFault, fault_line};
 pub use number::integer;
 pub use sink::{Sink, StdWriter};
 pub use source::{Source, StdReader};
-pub use stock::Stock;

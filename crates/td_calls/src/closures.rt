@@ -3,8 +3,9 @@ ghost use Rattle.std.specs.Prelude.{◌≡◌};
 ghost use Rattle.td_calls.specs.Lawful.{IsLawfulMap, IsLawfulGroup, IsLawfulFold};
 ghost use Rattle.td_calls.specs.Stock.{stock};
 
+use crate::calls::Calls;
+use crate::law::{Coded, FoldCall, GroupCall, MapCall};
 use crate::stock::Stock;
-use td_calls::{Calls, Coded, FoldCall, GroupCall, MapCall};
 use td_stamp::{Few, Item, Rec, State};
 
 /// A map's closure: it takes a port and a record.

@@ -2,9 +2,9 @@
 ghost use Rattle.std.specs.Prelude.{◌≡◌, [], ◌∷◌, pos, length, min, ◌-◌, ◌^◌};
 ghost use Rattle.td_calls.specs.Stock.{stock, single, record_if, sum_from, is_even, at_port};
 ghost use Rattle.td_calls.specs.StockFew.{stock_few};
-ghost use Rattle.td_console.specs.Vals.{least_of, greatest_of, lower, last_of};
+ghost use Rattle.td_calls.specs.Vals.{least_of, greatest_of, lower, last_of};
 
-use td_calls::Law;
+use crate::law::Law;
 use td_stamp::{Few, Item, Rec, State};
 
 /// The law of the catalogue: maps 1 to 9, groups 20 to 24, folds 40 and 41.
