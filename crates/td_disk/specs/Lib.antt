@@ -4,4 +4,4 @@ pub mod Fuse
 pub mod MakeError
 pub mod MemoryDisk
 pub mod Record
-pub mod RecordLaws
+pub mod RecordProofs
