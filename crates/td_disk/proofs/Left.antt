@@ -5,7 +5,7 @@ use Rattle.td_disk.specs.Disk.{SameOutside}
 use Rattle.td_disk.specs.declared.memory.Fill.{Fill}
 use Rattle.td_disk.specs.declared.memory.Fill.TheVariants.{Old, New, All}
 use Rattle.td_disk.specs.Record.{Contents, overwritten, MayLeave, IsImage, filled, crash_image}
-use Rattle.td_disk.specs.RecordLaws.{overwritten_outside}
+use Rattle.td_disk.specs.RecordProofs.{overwritten_outside}
 
 durable_is_image : (durable : List ℕ) (pending : List (ℕ × ℕ)) → MayLeave durable pending durable
 durable_is_image durable [] = refl

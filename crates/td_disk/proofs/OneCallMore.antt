@@ -6,7 +6,7 @@ use Rattle.td_disk.specs.Disk.{SameOutside, TimePasses, IsDurable}
 use Rattle.td_disk.specs.declared.memory.Call.{Call}
 use Rattle.td_disk.specs.declared.memory.Call.TheVariants.{Write, Sync}
 use Rattle.td_disk.specs.Record.{Contents, overwritten, written, after_call, replay, synced, IsImage, state_after}
-use Rattle.td_disk.specs.RecordLaws.{overwritten_outside, replay_push, time_passes}
+use Rattle.td_disk.specs.RecordProofs.{overwritten_outside, replay_push, time_passes}
 
 -- a vector written over from its start on
 pub rewritten : (old new : List ℕ) (n : ℕ) → length new ≡ n → take n (new ++ drop (length new) old) ≡ new

@@ -1,6 +1,7 @@
 pub mod Disk
+pub mod FileDisk
 pub mod Fuse
 pub mod MakeError
 pub mod MemoryDisk
 pub mod Record
-pub mod RecordLaws
+pub mod RecordProofs

@@ -1,5 +1,6 @@
 -- What a record of calls makes of a disk in memory, and what a crash may leave of it.
-use Rattle.std.specs.Prelude.{◌≡◌, ℕ, ◌+◌, ◌-◌, ◌^◌, ◌<◌, ◌≤◌, nat_le, List, [], ◌∷◌, ◌++◌, length, take, drop, replicate, if◌then◌else◌, Result, OnOk, OnErr, IsOk, ⊤}
+use Rattle.std.specs.Prelude.{◌≡◌, ℕ, ◌+◌, ◌-◌, ◌^◌, ◌<◌, ◌≤◌, nat_le, List, [], ◌∷◌, ◌++◌, length, take, drop, replicate}
+use Rattle.std.specs.Prelude.{if◌then◌else◌, Result, OnOk, OnErr, IsOk, ⊤}
 use Rattle.td_disk.specs.Disk.{DiskState, SameOutside}
 use Rattle.td_disk.specs.declared.error.Fault.{Fault}
 use Rattle.td_disk.specs.declared.memory.Call.{Call}

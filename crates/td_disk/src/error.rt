@@ -28,7 +28,7 @@ impl Fault {
 /// Why no disk was made.
 #[derive(Clone, Copy, Debug, PartialEq, Eq, Error)]
 pub enum MakeError {
-    /// The file could not be made, opened or measured.
+    /// The file could not be made, opened, sized, synced or measured, or another has locked it.
     #[error("file")]
     File,
     /// Memory ran out.

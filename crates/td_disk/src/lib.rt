@@ -2,7 +2,7 @@
 //! may leave any bytes in each range that was written, and nothing else changes. The one contract
 //! is that of the trait [`Disk`]. [`MemoryDisk`] keeps it and can be crashed at every moment,
 //! [`FuseDisk`] keeps it where its inner disk does and stops at a chosen call, and [`FileDisk`] is
-//! a file, of which it is claimed for no value.
+//! a file: no contract claims that one keeps it.
 #![tactic(auto)]
 
 mod disk;

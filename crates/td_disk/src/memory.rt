@@ -1,10 +1,11 @@
 // A disk in memory. Its record of calls answers for every moment.
-ghost use Rattle.std.specs.Prelude.{◌≡◌, ◌+◌, ◌-◌, ◌^◌, ◌<◌, ◌≤◌, ◌↔◌, ◌++◌, [], ◌∷◌, length, replicate, refl, OnOk, OnErr, IfOk, IsErr, IsOk, IsOkUnless, ℕ, Vec};
+ghost use Rattle.std.specs.Prelude.{◌≡◌, ◌+◌, ◌-◌, ◌^◌, ◌<◌, ◌≤◌, ◌↔◌, ◌++◌, [], ◌∷◌, ℕ, length, replicate, Vec, refl};
+ghost use Rattle.std.specs.Prelude.{OnOk, OnErr, IfOk, IsErr, IsOk, IsOkUnless};
 ghost use Rattle.std.specs.declared.alloc.Global.{Global as AnyGlobal};
 ghost use Rattle.std.proofs.Common.{◌∙◌, ap, sym};
 ghost use Rattle.td_disk.specs.Disk.{IsDurable};
 ghost use Rattle.td_disk.specs.Record.{Contents, overwritten, after_call, replay, synced, IsImage, state_after, written, crash_image, Reads, Writes, Syncs};
-ghost use Rattle.td_disk.specs.RecordLaws.{reads, image_size, counts, only};
+ghost use Rattle.td_disk.specs.RecordProofs.{reads, image_size, counts, only};
 
 use crate::{Disk, Fault, MakeError};
 use std::alloc::{AllocError, Global};

@@ -1,5 +1,4 @@
 use crate::{Disk, Fault, FileDisk, Fill, FuseDisk, MakeError, MemoryDisk, laws};
-use std::alloc::Global;
 use std::fs::{self, OpenOptions};
 use std::test::Fail;
 use std::{env, process};
@@ -7,32 +6,16 @@ use std::{env, process};
 /// What a crash leaves under `Old`, `New` and `All(9)`.
 type Left = [[u8; 4]; 3];
 
-const CALLS: u64 = 5;
-
-/// What a crash leaves after the first calls, none of them to all five.
-const LEFT_AFTER: [Left; 6] = [
-    [[0, 0, 0, 0], [0, 0, 0, 0], [0, 0, 0, 0]],
+/// What a crash leaves where the disk stopped at the call of that number, from 1, and where it was
+/// stopped by none of the five. A write reached the disk and a sync did not.
+const LEFT_AT_STOP: [Left; 6] = [
     [[0, 0, 0, 0], [0, 1, 2, 0], [0, 9, 9, 0]],
-    [[0, 1, 2, 0], [0, 1, 2, 0], [0, 1, 2, 0]],
+    [[0, 0, 0, 0], [0, 1, 2, 0], [0, 9, 9, 0]],
     [[0, 1, 2, 0], [0, 1, 3, 4], [0, 1, 9, 9]],
+    [[0, 1, 2, 0], [5, 1, 3, 4], [9, 1, 9, 9]],
     [[0, 1, 2, 0], [5, 1, 3, 4], [9, 1, 9, 9]],
     [[5, 1, 3, 4], [5, 1, 3, 4], [5, 1, 3, 4]],
 ];
-
-/// What a crash leaves where the disk stopped at the call of that number, from 1. A write reached
-/// the disk and a sync did not.
-const LEFT_AT_STOP: [Left; 5] = [
-    [[0, 0, 0, 0], [0, 1, 2, 0], [0, 9, 9, 0]],
-    [[0, 0, 0, 0], [0, 1, 2, 0], [0, 9, 9, 0]],
-    [[0, 1, 2, 0], [0, 1, 3, 4], [0, 1, 9, 9]],
-    [[0, 1, 2, 0], [5, 1, 3, 4], [9, 1, 9, 9]],
-    [[0, 1, 2, 0], [5, 1, 3, 4], [9, 1, 9, 9]],
-];
-
-/// A disk of four bytes.
-fn zeros(alloc: Global) -> Result<MemoryDisk, MakeError> {
-    MemoryDisk::new(alloc, 4)
-}
 
 /// The calls of the sequence, by number from 1, on a disk of four bytes.
 fn make_call<D: Disk>(disk: &mut D, number: u64) -> Result<(), Fault> {
@@ -68,53 +51,26 @@ fn left_by(disk: &MemoryDisk) -> Result<Left, Fail> {
 }
 
 #[test]
-fn a_crash_after_each_call(rt: HostRuntime) -> Result<(), Fail> {
-    let mut disk = zeros(rt.alloc())?;
-    assert_eq!(rt; disk.size(), 4);
-    for (number, want) in LEFT_AFTER.iter().enumerate() {
-        if number > 0 {
-            make_call(&mut disk, number as u64)?;
-        }
-        assert_eq!(rt; left_by(&disk)?, *want, "after {number}");
-        assert_eq!(rt; bytes_read(&mut disk)?, want[1], "after {number}");
-    }
-    Ok(())
-}
-
-#[test]
 fn a_fuse_at_each_call(rt: HostRuntime) -> Result<(), Fail> {
+    laws::write_leaves_any_bytes();
     for (i, want) in LEFT_AT_STOP.iter().enumerate() {
         let stop = i as u64 + 1;
-        let mut fuse = FuseDisk::stop_at(zeros(rt.alloc())?, stop);
-        for number in 1..CALLS + 1 {
+        let mut fuse = FuseDisk::stop_at(MemoryDisk::new(rt.alloc(), 4)?, stop);
+        for number in 1..6 {
             let answer = make_call(&mut fuse, number);
             assert_eq!(rt; answer.is_ok(), number < stop, "call {number} of {stop}");
         }
-        assert_eq!(rt; fuse.size(), 4);
-        assert_eq!(rt; bytes_read(&mut fuse), Err(Fault::Device));
-        assert_eq!(rt; make_call(&mut fuse, 1), Err(Fault::Device));
-        assert_eq!(rt; make_call(&mut fuse, 2), Err(Fault::Device));
+        assert_eq!(rt; bytes_read(&mut fuse).is_ok(), stop > 5, "at {stop}");
         assert_eq!(rt; left_by(&fuse.into_inner())?, *want, "at {stop}");
     }
-    Ok(())
-}
-
-#[test]
-fn a_fuse_that_is_not_reached(rt: HostRuntime) -> Result<(), Fail> {
-    let mut fuse = FuseDisk::stop_at(zeros(rt.alloc())?, CALLS + 1);
-    for number in 1..CALLS + 1 {
-        make_call(&mut fuse, number)?;
-        let _bytes = bytes_read(&mut fuse)?;
-    }
-    assert_eq!(rt; bytes_read(&mut fuse)?, [5, 1, 3, 4]);
     Ok(())
 }
 
 // A growth is refused where the tests are run with an allocation failing.
 #[test]
 fn a_refused_growth_of_the_record(rt: HostRuntime) -> Result<(), Fail> {
-    let mut disk = zeros(rt.alloc())?;
-    for number in 1..CALLS + 1 {
+    let mut disk = MemoryDisk::new(rt.alloc(), 4)?;
+    for number in 1..6 {
         let bytes = bytes_read(&mut disk)?;
         if let Err(fault) = make_call(&mut disk, number) {
             assert_eq!(rt; fault, Fault::Device);
@@ -125,17 +81,10 @@ fn a_refused_growth_of_the_record(rt: HostRuntime) -> Result<(), Fail> {
 }
 
 #[test]
-fn laws_are_called() {
-    laws::write_leaves_any_bytes();
-}
-
-#[test]
-fn refusals_have_numbers_and_texts(rt: HostRuntime) -> Result<(), Fail> {
+fn texts_of_refusals(rt: HostRuntime) -> Result<(), Fail> {
     assert_eq!(rt; Fault::Device.number(), 1);
     assert_eq!(rt; Fault::Device.to_string(rt.alloc())?.as_str(), "device");
-    assert_eq!(rt; MakeError::File.number(), 1);
     assert_eq!(rt; MakeError::File.to_string(rt.alloc())?.as_str(), "file");
-    assert_eq!(rt; MakeError::Memory.number(), 2);
     assert_eq!(rt; MakeError::Memory.to_string(rt.alloc())?.as_str(), "memory");
     Ok(())
 }
@@ -147,52 +96,60 @@ fn file_path(rt: &HostRuntime, name: &str) -> Result<String, Fail> {
     Ok(path.into_string())
 }
 
+/// Why no disk was made of a file, opened or created: the numbers, and 0 where one was made.
+fn refusals(rt: &HostRuntime, path: &str) -> (u8, u8) {
+    let opened = FileDisk::open(rt, path).map_or_else(|e| e.number(), |_disk| 0);
+    let created = FileDisk::create(rt, path, 4).map_or_else(|e| e.number(), |_disk| 0);
+    (opened, created)
+}
+
 #[test]
-fn a_file_is_created_and_opened_again(rt: HostRuntime) -> Result<(), Fail> {
+fn a_file_is_made_locked_opened_and_cut_short(rt: HostRuntime) -> Result<(), Fail> {
     let path = file_path(&rt, "again")?;
     fs::write(&rt, path.as_str(), "what stood there before")?;
     let mut disk = FileDisk::create(&rt, path.as_str(), 4)?;
     assert_eq!(rt; bytes_read(&mut disk)?, [0, 0, 0, 0]);
-    for number in 1..CALLS + 1 {
+    for number in 1..6 {
         make_call(&mut disk, number)?;
     }
-    assert_eq!(rt; disk.size(), 4);
+    assert_eq!(rt; refusals(&rt, path.as_str()), (1, 1));
+    drop(disk);
 
     let mut opened = FileDisk::open(&rt, path.as_str())?;
-    assert_eq!(rt; opened.size(), 4);
     assert_eq!(rt; bytes_read(&mut opened)?, [5, 1, 3, 4]);
-    fs::remove_file(&rt, path.as_str())?;
-    Ok(())
-}
-
-#[test]
-fn a_file_that_was_cut_short(rt: HostRuntime) -> Result<(), Fail> {
-    let path = file_path(&rt, "short")?;
-    let mut disk = FileDisk::create(&rt, path.as_str(), 4)?;
     let mut options = OpenOptions::new();
     options.write(true);
     options.open(&rt, path.as_str())?.set_len(3)?;
-    assert_eq!(rt; bytes_read(&mut disk), Err(Fault::Device));
-    assert_eq!(rt; disk.size(), 4);
+    assert_eq!(rt; bytes_read(&mut opened), Err(Fault::Device));
+    assert_eq!(rt; opened.size(), 4);
+    fs::remove_file(&rt, path.as_str())?;
+
+    let missing = file_path(&rt, "missing/file")?;
+    assert_eq!(rt; refusals(&rt, missing.as_str()), (1, 1));
+    assert_eq!(rt; refusals(&rt, "/"), (1, 1));
+    Ok(())
+}
+
+#[test]
+fn a_long_write_into_a_file(rt: HostRuntime) -> Result<(), Fail> {
+    let path = file_path(&rt, "long")?;
+    let mut disk = FileDisk::create(&rt, path.as_str(), 100_000)?;
+    let sevens = vec![in rt.alloc(); 7; 100_000]?;
+    disk.write(0, &sevens)?;
+    let mut bytes = vec![in rt.alloc(); 0; 100_000]?;
+    disk.read(0, &mut bytes)?;
+    assert!(rt; bytes == sevens);
     fs::remove_file(&rt, path.as_str())?;
     Ok(())
 }
 
-/// Why a disk could not be made, and 0 where it was.
-fn refusal(made: Result<FileDisk, MakeError>) -> u8 {
-    match made {
-        Ok(_disk) => 0,
-        Err(error) => error.number(),
-    }
-}
-
+// The system syncs no such file. Reads and writes of no bytes would succeed, had no sync failed.
 #[test]
-fn a_path_that_is_no_file(rt: HostRuntime) -> Result<(), Fail> {
-    let missing = file_path(&rt, "missing/file")?;
-    let folder = env::temp_dir(&rt)?.into_string();
-    for path in [missing.as_str(), folder.as_str()] {
-        assert_eq!(rt; refusal(FileDisk::open(&rt, path)), 1, "open {path}");
-        assert_eq!(rt; refusal(FileDisk::create(&rt, path, 4)), 1, "create {path}");
-    }
+fn a_sync_that_failed_is_final(rt: HostRuntime) -> Result<(), Fail> {
+    let mut disk = FileDisk::open(&rt, "/dev/null")?;
+    disk.write(0, &[])?;
+    assert_eq!(rt; disk.sync(), Err(Fault::Device));
+    assert_eq!(rt; disk.read(0, &mut []), Err(Fault::Device));
+    assert_eq!(rt; disk.write(0, &[]), Err(Fault::Device));
     Ok(())
 }

@@ -2,10 +2,10 @@
 use Rattle.std.proofs.Common.{◌≡◌, ◌≢◌, inl, inr, ℕ, ◌+◌, ◌<◌, ◌≤◌, List, [], ◌∷◌, length, get_or, drop, Some, None, refl, sym, ◌∙◌, ap, arith, length-drop}
 use Rattle.std.proofs.lemmas.Bool.{cases_eq}
 use Rattle.std.proofs.lemmas.Bool.Decides.{nat_tests}
-use Rattle.std.proofs.lemmas.List.{ext_get_or, length-take, get_or-take, get_or-drop}
+use Rattle.std.proofs.lemmas.List.{ext_get_or, take_all, length-take, get_or-take, get_or-drop}
 use Rattle.td_disk.specs.Disk.{DiskState, bytes_at, SameOutside}
 use Rattle.td_gate.specs.declared.region.Region.{Region}
-use Rattle.td_gate.specs.Region.{gate_of, opened, IsSettled, Closes, Fills, Opens}
+use Rattle.td_gate.specs.Region.{gate_of, opened, start_of, IsSettled, Closes, Fills, Opens}
 
 pub same_outside_refl : (at n : ℕ) (c : List ℕ) → SameOutside at n c c
 same_outside_refl at n c = record { size = refl; before = λ i l. refl; after = λ i l. refl }
@@ -33,6 +33,15 @@ opened_open r c is = grind (arith, nat_tests)
 
 pub opened_closed : (r : Region) (c : List ℕ) → gate_of r c ≢ 165 → opened r c ≡ None
 opened_closed r c is = grind (arith, nat_tests)
+
+-- A payload's first bytes are it, where they are as many as it has.
+pub whole_start : (r : Region) (c : List ℕ) → start_of r.len (opened r c) ≡ opened r c
+whole_start r c = elim (cases_eq (gate_of r c) 165) [
+  | inl is ↦
+      let taken = take_all r.len (bytes_at r.at r.len c) (omega (arith, length-take r.len (drop r.at c))) in
+      ap (start_of r.len) (opened_open r c is) ∙ ap (λ (l : List ℕ). Some l) taken ∙ sym (opened_open r c is)
+  | inr closed ↦ ap (start_of r.len) (opened_closed r c closed) ∙ sym (opened_closed r c closed)
+]
 
 -- the gate as it was read
 pub gate_read : (at : ℕ) (c buf : List ℕ) → buf ≡ bytes_at at 1 c → length buf ≡ 1 → get_or buf 0 0 ≡ get_or c at 0

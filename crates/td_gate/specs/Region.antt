@@ -1,5 +1,5 @@
 -- A region of a disk: a payload, and the gate byte behind it.
-use Rattle.std.specs.Prelude.{◌≡◌, ◌≢◌, ◌⊎◌, ◌↔◌, ◌<◌, ◌≤◌, ℕ, ◌+◌, List, slice_index, Option, Some, None, Vec, if◌then◌else◌, ◌==◌}
+use Rattle.std.specs.Prelude.{◌≡◌, ◌≢◌, ◌⊎◌, ◌↔◌, ◌<◌, ◌≤◌, ℕ, ◌+◌, List, length, take, slice_index, Option, Some, None, Vec, if◌then◌else◌, ◌==◌}
 use Rattle.std.specs.declared.alloc.Global.{Global}
 use Rattle.td_disk.specs.Disk.{DiskState, bytes_at, SameOutside}
 use Rattle.td_gate.specs.declared.region.Region.{Region}
@@ -11,6 +11,11 @@ gate_of r image = slice_index image (r.at + r.len)
 -- the payload where the gate byte is 0xA5, else none
 abbrev pub opened : Region → List ℕ → Option (List ℕ)
 opened r image = if gate_of r image == 0xA5 then Some (bytes_at r.at r.len image) else None
+
+-- the first n bytes of a payload, where there is one
+abbrev pub start_of : ℕ → Option (List ℕ) → Option (List ℕ)
+start_of n None = None
+start_of n (Some payload) = Some (take n payload)
 
 -- the same n bytes at that offset
 pub record SameWithin (at n : ℕ) (old new : List ℕ) : Type 0 where
@@ -33,6 +38,10 @@ pub record IsOpen (r : Region) (payload : List ℕ) (state : DiskState) : Type 0
   pub settled : IsSettled r state
   pub read : opened r state.bytes ≡ Some payload
   pub each : (c : List ℕ) → state.images c → opened r c ≡ Some payload
+
+-- what a closing makes of a gate byte: 00 of that of an open gate, and it leaves any other
+abbrev pub closed_byte : ℕ → ℕ
+closed_byte gate = if gate == 0xA5 then 0 else gate
 
 -- Only the region changed, and it is as it was or closed.
 pub record Closes (r : Region) (old new : List ℕ) : Type 0 where
@@ -64,3 +73,8 @@ pub record KeepsDisk {D : Type 0} (capacity failures : D → ℕ) (is_lawful : D
 abbrev pub payload_of : Option (Vec ℕ Global) → Option (List ℕ)
 payload_of None = None
 payload_of (Some v) = Some v.items
+
+-- a payload that was read has so many bytes
+abbrev pub HasLength : Option (Vec ℕ Global) → ℕ → Type 0
+HasLength None n = Unit {0}
+HasLength (Some v) n = length v.items ≡ n

@@ -1,8 +1,8 @@
 // Reading a region.
 ghost use Rattle.std.specs.Prelude.{◌≡◌, ◌+◌, ◌≤◌, ◌↔◌, List, ℕ, IfOk, IsErrOf};
-ghost use Rattle.td_disk.specs.Disk.{Rises};
+ghost use Rattle.td_disk.specs.Disk.{IsDurable, Rises};
 ghost use Rattle.td_gate.specs.CrashSafe.{CrashSafe, Unchanged};
-ghost use Rattle.td_gate.specs.Region.{opened, payload_of, IsSettled};
+ghost use Rattle.td_gate.specs.Region.{opened, start_of, payload_of, HasLength, IsSettled};
 
 use crate::region::OPEN;
 use crate::{GateError, Region};
@@ -15,6 +15,10 @@ impl Region {
         requires { self.now.at + self.now.len + 1 ≤ D.capacity device.old }
         ensures found { IfOk result (λ found. D.is_lawful device.old
             → payload_of found ≡ opened self.now (D.state device.old).bytes) }
+
+        // Whatever the disk, also one that is not lawful.
+        ensures len { IfOk result (λ found. HasLength found self.now.len) }
+
         ensures every { IfOk result (λ found. D.is_lawful device.old
             → IsSettled self.now (D.state device.old) → (c : List ℕ) → (D.state device.old).images c
             → payload_of found ≡ opened self.now c) }
@@ -25,36 +29,73 @@ impl Region {
         ensures lawful { D.is_lawful device.old ↔ D.is_lawful device.new }
         ensures same { D.is_lawful device.old
             → (D.state device.new).bytes ≡ (D.state device.old).bytes }
+        ensures durable { D.is_lawful device.old → IsDurable (D.state device.old) → IsDurable (D.state device.new) }
         ensures crash_safe { D.is_lawful device.old
             → CrashSafe Unchanged (D.state device.old) (D.state device.new) }
     {
-        self.payload_if_open(alloc, device)
+        self.start_if_open(alloc, device, self.len)
     }
 
-    /// Reads the gate, and the payload where it is open.
-    fn payload_if_open<D: Disk>(
+    /// The first `count` bytes of the payload where the gate is open, else `None`: for a header
+    /// that is wanted without what follows it. It refuses `Device` and `Memory`.
+    pub fn get_start<D: Disk>(
         &self,
         alloc: Global,
         device: &mut D,
+        count: u64,
     ) -> Result<Option<Vec<u8>>, GateError>
-        requires { self.now.at + self.now.len + 1 ≤ D.capacity device.old }
+        requires room { self.now.at + self.now.len + 1 ≤ D.capacity device.old }
+        requires count { count ≤ self.now.len }
         ensures found { IfOk result (λ found. D.is_lawful device.old
-            → payload_of found ≡ opened self.now (D.state device.old).bytes) }
+            → payload_of found ≡ start_of count (opened self.now (D.state device.old).bytes)) }
+        ensures len { IfOk result (λ found. HasLength found count) }
+        ensures every { IfOk result (λ found. D.is_lawful device.old
+            → IsSettled self.now (D.state device.old) → (c : List ℕ) → (D.state device.old).images c
+            → payload_of found ≡ start_of count (opened self.now c)) }
+        ensures device { IsErrOf result GateError.Device
+            → Rises (D.failures device.old) (D.failures device.new) }
+        ensures later { D.failures device.old ≤ D.failures device.new }
+        ensures size { D.capacity device.new ≡ D.capacity device.old }
+        ensures lawful { D.is_lawful device.old ↔ D.is_lawful device.new }
+        ensures same { D.is_lawful device.old
+            → (D.state device.new).bytes ≡ (D.state device.old).bytes }
+        ensures durable { D.is_lawful device.old → IsDurable (D.state device.old) → IsDurable (D.state device.new) }
+        ensures crash_safe { D.is_lawful device.old
+            → CrashSafe Unchanged (D.state device.old) (D.state device.new) }
+    {
+        self.start_if_open(alloc, device, count)
+    }
+
+    /// Reads the gate, and the first bytes of the payload where it is open. It stands apart since
+    /// both reads are it; what holds of every image is proved of each by its clause `found`.
+    fn start_if_open<D: Disk>(
+        &self,
+        alloc: Global,
+        device: &mut D,
+        count: u64,
+    ) -> Result<Option<Vec<u8>>, GateError>
+        requires room { self.now.at + self.now.len + 1 ≤ D.capacity device.old }
+        requires count { count ≤ self.now.len }
+        ensures found { IfOk result (λ found. D.is_lawful device.old
+            → payload_of found ≡ start_of count (opened self.now (D.state device.old).bytes)) }
+        ensures len { IfOk result (λ found. HasLength found count) }
         ensures device { IsErrOf result GateError.Device → Rises (D.failures device.old) (D.failures device.new) }
         ensures later { D.failures device.old ≤ D.failures device.new }
         ensures size { D.capacity device.new ≡ D.capacity device.old }
         ensures lawful { D.is_lawful device.old ↔ D.is_lawful device.new }
         ensures same { D.is_lawful device.old → (D.state device.new).bytes ≡ (D.state device.old).bytes }
+        ensures durable { D.is_lawful device.old → IsDurable (D.state device.old) → IsDurable (D.state device.new) }
         ensures crash_safe { D.is_lawful device.old
             → CrashSafe Unchanged (D.state device.old) (D.state device.new) }
     {
+        // The answer fits a u64, and so each sum of places on the disk does.
         let _size = device.size();
         let mut gate = [0];
         device.read(self.at + self.len, &mut gate)?;
         if gate[0] != OPEN {
             return Ok(None);
         }
-        let mut payload = vec![in alloc; 0; self.len as usize]?;
+        let mut payload = vec![in alloc; 0; count as usize]?;
         device.read(self.at, &mut payload)?;
         Ok(Some(payload))
     }

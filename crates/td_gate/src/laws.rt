@@ -55,6 +55,32 @@ pub fn no_puts<D: Disk>()
         → ImagesFollow (PutsDone []) (D.state old) (D.state new) }
 {}
 
+/// Calls that make no new image, as reads and syncs, change no image, and a disk that was durable
+/// and reads as before is durable after them.
+pub fn unchanged<D: Disk>()
+    ensures none { (d : D) → D.is_lawful d → CrashSafe Unchanged (D.state d) (D.state d) }
+    ensures call { (old new : D)
+        → D.is_lawful old
+        → NoNewImages (D.state old) (D.state new)
+        → TimePasses (D.state old) (D.state new)
+        → CrashSafe Unchanged (D.state old) (D.state new) }
+    ensures durable { (old new : D)
+        → D.is_lawful new
+        → IsDurable (D.state old)
+        → (D.state new).bytes ≡ (D.state old).bytes
+        → CrashSafe Unchanged (D.state old) (D.state new)
+        → IsDurable (D.state new) }
+{}
+
+/// Runs of calls that change no image, one after another.
+pub fn reads_in_turn<D: Disk>()
+    ensures { (old mid new : D)
+        → D.is_lawful mid
+        → CrashSafe Unchanged (D.state old) (D.state mid)
+        → CrashSafe Unchanged (D.state mid) (D.state new)
+        → CrashSafe Unchanged (D.state old) (D.state new) }
+{}
+
 /// One put is a sequence of one.
 pub fn one_put<D: Disk>()
     ensures begun { (put : Put) (old new : D)

@@ -1,11 +1,11 @@
 // A region behind a gate, and the three steps that replace its payload.
 ghost use Rattle.std.specs.Prelude.{◌≡◌, ◌⊎◌, ◌+◌, ◌≤◌, ◌↔◌, ℕ, List, length, None, Some, OnOk, IfOk, IfErr};
-ghost use Rattle.td_disk.specs.Disk.{CountsFailures, Rises};
+ghost use Rattle.td_disk.specs.Disk.{CountsFailures, IsDurable, Rises};
 ghost use Rattle.td_gate.specs.CrashSafe.{CrashSafe};
 ghost use Rattle.td_gate.specs.declared.region.Region.{Region as AnyRegion};
 ghost use Rattle.td_gate.specs.Regions.{Apart, KeepsRegion};
 ghost use Rattle.td_gate.specs.States.{closed_region, closed_disk, filled_region, filled_disk};
-ghost use Rattle.td_gate.specs.Region.{opened, KeepsDisk, IsSettled, IsClosed, IsFilled, IsOpen, Closes, Fills, Opens, Puts};
+ghost use Rattle.td_gate.specs.Region.{opened, gate_of, closed_byte, KeepsDisk, IsSettled, IsClosed, IsFilled, IsOpen, Closes, Fills, Opens, Puts};
 
 use crate::write_and_sync::write_and_sync;
 use td_disk::{Disk, Fault};
@@ -47,7 +47,11 @@ fn close_gate<D: Disk>(region: Region, device: &mut D) -> Result<(), Fault>
         → CrashSafe (Closes region) (D.state device.old) (D.state device.new) }
     ensures closed { OnOk result (D.is_lawful device.old → IsSettled region (D.state device.old)
         → IsClosed region (D.state device.new)) }
+    ensures gate { OnOk result (D.is_lawful device.old
+        → gate_of region (D.state device.new).bytes ≡ closed_byte (gate_of region (D.state device.old).bytes)) }
+    ensures durable { OnOk result (D.is_lawful device.old → IsDurable (D.state device.old) → IsDurable (D.state device.new)) }
 {
+    // The answer fits a u64, and so does the place of the gate.
     let _size = device.size();
     let gate = region.at + region.len;
     let mut byte = [0];
@@ -85,7 +89,9 @@ fn open_gate<D: Disk>(region: Region, device: &mut D) -> Result<(), Fault>
     ensures open { OnOk result (D.is_lawful device.old → (payload : List ℕ)
         → IsFilled region payload (D.state device.old)
         → IsOpen region payload (D.state device.new)) }
+    ensures durable { OnOk result (D.is_lawful device.old → IsDurable (D.state device.new)) }
 {
+    // The answer fits a u64, and so does the place of the gate.
     let _size = device.size();
     write_and_sync(device, region.at + region.len, &[OPEN])
 }
@@ -111,12 +117,32 @@ impl Region {
         ensures closed { IfOk result (λ closed. D.is_lawful device.old
             → IsSettled self.now (D.state device.old)
             → IsClosed self.now (D.state (closed_disk closed).now)) }
+        ensures gate { IfOk result (λ closed. D.is_lawful device.old
+            → gate_of self.now (D.state (closed_disk closed).now).bytes ≡ closed_byte (gate_of self.now (D.state device.old).bytes)) }
     {
         let region = *self;
         match close_gate(region, device) {
             Ok(()) => Ok(Closed { region, device }),
             Err(fault) => Err((fault, device)),
         }
+    }
+
+    /// Closes the gate as `close` does, for good: no payload is to follow, and no state is handed
+    /// on. It refuses `Device` alone.
+    pub fn shut<D: Disk>(&self, device: &mut D) -> Result<(), Fault>
+        requires { self.now.at + self.now.len + 1 ≤ D.capacity device.old }
+        ensures size { D.capacity device.new ≡ D.capacity device.old }
+        ensures cause { CountsFailures result (D.failures device.old) (D.failures device.new) }
+        ensures lawful { D.is_lawful device.old ↔ D.is_lawful device.new }
+        ensures crash_safe { D.is_lawful device.old → IsSettled self.now (D.state device.old)
+            → CrashSafe (Closes self.now) (D.state device.old) (D.state device.new) }
+        ensures closed { OnOk result (D.is_lawful device.old → IsSettled self.now (D.state device.old)
+            → IsClosed self.now (D.state device.new)) }
+        ensures gate { OnOk result (D.is_lawful device.old
+            → gate_of self.now (D.state device.new).bytes ≡ closed_byte (gate_of self.now (D.state device.old).bytes)) }
+        ensures durable { OnOk result (D.is_lawful device.old → IsDurable (D.state device.old) → IsDurable (D.state device.new)) }
+    {
+        close_gate(*self, device)
     }
 
     /// Puts a payload in the place of the one that is there: six writes and syncs into an open
@@ -146,11 +172,15 @@ impl Region {
 
         ensures open { OnOk result (D.is_lawful device.old → IsSettled self.now (D.state device.old)
             → IsOpen self.now payload.now (D.state device.new)) }
+
+        // Whether the region was settled or not, a crash then leaves what is read.
+        ensures durable { OnOk result (D.is_lawful device.old → IsDurable (D.state device.new)) }
     {
         self.close_fill_open(device, payload)
     }
 
-    /// The three steps of a put.
+    /// The three steps of a put. They stand apart from `put` since its clauses on every image and
+    /// on other regions follow from those here.
     fn close_fill_open<D: Disk>(&self, device: &mut D, payload: &[u8]) -> Result<(), Fault>
         requires room { self.now.at + self.now.len + 1 ≤ D.capacity device.old }
         requires len { length payload.now ≡ self.now.len }
@@ -161,6 +191,7 @@ impl Region {
             → CrashSafe (Puts self.now payload.now) (D.state device.old) (D.state device.new) }
         ensures open { OnOk result (D.is_lawful device.old → IsSettled self.now (D.state device.old)
             → IsOpen self.now payload.now (D.state device.new)) }
+        ensures durable { OnOk result (D.is_lawful device.old → IsDurable (D.state device.new)) }
     {
         let closed = match self.close(device) {
             Ok(closed) => closed,
@@ -228,6 +259,7 @@ impl<'a, D: Disk> Filled<'a, D> {
             → (payload : List ℕ)
             → IsFilled (filled_region self.entry) payload (D.state (filled_disk self.entry).now)
             → IsOpen (filled_region self.entry) payload (D.state back.now)) }
+        ensures durable { IfOk result (λ back. D.is_lawful (filled_disk self.entry).now → IsDurable (D.state back.now)) }
     {
         let Filled { region, device } = self;
         match open_gate(region, device) {

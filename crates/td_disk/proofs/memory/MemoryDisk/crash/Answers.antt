@@ -1,7 +1,7 @@
 use Rattle.std.proofs.Common.{◌≡◌, ℕ, List, length, refl, sym, ◌∙◌, ap, subst, rules}
 use Rattle.td_disk.specs.declared.memory.Call.{Call}
 use Rattle.td_disk.specs.Record.{replay, synced, IsImage, crash_image}
-use Rattle.td_disk.specs.RecordLaws.{reads, image_size}
+use Rattle.td_disk.specs.RecordProofs.{reads, image_size}
 use Rattle.td_disk.specs.MemoryDisk.{contents_of}
 use Rattle.td_disk.proofs.Left.{crash_is_image}
 use Rattle.td_disk.proofs.memory.MemoryDisk.crash.Goals as goal

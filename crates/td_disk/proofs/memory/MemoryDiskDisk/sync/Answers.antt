@@ -1,6 +1,6 @@
 use Rattle.std.proofs.Common.{◌∙◌, sym, refl}
 use Rattle.td_disk.specs.Record.{synced}
-use Rattle.td_disk.specs.RecordLaws.{reads}
+use Rattle.td_disk.specs.RecordProofs.{reads}
 use Rattle.td_disk.proofs.OneCallMore.{time_more, sync_contents, sync_bytes, sync_durable, sync_images}
 use Rattle.td_disk.proofs.memory.MemoryDiskDisk.sync.Goals as goal
 

@@ -1,12 +1,18 @@
 use Rattle.std.proofs.Common.{◌∙◌, sym}
 use Rattle.std.proofs.lemmas.Result.{IfOk-weaker}
 use Rattle.td_gate.proofs.Frame.{opened_settled}
+use Rattle.td_gate.proofs.Images.{whole_start}
 use Rattle.td_gate.proofs.region.Region.get.Goals as goal
 
+pub returns-clause-found : goal.returns-clause-found
+returns-clause-found g c = IfOk-weaker c.start_if_open.result _ _ (λ found is lawful. is lawful ∙ whole_start c.args.self.now (g.D.Disk.state c.args.device.now).bytes)
+    c.start_if_open.ensures.found
+
 pub returns-clause-every : goal.returns-clause-every
-returns-clause-every g c = IfOk-weaker c.payload_if_open.result _ _ (λ found is lawful settled image now.
+returns-clause-every g c = IfOk-weaker c.start_if_open.result _ _ (λ found is lawful settled image now.
     let laws = g.met.D.Disk in
     let state = g.D.Disk.state in
     let old = c.args.device.now in
-    is lawful ∙ sym (opened_settled c.args.self.now (state old) image (laws.image_size old image lawful now ∙ sym (laws.image_size old (state old).bytes lawful (laws.reads_image old lawful))) settled now))
-    c.payload_if_open.ensures.found
+    let read = opened_settled c.args.self.now (state old) image (laws.image_size old image lawful now ∙ sym (laws.image_size old (state old).bytes lawful (laws.reads_image old lawful))) settled now in
+    is lawful ∙ whole_start c.args.self.now (state old).bytes ∙ sym read)
+    c.start_if_open.ensures.found
