@@ -1,10 +1,11 @@
 #!/usr/bin/env python3
 """Compares `td batch` with a reading of docs/FORMATS.md in Python, on random inputs, most of them with a mistake in them.
 
-    bench/random_inputs.py [COUNT [SEED]]       needs crates/td/out/td (see the README); by default 2000 inputs
+    bench/random_inputs.py [--every-plan] [COUNT [SEED]]       needs crates/td/out/td (see the README); by default 2000 inputs
 
 The reading shares nothing with the program. Status, output and error text must be equal; the first input at which one
-is not is printed."""
+is not is printed. With --every-plan it reads loops, folds, distinct and several sources; without, it refuses these as
+syntax, as a reader of flat plans does."""
 
 import collections
 import pathlib
@@ -15,10 +16,16 @@ import sys
 
 TD = pathlib.Path(__file__).resolve().parent.parent / "crates/td/out/td"
 HALF = 2**63
+# So many records on one edge are enough: a random loop may double them at each turn.
+ENOUGH = 500
 
 
 class Fault(Exception):
     """The text of an input's first fault."""
+
+
+class TooLarge(Exception):
+    """An input whose answer takes long."""
 
 
 # Lines, words and numbers
@@ -66,89 +73,189 @@ def saturated(value):
 # Plans
 
 
-Vertex = collections.namedtuple("Vertex", "kind code source")
+FLAT_KINDS = {"input", "map", "group", "output"}
+# Whether a kind has a code, and how many sources it may have.
+CODED = {"map", "group", "fold"}
+SOURCES = {"input": (0, 0), "enter": (1, 1), "leave": (1, 1), "feedback": (0, 10**9)}
+
+Vertex = collections.namedtuple("Vertex", "number kind code sources block line")
 
 
-def vertex(said):
-    """The number of a vertex and the vertex, from the words of its line; or None."""
-    match [natural(said[0], 10**9), *said[1:]]:
-        case [None, *_]:
-            return None
-        case [n, b"input"]:
-            return n, Vertex("input", None, None)
-        case [n, b"output", source]:
-            code, source = 0, number(source)
-            kind = "output"
-        case [n, (b"map" | b"group") as kind, code, source]:
-            code, source = natural(code, 2**16), number(source)
-            kind = kind.decode()
-        case _:
-            return None
-    return None if code is None or source is None else (n, Vertex(kind, code, source))
+class Block:
+    """A loop, or the outermost block; its items are vertices and blocks, in their order."""
+
+    def __init__(self, above, first, bound):
+        self.above, self.first, self.bound = above, first, bound
+        self.depth = 0 if above is None else above.depth + 1
+        self.items = []
+
+    def has_vertices(self):
+        return any(isinstance(item, Vertex) or item.has_vertices() for item in self.items)
 
 
-def read_plan(lines):
-    plan = []
-    edges = 0
+def read_on(vertex):
+    """The block on which a vertex is read, or None."""
+    return {"leave": vertex.block.above, "output": None}.get(vertex.kind, vertex.block)
+
+
+def vertex_of(said, every_plan):
+    """Number, kind, code and sources from the words of a line, or None."""
+    n, kind = number(said[0]), said[1].decode()
+    if kind not in FLAT_KINDS | {"fold", "distinct", "enter", "leave", "feedback"}:
+        return None
+    rest = said[2:]
+    code = None
+    if kind in CODED:
+        code = natural(rest[0], 2**16) if rest else None
+        rest = rest[1:]
+    sources = [number(word) for word in rest]
+    least, most = SOURCES.get(kind, (1, 10**9))
+    if n is None or None in sources or (kind in CODED and code is None) or not least <= len(sources) <= most:
+        return None
+    if not every_plan and (kind not in FLAT_KINDS or len(sources) > 1):
+        return None
+    return n, kind, code, sources
+
+
+class Reading:
+    """A plan, line by line: the first pass."""
+
+    def __init__(self, every_plan):
+        self.every_plan = every_plan
+        self.outermost = self.block = Block(None, 0, 1)
+        self.vertices = []
+        self.edges = 0
+
+    def line(self, at, line):
+        """Takes a line; its refusal with the smallest number is raised."""
+        said = words(line) if is_printable(line) else []
+        if said == [b"end"] and self.every_plan:
+            self.end(at)
+        elif len(said) == 2 and said[0] == b"loop" and number(said[1]) is not None and self.every_plan:
+            self.loop(at, number(said[1]))
+        else:
+            read = vertex_of(said, self.every_plan) if len(said) > 1 else None
+            self.vertex(at, *(read or refuse(at, "syntax")))
+
+    def end(self, at):
+        if self.block is self.outermost or not self.block.has_vertices():
+            refuse(at, "syntax")
+        self.block = self.block.above
+
+    def loop(self, at, bound):
+        if not 1 <= bound <= 1000:
+            refuse(at, "bound")
+        if self.block.depth == 3:
+            refuse(at, "too many")
+        inner = Block(self.block, len(self.vertices), bound)
+        self.block.items.append(inner)
+        self.block = inner
+
+    def vertex(self, at, n, kind, code, sources):
+        in_loop = self.block is not self.outermost
+        if n != len(self.vertices):
+            refuse(at, "number")
+        below = self.block.first if kind == "enter" and in_loop else n
+        if kind != "feedback" and any(source >= below for source in sources):
+            refuse(at, "order")
+        if kind in ("input", "output") and in_loop or kind in ("enter", "leave", "feedback") and not in_loop:
+            refuse(at, "nest")
+        reads_on = self.block.above if kind == "enter" else self.block
+        if kind != "feedback" and not (kind == "fold" and in_loop):
+            if any(read_on(self.vertices[source]) is not reads_on for source in sources):
+                refuse(at, "nest")
+        if kind == "fold" and in_loop:
+            refuse(at, "fold in loop")
+        if kind == "feedback" and len(sources) != 1:
+            refuse(at, "again")
+        self.edges += len(sources)
+        if n >= 64 or len(sources) > 8 or self.edges > 128:
+            refuse(at, "too many")
+        new = Vertex(n, kind, code, sources, self.block, at)
+        self.vertices.append(new)
+        self.block.items.append(new)
+
+    def finish(self, at):
+        """What is refused at the end of the text, and the second pass."""
+        if self.block is not self.outermost:
+            refuse(at, "syntax")
+        for vertex in self.vertices:
+            if vertex.kind == "feedback":
+                source = vertex.sources[0]
+                if source >= len(self.vertices) or read_on(self.vertices[source]) is not vertex.block:
+                    refuse(vertex.line, "again")
+        if not {"input", "output"} <= {vertex.kind for vertex in self.vertices}:
+            raise Fault("plan: no input or output")
+
+
+def refuse(at, what):
+    raise Fault(f"plan line {at}: {what}")
+
+
+def read_plan(lines, every_plan):
+    reading = Reading(every_plan)
     for at, line in enumerate(lines, 1):
-        if is_passed_over(line):
-            continue
-        read = vertex(words(line)) if is_printable(line) else None
-        if read is None:
-            raise Fault(f"plan line {at}: syntax")
-        n, new = read
-        edges += new.source is not None
-        if n != len(plan):
-            raise Fault(f"plan line {at}: number")
-        if new.source is not None and new.source >= n:
-            raise Fault(f"plan line {at}: order")
-        if new.source is not None and plan[new.source].kind == "output":
-            raise Fault(f"plan line {at}: nest")
-        if n >= 64 or edges > 128:
-            raise Fault(f"plan line {at}: too many")
-        plan.append(new)
-    if not {"input", "output"} <= {v.kind for v in plan}:
-        raise Fault("plan: no input or output")
-    return plan
+        if not is_passed_over(line):
+            reading.line(at, line)
+    reading.finish(len(lines) + 1)
+    return reading
 
 
-# The catalogue, at port 0
+# The catalogue
 
 
 MAPS = {
-    1: lambda key, val: [(key, val)],
-    2: lambda key, val: [(key, saturated(val - 1))],
-    3: lambda key, val: [(key, val)] * (val % 2 == 0),
-    4: lambda key, val: [(key, val)] * (val % 2),
-    5: lambda key, val: [(key // 2, val)],
-    6: lambda key, val: [(key, val)] * 2,
-    7: lambda key, val: [(key, 0)],
-    8: lambda key, val: [(key, val)] * (val > 0),
-    9: lambda key, val: [((key % 4 + 1) % 4, val)],
+    1: lambda port, key, val: [(key, val)],
+    2: lambda port, key, val: [(key, saturated(val - 1))],
+    3: lambda port, key, val: [(key, val)] * (val % 2 == 0),
+    4: lambda port, key, val: [(key, val)] * (val % 2),
+    5: lambda port, key, val: [(key // 2, val)],
+    6: lambda port, key, val: [(key, val)] * 2,
+    7: lambda port, key, val: [(key, port)],
+    8: lambda port, key, val: [(key, val)] * (val > 0),
+    9: lambda port, key, val: [((key % 4 + 1) % 4, val)],
 }
 
 
-def total(vals):
-    so_far = 0
-    for val in sorted(vals):
-        so_far = saturated(so_far + val)
-    return so_far
+def total(items, start=0):
+    """The sum of items in their order, by port and val."""
+    for _, val in sorted(items):
+        start = saturated(start + val)
+    return start
+
+
+def join_least(key, items):
+    vals = [[val for port, val in items if port == at] for at in (0, 1)]
+    return [(key, saturated(min(vals[0]) + min(vals[1])))] if all(vals) else []
 
 
 GROUPS = {
-    20: lambda key, vals: [(key, len(vals))],
-    21: lambda key, vals: [(key, total(vals))],
-    22: lambda key, vals: [(key, min(vals))],
-    23: lambda key, vals: [(key, max(vals))],
-    24: lambda key, vals: [],
+    20: lambda key, items: [(key, len(items))],
+    21: lambda key, items: [(key, total(items))],
+    22: lambda key, items: [(key, min(val for _, val in items))],
+    23: lambda key, items: [(key, max(val for _, val in items))],
+    24: join_least,
 }
 
 
+def totalled(key, state, items):
+    a, b = state or (0, 0)
+    a = total(items, a)
+    return (a, saturated(b + len(items))), [(key, a)]
+
+
+def toggled(key, state, items):
+    return (None, [(key, 0)]) if state else ((max(items)[1], 0), [(key, 1)])
+
+
+FOLDS = {40: totalled, 41: toggled}
+STORED = {"map": MAPS, "group": GROUPS, "fold": FOLDS}
+
+
 def check_codes(plan):
-    stored = {"map": MAPS, "group": GROUPS}
-    for n, v in enumerate(plan):
-        if v.kind in stored and v.code not in stored[v.kind]:
-            raise Fault(f"vertex {n}: no closure {v.code}")
+    for vertex in plan.vertices:
+        if vertex.kind in CODED and vertex.code not in STORED[vertex.kind]:
+            raise Fault(f"vertex {vertex.number}: no closure {vertex.code}")
 
 
 # Data lines
@@ -170,7 +277,7 @@ def read_epochs(plan, lines, first):
         record = (number(said[0]), natural(said[1]), integer(said[2]))
         if None in record:
             raise Fault(f"line {at}: syntax")
-        if record[0] >= len(plan) or plan[record[0]].kind != "input":
+        if record[0] >= len(plan.vertices) or plan.vertices[record[0]].kind != "input":
             raise Fault(f"line {at}: no such input")
         current.append(record)
     if current:
@@ -178,28 +285,75 @@ def read_epochs(plan, lines, first):
     return closed
 
 
-# The answer
+# The meaning of a plan: whole bags, turn by turn
 
 
-def outputs(plan, batch):
-    """The sorted (vertex, key, val) of one epoch."""
-    sent, out = [], []
-    for n, v in enumerate(plan):
-        bag = [(key, val) for at, key, val in batch if at == n] if v.kind == "input" else sent[v.source]
-        if v.kind == "map":
-            bag = [record for key, val in bag for record in MAPS[v.code](key, val)]
-        elif v.kind == "group":
-            vals = collections.defaultdict(list)
-            for key, val in bag:
-                vals[key].append(val)
-            bag = [record for key in vals for record in GROUPS[v.code](key, vals[key])]
-        elif v.kind == "output":
-            out += [(n, key, val) for key, val in bag]
-        sent.append(bag)
-    return sorted(out)
+class Epoch:
+    """One epoch: the batch, the kept states (which it changes), and the outputs."""
+
+    def __init__(self, batch, states):
+        self.batch, self.states, self.outputs = batch, states, []
+
+    def turn(self, block, turn, before, sent):
+        """One turn of a block: adds to `sent` what each of its vertices emits. `before` is the turn before it."""
+        for item in block.items:
+            if isinstance(item, Block):
+                self.loop(item, sent)
+            else:
+                sent[item.number] = self.emitted(item, turn, before, sent)
+                if len(sent[item.number]) > ENOUGH:
+                    raise TooLarge
+
+    def loop(self, block, sent):
+        """All turns of a loop within one of the block around it; its leaves send what they had in all turns."""
+        left = collections.defaultdict(list)
+        before = None
+        for turn in range(block.bound):
+            inner = dict(sent)
+            self.turn(block, turn, before, inner)
+            for item in block.items:
+                if isinstance(item, Vertex) and item.kind == "leave":
+                    left[item.number] += inner[item.number]
+            before = inner
+        sent.update(left)
+
+    def emitted(self, vertex, turn, before, sent):
+        kind = vertex.kind
+        if kind == "input":
+            return [(key, val) for at, key, val in self.batch if at == vertex.number]
+        if kind == "feedback":
+            return before[vertex.sources[0]] if turn > 0 else []
+        if kind == "enter" and turn > 0:
+            return []
+        arrived = [(port, key, val) for port, source in enumerate(vertex.sources) for key, val in sent[source]]
+        if kind == "map":
+            return [record for port, key, val in arrived for record in MAPS[vertex.code](port, key, val)]
+        if kind == "distinct":
+            return sorted({(key, val) for _, key, val in arrived})
+        if kind in ("group", "fold"):
+            return self.by_key(vertex, arrived)
+        if kind == "output":
+            self.outputs += [(vertex.number, key, val) for _, key, val in arrived]
+            return []
+        return [(key, val) for _, key, val in arrived]
+
+    def by_key(self, vertex, arrived):
+        items = collections.defaultdict(list)
+        for port, key, val in arrived:
+            items[key].append((port, val))
+        answers = []
+        for key in items:
+            if vertex.kind == "group":
+                answers += GROUPS[vertex.code](key, items[key])
+                continue
+            state, records = FOLDS[vertex.code](key, self.states.pop((vertex.number, key), None), items[key])
+            answers += records
+            if state:
+                self.states[vertex.number, key] = state
+        return answers
 
 
-def answer(text):
+def answer(text, every_plan):
     """The output text of an input; or its first fault is raised."""
     lines = lines_of(text)
     separators = [at for at, line in enumerate(lines) if is_printable(line) and words(line) == [b"--"]]
@@ -207,17 +361,20 @@ def answer(text):
     for at, line in enumerate(lines, 1):
         if any(byte > 127 for byte in line):
             raise Fault(f"plan line {at}: syntax" if at <= cut else f"line {at}: syntax")
-    plan = read_plan(lines[:cut])
+    plan = read_plan(lines[:cut], every_plan)
     check_codes(plan)
-    epochs = read_epochs(plan, lines[cut + 1:], cut + 2)
-    return "".join(f"{epoch} {n} {key} {val}\n"
-                   for epoch, batch in enumerate(epochs, 1) for n, key, val in outputs(plan, batch))
+    states, told = {}, []
+    for at, batch in enumerate(read_epochs(plan, lines[cut + 1:], cut + 2), 1):
+        epoch = Epoch(batch, states)
+        epoch.turn(plan.outermost, 0, None, {})
+        told += [f"{at} {n} {key} {val}\n" for n, key, val in sorted(epoch.outputs)]
+    return "".join(told)
 
 
-def wanted(text):
+def wanted(text, every_plan):
     """Status, output and error text."""
     try:
-        return 0, answer(text).encode(), b""
+        return 0, answer(text, every_plan).encode(), b""
     except Fault as fault:
         return 1, b"", f"td: {fault}\n".encode()
 
@@ -225,29 +382,102 @@ def wanted(text):
 # Random inputs
 
 
-def random_plan(rng):
-    lines, kinds = [], []
-    for n in range(rng.randrange(2, 9) if rng.randrange(20) else 66):
-        sources = [at for at in range(n) if kinds[at] != "output"]
-        kind = rng.choice(["input", "map", "map", "group", "group", "output"]) if sources else "input"
-        code = {"map": f" {rng.randrange(1, 10)}", "group": f" {rng.randrange(20, 25)}"}.get(kind, "")
-        source = rng.choice(sources) if rng.randrange(60) and sources else rng.randrange(n + 1)
-        source = "" if kind == "input" else f" {source}"
-        lines.append(f"{n} {kind}{code}{source}")
-        kinds.append(kind)
-    if "output" not in kinds:
-        lines.append(f"{len(kinds)} output {rng.randrange(len(kinds))}")
-    return lines, [n for n, kind in enumerate(kinds) if kind == "input"]
+class RandomPlan:
+    """The lines of a plan, most of them lawful."""
+
+    def __init__(self, rng, every_plan):
+        self.rng, self.every_plan = rng, every_plan
+        self.lines, self.kinds = [], []
+        # The vertices that are read on each open block, the first number in it, and the lines of its feedbacks.
+        self.open = [([], 0, [])]
+        self.turns = 1
+        for _ in range(rng.randrange(2, 12) if rng.randrange(20) else 66):
+            self.step()
+        while len(self.open) > 1:
+            self.end()
+        if "output" not in self.kinds:
+            self.vertex("output", "", self.sources(self.open[0][0], 2))
+
+    def step(self):
+        read, first, _ = self.open[-1]
+        depth = len(self.open) - 1
+        what = self.rng.randrange(12 if self.every_plan else 6)
+        if what >= 10 and depth < 3 and read and self.turns <= 8:
+            self.loop()
+        elif what >= 9 and depth and len(self.kinds) > first:
+            self.end()
+        elif depth:
+            self.inner(read)
+        elif not read or what == 0:
+            self.vertex("input", "", [])
+            read.append(len(self.kinds) - 1)
+        elif what == 1:
+            self.vertex("output", "", self.sources(read, 2))
+        else:
+            self.plain(["map", "group"] + ["distinct", "fold"] * self.every_plan, read)
+
+    def plain(self, kinds, read):
+        kind = self.rng.choice(kinds)
+        codes = {"map": range(1, 10), "group": range(20, 25), "fold": (40, 41)}.get(kind)
+        self.vertex(kind, f" {self.rng.choice(codes)}" if codes else "", self.sources(read, 3))
+        read.append(len(self.kinds) - 1)
+
+    def inner(self, read):
+        """A vertex of a loop."""
+        around, _, _ = self.open[-2]
+        outside = [n for n in around if n < self.open[-1][1]]
+        what = self.rng.randrange(6)
+        if not read or what == 0:
+            self.vertex("enter", "", [self.rng.choice(outside)])
+            read.append(len(self.kinds) - 1)
+        elif what == 1:
+            self.open[-1][2].append(len(self.lines))
+            self.vertex("feedback", "", [0])
+            read.append(len(self.kinds) - 1)
+        elif what == 2:
+            self.vertex("leave", "", [self.rng.choice(read)])
+            around.append(len(self.kinds) - 1)
+        else:
+            self.plain(["map", "map", "group", "distinct"], read)
+
+    def loop(self):
+        bound = self.rng.randrange(1, 5)
+        self.turns *= bound
+        self.lines.append(f"loop {bound}")
+        self.open.append(([], len(self.kinds), []))
+
+    def end(self):
+        """Ends a loop, and gives its feedbacks their sources."""
+        read, first, feedbacks = self.open[-1]
+        if len(self.kinds) == first:
+            self.inner(read)
+        self.open.pop()
+        for at in feedbacks:
+            source = self.rng.choice(read) if self.rng.randrange(60) else self.rng.randrange(len(self.kinds) + 2)
+            self.lines[at] = self.lines[at].rsplit(" ", 1)[0] + f" {source}"
+        self.lines.append("end")
+
+    def sources(self, read, most):
+        count = self.rng.randrange(1, most + 1) if self.every_plan and self.rng.randrange(3) == 0 else 1
+        count = count if self.rng.randrange(80) else 9
+        return [self.rng.choice(read) if self.rng.randrange(90) else self.rng.randrange(len(self.kinds) + 1) for _ in range(count)]
+
+    def vertex(self, kind, code, sources):
+        self.lines.append(f"{len(self.kinds)} {kind}{code}" + "".join(f" {source}" for source in sources))
+        self.kinds.append(kind)
+
+    def inputs(self):
+        return [n for n, kind in enumerate(self.kinds) if kind == "input"]
 
 
-def random_input(rng):
-    lines, inputs = random_plan(rng)
-    lines.append("--")
+def random_input(rng, every_plan):
+    plan = RandomPlan(rng, every_plan)
+    lines = [*plan.lines, "--"]
     for _ in range(rng.randrange(5)):
         for _ in range(rng.choice([0, 1, 3, 10, 40])):
             key = rng.choice([rng.randrange(5), rng.randrange(5), 2**64 - 1, rng.randrange(2**64)])
             val = rng.choice([rng.randrange(-4, 5), rng.randrange(-99, 99), HALF - 1, -HALF, rng.randrange(-HALF, HALF)])
-            lines.append(f"{rng.choice(inputs)} {key} {val}")
+            lines.append(f"{rng.choice(plan.inputs())} {key} {val}")
         lines += rng.choice([["."], [".", "# x"], ["", ".", "  #"]])
     return ("\n".join(lines) + rng.choice(["\n", ""])).encode()
 
@@ -257,13 +487,14 @@ ODD_LINES = [
     b"--", b".", b". .", b"-- --", b" -- ", b"end", b"loop 3", b"63 input", b"1 map 99 0", b"2 distinct 0",
     b"0 1 2", b"1 1 1", b"0 1 -0", b"0 1 01", b"00 1 1", b"0 1 +1", b"0 1 -", b"0 1 2 3", b"1000000000 0 0",
     b"0 18446744073709551616 0", b"0 0 9223372036854775808", b"0 0 -9223372036854775809",
+    b"loop 0", b"loop 1001", b"loop", b"2 fold 40 1", b"3 feedback", b"3 feedback 1 2", b"2 enter 0", b"3 leave 1",
 ]
 
 
 def with_mistakes(rng, text):
-    for _ in range(rng.choice([0, 1, 1, 2, 4])):
+    for _ in range(rng.choice([0, 0, 1, 1, 2, 4])):
         at = rng.randrange(len(text) + 1)
-        change = rng.randrange(4)
+        change = rng.randrange(5)
         if change == 0:
             text = text[:at] + bytes([rng.choice(ODD_BYTES)]) + text[at + rng.randrange(2):]
         elif change == 1:
@@ -272,20 +503,30 @@ def with_mistakes(rng, text):
             lines = text.split(b"\n")
             lines.insert(rng.randrange(len(lines) + 1), rng.choice(ODD_LINES))
             text = b"\n".join(lines)
+        elif change == 3:
+            lines = text.split(b"\n")
+            lines[rng.randrange(len(lines))] = rng.choice(lines)
+            text = b"\n".join(lines)
         else:
             text = text[:at] if rng.randrange(3) == 0 else text
     return text
 
 
 def main():
-    count = int(sys.argv[1]) if len(sys.argv) > 1 else 2000
-    rng = random.Random(sys.argv[2] if len(sys.argv) > 2 else "td")
+    given = sys.argv[1:]
+    every_plan = given[:1] == ["--every-plan"]
+    given = given[every_plan:]
+    count = int(given[0]) if given else 2000
+    rng = random.Random(given[1] if len(given) > 1 else "td")
     if not TD.exists():
         sys.exit(f"{TD} is not there: cd crates/td && rt run")
     met = collections.Counter()
-    for _ in range(count):
-        text = with_mistakes(rng, random_input(rng))
-        want = wanted(text)
+    while sum(met.values()) < count:
+        text = with_mistakes(rng, random_input(rng, every_plan))
+        try:
+            want = wanted(text, every_plan)
+        except TooLarge:
+            continue
         done = subprocess.run([TD, "batch"], input=text, capture_output=True)
         got = (done.returncode, done.stdout, done.stderr)
         if got != want:
