@@ -2,6 +2,7 @@ pub mod AnyOrder
 pub mod Flows
 pub mod Lists
 pub mod Meanings
+pub mod Quiet
 pub mod Ranges
 pub mod Runs
 pub mod Solutions

@@ -24,11 +24,13 @@ bag_on_path epoch (block bound body rest) before bags v (k ∷ path) =
       | false ↦ bag_on_path epoch rest before (bags ++ over_turns (turns (λ earlier. turn epoch body earlier bags) bound None) (length bags) (size body)) v (k ∷ path)
     ]
 
--- a path put in reverse before counters
+-- a path, which begins with the outermost counter, in front of counters that begin with the innermost
 abbrev pub onto : List ℕ → List ℕ → List ℕ
 onto [] counters = counters
 onto (k ∷ path) counters = onto path (k ∷ counters)
 
--- THE BAGS OF AN EPOCH AT ALL TIMES: what each vertex emits in the turns that these counters tell, the innermost first
+-- THE BAGS OF AN EPOCH AT ALL TIMES: what each vertex emits in the turns that these counters tell, the innermost first. There
+-- are as many counters as loops round the block on which the vertex is read. At fewer it is what the vertex emits in all turns
+-- of the inner loops together; at more it is nothing, or what the vertex emits at the first of them: nobody reads it there
 abbrev pub bag_at : EpochInput → Nodes → Flow
 bag_at epoch nodes v counters = bag_on_path epoch nodes None [] v (onto counters [])

@@ -1,6 +1,7 @@
 pub mod Meaning
 pub mod Flow
 pub mod BagAt
+pub mod Quiet
 pub mod Evaluated
 pub mod Examples
 pub mod BagAtExamples

@@ -14,7 +14,7 @@ use Rattle.td_stamp.specs.Batch.{records_for}
 use Rattle.td_stamp.specs.Groups.{groups}
 use Rattle.td_stamp.specs.States.{StateList, state_of, with_state, without_state}
 use Rattle.td_plan.specs.declared.vertex.Kind.{Kind}
-use Rattle.td_plan.specs.declared.vertex.Kind.TheVariants.{Input, Fold, Enter, Feedback, Output as output}
+use Rattle.td_plan.specs.declared.vertex.Kind.TheVariants.{Input, Fold, Enter, Feedback, Output as OutputKind}
 use Rattle.td_plan.specs.Lines.{Vertex}
 use Rattle.td_plan.specs.Tree.{Nodes, size}
 use Rattle.td_plan.specs.Tree.Nodes.{done, node, block}
@@ -82,7 +82,7 @@ epoch_bags epoch nodes = turn epoch nodes None []
 
 -- the records of the outputs, which stand outside loops
 abbrev pub outputs_at : (ℕ → List Rec) → Vertex → Kind → List Output
-outputs_at bag v output = map (λ r. record { vertex = v.number; rec = r }) (bag v.number)
+outputs_at bag v OutputKind = map (λ r. record { vertex = v.number; rec = r }) (bag v.number)
 outputs_at bag v _ = []
 
 abbrev pub outputs_in : (ℕ → List Rec) → Nodes → List Output

@@ -1,5 +1,5 @@
 //! Laws of the definitions. Each is the contract of a function that does nothing, or calls the laws that it follows from.
-ghost use Rattle.std.specs.Prelude.{◌≡◌, [], ◌∷◌, ◌++◌, ℕ, List};
+ghost use Rattle.std.specs.Prelude.{◌≡◌, ◌≤◌, [], ◌∷◌, ◌++◌, ℕ, List, Option, flat_map, length};
 ghost use Rattle.td_stamp.specs.declared.values.Arrival.{Arrival};
 ghost use Rattle.td_stamp.specs.declared.values.Entry.{Entry};
 ghost use Rattle.td_stamp.specs.Orders.{output_cmp};
@@ -10,7 +10,8 @@ ghost use Rattle.td_plan.specs.Lines.{Vertex, Line};
 ghost use Rattle.td_plan.specs.Tree.{Nodes, tree_of};
 ghost use Rattle.td_plan.specs.Faults.{IsPlan};
 ghost use Rattle.td_plan.specs.Placed.{IsPlacedTree};
-ghost use Rattle.td_batch.specs.Meaning.{EpochInput, answer, states_by, run, epoch_result, result_of};
+ghost use Rattle.td_batch.specs.Meaning.{EpochInput, Bags, emitted, answer, turn, turns, states_by, run, epoch_result, result_of};
+ghost use Rattle.td_batch.specs.Quiet.{IsLoopBody, NothingEnters, NothingReturns};
 ghost use Rattle.td_batch.specs.Flow.{Flow, Solves};
 ghost use Rattle.td_batch.specs.BagAt.{bag_at};
 
@@ -51,6 +52,17 @@ pub fn one_meaning()
 /// readers read.
 pub fn turns_solve()
     ensures { (epoch : EpochInput) (nodes : Nodes) → IsPlacedTree nodes → Solves epoch (bag_at epoch nodes) [] nodes }
+{}
+
+/// A turn of a loop into which nothing enters and nothing comes back emits nothing, where the sources of its vertices are
+/// read where their readers read, and no input is among them; nor does any turn after it.
+pub fn quiet_turns()
+    ensures turn { (epoch : EpochInput) (body : Nodes) (outer : List ℕ) (before : Option Bags) (bags : Bags)
+        → IsLoopBody outer bags body → NothingEnters before bags body → NothingReturns before body
+        → (v : ℕ) → length bags ≤ v → emitted (turn epoch body before bags) v ≡ [] }
+    ensures later { (epoch : EpochInput) (body : Nodes) (outer : List ℕ) (before : Option Bags) (bags : Bags)
+        → IsLoopBody outer bags body → NothingEnters before bags body → NothingReturns before body
+        → (count v : ℕ) → length bags ≤ v → flat_map (λ each. emitted each v) (turns (λ earlier. turn epoch body earlier bags) count before) ≡ [] }
 {}
 
 /// A plan without faults has its sources read where their readers read: the laws on such trees hold of each plan.
