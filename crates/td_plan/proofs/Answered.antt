@@ -11,7 +11,7 @@ use Rattle.td_plan.specs.Lines.Line.{vertex, loop, end}
 use Rattle.td_plan.specs.Blocks.{no_scope, scope_after, scope_of}
 use Rattle.td_plan.specs.Faults.{Fault, fault_of, is_faultless}
 use Rattle.td_plan.specs.Texts.{Spells, IsReadAs, IsFormless, AreReadAs, plan_lines, IsFirstFault, IsReadWhole}
-use Rattle.td_plan.specs.Reading.{vertex_of, reading_of, with_reading, line_or_fault, error_of, lines_from, answer_then}
+use Rattle.td_plan.specs.Steps.Reading.{vertex_of, reading_of, with_reading, line_or_fault, error_of, lines_from, answer_then}
 use Rattle.td_plan.proofs.Readings.{both, vertex_sound, vertex_again}
 use Rattle.td_plan.proofs.Spelling.{apart}
 use Rattle.td_plan.proofs.Flat.{scope_push, faultless_append}

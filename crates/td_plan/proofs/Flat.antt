@@ -14,7 +14,7 @@ use Rattle.td_plan.specs.Lines.{Vertex, Line, is_taken, is_flat_kind}
 use Rattle.td_plan.specs.Lines.Line.{vertex, loop, end}
 use Rattle.td_plan.specs.Blocks.{PlacedVertex, Scope, no_scope, scope_after, scope_of, vertices, edges, edges_to, edge_count}
 use Rattle.td_plan.specs.declared.vertex.Loop.{Loop}
-use Rattle.td_plan.specs.Reading.{flat_fault, flat_fault_of, is_late, is_one_too_many}
+use Rattle.td_plan.specs.Steps.Reading.{flat_fault, flat_fault_of, is_late, is_one_too_many}
 use Rattle.td_plan.specs.Faults.{fault_of, reads_elsewhere, is_faultless}
 
 -- THE SCOPE OF A LONGER PLAN

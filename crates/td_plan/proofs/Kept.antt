@@ -10,8 +10,8 @@ use Rattle.td_plan.specs.Lines.{Vertex, Line, has_form, is_taken}
 use Rattle.td_plan.specs.Lines.Line.{vertex}
 use Rattle.td_plan.specs.Blocks.{PlacedVertex, no_scope, scope_of, vertices, edges, edges_to, edge_count}
 use Rattle.td_plan.specs.Faults.{Fault, fault_of, is_faultless}
-use Rattle.td_plan.specs.Inside.{lines_of_vertices, AreKept}
-use Rattle.td_plan.specs.Reading.{flat_fault_of, with_line, line_or_fault, error_of}
+use Rattle.td_plan.specs.Steps.Inside.{lines_of_vertices, AreKept}
+use Rattle.td_plan.specs.Steps.Reading.{flat_fault_of, with_line, line_or_fault, error_of}
 use Rattle.td_plan.proofs.Flat.{vertices_push, edges_push, faultless_append, no_loops, fault_of-flat, edge_count-edges, length-edges_to}
 
 -- a vertex of the outermost block

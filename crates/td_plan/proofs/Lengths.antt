@@ -13,7 +13,7 @@ use Rattle.td_plan.specs.Lines.{Line, has_form, has_code, has_arity, is_taken, i
 use Rattle.td_plan.specs.Lines.Line.{vertex, loop, end}
 use Rattle.td_plan.specs.Blocks.{PlacedVertex, scope_after}
 use Rattle.td_plan.specs.Faults.{fault_of, is_faultless, reads_elsewhere, IsPlan}
-use Rattle.td_plan.specs.Reading.{flat_fault, flat_fault_of, is_late, is_one_too_many}
+use Rattle.td_plan.specs.Steps.Reading.{flat_fault, flat_fault_of, is_late, is_one_too_many}
 use Rattle.td_plan.proofs.Readings.{both, below}
 use Rattle.td_plan.proofs.Flat.{flat}
 

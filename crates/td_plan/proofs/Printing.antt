@@ -6,8 +6,8 @@ use Rattle.std.proofs.lemmas.List.{append_assoc, append-nil, map-append, take_mo
 use Rattle.td_plan.specs.Lines.{Vertex, text_of, text_of_line, words_of_kind}
 use Rattle.td_plan.specs.Lines.Line.{vertex}
 use Rattle.td_plan.specs.Blocks.{PlacedVertex}
-use Rattle.td_plan.specs.Inside.{lines_of_vertices}
-use Rattle.td_plan.specs.Printed.{spaced, text_of_vertices}
+use Rattle.td_plan.specs.Steps.Inside.{lines_of_vertices}
+use Rattle.td_plan.specs.Steps.Printed.{spaced, text_of_vertices}
 
 pub spaced-append : (xs ys : List (List ℕ)) → spaced (xs ++ ys) ≡ spaced xs ++ spaced ys
 spaced-append [] ys = refl

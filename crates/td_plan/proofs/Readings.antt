@@ -10,10 +10,10 @@ use Rattle.td_plan.specs.declared.vertex.Kind.TheVariants.{Input, Map, Distinct,
 use Rattle.td_plan.specs.Text.{natural_of, number_of, of_nine_digits, has_nine_digits}
 use Rattle.td_plan.specs.Lines.{Vertex, words_of, words_of_kind, has_form, has_code, has_arity, is_flat_kind, is_taken}
 use Rattle.td_plan.specs.Lines.Line.{vertex}
-use Rattle.td_plan.specs.Reading.{vertex_of, numbered_vertex, kind_of, sources_of_none, sources_of_one, code_of, with_rest, with_code, with_sources}
+use Rattle.td_plan.specs.Steps.Reading.{vertex_of, numbered_vertex, kind_of, sources_of_none, sources_of_one, code_of, with_rest, with_code, with_sources}
 use Rattle.std.specs.Prelude.{IfSome}
 use Rattle.td_plan.specs.declared.line.Written.{Written}
-use Rattle.td_plan.specs.Written.{written_vertex}
+use Rattle.td_plan.specs.Steps.Written.{written_vertex}
 use Rattle.td_plan.proofs.Numerals.{natural_reads, natural_again}
 
 pub small : (n : ℕ) → has_nine_digits n ≡ true → n < 2 ^ 64

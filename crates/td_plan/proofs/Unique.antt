@@ -14,10 +14,10 @@ use Rattle.td_plan.specs.Lines.Line.{vertex, loop, end}
 use Rattle.td_plan.specs.Blocks.{PlacedVertex, Scope, no_scope, scope_after, scope_of, vertices}
 use Rattle.td_plan.specs.Faults.{Fault, is_faultless, is_feedback, is_stray, is_stray_feedback, is_nil, has_ends, fault_of, IsPlan}
 use Rattle.td_plan.specs.Texts.{AreReadAs, plan_lines, PlanText, PlanFault, IsFirstFault, IsReadWhole, EndsInLoop, IsFirstStray, first_stray, numbered, Spells, IsFormless}
-use Rattle.td_plan.specs.Reading.{lines_from, answer_then, at_end, answer_of, error_of, with_reading, line_or_fault}
+use Rattle.td_plan.specs.Steps.Reading.{lines_from, answer_then, at_end, answer_of, error_of, with_reading, line_or_fault}
 use Rattle.std.specs.Prelude.{IfOk, IfErr}
-use Rattle.td_plan.specs.Reading.{Answers}
-use Rattle.td_plan.specs.Kept.{IsKeptPlan}
+use Rattle.td_plan.specs.Steps.Reading.{Answers}
+use Rattle.td_plan.specs.Steps.Kept.{IsKeptPlan}
 use Rattle.td_plan.specs.Blocks.{loops_from}
 use Rattle.td_plan.proofs.Readings.{both}
 use Rattle.td_plan.proofs.Flat.{no_loops}

@@ -3,8 +3,8 @@ ghost use Rattle.std.specs.Prelude.{◌≡◌, ◌<◌, ◌≤◌, ◌∷◌, []
 ghost use Rattle.td_plan.specs.Text.{words};
 ghost use Rattle.td_plan.specs.Lines.{has_form, is_taken};
 ghost use Rattle.td_plan.specs.Lines.Line.{vertex};
-ghost use Rattle.td_plan.specs.Reading.{vertex_of, kind_of, sources_of_none, sources_of_one, code_of, is_late};
-ghost use Rattle.td_plan.specs.Written.{sources_of, written_vertex, kind_and_sources, rest_words};
+ghost use Rattle.td_plan.specs.Steps.Reading.{vertex_of, kind_of, sources_of_none, sources_of_one, code_of, is_late};
+ghost use Rattle.td_plan.specs.Steps.Written.{sources_of, written_vertex, kind_and_sources, rest_words};
 
 use crate::text::{next_word, number};
 use crate::vertex::Kind;

@@ -29,7 +29,7 @@ impl Model for Plan {
 
     ghost Value = { List Line };
 
-    ghost use Rattle.td_plan.specs.Kept.{IsKeptPlan};
+    ghost use Rattle.td_plan.specs.Steps.Kept.{IsKeptPlan};
 
     ghost view = { λ p. p.lines };
 

@@ -2,7 +2,7 @@
 ghost use Rattle.std.specs.Prelude.{◌≡◌, ◌++◌, ◌∷◌, [], IfOk, OnOk, IfErr, string_bytes, map, decimal};
 ghost use Rattle.td_plan.specs.Lines.{text_of_line, words_of_kind};
 ghost use Rattle.td_plan.specs.Lines.Line.{vertex as vertex_line};
-ghost use Rattle.td_plan.specs.Printed.{spaced, text_of_vertices};
+ghost use Rattle.td_plan.specs.Steps.Printed.{spaced, text_of_vertices};
 
 use crate::error::PlanError;
 use crate::vertex::{Kind, Vertex};

@@ -6,9 +6,9 @@ ghost use Rattle.td_plan.specs.Lines.{is_taken, has_form, text_of};
 ghost use Rattle.td_plan.specs.Lines.Line.{vertex};
 ghost use Rattle.td_plan.specs.Blocks.{vertices, edges, edge_count};
 ghost use Rattle.td_plan.specs.Faults.{reads_elsewhere, has_ends, is_input, is_output};
-ghost use Rattle.td_plan.specs.Reading.{Answers, answer_of, lines_from, with_text, with_line, error_of, flat_fault_of, is_one_too_many};
+ghost use Rattle.td_plan.specs.Steps.Reading.{Answers, answer_of, lines_from, with_text, with_line, error_of, flat_fault_of, is_one_too_many};
 ghost use Rattle.td_plan.specs.Texts.{PlanText, PlanFault};
-ghost use Rattle.td_plan.specs.Written.{written_vertex, sources_of};
+ghost use Rattle.td_plan.specs.Steps.Written.{written_vertex, sources_of};
 
 use crate::error::PlanError;
 use crate::line::{Written, read_vertex};
@@ -31,7 +31,7 @@ impl Model for Lines {
 
     ghost Value = { List Line };
 
-    ghost use Rattle.td_plan.specs.Inside.{lines_of_vertices, AreKept};
+    ghost use Rattle.td_plan.specs.Steps.Inside.{lines_of_vertices, AreKept};
 
     ghost view = { λ l. lines_of_vertices l.vertices.items };
 

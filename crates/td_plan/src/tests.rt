@@ -149,7 +149,7 @@ fn what_a_plan_hands_out(rt: HostRuntime) -> Result<(), Fail> {
         assert_eq!(rt; vertex.is_output(), number == 2);
         assert_eq!(rt; vertex.loops().len(), 0);
         assert_eq!(rt; vertex.reads_on().len(), 0);
-        assert_eq!(rt; vertex.is_read_on().is_some(), number < 2);
+        assert_eq!(rt; vertex.read_on().is_some(), number < 2);
         assert_eq!(rt; vertex.copy().sources().len(), vertex.sources().len());
         number = number.wrapping_add(1);
     }

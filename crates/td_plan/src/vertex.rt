@@ -3,7 +3,7 @@ ghost use Rattle.std.specs.Prelude.{◌≡◌, [], drop, reverse, option_map};
 ghost use Rattle.std.specs.Option.{option_copied};
 ghost use Rattle.td_plan.specs.Blocks.{reading_loops, read_loops, is_read_on};
 ghost use Rattle.td_plan.specs.Faults.{is_input, is_output};
-ghost use Rattle.td_plan.specs.Written.{sources_of};
+ghost use Rattle.td_plan.specs.Steps.Written.{sources_of};
 
 use arrayvec::ArrayVec;
 use std::marker::Model;
@@ -138,7 +138,7 @@ impl Vertex {
     }
 
     /// The block on which it is read, if it is: the loops that are open there, the outermost first.
-    pub fn is_read_on(&self) -> Option<&[Loop]>
+    pub fn read_on(&self) -> Option<&[Loop]>
         ensures { option_copied result ≡ option_map reverse (read_loops self.now.vertex.kind self.now.loops) }
     {
         match self.kind {
@@ -163,7 +163,7 @@ impl Vertex {
     pub(crate) fn is_read_outermost(&self) -> bool
         ensures { result ≡ is_read_on [] self.now }
     {
-        match self.is_read_on() {
+        match self.read_on() {
             Some(loops) => loops.is_empty(),
             None => false,
         }

@@ -2,7 +2,7 @@ use Rattle.std.proofs.Common.{◌≡◌, ◌+◌, ◌≤◌, [], length}
 use denote.Text.{Utf8}
 use denote.Shadow.{shadow}
 use Rattle.td_plan.specs.Text.{text_lines}
-use Rattle.td_plan.specs.Reading.{lines_from}
+use Rattle.td_plan.specs.Steps.Reading.{lines_from}
 use Rattle.td_plan.proofs.reader.read_each.Given as goal
 
 abbrev pub invariant-loop-line : goal.invariant-loop-line

@@ -1,5 +1,5 @@
 use Rattle.std.proofs.Common.{sym, subst}
-use Rattle.td_plan.specs.Kept.{IsKeptPlan}
+use Rattle.td_plan.specs.Steps.Kept.{IsKeptPlan}
 use Rattle.td_plan.proofs.Unique.{kept_plan}
 use Rattle.td_plan.proofs.plan.Plan.read.Goals as goal
 

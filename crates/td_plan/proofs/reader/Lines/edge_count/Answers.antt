@@ -1,6 +1,6 @@
 use Rattle.std.proofs.Common.{ap, ◌∙◌, length}
 use Rattle.td_plan.specs.Blocks.{vertices, edge_count}
-use Rattle.td_plan.specs.Inside.{lines_of_vertices}
+use Rattle.td_plan.specs.Steps.Inside.{lines_of_vertices}
 use Rattle.td_plan.proofs.Flat.{edge_count-edges}
 use Rattle.td_plan.proofs.reader.Lines.edge_count.Goals as goal
 

@@ -1,7 +1,7 @@
 use Rattle.std.proofs.Common.{◌≡◌, ap, ◌∙◌, subst, List, ℕ}
 use Rattle.std.specs.Prelude.{IfOk, string_bytes}
 use Rattle.td_plan.specs.Lines.{text_of}
-use Rattle.td_plan.specs.Printed.{text_of_vertices}
+use Rattle.td_plan.specs.Steps.Printed.{text_of_vertices}
 use Rattle.td_plan.proofs.Printing.{text_of-vertices}
 use Rattle.td_plan.proofs.reader.Lines.text.Goals as goal
 

@@ -5,9 +5,9 @@ use Rattle.td_plan.specs.declared.vertex.Edge.{Edge}
 use Rattle.td_plan.specs.Lines.{is_taken}
 use Rattle.td_plan.specs.Lines.Line.{vertex}
 use Rattle.td_plan.specs.Blocks.{PlacedVertex, vertices, edges_to, edge_count}
-use Rattle.td_plan.specs.Inside.{AreKept, lines_of_vertices}
-use Rattle.td_plan.specs.Written.{written_vertex, sources_of}
-use Rattle.td_plan.specs.Reading.{flat_fault_of}
+use Rattle.td_plan.specs.Steps.Inside.{AreKept, lines_of_vertices}
+use Rattle.td_plan.specs.Steps.Written.{written_vertex, sources_of}
+use Rattle.td_plan.specs.Steps.Reading.{flat_fault_of}
 use Rattle.td_plan.proofs.Kept.{kept_push, lines_push, with_line-none, with_line-some}
 use Rattle.td_plan.proofs.reader.Lines.with_vertex.Goals as goal
 
