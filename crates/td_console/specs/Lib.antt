@@ -3,7 +3,8 @@ pub mod Data
 pub mod Parts
 pub mod Refusals
 pub mod Answer
-pub mod Reading
+pub mod CodeSteps
 pub mod Streams
+pub mod StreamProofs
 pub mod Command
 pub mod Vals

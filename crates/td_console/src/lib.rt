@@ -19,8 +19,6 @@ mod stock_tests;
 #[cfg(test)]
 mod tests;
 pub mod words;
-#[cfg(test)]
-mod words_tests;
 
 pub use closures::{FoldBox, GroupBox, MapBox, StockCalls, StockFold, StockGroup, StockMap};
 pub use data_line::DataLine;
