@@ -1,11 +1,16 @@
--- Whether closures of all these codes are stored.
-use Rattle.std.specs.Prelude.{◌≡◌, ℕ, true, List, map}
+-- Which closures are stored.
+use Rattle.std.specs.Prelude.{◌≡◌, ℕ, true, List, [], ◌∷◌, ◌++◌, map}
 use Rattle.std.specs.List.{AllByRecursion}
 use Rattle.td_calls.specs.Codes.{has_code}
 use Rattle.td_calls.specs.Stock.{map_answers, group_answers, fold_answers}
 
+-- a closure of each of these codes is stored
 abbrev pub HasEach : {C : Type 0} → (C → ℕ) → List (ℕ × C) → List ℕ → Type 0
 HasEach code_of calls codes = AllByRecursion (λ code. has_code code_of calls code ≡ true) codes
+
+-- a closure of this code came to those that were stored
+abbrev pub AddsCode : {C : Type 0} → (C → ℕ) → List (ℕ × C) → List (ℕ × C) → ℕ → Type 0
+AddsCode code_of old new code = (codes : List ℕ) → HasEach code_of old codes → HasEach code_of new (codes ++ code ∷ [])
 
 -- the codes of the catalogue
 abbrev pub map_codes : List ℕ

@@ -18,8 +18,10 @@ fn main(rt: HostRuntime) -> ExitCode {
     match asked(&rt) {
         Ok(Job::Batch) => {}
         Ok(Job::Help(text)) => {
-            let _ = print!(rt; "{text}");
-            return ExitCode::SUCCESS;
+            return match print!(rt; "{text}") {
+                Ok(()) => ExitCode::SUCCESS,
+                Err(_) => told(&rt, Fault::Output),
+            };
         }
         Err(WordsError::Words) => {
             let _ = eprintln!(rt; "td: words");

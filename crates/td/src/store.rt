@@ -1,8 +1,8 @@
 //! Stores the closures of the catalogue one by one.
-ghost use Rattle.std.specs.Prelude.{◌≡◌, ℕ, List, [], ◌∷◌, ◌++◌, OnOk, IfErr};
+ghost use Rattle.std.specs.Prelude.{◌≡◌, OnOk, IfErr};
 ghost use Rattle.td_calls.specs.Lawful.{IsLawfulMap, IsLawfulGroup, IsLawfulFold};
 ghost use Rattle.td_calls.specs.Stock.{stock};
-ghost use Rattle.td.specs.Whole.{HasEach};
+ghost use Rattle.td.specs.Whole.{AddsCode};
 
 use td_calls::{FoldBox, GroupBox, MapBox, StockCalls, StockFold, StockGroup, StockMap};
 use td_console::Fault;
@@ -12,7 +12,7 @@ use td_console::Fault;
 pub(crate) fn store_map(calls: &mut StockCalls, code: u16, run: MapBox) -> Result<(), Fault>
     requires callable { MapBox.IsAlwaysCallable run }
     requires lawful { IsLawfulMap (λ few. few.items) stock (MapBox.post run) code }
-    ensures stored { OnOk result ((codes : List ℕ) → HasEach (λ c. c.code) calls.old.maps codes → HasEach (λ c. c.code) calls.new.maps (codes ++ code ∷ [])) }
+    ensures stored { OnOk result (AddsCode (λ c. c.code) calls.old.maps calls.new.maps code) }
     ensures groups { OnOk result (calls.new.groups ≡ calls.old.groups) }
     ensures folds { OnOk result (calls.new.folds ≡ calls.old.folds) }
     ensures refused { IfErr result (λ f. f ≡ Fault.Memory) }
@@ -27,7 +27,7 @@ pub(crate) fn store_map(calls: &mut StockCalls, code: u16, run: MapBox) -> Resul
 pub(crate) fn store_group(calls: &mut StockCalls, code: u16, run: GroupBox) -> Result<(), Fault>
     requires callable { GroupBox.IsAlwaysCallable run }
     requires lawful { IsLawfulGroup (λ few. few.items) (λ items. items.now) stock (GroupBox.post run) code }
-    ensures stored { OnOk result ((codes : List ℕ) → HasEach (λ c. c.code) calls.old.groups codes → HasEach (λ c. c.code) calls.new.groups (codes ++ code ∷ [])) }
+    ensures stored { OnOk result (AddsCode (λ c. c.code) calls.old.groups calls.new.groups code) }
     ensures maps { OnOk result (calls.new.maps ≡ calls.old.maps) }
     ensures folds { OnOk result (calls.new.folds ≡ calls.old.folds) }
     ensures refused { IfErr result (λ f. f ≡ Fault.Memory) }
@@ -42,7 +42,7 @@ pub(crate) fn store_group(calls: &mut StockCalls, code: u16, run: GroupBox) -> R
 pub(crate) fn store_fold(calls: &mut StockCalls, code: u16, run: FoldBox) -> Result<(), Fault>
     requires callable { FoldBox.IsAlwaysCallable run }
     requires lawful { IsLawfulFold (λ few. few.items) (λ items. items.now) stock (FoldBox.post run) code }
-    ensures stored { OnOk result ((codes : List ℕ) → HasEach (λ c. c.code) calls.old.folds codes → HasEach (λ c. c.code) calls.new.folds (codes ++ code ∷ [])) }
+    ensures stored { OnOk result (AddsCode (λ c. c.code) calls.old.folds calls.new.folds code) }
     ensures maps { OnOk result (calls.new.maps ≡ calls.old.maps) }
     ensures groups { OnOk result (calls.new.groups ≡ calls.old.groups) }
     ensures refused { IfErr result (λ f. f ≡ Fault.Memory) }

@@ -16,7 +16,7 @@ use Rattle.td_console.specs.declared.faults.LineFault.TheVariants.{NoSuchInput}
 use Rattle.td_console.specs.declared.faults.Fault.{Fault}
 use Rattle.td_console.specs.declared.faults.Fault.TheVariants.{Line}
 use Rattle.td_console.specs.Data.{data_line_of}
-use Rattle.td_console.specs.Reading.{no_epochs, with_data_line, epochs_then, closed_batches, read_from}
+use Rattle.td_console.specs.CodeSteps.{no_epochs, with_data_line, epochs_then, closed_batches, read_from}
 
 -- entries that all name inputs
 abbrev AreInputs : List PlanLine → List Entry → Type 0

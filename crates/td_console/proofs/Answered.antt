@@ -14,7 +14,7 @@ use Rattle.td_console.specs.declared.faults.LineFault.TheVariants.{NoSuchInput}
 use Rattle.td_console.specs.declared.faults.Fault.{Fault}
 use Rattle.td_console.specs.declared.faults.Fault.TheVariants.{Line, Memory}
 use Rattle.td_console.specs.Data.{data_line_of, closes, entry_of, but_last, last, batches_of, line_fault, end_faults, data_fault}
-use Rattle.td_console.specs.Reading.{no_epochs, with_data_line, epochs_then, closed_batches, read_from}
+use Rattle.td_console.specs.CodeSteps.{no_epochs, with_data_line, epochs_then, closed_batches, read_from}
 
 -- further entries before the first list
 abbrev onto : List Entry → List (List Entry) → List (List Entry)

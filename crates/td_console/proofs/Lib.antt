@@ -6,3 +6,4 @@ pub mod Separated
 pub mod Wide
 pub mod ReadOn
 pub mod OneAnswer
+pub mod BatchWords

@@ -1,5 +1,6 @@
 -- The answer text of an input, or its first fault.
-use Rattle.std.specs.Prelude.{◌≡◌, ◌⊎◌, ℕ, Bool, List, [], ◌∷◌, ◌++◌, flat_map, Option, Some, None, Result, Ok, Err}
+use Rattle.std.specs.Prelude.{◌≡◌, ◌⊎◌, ℕ, Bool, List, [], ◌∷◌, ◌++◌, flat_map, length, Option, Some, None, IfSome, Result, Ok, Err}
+use Rattle.std.specs.Io.KnownBytes.{Appends}
 use Rattle.std.specs.Fmt.{decimal, signed_decimal}
 use Rattle.td_stamp.specs.declared.values.Output.{Output}
 use Rattle.td_stamp.specs.declared.epoch_out.EpochOut.{EpochOut}
@@ -15,6 +16,7 @@ use Rattle.td_calls.specs.Fits.{first_lack}
 use Rattle.td_batch.specs.Meaning.{run, numbered}
 use Rattle.td_console.specs.declared.faults.Fault.{Fault}
 use Rattle.td_console.specs.declared.faults.Fault.TheVariants.{Plan, NoCall, Memory}
+use Rattle.td_console.specs.declared.faults.Fault.TheVariants as faults
 use Rattle.td_console.specs.Data.{batches_of, data_fault}
 use Rattle.td_console.specs.Parts.{plan_text, data_lines, first_data_line, wide_fault}
 
@@ -25,8 +27,10 @@ pub record Stored : Type 0 where
   pub has_group : ℕ → Bool
   pub has_fold : ℕ → Bool
 
-abbrev pub stored_by : Answers → (ℕ → Bool) → (ℕ → Bool) → (ℕ → Bool) → Stored
-stored_by answers maps groups folds = record { answers = answers; has_map = maps; has_group = groups; has_fold = folds }
+-- those of a store of closures, from the law that they answer and its words for the codes of each kind
+abbrev pub stored_in : {C : Type 0} → Answers → (C → ℕ → Bool) → (C → ℕ → Bool) → (C → ℕ → Bool) → C → Stored
+stored_in answers maps groups folds calls =
+    record { answers = answers; has_map = maps calls; has_group = groups calls; has_fold = folds calls }
 
 -- an output record's line: `EPOCH VERTEX KEY VAL`
 abbrev pub output_line : ℕ → Output → List ℕ
@@ -70,3 +74,15 @@ IsAnswerAt stored input None answer = IsAsciiAnswer stored input answer
 -- THE ANSWER to an input: the output lines, or the first fault. A byte above 127 comes first
 abbrev pub IsAnswer : Stored → List ℕ → Result (List ℕ) Fault → Type 0
 IsAnswer stored input answer = IsAnswerAt stored input (wide_fault input) answer
+
+-- what a writer holds after is what it held before and the answer text of an input
+abbrev pub WritesAnswer : Stored → Option (List ℕ) → Option (List ℕ) → List ℕ → Type 0
+WritesAnswer stored before after input = (text : List ℕ) × IsAnswer stored input (Ok text) × Appends before after text
+
+-- an input has an answer text that is too long for the room that there is
+abbrev pub LacksRoom : Stored → (ℕ → Type 0) → List ℕ → Type 0
+LacksRoom stored HasRoom input = (text : List ℕ) × IsAnswer stored input (Ok text) × ¬ (HasRoom (length text))
+
+-- why nothing was answered: a reader's or a writer's failure, want of memory, or the fault of the input, where that is known
+abbrev pub IsFaultAt : Stored → Option (List ℕ) → Fault → Type 0
+IsFaultAt stored input f = (f ≡ faults.Input) ⊎ ((f ≡ faults.Output) ⊎ ((f ≡ Memory) ⊎ IfSome input (λ bytes. IsAnswer stored bytes (Err f))))

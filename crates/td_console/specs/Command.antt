@@ -26,7 +26,3 @@ IsAsked words (Help text) = IsAmong DisplayHelp (fault_of td words)
 -- the words ask for no batch, nor for help alone
 abbrev pub IsRefused : List (List ℕ) → Type 0
 IsRefused words = (IsAsked words Batch → ⊥) × (fault_of td words ≢ DisplayHelp ∷ [])
-
-abbrev pub IsHelp : Job → Type 0
-IsHelp Batch = ⊥
-IsHelp (Help text) = Unit {0}

@@ -1,5 +1,6 @@
 -- The two parts of an input, the plan text and the data lines, and bytes that are not ASCII.
-use Rattle.std.specs.Prelude.{ℕ, ◌+◌, Bool, true, false, ◌&&◌, if◌then◌else◌, List, [], ◌∷◌, ◌++◌, length, flat_map, codes, Option, Some, None}
+use Rattle.std.specs.Prelude.{ℕ, ◌+◌, Bool, true, false, ◌&&◌, if◌then◌else◌, List, [], ◌∷◌, ◌++◌}
+use Rattle.std.specs.Prelude.{length, flat_map, codes, Option, Some, None}
 use Rattle.std.specs.List.{list_all, list_any, filter_map, before_first, after_first, enumerate_from, slice_get}
 use Rattle.std.specs.Str.{bytes_eq}
 use Rattle.std.specs.Char.{is_ascii}

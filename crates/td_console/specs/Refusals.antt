@@ -48,9 +48,3 @@ fault_text (Line line fault) = codes "line " ++ (decimal line ++ (codes ": " ++ 
 fault_text Input = codes "input"
 fault_text Output = codes "output"
 fault_text Memory = codes "memory"
-
--- a fault of the input, or want of memory: of the reader's and the writer's it is none
-abbrev pub IsOfInput : Fault → Type 0
-IsOfInput Input = ⊥
-IsOfInput Output = ⊥
-IsOfInput _ = Unit {0}

@@ -1,8 +1,9 @@
 //! The answer text of an input.
-ghost use Rattle.std.specs.Prelude.{◌≡◌, ◌⊎◌, ◌++◌, ◌+◌, ◌≤◌, ◌^◌, IfOk, IfErr, OnOk, Ok, Err, length, string_bytes, flat_map};
+ghost use Rattle.std.specs.Prelude.{◌≡◌, ◌⊎◌, ◌++◌, ◌+◌, ◌≤◌, ◌^◌, IfOk, IfErr, OnOk, Ok, Err};
+ghost use Rattle.std.specs.Prelude.{length, string_bytes, flat_map};
 ghost use Rattle.td_plan.specs.Text.{text_lines};
-ghost use Rattle.td_console.specs.Answer.{stored_by, IsAnswer, IsAsciiAnswer, plan_answer, lack_fault, output_line, output_text};
-ghost use Rattle.td_console.specs.Refusals.{IsOfInput};
+ghost use Rattle.td_console.specs.Answer.{stored_in, IsAnswer, IsAsciiAnswer, plan_answer, lack_fault, output_line, output_text};
+ghost use Rattle.td_console.specs.CodeSteps.{IsOfInput};
 
 use crate::epochs::read_batches;
 use crate::faults::Fault;
@@ -21,8 +22,10 @@ pub(crate) fn answer<L: Law, C: Closures<L>>(
     calls: &C,
 ) -> Result<String, Fault>
     requires bound { length input.now ≤ 2 ^ 44 }
-    ensures ok { IfOk result (λ text. IsAnswer (stored_by L.answers (C.has_map calls.now) (C.has_group calls.now) (C.has_fold calls.now)) input.now (Ok (string_bytes text))) }
-    ensures err { IfErr result (λ f. (f ≡ Fault.Memory) ⊎ IsAnswer (stored_by L.answers (C.has_map calls.now) (C.has_group calls.now) (C.has_fold calls.now)) input.now (Err f)) }
+    ensures ok { IfOk result (λ text.
+        IsAnswer (stored_in L.answers C.has_map C.has_group C.has_fold calls.now) input.now (Ok (string_bytes text))) }
+    ensures err { IfErr result (λ f. (f ≡ Fault.Memory)
+        ⊎ IsAnswer (stored_in L.answers C.has_map C.has_group C.has_fold calls.now) input.now (Err f)) }
     ensures own { IfErr result IsOfInput }
 {
     if let Some(fault) = find_wide_fault(input) {
@@ -41,8 +44,10 @@ fn answer_text<L: Law, C: Closures<L>>(
     calls: &C,
 ) -> Result<String, Fault>
     requires bound { length input.now ≤ 2 ^ 44 }
-    ensures ok { IfOk result (λ text. IsAsciiAnswer (stored_by L.answers (C.has_map calls.now) (C.has_group calls.now) (C.has_fold calls.now)) input.now (Ok (string_bytes text))) }
-    ensures err { IfErr result (λ f. (f ≡ Fault.Memory) ⊎ IsAsciiAnswer (stored_by L.answers (C.has_map calls.now) (C.has_group calls.now) (C.has_fold calls.now)) input.now (Err f)) }
+    ensures ok { IfOk result (λ text.
+        IsAsciiAnswer (stored_in L.answers C.has_map C.has_group C.has_fold calls.now) input.now (Ok (string_bytes text))) }
+    ensures err { IfErr result (λ f. (f ≡ Fault.Memory)
+        ⊎ IsAsciiAnswer (stored_in L.answers C.has_map C.has_group C.has_fold calls.now) input.now (Err f)) }
     ensures own { IfErr result IsOfInput }
 {
     let parts = split_input(input);
@@ -62,8 +67,10 @@ fn answer_data<L: Law, C: Closures<L>>(
     calls: &C,
 ) -> Result<String, Fault>
     requires bound { first + length lines.now ≤ 2 ^ 44 + 2 }
-    ensures ok { IfOk result (λ text. plan_answer (stored_by L.answers (C.has_map calls.now) (C.has_group calls.now) (C.has_fold calls.now)) plan.now first (text_lines lines.now) ≡ Ok (string_bytes text)) }
-    ensures err { IfErr result (λ f. (f ≡ Fault.Memory) ⊎ (plan_answer (stored_by L.answers (C.has_map calls.now) (C.has_group calls.now) (C.has_fold calls.now)) plan.now first (text_lines lines.now) ≡ Err f)) }
+    ensures ok { IfOk result (λ text.
+        plan_answer (stored_in L.answers C.has_map C.has_group C.has_fold calls.now) plan.now first (text_lines lines.now) ≡ Ok (string_bytes text)) }
+    ensures err { IfErr result (λ f. (f ≡ Fault.Memory)
+        ⊎ (plan_answer (stored_in L.answers C.has_map C.has_group C.has_fold calls.now) plan.now first (text_lines lines.now) ≡ Err f)) }
     ensures own { IfErr result IsOfInput }
 {
     if let Err(lack) = calls.fits(plan) {

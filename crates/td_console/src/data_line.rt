@@ -28,7 +28,7 @@ pub(crate) fn read_data_line(line: &str) -> Option<DataLine>
     read_words(line)
 }
 
-/// What the words of a line spell: `.`, or `INPUT KEY VAL`.
+/// What the words of a line spell: `.`, or `INPUT KEY VAL`. It stands apart, so that a line without words is answered by `?`.
 fn read_words(line: &str) -> Option<DataLine>
     ensures { result ≡ spelled (words line.now) }
 {

@@ -1,7 +1,6 @@
 //! Reads all, computes, writes all.
-ghost use Rattle.std.specs.Prelude.{◌≡◌, ◌≢◌, [], ◌⊎◌, ℕ, List, IfOk, IfErr, OnOk, IfSome, Ok, Err, length, ◌≤◌, ◌^◌, string_bytes};
-ghost use Rattle.std.specs.Io.KnownBytes.{Appends};
-ghost use Rattle.td_console.specs.Answer.{stored_by, IsAnswer};
+ghost use Rattle.std.specs.Prelude.{◌≡◌, ◌≢◌, [], ◌⊎◌, ℕ, IfOk, IfErr, OnOk, IfSome, length, ◌≤◌, ◌^◌};
+ghost use Rattle.td_console.specs.Answer.{stored_in, WritesAnswer, LacksRoom, IsFaultAt};
 
 use crate::answer::answer;
 use crate::faults::Fault;
@@ -26,14 +25,17 @@ pub fn batch<R: Source, W: Sink, L: Law, C: Closures<L>>(
     writer: &mut W,
     calls: &C,
 ) -> Result<(), Fault>
-    ensures ok { OnOk result (IfSome (R.remaining reader.old) (λ input. (text : List ℕ) × IsAnswer (stored_by L.answers (C.has_map calls.now) (C.has_group calls.now) (C.has_fold calls.now)) input (Ok text) × Appends (W.contents writer.old) (W.contents writer.new) text)) }
-    ensures fault { IfErr result (λ f. (f ≡ Fault.Input) ⊎ ((f ≡ Fault.Output) ⊎ ((f ≡ Fault.Memory) ⊎ IfSome (R.remaining reader.old) (λ input. IsAnswer (stored_by L.answers (C.has_map calls.now) (C.has_group calls.now) (C.has_fold calls.now)) input (Err f))))) }
+    ensures ok { OnOk result (IfSome (R.remaining reader.old)
+        (WritesAnswer (stored_in L.answers C.has_map C.has_group C.has_fold calls.now) (W.contents writer.old) (W.contents writer.new))) }
+    ensures fault { IfErr result
+        (IsFaultAt (stored_in L.answers C.has_map C.has_group C.has_fold calls.now) (R.remaining reader.old)) }
     // It has read all.
     ensures end { OnOk result (IfSome (R.remaining reader.new) (λ rest. rest ≡ [])) }
     // Where the end comes within the bound, and no read fails but for an interruption, the fault is none of the reader's.
     ensures input { R.EndsWithin reader.old (2 ^ 32) → IfErr result (λ f. f ≢ Fault.Input) }
     // Where the writer fails, there was an answer, and it had no room for it.
-    ensures output { IfErr result (λ f. f ≡ Fault.Output → IfSome (R.remaining reader.old) (λ input. (text : List ℕ) × IsAnswer (stored_by L.answers (C.has_map calls.now) (C.has_group calls.now) (C.has_fold calls.now)) input (Ok text) × ¬ (W.HasRoom writer.old (length text)))) }
+    ensures output { IfErr result (λ f. f ≡ Fault.Output → IfSome (R.remaining reader.old)
+        (LacksRoom (stored_in L.answers C.has_map C.has_group C.has_fold calls.now) (W.HasRoom writer.old))) }
     // A writer that has room for any text does not fail.
     ensures room { ((n : ℕ) → W.HasRoom writer.old n) → IfErr result (λ f. f ≢ Fault.Output) }
     ensures nothing { IfErr result (λ f. (f ≡ Fault.Output) ⊎ (writer.new ≡ writer.old)) }
@@ -46,7 +48,7 @@ pub fn batch<R: Source, W: Sink, L: Law, C: Closures<L>>(
     }
 }
 
-/// All that a reader gives.
+/// All that a reader gives. It stands apart, since it knows nothing of plans.
 fn read_all<R: Source>(alloc: Global, reader: &mut R) -> Result<Vec<u8>, Fault>
     ensures ok { IfOk result (λ bytes. IfSome (R.remaining reader.old) (λ input. bytes.items ≡ input)) }
     ensures end { OnOk result (IfSome (R.remaining reader.new) (λ rest. rest ≡ [])) }

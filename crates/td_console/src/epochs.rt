@@ -1,13 +1,12 @@
 //! The epochs of the data lines of an input.
-ghost use Rattle.std.specs.Prelude.{◌≡◌, [], ◌⊎◌, ◌+◌, ◌<◌, ◌≤◌, ◌^◌, All, IsTrue, IfOk, IfErr, OnOk, Some, None, Ok, Err, length};
+ghost use Rattle.std.specs.Prelude.{◌≡◌, [], ◌⊎◌, ◌+◌, ◌<◌, ◌≤◌, ◌^◌, All, IsTrue, IfOk, IfErr, OnOk};
+ghost use Rattle.std.specs.Prelude.{Some, None, Ok, Err, length};
 ghost use Rattle.std.specs.Bool.{OnTrue};
 ghost use Rattle.std.specs.List.{list_all};
 ghost use Rattle.td_plan.specs.Text.{text_lines};
 ghost use Rattle.td_plan.specs.Inputs.{is_input_of};
-ghost use Rattle.td_console.specs.declared.data_line.DataLine.TheVariants.{Record as record_line, Close as close_line};
 ghost use Rattle.td_console.specs.Data.{data_line_of, batches_of, data_fault};
-ghost use Rattle.td_console.specs.Reading.{Gives, no_epochs, with_data_line, closed_batches, read_from};
-ghost use Rattle.td_console.specs.Refusals.{IsOfInput};
+ghost use Rattle.td_console.specs.CodeSteps.{Gives, no_epochs, with_data_line, closed_batches, read_from, IsOfInput};
 
 use crate::data_line::{DataLine, read_data_line};
 use crate::faults::{Fault, LineFault};
@@ -27,7 +26,7 @@ struct Epochs {
 }
 
 impl Model for Epochs {
-    ghost use Rattle.td_console.specs.Reading.{Epochs};
+    ghost use Rattle.td_console.specs.CodeSteps.{Epochs};
 
     ghost Value = { Epochs };
 
@@ -62,7 +61,7 @@ impl Epochs {
 
     /// The same, with the one closed that is not. Refusal: `Memory`.
     fn close(self) -> Result<Epochs, Fault>
-        ensures ok { IfOk result (λ epochs. Ok epochs ≡ with_data_line [] 0 self (Some close_line)) }
+        ensures ok { IfOk result (λ epochs. Ok epochs ≡ with_data_line [] 0 self (Some DataLine.Close)) }
         ensures few { IfOk result (λ epochs. length epochs.closed ≤ length self.closed + 1) }
         ensures err { IfErr result (λ f. f ≡ Fault.Memory) }
     {
@@ -95,7 +94,7 @@ impl Epochs {
 
     /// The same, with one more record. Refusals: `NoSuchInput`; `Memory`.
     fn with_record(self, plan: &Plan, number: u64, input: u32, rec: Rec) -> Result<Epochs, Fault>
-        ensures gives { Gives result (with_data_line plan.now number self (Some (record_line input rec))) }
+        ensures gives { Gives result (with_data_line plan.now number self (Some (DataLine.Record input rec))) }
         ensures own { IfErr result IsOfInput }
         ensures few { IfOk result (λ epochs. length epochs.closed ≤ length self.closed + 1) }
     {
@@ -147,7 +146,8 @@ pub(crate) fn read_batches(
     read_each(alloc, plan, text, first)
 }
 
-/// The same, line by line.
+/// The same, line by line. It stands apart, since it answers by the code's own steps; that these come to the batches and
+/// the first fault of all lines is what `read_batches` adds.
 fn read_each(alloc: Global, plan: &Plan, text: &str, first: u64) -> Result<Vec<Batch>, Fault>
     requires fits { first + length text.now < 2 ^ 64 }
     ensures ok { IfOk result (λ batches. read_from plan.now first no_epochs (text_lines text.now) ≡ Ok batches.items) }

@@ -8,7 +8,8 @@ use td_plan::laws::one_answer as one_plan_answer;
 /// An input has one answer, an output text or a fault, and no other.
 pub fn one_answer()
     ensures some { (stored : Stored) (input : List ℕ) → (answer : Result (List ℕ) AnyFault) × IsAnswer stored input answer }
-    ensures no_other { (stored : Stored) (input : List ℕ) (a b : Result (List ℕ) AnyFault) → IsAnswer stored input a → IsAnswer stored input b → a ≡ b }
+    ensures no_other { (stored : Stored) (input : List ℕ) (a b : Result (List ℕ) AnyFault)
+        → IsAnswer stored input a → IsAnswer stored input b → a ≡ b }
 {
     one_plan_answer();
 }

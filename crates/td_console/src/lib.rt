@@ -17,8 +17,6 @@ mod stock_tests;
 #[cfg(test)]
 mod tests;
 pub mod words;
-#[cfg(test)]
-mod words_tests;
 
 pub use data_line::DataLine;
 pub use engine::batch;

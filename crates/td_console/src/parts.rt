@@ -1,10 +1,11 @@
 //! The two parts of an input: the plan text, and the data lines after a line `--`.
-ghost use Rattle.std.specs.Prelude.{◌≡◌, ◌==◌, ◌⊎◌, ◌+◌, ◌++◌, ◌∷◌, [], ◌<◌, ◌≤◌, ◌^◌, None, true, is_some, length, MatchOption, IfSome, IfNone};
+ghost use Rattle.std.specs.Prelude.{◌≡◌, ◌==◌, ◌⊎◌, ◌+◌, ◌++◌, ◌∷◌, [], ◌<◌, ◌≤◌, ◌^◌};
+ghost use Rattle.std.specs.Prelude.{None, true, is_some, length, MatchOption, IfSome, IfNone};
 ghost use Rattle.std.specs.List.{list_all, position_or_len};
 ghost use Rattle.std.specs.Char.{is_ascii};
 ghost use Rattle.td_plan.specs.Text.{text_lines, words};
 ghost use Rattle.td_console.specs.Parts.{is_separator, plan_text, data_lines, first_data_line, wide_fault, wide_fault_at};
-ghost use Rattle.td_console.specs.Refusals.{IsOfInput};
+ghost use Rattle.td_console.specs.CodeSteps.{IsOfInput};
 
 use crate::faults::{Fault, LineFault};
 use td_plan::PlanError;

@@ -1,11 +1,11 @@
 //! Readers, with words for one that does not fail.
-ghost use Rattle.std.specs.Prelude.{◌≡◌, ◌⊎◌, ℕ, suc, zero, ◌<◌, List, Option, None, Some, length, MatchResult};
+ghost use Rattle.std.specs.Prelude.{ℕ, suc, zero, ◌<◌, List, Option, None, Some, length};
 ghost use Rattle.std.specs.Io.{ReadsAtMost};
-ghost use Rattle.std.specs.IoError.{error_kind};
 ghost use Rattle.std.specs.Io.KnownBytes.{ReadConsumes};
-ghost use Rattle.td_console.specs.Streams.{never, not_below};
+ghost use Rattle.td_console.specs.Streams.{never, EndsOr};
+ghost use Rattle.td_console.specs.StreamProofs.{not_below};
 
-use std::io::{ErrorKind, Read, Result};
+use std::io::{Read, Result};
 
 /// A reader, and what is known of it.
 pub trait Source {
@@ -22,7 +22,7 @@ pub trait Source {
     fn read_piece(&mut self, buf: &mut [u8]) -> Result<usize>
         ensures bound { ReadsAtMost result buf.new }
         ensures bytes { ReadConsumes (remaining self.old) (remaining self.new) result buf.new }
-        ensures steady { (n : ℕ) → EndsWithin self.old (suc n) → 0 < length buf.old → MatchResult result (λ k. (k ≡ 0) ⊎ EndsWithin self.new n) (λ e. (error_kind e ≡ ErrorKind.Interrupted) × EndsWithin self.new n) };
+        ensures steady { (n : ℕ) → EndsWithin self.old (suc n) → 0 < length buf.old → EndsOr (EndsWithin self.new n) result };
 }
 
 impl Source for &[u8] {

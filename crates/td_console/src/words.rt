@@ -1,11 +1,19 @@
 //! What the program is asked to do, from the words that it is given.
 ghost use Rattle.std.specs.Prelude.{◌≡◌, ◌≢◌, ◌⊎◌, IfOk, IfErr, map, string_bytes, Ok, Err, Some, option_map, codes};
 ghost use Rattle.clap.specs.Words.{app_of, kind_of};
-ghost use Rattle.td_console.specs.Command.{td, batch_words, IsHelp, IsAsked, IsRefused};
+ghost use Rattle.td_console.specs.Command.{td, batch_words, IsAsked, IsRefused};
+ghost use Rattle.td_console.specs.CodeSteps.{IsHelp};
 
 use clap::error::ErrorKind;
 use clap::{Command, Error};
 use std::alloc::{AllocError, Global};
+
+/// What help says of the program and of each command, in one line.
+const TD: &str =
+    "A dataflow engine: takes a plan and epochs of records, and gives the records of each epoch at the plan's outputs";
+
+const BATCH: &str =
+    "Reads a plan and its epochs from standard input, and writes the output records of each epoch to standard output";
 
 /// What is asked for.
 #[derive(Debug, Drop)]
@@ -59,15 +67,18 @@ fn named(name: Option<&str>) -> Result<Job, WordsError>
 fn command<'a>(alloc: Global) -> Result<Command<'a>, AllocError>
     ensures { IfOk result (λ c. app_of c ≡ td) }
 {
-    let batch = Command::new(alloc, "batch");
-    let td = Command::new(alloc, "td").subcommand_required(true);
+    let batch = Command::new(alloc, "batch").about(BATCH);
+    let td = Command::new(alloc, "td")
+        .about(TD)
+        .subcommand_required(true);
     td.subcommand(batch)
 }
 
 /// Help is answered by its text.
 fn asked_instead(alloc: Global, error: &Error) -> Result<Job, WordsError>
     ensures ok { IfOk result (λ job. IsHelp job × (kind_of error.now ≡ ErrorKind.DisplayHelp)) }
-    ensures err { IfErr result (λ e. (e ≡ WordsError.Memory) ⊎ ((e ≡ WordsError.Words) × (kind_of error.now ≢ ErrorKind.DisplayHelp) × (kind_of error.now ≢ ErrorKind.OutOfMemory))) }
+    ensures err { IfErr result (λ e. (e ≡ WordsError.Memory) ⊎ ((e ≡ WordsError.Words)
+        × (kind_of error.now ≢ ErrorKind.DisplayHelp) × (kind_of error.now ≢ ErrorKind.OutOfMemory))) }
 {
     match error.kind() {
         ErrorKind::DisplayHelp => match error.to_string(alloc) {

@@ -2,7 +2,7 @@ use Rattle.std.proofs.Common.{◌≡◌, ◌+◌, ◌≤◌, length}
 use denote.Text.{Utf8}
 use denote.Shadow.{shadow}
 use Rattle.td_plan.specs.Text.{text_lines}
-use Rattle.td_console.specs.Reading.{no_epochs, read_from}
+use Rattle.td_console.specs.CodeSteps.{no_epochs, read_from}
 use Rattle.td_console.proofs.epochs.read_each.Given as goal
 
 -- the answer is that of the lines that are left, after the epochs so far; each line took a byte of the text

@@ -1,4 +1,4 @@
-use Rattle.std.proofs.Common.{None, Some, IfNone, ap, sym, ◌∙◌, subst, lit<}
+use Rattle.std.proofs.Common.{rules, None, Some, IfNone, ap, sym, ◌∙◌, subst, lit<}
 use Rattle.std.proofs.lemmas.Str.Pattern.{strip_prefix_char}
 use Rattle.td_console.specs.Number.{positive}
 use Rattle.td_console.proofs.Signs.{integer_plain, IsNoInteger, none_plain, great_plain, none_minus, great_minus, natural_fits}
@@ -36,3 +36,9 @@ returns-in_ok-natural-in-Some-clause-none c =
     subst (λ r. IfNone r (IsNoInteger word)) (sym c.negative.ensures)
     (great_minus word c.in-Some.digits.now (strip_prefix_char 45 word (Some c.in-Some.digits) c.in-Some.ensures.cases (lit< tt)) c.in_ok-natural-in-Some.field-0
     (natural_fits c.in-Some.digits.now c.in_ok-natural-in-Some.field-0 c.in_ok-natural-in-Some.ensures.exact) c.in_ok-natural-in-Some.ensures.printed)
+
+pub returns-in_ok-natural-in-Some-clause-exact : goal.returns-in_ok-natural-in-Some-clause-exact
+returns-in_ok-natural-in-Some-clause-exact c = search rules
+
+pub returns-in_ok-natural-in-Some-clause-printed : goal.returns-in_ok-natural-in-Some-clause-printed
+returns-in_ok-natural-in-Some-clause-printed c = search rules

@@ -1,6 +1,7 @@
--- What the reader of data lines answers, line by line. No definition of an answer rests on this file: it is what the
--- reader's functions say of one another.
-use Rattle.std.specs.Prelude.{◌≡◌, ◌⊎◌, ℕ, ◌+◌, List, [], ◌∷◌, ◌++◌, if◌then◌else◌, Option, Some, None, Result, Ok, Err}
+-- The code's own steps: what its private functions say of one another, as the reader of data lines does line by line.
+-- No public contract cites this file, and no definition of an answer rests on it.
+use Rattle.std.specs.Prelude.{◌≡◌, ◌⊎◌, ℕ, ◌+◌, List, [], ◌∷◌, ◌++◌, if◌then◌else◌}
+use Rattle.std.specs.Prelude.{Option, Some, None, Result, Ok, Err}
 use Rattle.td_stamp.specs.declared.values.Entry.{Entry}
 use Rattle.td_stamp.specs.Orders.{entry_cmp}
 use Rattle.td_stamp.specs.Bag.{bag_of}
@@ -10,7 +11,9 @@ use Rattle.td_console.specs.declared.data_line.DataLine.{DataLine}
 use Rattle.td_console.specs.declared.data_line.DataLine.TheVariants.{PassedOver, Record, Close}
 use Rattle.td_console.specs.declared.faults.LineFault.TheVariants.{Syntax, NoSuchInput, NotClosed}
 use Rattle.td_console.specs.declared.faults.Fault.{Fault}
-use Rattle.td_console.specs.declared.faults.Fault.TheVariants.{Line, Memory}
+use Rattle.td_console.specs.declared.faults.Fault.TheVariants.{Line, Input, Output, Memory}
+use Rattle.td_console.specs.declared.words.Job.{Job}
+use Rattle.td_console.specs.declared.words.Job.TheVariants.{Batch, Help}
 use Rattle.td_console.specs.Data.{data_line_of}
 
 -- Epochs read so far: the batches of those that are closed, and the entries of the one which is not, as they were read
@@ -50,3 +53,14 @@ read_from plan n epochs (line ∷ lines) = epochs_then (λ more. read_from plan 
 abbrev pub Gives : Result Epochs Fault → Result Epochs Fault → Type 0
 Gives (Ok epochs) wanted = wanted ≡ Ok epochs
 Gives (Err fault) wanted = (fault ≡ Memory) ⊎ (wanted ≡ Err fault)
+
+-- a fault that the input can have, or want of memory: none of a reader's or a writer's
+abbrev pub IsOfInput : Fault → Type 0
+IsOfInput Input = ⊥
+IsOfInput Output = ⊥
+IsOfInput _ = Unit {0}
+
+-- a job that prints a text
+abbrev pub IsHelp : Job → Type 0
+IsHelp Batch = ⊥
+IsHelp (Help text) = Unit {0}
