@@ -14,7 +14,8 @@ use Rattle.td_disk.specs.Record.{Contents, overwritten, after_call, replay, sync
 same_refl : (at n : ℕ) (c : List ℕ) → SameOutside at n c c
 same_refl at n c = record { size = refl; before = λ i l. refl; after = λ i l. refl }
 
-fits : (at : ℕ) (bytes image : List ℕ) → at + length bytes ≤ length image → overwritten at bytes image ≡ take at image ++ (bytes ++ drop (at + length bytes) image)
+fits : (at : ℕ) (bytes image : List ℕ) → at + length bytes ≤ length image
+    → overwritten at bytes image ≡ take at image ++ (bytes ++ drop (at + length bytes) image)
 fits at bytes image le = grind (arith, nat_tests)
 
 misses : (at : ℕ) (bytes image : List ℕ) → length image < at + length bytes → overwritten at bytes image ≡ image

@@ -9,8 +9,8 @@ use std::os::unix::fs::FileExt;
 use std::path::Path;
 use std::rt::Files;
 
-/// A file as a disk, locked against every other one that locks it so. It is lawful where the
-/// operating system, the device below it and whoever else writes the file make it so, which no
+/// A file as a disk, locked so that no other `FileDisk` has it at the same time. It is lawful where
+/// the operating system, the device below it and whoever else writes the file make it so, which no
 /// contract claims. A sync that failed is final, and every later call fails: the system may have
 /// dropped what was not yet on the device, and would answer the next sync with success.
 #[derive(Drop)]

@@ -1,10 +1,10 @@
 -- The three steps of a put, as runs.
-use Rattle.std.proofs.Common.{◌≡◌, ℕ, ◌+◌, List, [], ◌∷◌, refl, sym, subst, ◌∙◌, ap, inl, inr, ⊎_elim, Some, Result, Ok, Err}
+use Rattle.std.proofs.Common.{◌≡◌, ℕ, ◌+◌, List, [], ◌∷◌, length, arith, refl, sym, subst, ◌∙◌, ap, inl, inr, ⊎_elim, Some, Result, Ok, Err}
 use Rattle.std.specs.Prelude.{OnOk}
 use Rattle.td_disk.specs.Disk.{DiskState, bytes_at, NoNewImages, IsDurable, TimePasses, SameOutside}
 use Rattle.td_gate.specs.CrashSafe.{CrashSafe}
 use Rattle.td_gate.specs.Region.{SameWithin}
-use Rattle.td_gate.proofs.CrashSafety.{HasClock, one_call, in_turn, weaker_step}
+use Rattle.td_gate.proofs.CrashSafety.{HasClock, at_the_end, one_call, in_turn, weaker_step}
 use Rattle.td_gate.specs.declared.region.Region.{Region}
 use Rattle.td_gate.specs.Region.{gate_of, opened, IsSettled, IsClosed, IsFilled, IsOpen, Closes, Fills, Opens, Puts}
 use Rattle.td_gate.proofs.Images.{closes, opens, same_outside_refl, same_outside_trans, opened_open, payload_same, bytes_one}
@@ -18,6 +18,15 @@ close_safe r old mid new at_old at_mid settled is_open no_more time wrote =
     let both = in_turn (λ d c. c ≡ d) step step old mid new at_mid same wrote
     (λ d c is. subst (λ (l : List ℕ). step d l) (sym is) (same_outside_refl (r.at + r.len) 1 d)) (λ d e c is f. subst (λ (l : List ℕ). step l c) is f) in
     weaker_step step (Closes r) old new both (λ d c image f. closes r old d c settled image is_open f)
+
+-- Only the last write's bytes are left, and it wrote the payload.
+pub fill_done : (r : Region) (payload : List ℕ) (old new : DiskState) → HasClock new → length payload ≡ r.len → IsClosed r old
+    → CrashSafe (SameOutside r.at (length payload)) old new → IsDurable new → bytes_at r.at (length payload) new.bytes ≡ payload → IsFilled r payload new
+fill_done r payload old new clock len closed wrote durable written image now =
+    let from = at_the_end (SameOutside r.at (length payload)) old new clock wrote image now in (
+      (λ is. closed from.0 from.1 (sym (from.2.after (r.at + r.len) (omega arith)) ∙ is)),
+      ap (λ (n : ℕ). bytes_at r.at n image) (sym len) ∙ (ap (λ (l : List ℕ). bytes_at r.at (length payload) l) (durable image now) ∙ written),
+    )
 
 pub open_safe : (r : Region) (payload : List ℕ) (old new : DiskState) → IsFilled r payload old → CrashSafe (SameOutside (r.at + r.len) 1) old new → CrashSafe (Opens r payload) old new
 open_safe r payload old new filled wrote = weaker_step (SameOutside (r.at + r.len) 1) (Opens r payload) old new wrote (λ d c image f. opens r payload d c (filled d image).1 f)

@@ -1,6 +1,6 @@
-use Rattle.std.proofs.Common.{◌≡◌, ◌+◌, arith}
-use Rattle.td_gate.specs.Region.{gate_of}
-use Rattle.td_gate.proofs.Images.{gate_read}
+use Rattle.std.proofs.Common.{◌≡◌, ◌+◌, ◌∙◌, sym, ap, arith}
+use Rattle.td_gate.specs.Region.{gate_of, closed_byte}
+use Rattle.td_gate.proofs.Images.{bytes_one, gate_read}
 use Rattle.td_gate.proofs.Steps.{close_safe}
 use Rattle.td_gate.proofs.region.close_gate.Goals as goal
 
@@ -29,3 +29,12 @@ returns-in_ok-write_and_sync-clause-crash_safe g c lawful settled =
     (record { counts_now = λ t f. laws.counts_now c.args.device.now t f lawful; only_now = λ f. laws.only_now c.args.device.now f lawful })
     (record { counts_now = λ t f. laws.counts_now c.read.new.self t f still; only_now = λ f. laws.only_now c.read.new.self f still })
     settled is_open (c.read.ensures.images lawful) (c.read.ensures.time lawful) (c.write_and_sync.ensures.crash_safe still)
+
+pub returns-in_ok-write_and_sync-clause-gate : goal.returns-in_ok-write_and_sync-clause-gate
+returns-in_ok-write_and_sync-clause-gate g c lawful =
+    let state = g.D.Disk.state in
+    let r = c.args.region in
+    let read = gate_read (r.at + r.len) _ c.read.new.bytes (c.in_ok-read.ensures.read lawful) (omega arith) in
+    let is_open : gate_of r (state c.args.device.now).bytes ≡ 165 = omega (arith, read) in
+    bytes_one (r.at + r.len) (state c.write_and_sync.new.device).bytes 0 (c.in_ok-write_and_sync.ensures.written (c.read.ensures.lawful.0 lawful))
+    ∙ sym (ap closed_byte is_open)

@@ -47,3 +47,9 @@ returns-in-Err-open-clause-crash_safe g c lawful settled =
     let crash_safe : CrashSafe (Puts c.args.self.now c.args.payload.now) (state c.args.device.now) (state c.in-Err-open._device.now) =
     opened_safe c.args.self.now c.in-Ok-fill.filled.region c.args.payload.now _ _ _ (b.region ∙ a.region) at_filled until filled (c.in-Err-open.ensures.crash_safe_back filled_lawful) in
     search (rules, crash_safe)
+
+pub returns-in-Err-open-clause-open : goal.returns-in-Err-open-clause-open
+returns-in-Err-open-clause-open g c = tt
+
+pub returns-in-Err-open-clause-durable : goal.returns-in-Err-open-clause-durable
+returns-in-Err-open-clause-durable g c = tt
