@@ -8,8 +8,11 @@ pub mod Runs
 pub mod Solutions
 pub mod Turns
 pub mod TurnsSolve
-mod Joins
-mod Listed
+mod Alike
+mod Epochs
 mod Flat
-mod FlatRuns
-mod OpenRuns
+mod Joins
+mod MoreEpochs
+mod Once
+mod KeyRuns
+mod Listed

@@ -1,9 +1,7 @@
 -- A turn into which nothing enters and nothing comes back emits nothing, where no vertex is an input.
-use Rattle.std.proofs.Common.{◌≡◌, ℕ, zero, suc, ◌+◌, ◌<◌, ◌≤◌, Bool, true, false, List, [], ◌∷◌, ◌++◌, map, flat_map, length, Option, Some, None, refl, ap, sym, ◌∙◌, subst, arith, length-append}
+use Rattle.std.proofs.Common.{◌≡◌, ℕ, zero, suc, ◌+◌, ◌<◌, ◌≤◌, false, List, [], ◌∷◌, ◌++◌, map, flat_map, length, Option, Some, None, refl, ap, sym, ◌∙◌, subst, arith, length-append}
 use Rattle.std.specs.List.{AllByRecursion, enumerate_from}
-use Rattle.std.proofs.lemmas.List.{get_or_append_left}
 use Rattle.td_stamp.specs.declared.values.Rec.{Rec}
-use Rattle.td_stamp.specs.declared.values.Arrival.{Arrival}
 use Rattle.td_stamp.specs.Orders.{rec_cmp}
 use Rattle.td_stamp.specs.Bag.{bag_of}
 use Rattle.td_stamp.specs.Groups.{arrival_of}
@@ -14,7 +12,6 @@ use Rattle.td_plan.specs.Faults.{is_input}
 use Rattle.td_plan.specs.Tree.{Nodes, size}
 use Rattle.td_plan.specs.Tree.Nodes.{done, node, block}
 use Rattle.td_plan.specs.Placed.{read_in}
-use Rattle.td_calls.specs.Callbacks.{arrivals}
 use Rattle.td_batch.specs.Meaning.{EpochInput, Bags, emitted, answer, entered, returned, bags_read, emission, turns, over_turns, turn}
 use Rattle.td_batch.specs.Quiet.{HasNoInputs, fed_back_by, fed_back, entered_by, entered_from, NothingEnters, NothingReturns, IsLoopBody}
 use Rattle.td_batch.proofs.Lists.{all_append, all_left, all_right, all_map}

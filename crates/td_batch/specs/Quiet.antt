@@ -1,5 +1,5 @@
 -- What brings records into a turn of a loop: its enters, in its first turn, and its feedbacks, in each later one.
-use Rattle.std.specs.Prelude.{◌≡◌, ◌<◌, ℕ, length, List, [], ◌++◌, Bool, false, Option}
+use Rattle.std.specs.Prelude.{◌≡◌, ◌<◌, ℕ, length, List, [], ◌++◌, false, Option}
 use Rattle.std.specs.List.{AllByRecursion}
 use Rattle.td_plan.specs.declared.vertex.Kind.{Kind}
 use Rattle.td_plan.specs.declared.vertex.Kind.TheVariants.{Enter, Feedback}

@@ -1,9 +1,11 @@
 //! The bag that a vertex emitted.
-ghost use Rattle.std.specs.Prelude.{◌≡◌, [], length};
+ghost use Rattle.std.specs.Prelude.{◌≡◌, [], None, false, is_none, length};
 ghost use Rattle.std.specs.Iterator.{at_most, YieldsFirst};
 ghost use Rattle.td_stamp.specs.Orders.{rec_cmp};
 ghost use Rattle.td_stamp.specs.Bag.{bag_of, IsBag};
 ghost use Rattle.td_stamp.specs.Batch.{records_for};
+ghost use Rattle.td_batch.specs.Meaning.{emitted, returned};
+ghost use Rattle.td_batch.specs.Steps.Emitted.{bag_or_none, bags_before};
 
 use std::alloc::Global;
 use std::marker::Model;
@@ -19,7 +21,7 @@ pub(crate) struct Emitted<'a> {
 impl<'a> Model for Emitted<'a> {
     ghost use Rattle.std.specs.Prelude.{List};
     ghost use Rattle.td_stamp.specs.declared.values.Rec.{Rec};
-    ghost use Rattle.td_batch.specs.Evaluated.{emitted_bag};
+    ghost use Rattle.td_batch.specs.Steps.Emitted.{emitted_bag};
 
     ghost Value = { List Rec };
 
@@ -78,7 +80,7 @@ pub(crate) struct Listed<'a> {
 impl<'a> Model for Listed<'a> {
     ghost use Rattle.std.specs.Prelude.{List};
     ghost use Rattle.td_stamp.specs.declared.values.Rec.{Rec};
-    ghost use Rattle.td_batch.specs.Evaluated.{listed_records};
+    ghost use Rattle.td_batch.specs.Steps.Emitted.{listed_records};
 
     ghost Value = { List Rec };
 
@@ -97,5 +99,65 @@ impl<'a> Iterator for Listed<'a> {
             Some(records) => records.next(),
             None => self.own.next(),
         }
+    }
+}
+
+/// The bags that the vertices of a loop emitted in the turn before, from its first vertex on; or none, in the first turn.
+#[derive(Drop)]
+pub(crate) struct Before<'a> {
+    is_first: bool,
+    first: usize,
+    bags: Vec<Emitted<'a>>,
+}
+
+impl<'a> Model for Before<'a> {
+    ghost use Rattle.std.specs.Prelude.{Option};
+    ghost use Rattle.td_batch.specs.Meaning.{Bags};
+    ghost use Rattle.td_batch.specs.Steps.Emitted.{bags_before};
+
+    ghost Value = { Option Bags };
+
+    ghost view = { λ b. bags_before b.is_first b.first b.bags.items };
+}
+
+impl<'a> Before<'a> {
+    /// In the first turn.
+    pub(crate) fn first_turn(alloc: Global) -> Before<'a>
+        ensures { result ≡ None }
+    {
+        Before {
+            is_first: true,
+            first: 0,
+            bags: Vec::new(alloc),
+        }
+    }
+
+    /// The bags of the vertices from `first` on.
+    pub(crate) fn of(first: usize, bags: Vec<Emitted<'a>>) -> Before<'a>
+        ensures { result ≡ bags_before false first bags.entry.items }
+    {
+        Before {
+            is_first: false,
+            first,
+            bags,
+        }
+    }
+
+    /// Whether this is the first turn.
+    pub(crate) fn is_first(&self) -> bool
+        ensures { result ≡ is_none self.now }
+    {
+        self.is_first
+    }
+
+    /// The bag that a vertex of the loop emitted in the turn before, if there was one.
+    pub(crate) fn get(&self, vertex: u8) -> Option<&Emitted<'a>>
+        ensures { bag_or_none result ≡ emitted (returned self.now) vertex }
+    {
+        if self.is_first {
+            return None;
+        }
+        let place = usize::from(vertex).checked_sub(self.first)?;
+        self.bags.get(place)
     }
 }

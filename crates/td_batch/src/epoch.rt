@@ -1,115 +1,106 @@
-//! One epoch of a plan without loops.
-ghost use Rattle.std.specs.Prelude.{◌≡◌, ◌<◌, ◌∷◌, ◌++◌, [], None, true, false, IfOk, All, map, length};
-ghost use Rattle.td_stamp.specs.States.{StateList};
-ghost use Rattle.td_stamp.specs.Groups.{arrival_of};
-ghost use Rattle.td_plan.specs.Blocks.{vertices};
-ghost use Rattle.td_plan.specs.Faults.{is_output};
-ghost use Rattle.td_plan.specs.Lines.{is_flat_kind};
-ghost use Rattle.td_plan.specs.Tree.{tree_of};
-ghost use Rattle.td_calls.specs.Fits.{lacking_code, first_lack};
+//! One epoch.
+ghost use Rattle.std.specs.Prelude.{◌≡◌, ◌+◌, ◌∷◌, ◌++◌, [], None, true, IfOk, OnOk, fold, length, map};
+ghost use Rattle.td_stamp.specs.States.{StateList, state_of};
+ghost use Rattle.td_plan.specs.Lines.{Vertex};
 ghost use Rattle.td_calls.specs.Callbacks.{arrivals};
-ghost use Rattle.td_batch.specs.Meaning.{emitted, emission, epoch_result};
-ghost use Rattle.td_batch.specs.Evaluated.{is_read_by, AreAlikeFor};
+ghost use Rattle.td_batch.specs.Meaning.{emitted, emission, epoch_bags, outputs_at, outputs_in, states_in};
+ghost use Rattle.td_batch.specs.Steps.Emitted.{input_of};
+ghost use Rattle.td_batch.specs.Steps.Epoch.{IsAt, IsOuter};
+ghost use Rattle.td_batch.specs.Steps.Sent.{changes_by, with_change};
+ghost use Rattle.td_batch.specs.Steps.Tree.{nodes_of, reads, AreAlike};
 
-use crate::emitted::Emitted;
+use crate::emission::{Given, emission, keep};
+use crate::emitted::{Before, Emitted};
 use crate::error::BatchError;
-use crate::sent::{grouped, mapped, put_out};
+use crate::sent::Change;
+use crate::tree::Tree;
 use std::alloc::Global;
 use td_calls::{Closures, Law};
-use td_plan::{Kind, Plan, Vertex, laws as plan_laws};
-use td_stamp::{Bag, Batch, Output, laws};
+use td_plan::Vertex;
+use td_stamp::Output;
 
-/// The outputs of an epoch. The states stay: no vertex of a plan that is read so far keeps one. Each bag is let go when
-/// its last reader has had it. Refusal: `Memory`.
-pub(crate) fn epoch_outputs<L: Law, C: Closures<L>>(
+/// What an epoch brings: its outputs, in no order, and the states that folds are to keep.
+#[derive(Drop)]
+pub(crate) struct Brought {
+    pub outputs: Vec<Output>,
+    pub changes: Vec<Change>,
+}
+
+/// What an epoch brings. Each bag is let go when its last reader has had it, and one that nobody reads at once. Refusal:
+/// `Memory`.
+pub(crate) fn bring<'a, L: Law, C: Closures<L>>(
     alloc: Global,
-    plan: &Plan,
-    calls: &C,
-    batch: &Batch,
-) -> Result<Bag<Output>, BatchError>
-    requires fits { first_lack (C.has_map calls.now) (C.has_group calls.now) (C.has_fold calls.now) (vertices plan.now) ≡ None }
-    ensures { IfOk result (λ outputs. (states : StateList) →
-        epoch_result (record { answers = L.answers; states = states; batch = batch.now }) (tree_of plan.now) ≡ record { states = states; outs = outputs }) }
+    given: &Given<'a, C>,
+    tree: &Tree,
+) -> Result<Brought, BatchError>
+    requires { IsOuter (C.has_map given.now.calls.now) (C.has_group given.now.calls.now) (C.has_fold given.now.calls.now) 0 (nodes_of tree.now) }
+    ensures outs { IfOk result (λ brought. brought.outputs.items ≡
+        outputs_in (emitted (epoch_bags (input_of L.answers given.now.states.now given.now.batch.now) (nodes_of tree.now))) (nodes_of tree.now)) }
+    ensures states { IfOk result (λ brought. fold with_change given.now.states.now brought.changes.items ≡
+        states_in (input_of L.answers given.now.states.now given.now.batch.now)
+        (emitted (epoch_bags (input_of L.answers given.now.states.now given.now.batch.now) (nodes_of tree.now))) (nodes_of tree.now) given.now.states.now) }
 {
-    plan_laws::trees();
-    plan_laws::sources();
-    laws::joins::<Output>();
-    let mut outputs = Bag::new(alloc);
+    let before = Before::first_turn(alloc);
+    let mut brought = Brought {
+        outputs: Vec::new(alloc),
+        changes: Vec::new(alloc),
+    };
     let mut bags = Vec::new(alloc);
-    let mut left = plan.vertices();
-    while let Some((vertex, later)) = left.split_first() {
-        let bag = if vertex.is_output() {
-            put_out(
-                &mut outputs,
-                vertex.number(),
-                arriving(bags.as_slice(), vertex),
-            )?;
-            Emitted::nothing(alloc)
-        } else {
-            emission::<L, C>(alloc, calls, batch, bags.as_slice(), vertex)?
-        };
-        bags.push(bag)?;
-        forget_unread(alloc, &mut bags, vertex.sources(), later);
-        left = later;
+    let mut left = tree;
+    loop {
+        match left {
+            Tree::Done => return Ok(brought),
+            Tree::Then(vertex, rest) => {
+                step::<L, C>(alloc, given, &before, vertex, rest, &mut bags, &mut brought)?;
+                left = rest;
+            }
+            Tree::Loop(_, _, _) => unreachable!(),
+        }
     }
-    Ok(outputs)
 }
 
-/// What a vertex emits that is no output, from the bags of the vertices before it. Refusal: `Memory`.
-fn emission<'a, L: Law, C: Closures<L>>(
+/// Has a vertex outside loops emit its bag. What it brings comes after what was brought so far. Refusal: `Memory`.
+fn step<'b, 'a, L: Law, C: Closures<L>>(
     alloc: Global,
-    calls: &C,
-    batch: &'a Batch,
-    bags: &[Emitted<'a>],
+    given: &Given<'a, C>,
+    before: &'b Before<'a>,
     vertex: &Vertex,
-) -> Result<Emitted<'a>, BatchError>
-    requires stored { lacking_code (C.has_map calls.now) (C.has_group calls.now) (C.has_fold calls.now) vertex.now.vertex.kind ≡ None }
-    requires taken { is_flat_kind vertex.now.vertex.kind (length vertex.now.vertex.sources) ≡ true }
-    requires output { is_output vertex.now.vertex.kind ≡ false }
-    requires sources { All (λ s. s < length bags.now) vertex.now.vertex.sources }
-    ensures { IfOk result (λ bag. (states : StateList) →
-        bag ≡ emission (record { answers = L.answers; states = states; batch = batch.now }) None bags.now vertex.now.vertex) }
+    rest: &Tree,
+    bags: &mut Vec<Emitted<'a>>,
+    brought: &mut Brought,
+) -> Result<(), BatchError>
+    requires first { before.now ≡ None }
+    requires here { IsAt (C.has_map given.now.calls.now) (C.has_group given.now.calls.now) (C.has_fold given.now.calls.now) (length bags.old.items) vertex.now.vertex }
+    ensures length { OnOk result (length bags.new.items ≡ length bags.old.items + 1) }
+    ensures alike { OnOk result (AreAlike (reads true (nodes_of rest.now)) bags.new.items
+        (bags.old.items ++ emission (input_of L.answers given.now.states.now given.now.batch.now) None bags.old.items vertex.now.vertex ∷ [])) }
+    ensures outs { OnOk result (brought.new.outputs.items ≡ brought.old.outputs.items
+        ++ outputs_at (λ _. emission (input_of L.answers given.now.states.now given.now.batch.now) None bags.old.items vertex.now.vertex) vertex.now.vertex vertex.now.vertex.kind) }
+    ensures states { OnOk result (brought.new.changes.items ≡ brought.old.changes.items
+        ++ changes_by L.answers (state_of given.now.states.now vertex.now.vertex.number) vertex.now.vertex.number vertex.now.vertex.kind
+        (arrivals (map (emitted bags.old.items) vertex.now.vertex.sources))) }
 {
-    match vertex.kind() {
-        Kind::Input => Ok(Emitted::given(alloc, batch, vertex.number())),
-        Kind::Map(code) => {
-            let sent = mapped::<L, C>(alloc, calls, code, arriving(bags, vertex))?;
-            Ok(Emitted::own(sent))
-        }
-        Kind::Group(code) => {
-            let sent = grouped::<L, C>(alloc, calls, code, arriving(bags, vertex))?;
-            Ok(Emitted::own(sent))
-        }
-        _ => unreachable!(),
+    let bag = emission::<L, C>(
+        alloc,
+        given,
+        before,
+        bags.as_slice(),
+        vertex,
+        &mut brought.changes,
+    )?;
+    if vertex.is_output() {
+        put_out(&mut brought.outputs, vertex.number(), &bag)?;
     }
+    keep(alloc, bags, bag, vertex, rest, true, &[])?;
+    Ok(())
 }
 
-/// The bag of a vertex's one source.
-fn arriving<'a, 'b>(bags: &'b [Emitted<'a>], vertex: &Vertex) -> &'b Emitted<'a>
-    requires one { length vertex.now.vertex.sources ≡ 1 }
-    requires sources { All (λ s. s < length bags.now) vertex.now.vertex.sources }
-    ensures { arrivals (map (emitted bags.now) vertex.now.vertex.sources) ≡ map (arrival_of 0) result.now }
+/// Appends the records of an output vertex. Refusal: `Memory`.
+fn put_out(outputs: &mut Vec<Output>, vertex: u8, records: &Emitted<'_>) -> Result<(), BatchError>
+    ensures { OnOk result (outputs.new.items ≡ outputs.old.items ++ map (λ r. record { vertex = vertex; rec = r }) records.now) }
 {
-    let source = vertex.sources()[0];
-    &bags[usize::from(source)]
-}
-
-/// Lets go of the bags of these sources that no later vertex reads.
-fn forget_unread(alloc: Global, bags: &mut Vec<Emitted<'_>>, sources: &[u8], later: &[Vertex])
-    requires sources { All (λ s. s < length bags.old.items) sources.now }
-    ensures length { length bags.new.items ≡ length bags.old.items }
-    ensures alike { AreAlikeFor later.now bags.new.items bags.old.items }
-{
-    for source in sources {
-        if !is_read_by(later, *source) {
-            bags[usize::from(*source)] = Emitted::nothing(alloc);
-        }
+    for rec in records.list() {
+        outputs.push(Output { vertex, rec })?;
     }
-}
-
-/// Whether one of these vertices reads a source.
-fn is_read_by(vertices: &[Vertex], source: u8) -> bool
-    ensures { result ≡ is_read_by vertices.now source }
-{
-    vertices.iter().any(|v| v.sources().contains(&source))
+    Ok(())
 }

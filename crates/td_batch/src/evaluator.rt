@@ -1,18 +1,25 @@
 //! The plain evaluator.
-ghost use Rattle.std.specs.Prelude.{◌≡◌, ◌≤◌, ◌+◌, ◌^◌, ◌++◌, None, IsTrue, IfOk, All, length};
+ghost use Rattle.std.specs.Prelude.{◌≡◌, ◌≤◌, ◌<◌, ◌+◌, ◌^◌, ◌++◌, None, IsTrue, IfOk, OnOk, All, length, fold};
 ghost use Rattle.std.specs.List.{list_all};
 ghost use Rattle.td_plan.specs.Blocks.{vertices};
 ghost use Rattle.td_plan.specs.Inputs.{is_input_of};
 ghost use Rattle.td_plan.specs.Tree.{tree_of};
 ghost use Rattle.td_calls.specs.Fits.{first_lack};
-ghost use Rattle.td_batch.specs.Meaning.{run, numbered};
+ghost use Rattle.td_batch.specs.Meaning.{run, numbered, epoch_result};
+ghost use Rattle.td_batch.specs.Steps.Emitted.{input_of};
+ghost use Rattle.td_batch.specs.Steps.Epoch.{IsOuter};
+ghost use Rattle.td_batch.specs.Steps.Sent.{with_change};
+ghost use Rattle.td_batch.specs.Steps.Tree.{nodes_of};
 
-use crate::epoch::epoch_outputs;
+use crate::emission::Given;
+use crate::epoch::bring;
 use crate::error::BatchError;
+use crate::sent::Change;
+use crate::tree::Tree;
 use std::alloc::Global;
 use td_calls::{Closures, Law};
 use td_plan::Plan;
-use td_stamp::{Batch, EpochOut, States};
+use td_stamp::{Bag, Batch, EpochOut, States};
 
 /// The states and outputs to which a plan comes from these states by these batches, one an epoch, numbered from `first`
 /// on: the batch meaning. An epoch without records has its output too. It takes O(n log n) time in the records that pass
@@ -32,12 +39,62 @@ pub fn evaluate<L: Law, C: Closures<L>>(
     ensures states { IfOk result (λ r. r.0 ≡ (run L.answers (tree_of plan.now) states.now batches.now).states) }
     ensures outs { IfOk result (λ r. r.1.items ≡ numbered first (run L.answers (tree_of plan.now) states.now batches.now).outs) }
 {
+    let mut states = states.copy()?;
     let mut outs = Vec::new(alloc);
     let mut epoch = first;
     for batch in batches {
-        let recs = epoch_outputs::<L, C>(alloc, plan, calls, batch)?;
-        outs.push(EpochOut { epoch, recs })?;
+        outs.push(evaluate_epoch::<L, C>(alloc, plan, calls, &mut states, epoch, batch)?)?;
         epoch += 1;
     }
-    Ok((states.copy()?, outs))
+    Ok((states, outs))
+}
+
+/// One epoch of the batch meaning, numbered `epoch`: its output, and the states after it in place of those before. They
+/// are changed in place, key by key of the folds at which records arrive. Refusal: `Memory`, after which some keys may
+/// have their new state and some their old one, so that the states are of no use.
+pub fn evaluate_epoch<L: Law, C: Closures<L>>(
+    alloc: Global,
+    plan: &Plan,
+    calls: &C,
+    states: &mut States,
+    epoch: u64,
+    batch: &Batch,
+) -> Result<EpochOut, BatchError>
+    requires fits { first_lack (C.has_map calls.now) (C.has_group calls.now) (C.has_fold calls.now) (vertices plan.now) ≡ None }
+    requires accepted { IsTrue (list_all (λ e. is_input_of plan.now e.input) batch.now) }
+    requires number { (1 ≤ epoch) × (epoch < 2 ^ 63) }
+    ensures number { IfOk result (λ out. out.epoch ≡ epoch) }
+    ensures out { IfOk result (λ out. out.recs ≡ (epoch_result (input_of L.answers states.old batch.now) (tree_of plan.now)).outs) }
+    ensures states { OnOk result (states.new ≡ (epoch_result (input_of L.answers states.old batch.now) (tree_of plan.now)).states) }
+{
+    let tree = Tree::of(alloc, plan)?;
+    let brought = bring::<L, C>(
+        alloc,
+        &Given {
+            calls,
+            states,
+            batch,
+        },
+        &tree,
+    )?;
+    keep_all(states, brought.changes.as_slice())?;
+    Ok(EpochOut {
+        epoch,
+        recs: Bag::from_vec(alloc, brought.outputs),
+    })
+}
+
+/// Has the folds keep what they are to keep. Refusal: `Memory`, after which some keys have their new state.
+fn keep_all(states: &mut States, changes: &[Change]) -> Result<(), BatchError>
+    ensures { OnOk result (states.new ≡ fold with_change states.old changes.now) }
+{
+    for change in changes {
+        match change.state {
+            Some(state) => states.set(change.vertex, change.key, state)?,
+            None => {
+                let _old = states.remove(change.vertex, change.key);
+            }
+        }
+    }
+    Ok(())
 }

@@ -1,14 +1,18 @@
 //! The batch meaning of a plan, and its plain evaluator. Its one contract: `evaluate` answers exactly the batch meaning.
 #![tactic(auto)]
 
+mod arriving;
+mod emission;
 mod emitted;
 mod epoch;
 mod error;
 mod evaluator;
+mod groups;
 pub mod laws;
 mod sent;
 #[cfg(test)]
 mod tests;
+mod tree;
 
 pub use error::BatchError;
-pub use evaluator::evaluate;
+pub use evaluator::{evaluate, evaluate_epoch};

@@ -1,29 +1,68 @@
-//! What vertices send, bag by bag.
-ghost use Rattle.std.specs.Prelude.{◌≡◌, [], ◌++◌, IsTrue, IfOk, OnOk, map, flat_map};
-ghost use Rattle.td_stamp.specs.Orders.{rec_cmp, output_cmp};
-ghost use Rattle.td_stamp.specs.Bag.{bag_of, join, IsBag};
-ghost use Rattle.td_stamp.specs.Groups.{arrival_of, groups};
-ghost use Rattle.td_batch.specs.Evaluated.{open_runs};
+//! What vertices send of the records that arrive at them.
+ghost use Rattle.std.specs.Prelude.{◌≡◌, ◌++◌, [], None, false, IsTrue, IfOk, OnOk, map, flat_map, filter, not};
+ghost use Rattle.td_stamp.specs.Orders.{rec_cmp};
+ghost use Rattle.td_stamp.specs.Bag.{bag_of, set_of, has};
+ghost use Rattle.td_stamp.specs.Groups.{rec_of, groups};
+ghost use Rattle.td_stamp.specs.States.{state_of};
+ghost use Rattle.td_plan.specs.Faults.{is_input};
+ghost use Rattle.td_plan.specs.declared.vertex.Kind.TheVariants.{Fold};
+ghost use Rattle.td_calls.specs.Fits.{lacking_code};
+ghost use Rattle.td_calls.specs.Callbacks.{sends, nothing_kept};
+ghost use Rattle.td_batch.specs.Steps.Sent.{changes_by, is_repeat};
 
-use crate::emitted::Emitted;
 use crate::error::BatchError;
+use crate::groups::Groups;
 use std::alloc::Global;
 use td_calls::{Closures, Law};
-use td_stamp::{Arrival, Bag, Item, Output, Rec, laws};
+use td_plan::Kind;
+use td_stamp::{Arrival, Bag, Rec, State, States, laws};
 
-/// What a map sends of the records that arrive at its port 0. Refusal: `Memory`.
-pub(crate) fn mapped<L: Law, C: Closures<L>>(
+/// What a fold is to keep for a key after the epoch: a state, or none.
+#[derive(Clone, Copy, Drop)]
+pub(crate) struct Change {
+    pub vertex: u8,
+    pub key: u64,
+    pub state: Option<State>,
+}
+
+/// What a vertex sends of what arrives at it in an epoch before which these states are kept. What a fold is to keep comes
+/// after the `changes` so far. Refusal: `Memory`.
+pub(crate) fn answer<L: Law, C: Closures<L>>(
+    alloc: Global,
+    calls: &C,
+    states: &States,
+    vertex: u8,
+    kind: Kind,
+    arrived: Vec<Arrival>,
+    changes: &mut Vec<Change>,
+) -> Result<Bag<Rec>, BatchError>
+    requires stored { lacking_code (C.has_map calls.now) (C.has_group calls.now) (C.has_fold calls.now) kind ≡ None }
+    requires other { is_input kind ≡ false }
+    ensures sent { IfOk result (λ bag. bag ≡ sends L.answers (state_of states.now vertex) kind nothing_kept arrived.items) }
+    ensures kept { OnOk result (changes.new.items ≡ changes.old.items ++ changes_by L.answers (state_of states.now vertex) vertex kind arrived.items) }
+{
+    match kind {
+        Kind::Map(code) => mapped::<L, C>(alloc, calls, code, arrived.as_slice()),
+        Kind::Distinct => distinct(alloc, arrived.as_slice()),
+        Kind::Group(code) => grouped::<L, C>(alloc, calls, code, arrived),
+        Kind::Fold(code) => folded::<L, C>(alloc, calls, states, vertex, code, arrived, changes),
+        _ => passed(alloc, arrived.as_slice()),
+    }
+}
+
+/// What a map sends. Refusal: `Memory`.
+fn mapped<L: Law, C: Closures<L>>(
     alloc: Global,
     calls: &C,
     code: u16,
-    records: &Emitted<'_>,
+    arrived: &[Arrival],
 ) -> Result<Bag<Rec>, BatchError>
     requires stored { IsTrue (C.has_map calls.now code) }
-    ensures { IfOk result (λ sent. sent ≡ bag_of rec_cmp (flat_map (λ rec. L.answers.emit code 0 rec) records.now)) }
+    ensures { IfOk result (λ sent. sent ≡ bag_of rec_cmp (flat_map (λ a. L.answers.emit code a.item.port (rec_of a)) arrived.now)) }
 {
     let mut sent = Vec::new(alloc);
-    for rec in records.list() {
-        let Some(few) = calls.map(code, 0, rec) else {
+    for arrival in arrived {
+        let Some(few) = calls.map(code, arrival.item.port, arrival.rec()) else {
             unreachable!();
         };
         sent.extend_from_slice(few.as_slice())?;
@@ -31,66 +70,104 @@ pub(crate) fn mapped<L: Law, C: Closures<L>>(
     Ok(Bag::from_vec(alloc, sent))
 }
 
-/// What a group sends of the records that arrive at its port 0. They come in order, so the items of one key at a time
-/// are kept. Refusal: `Memory`.
-pub(crate) fn grouped<L: Law, C: Closures<L>>(
-    alloc: Global,
-    calls: &C,
-    code: u16,
-    records: &Emitted<'_>,
-) -> Result<Bag<Rec>, BatchError>
-    requires stored { IsTrue (C.has_group calls.now code) }
-    ensures { IfOk result (λ sent. sent ≡ bag_of rec_cmp (flat_map (λ g. L.answers.group code g.0 g.1) (groups (map (arrival_of 0) records.now)))) }
+/// The records that arrive, as an enter, a leave, a feedback and an output pass them on. Refusal: `Memory`.
+fn passed(alloc: Global, arrived: &[Arrival]) -> Result<Bag<Rec>, BatchError>
+    ensures { IfOk result (λ sent. sent ≡ bag_of rec_cmp (map rec_of arrived.now)) }
 {
-    laws::groups_are_runs();
+    let recs = records(alloc, arrived)?;
+    Ok(Bag::from_vec(alloc, recs))
+}
+
+/// Each record that arrives, once. Refusal: `Memory`.
+fn distinct(alloc: Global, arrived: &[Arrival]) -> Result<Bag<Rec>, BatchError>
+    ensures { IfOk result (λ sent. sent ≡ filter (λ r. not (has rec_cmp r [])) (set_of rec_cmp (map rec_of arrived.now))) }
+{
+    laws::member_order::<Rec>();
+    laws::bags::<Rec>();
+    let all = passed(alloc, arrived)?;
     let mut sent = Vec::new(alloc);
-    let mut key = 0;
-    let mut items = Vec::new(alloc);
-    for rec in records.list() {
-        if rec.key != key {
-            send_group::<L, C>(calls, code, key, &items, &mut sent)?;
-            items.clear();
+    let mut last = None;
+    for rec in all.list() {
+        if !is_repeat(last, rec) {
+            sent.push(rec)?;
         }
-        key = rec.key;
-        items.push(Arrival::new(0, rec).item)?;
+        last = Some(rec);
     }
-    send_group::<L, C>(calls, code, key, &items, &mut sent)?;
     Ok(Bag::from_vec(alloc, sent))
 }
 
-/// Appends what a group sends for a key and its items, if there are any. Refusal: `Memory`.
-fn send_group<L: Law, C: Closures<L>>(
-    calls: &C,
-    code: u16,
-    key: u64,
-    items: &[Item],
-    sent: &mut Vec<Rec>,
-) -> Result<(), BatchError>
-    requires stored { IsTrue (C.has_group calls.now code) }
-    ensures { OnOk result (sent.new.items ≡ sent.old.items ++ flat_map (λ g. L.answers.group code g.0 g.1) (open_runs key items.now [])) }
+/// Whether a record is the same as the last one.
+fn is_repeat(last: Option<Rec>, rec: Rec) -> bool
+    ensures { result ≡ is_repeat last rec }
 {
-    if items.is_empty() {
-        return Ok(());
+    match last {
+        Some(last) => rec.cmp(&last).is_eq(),
+        None => false,
     }
-    let Some(few) = calls.group(code, key, items) else {
-        unreachable!();
-    };
-    sent.extend_from_slice(few.as_slice())?;
-    Ok(())
 }
 
-/// Adds the records that arrive at an output vertex. After a refusal, which is `Memory`, some of them are there.
-pub(crate) fn put_out(
-    outputs: &mut Bag<Output>,
-    vertex: u8,
-    records: &Emitted<'_>,
-) -> Result<(), BatchError>
-    ensures sorted { IsBag rec_cmp records.now }
-    ensures put { OnOk result (outputs.new ≡ join output_cmp (map (λ r. record { vertex = vertex; rec = r }) records.now) outputs.old) }
+/// The records of arrivals. Refusal: `Memory`.
+fn records(alloc: Global, arrived: &[Arrival]) -> Result<Vec<Rec>, BatchError>
+    ensures { IfOk result (λ recs. recs.items ≡ map rec_of arrived.now) }
 {
-    laws::joins::<Output>();
-    for rec in records.list() {
-        outputs.add(Output { vertex, rec })?;
+    let mut recs = Vec::new(alloc);
+    for arrival in arrived {
+        recs.push(arrival.rec())?;
     }
-    Ok(())
+    Ok(recs)
+}
+
+/// What a group sends. Refusal: `Memory`.
+fn grouped<L: Law, C: Closures<L>>(
+    alloc: Global,
+    calls: &C,
+    code: u16,
+    arrived: Vec<Arrival>,
+) -> Result<Bag<Rec>, BatchError>
+    requires stored { IsTrue (C.has_group calls.now code) }
+    ensures { IfOk result (λ sent. sent ≡ bag_of rec_cmp (flat_map (λ g. L.answers.group code g.0 g.1) (groups arrived.items))) }
+{
+    laws::groups_of_a_bag();
+    let sorted = Bag::from_vec(alloc, arrived);
+    let mut keys = Groups::of(&sorted);
+    let mut items = Vec::new(alloc);
+    let mut sent = Vec::new(alloc);
+    while let Some(key) = keys.next(&mut items)? {
+        let Some(few) = calls.group(code, key, items.as_slice()) else {
+            unreachable!();
+        };
+        sent.extend_from_slice(few.as_slice())?;
+    }
+    Ok(Bag::from_vec(alloc, sent))
+}
+
+/// What a fold sends: each key is asked once, with its state before the epoch. What it is to keep comes after the
+/// `changes` so far. Refusal: `Memory`.
+fn folded<L: Law, C: Closures<L>>(
+    alloc: Global,
+    calls: &C,
+    states: &States,
+    vertex: u8,
+    code: u16,
+    arrived: Vec<Arrival>,
+    changes: &mut Vec<Change>,
+) -> Result<Bag<Rec>, BatchError>
+    requires stored { IsTrue (C.has_fold calls.now code) }
+    ensures sent { IfOk result (λ sent. sent ≡ bag_of rec_cmp (flat_map (λ g. (L.answers.fold code g.0 (state_of states.now vertex g.0) g.1).1) (groups arrived.items))) }
+    ensures kept { OnOk result (changes.new.items ≡ changes.old.items ++ changes_by L.answers (state_of states.now vertex) vertex (Fold code) arrived.items) }
+{
+    laws::groups_of_a_bag();
+    let sorted = Bag::from_vec(alloc, arrived);
+    let mut keys = Groups::of(&sorted);
+    let mut items = Vec::new(alloc);
+    let mut sent = Vec::new(alloc);
+    while let Some(key) = keys.next(&mut items)? {
+        let before = states.get(vertex, key);
+        let Some((state, few)) = calls.fold(code, key, before, items.as_slice()) else {
+            unreachable!();
+        };
+        sent.extend_from_slice(few.as_slice())?;
+        changes.push(Change { vertex, key, state })?;
+    }
+    Ok(Bag::from_vec(alloc, sent))
 }

@@ -1,5 +1,5 @@
 //! What a plan consists of.
-ghost use Rattle.std.specs.Prelude.{◌≡◌, [], drop, reverse, option_map};
+ghost use Rattle.std.specs.Prelude.{◌≡◌, ◌≤◌, [], length, drop, reverse, option_map};
 ghost use Rattle.std.specs.Option.{option_copied};
 ghost use Rattle.td_plan.specs.Blocks.{reading_loops, read_loops, is_read_on};
 ghost use Rattle.td_plan.specs.Faults.{is_input, is_output};
@@ -118,6 +118,22 @@ impl Vertex {
         ensures { result.now ≡ self.now.vertex.sources }
     {
         self.sources.as_slice()
+    }
+
+    /// How many sources it has.
+    pub fn source_count(&self) -> usize
+        ensures count { result ≡ length self.now.vertex.sources }
+        ensures few { result ≤ 8 }
+    {
+        self.sources.len()
+    }
+
+    /// How many loops it stands in.
+    pub fn depth(&self) -> usize
+        ensures count { result ≡ length self.now.loops }
+        ensures few { result ≤ 3 }
+    {
+        self.loops.len()
     }
 
     /// The loops in which it stands, the outermost first.

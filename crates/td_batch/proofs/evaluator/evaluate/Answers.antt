@@ -1,9 +1,10 @@
-use Rattle.std.proofs.Common.{◌≡◌, ◌++◌, ◌∷◌, [], List, ap, sym, ◌∙◌, get_or, arith}
+use Rattle.std.proofs.Common.{◌++◌, ◌∷◌, [], List, ap, ◌∙◌, arith}
 use Rattle.td_stamp.specs.declared.values.Entry.{Entry}
+use Rattle.td_stamp.specs.declared.values.Output.{Output}
 use Rattle.td_plan.specs.Tree.{tree_of}
 use Rattle.td_batch.specs.Meaning.{epoch_result}
-use Rattle.td_batch.proofs.Flat.{input_of}
-use Rattle.td_batch.proofs.FlatRuns.{one_more}
+use Rattle.td_batch.specs.Steps.Emitted.{input_of}
+use Rattle.td_batch.proofs.MoreEpochs.{one_more}
 use Rattle.td_batch.proofs.evaluator.evaluate.Goals as goal
 
 pub loop-batch-preserved : goal.loop-batch-preserved
@@ -11,15 +12,17 @@ loop-batch-preserved g c =
     let answers = g.L.Law.answers in
     let nodes = tree_of c.args.plan.now in
     let batch : List Entry = c.batch-item.result in
-    let states = c.args.states.now in
     let i = c.loop-batch.batch-index in
-    let recs = c.in_ok-recs.recs in
-    let gives : epoch_result (input_of answers (get_or c.args.batches.now i batch) states) nodes ≡ record { states = states; outs = recs } =
-    ap (λ b. epoch_result (input_of answers b states) nodes) (sym c.batch-item.is) ∙ c.in_ok-recs.ensures states in
-    let more = one_more answers nodes c.args.first states c.args.batches.now i batch c.loop-batch.outs.items recs c.loop-batch-test.true c.loop-batch.invariant.stay c.loop-batch.invariant.so_far gives in
+    let kept = c.loop-batch.states in
+    let out = c.in_ok-evaluate_epoch.field-0 in
+    let recs : List Output = out.recs in
     let at = c.loop-batch.invariant.epoch_is in
+    let made = c.in_ok-evaluate_epoch.ensures in
+    let more =
+    one_more answers nodes c.args.first c.args.states.now c.args.batches.now i batch kept c.evaluate_epoch.new.states c.loop-batch.outs.items recs c.loop-batch-test.true c.loop-batch.invariant.kept c.loop-batch.invariant.so_far
+    (made.states ∙ ap (λ b. (epoch_result (input_of answers kept b) nodes).states) c.batch-item.is) (made.out ∙ ap (λ b. (epoch_result (input_of answers kept b) nodes).outs) c.batch-item.is) in
     record {
       epoch_is = omega (arith, at);
-      stay = more.0;
-      so_far = c.in_ok-push.ensures.items ∙ ap (λ n. c.loop-batch.outs.items ++ record { epoch = n; recs = recs } ∷ []) at ∙ more.1;
+      kept = more.0;
+      so_far = c.in_ok-push.ensures.items ∙ ap (λ n. c.loop-batch.outs.items ++ record { epoch = n; recs = recs } ∷ []) (made.number ∙ at) ∙ more.1;
     }

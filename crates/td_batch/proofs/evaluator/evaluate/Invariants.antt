@@ -6,6 +6,6 @@ use Rattle.td_batch.proofs.evaluator.evaluate.Given as goal
 abbrev pub invariant-loop-batch : goal.invariant-loop-batch
 invariant-loop-batch g l = record {
   epoch_is : l.epoch ≡ l.first + l.batch-index;
-  stay : (run g.L.Law.answers (tree_of l.plan) l.states (take l.batch-index l.batches)).states ≡ l.states;
-  so_far : l.outs.items ≡ numbered l.first (run g.L.Law.answers (tree_of l.plan) l.states (take l.batch-index l.batches)).outs;
+  kept : l.states ≡ (run g.L.Law.answers (tree_of l.plan) l.fn.states (take l.batch-index l.batches)).states;
+  so_far : l.outs.items ≡ numbered l.first (run g.L.Law.answers (tree_of l.plan) l.fn.states (take l.batch-index l.batches)).outs;
 }

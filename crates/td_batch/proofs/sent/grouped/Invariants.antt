@@ -1,10 +1,11 @@
-use Rattle.std.proofs.Common.{◌≡◌, ◌++◌, map, flat_map}
-use Rattle.td_stamp.specs.Groups.{arrival_of, runs}
-use Rattle.td_batch.specs.Evaluated.{open_runs}
+use Rattle.std.proofs.Common.{◌≡◌, ◌++◌, flat_map, length}
+use Rattle.td_stamp.specs.Groups.{groups}
 use Rattle.td_batch.proofs.sent.grouped.Given as goal
 
--- what was sent so far, with what is sent for the run at hand and the rest, is what is sent for all
-abbrev pub invariant-loop-rec : goal.invariant-loop-rec
-invariant-loop-rec g l =
-    l.sent.items ++ flat_map (λ p. g.L.Law.answers.group l.code p.0 p.1) (open_runs l.key l.items.items l.rec-iterator)
-    ≡ flat_map (λ p. g.L.Law.answers.group l.code p.0 p.1) (runs (map (arrival_of 0) l.records))
+-- what was sent so far, and what is sent for the keys that are left
+abbrev pub invariant-loop-sent : goal.invariant-loop-sent
+invariant-loop-sent g l =
+    l.sent.items ++ flat_map (λ p. g.L.Law.answers.group l.code p.0 p.1) l.keys ≡ flat_map (λ p. g.L.Law.answers.group l.code p.0 p.1) (groups l.fn.arrived.items)
+
+abbrev pub decreases-loop-sent : goal.decreases-loop-sent
+decreases-loop-sent g l = length l.keys

@@ -1,5 +1,6 @@
-use Rattle.std.proofs.Common.{◌≡◌, flat_map}
+use Rattle.std.proofs.Common.{◌≡◌, flat_map, take}
+use Rattle.td_stamp.specs.Groups.{rec_of}
 use Rattle.td_batch.proofs.sent.mapped.Given as goal
 
-abbrev pub invariant-loop-rec : goal.invariant-loop-rec
-invariant-loop-rec g l = l.sent.items ≡ flat_map (λ rec. g.L.Law.answers.emit l.code 0 rec) l.yielded
+abbrev pub invariant-loop-arrival : goal.invariant-loop-arrival
+invariant-loop-arrival g l = l.sent.items ≡ flat_map (λ a. g.L.Law.answers.emit l.code a.item.port (rec_of a)) (take l.arrival-index l.arrived)

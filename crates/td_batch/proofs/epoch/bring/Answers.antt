@@ -1,0 +1,34 @@
+use Rattle.std.proofs.Common.{◌++◌, ◌∷◌, [], List, true, sym, subst}
+use Rattle.std.specs.Prelude.{None}
+use Rattle.td_stamp.specs.declared.values.Output.{Output as AnyOutput}
+use Rattle.td_plan.specs.Tree.{Nodes}
+use Rattle.td_plan.specs.Tree.Nodes.{node}
+use Rattle.td_batch.specs.declared.sent.Change.{Change}
+use Rattle.td_batch.specs.Meaning.{Bags, EpochInput, emission}
+use Rattle.td_batch.specs.Steps.Emitted.{input_of}
+use Rattle.td_batch.specs.Steps.Tree.{nodes_of, reads, AreAlike}
+use Rattle.td_batch.proofs.Epochs.{Going, past}
+use Rattle.td_batch.proofs.epoch.bring.Goals as goal
+
+pub loop-left-preserved : goal.loop-left-preserved
+loop-left-preserved g c =
+    let epoch : EpochInput = input_of g.L.Law.answers c.args.given.now.states.now c.args.given.now.batch.now in
+    let maps = g.C.Closures.has_map c.args.given.now.calls.now in
+    let groups = g.C.Closures.has_group c.args.given.now.calls.now in
+    let folds = g.C.Closures.has_fold c.args.given.now.calls.now in
+    let all : Nodes = nodes_of c.args.tree.now in
+    let v = c.in-Then.vertex.vertex in
+    let rest : Nodes = nodes_of c.in-Then.rest.value in
+    let bags : Bags = c.loop-left.bags.items in
+    let more : Bags = c.step.new.bags.items in
+    let outputs : List AnyOutput = c.loop-left.brought.outputs.items in
+    let changes : List Change = c.loop-left.brought.changes.items in
+    let here : Going epoch maps groups folds all (node v rest) bags outputs changes =
+    subst (λ t. Going epoch maps groups folds all (nodes_of t) bags outputs changes) c.in-Then.is c.loop-left.invariant.1 in
+    let kept : AreAlike (reads true rest) more (bags ++ emission epoch None bags v ∷ []) =
+    subst (λ t. AreAlike (reads true (nodes_of t)) more (bags ++ emission epoch None bags v ∷ [])) c.deref.ensures c.in_ok-step-in-Then.ensures.alike in
+    let made = c.in_ok-step-in-Then.ensures in (
+      c.loop-left.invariant.0,
+      subst (λ t. Going epoch maps groups folds all (nodes_of t) more c.step.new.brought.outputs.items c.step.new.brought.changes.items) (sym c.deref-left.ensures)
+          (past epoch maps groups folds all rest v bags more outputs c.step.new.brought.outputs.items changes c.step.new.brought.changes.items here made.length kept made.outs made.states),
+    )

@@ -1,0 +1,110 @@
+//! What a vertex emits in a turn of its block.
+ghost use Rattle.std.specs.Prelude.{ℕ, ◌≡◌, ◌==◌, ◌+◌, ◌∷◌, ◌++◌, [], ◌||◌, None, true, IfOk, OnOk, is_none, length, map};
+ghost use Rattle.std.specs.List.{list_any};
+ghost use Rattle.td_stamp.specs.States.{state_of};
+ghost use Rattle.td_plan.specs.Faults.{is_output};
+ghost use Rattle.td_calls.specs.Fits.{lacking_code};
+ghost use Rattle.td_calls.specs.Callbacks.{arrivals};
+ghost use Rattle.td_batch.specs.Meaning.{emitted, bags_read, emission};
+ghost use Rattle.td_batch.specs.Steps.Emitted.{input_of};
+ghost use Rattle.td_batch.specs.Steps.Sent.{changes_by};
+ghost use Rattle.td_batch.specs.Steps.Tree.{nodes_of, reads, AreAlike};
+
+use crate::arriving::arriving;
+use crate::emitted::{Before, Emitted};
+use crate::error::BatchError;
+use crate::sent::{Change, answer};
+use crate::tree::Tree;
+use std::alloc::Global;
+use td_calls::{Closures, Law};
+use td_plan::{Kind, Vertex};
+use td_stamp::{Batch, States};
+
+/// What an epoch is computed from.
+#[derive(Drop)]
+pub(crate) struct Given<'g, C> {
+    pub calls: &'g C,
+    pub states: &'g States,
+    pub batch: &'g Batch,
+}
+
+/// What a vertex emits, from the bags so far in this turn of its block, and those of the turn before. What a fold is to
+/// keep comes after the `changes` so far. Refusal: `Memory`.
+pub(crate) fn emission<'b, 'a, L: Law, C: Closures<L>>(
+    alloc: Global,
+    given: &Given<'a, C>,
+    before: &'b Before<'a>,
+    bags: &'b [Emitted<'a>],
+    vertex: &Vertex,
+    changes: &mut Vec<Change>,
+) -> Result<Emitted<'a>, BatchError>
+    requires stored { lacking_code (C.has_map given.now.calls.now) (C.has_group given.now.calls.now) (C.has_fold given.now.calls.now) vertex.now.vertex.kind ≡ None }
+    ensures sent { IfOk result (λ bag. bag ≡ emission (input_of L.answers given.now.states.now given.now.batch.now) before.now bags.now vertex.now.vertex) }
+    ensures kept { OnOk result (changes.new.items ≡ changes.old.items
+        ++ changes_by L.answers (state_of given.now.states.now vertex.now.vertex.number) vertex.now.vertex.number vertex.now.vertex.kind
+        (arrivals (map (emitted (bags_read vertex.now.vertex.kind before.now bags.now)) vertex.now.vertex.sources))) }
+{
+    let kind = vertex.kind();
+    let number = vertex.number();
+    if vertex.is_input() {
+        return Ok(Emitted::given(alloc, given.batch, number));
+    }
+    let arrived = arriving(alloc, before, bags, vertex)?;
+    let sent = answer::<L, C>(
+        alloc,
+        given.calls,
+        given.states,
+        number,
+        kind,
+        arrived,
+        changes,
+    )?;
+    Ok(Emitted::own(sent))
+}
+
+/// Keeps the bag that a vertex emitted, where a later vertex of its turn reads it or `need` has it, and lets go of those
+/// that it was the last to read. Refusal: `Memory`.
+pub(crate) fn keep<'a>(
+    alloc: Global,
+    bags: &mut Vec<Emitted<'a>>,
+    bag: Emitted<'a>,
+    vertex: &Vertex,
+    rest: &Tree,
+    is_first: bool,
+    need: &[u8],
+) -> Result<(), BatchError>
+    requires { vertex.now.vertex.number ≡ length bags.old.items }
+    ensures length { OnOk result (length bags.new.items ≡ length bags.old.items + 1) }
+    ensures alike { OnOk result (AreAlike (reads is_first (nodes_of rest.now) ++ need.now) bags.new.items (bags.old.items ++ bag.entry ∷ [])) }
+{
+    let kept = if is_needed(rest, is_first, need, vertex.number()) {
+        bag
+    } else {
+        Emitted::nothing(alloc)
+    };
+    bags.push(kept)?;
+    for source in vertex.sources() {
+        if !is_needed(rest, is_first, need, *source) {
+            let_go(alloc, bags, *source);
+        }
+    }
+    Ok(())
+}
+
+/// Lets go of the bag of a source.
+fn let_go(alloc: Global, bags: &mut Vec<Emitted<'_>>, source: u8)
+    ensures length { length bags.new.items ≡ length bags.old.items }
+    ensures others { (s : ℕ) → (s ≡ source → ⊥) → emitted bags.new.items s ≡ emitted bags.old.items s }
+{
+    let place = usize::from(source);
+    if place < bags.len() {
+        bags[place] = Emitted::nothing(alloc);
+    }
+}
+
+/// Whether the bag of a source is still read: by one of these vertices, or because `need` has it.
+pub(crate) fn is_needed(rest: &Tree, is_first: bool, need: &[u8], source: u8) -> bool
+    ensures { result ≡ list_any (λ s. s == source) (reads is_first (nodes_of rest.now) ++ need.now) }
+{
+    rest.is_read(is_first, source) || need.contains(&source)
+}
