@@ -5,5 +5,6 @@ pub mod Cuts
 pub mod Separated
 pub mod Wide
 pub mod ReadOn
+pub mod MoreEpochs
 pub mod OneAnswer
 pub mod BatchWords

@@ -1,7 +1,14 @@
 //! The answer text of an input.
 ghost use Rattle.std.specs.Prelude.{◌≡◌, ◌⊎◌, ◌++◌, ◌+◌, ◌≤◌, ◌^◌, IfOk, IfErr, OnOk, Ok, Err};
 ghost use Rattle.std.specs.Prelude.{length, string_bytes, flat_map};
+ghost use Rattle.std.specs.Prelude.{◌<◌, [], None, IsTrue, All};
+ghost use Rattle.std.specs.List.{list_all};
+ghost use Rattle.td_plan.specs.Blocks.{vertices};
+ghost use Rattle.td_plan.specs.Inputs.{is_input_of};
 ghost use Rattle.td_plan.specs.Text.{text_lines};
+ghost use Rattle.td_plan.specs.Tree.{tree_of};
+ghost use Rattle.td_calls.specs.Fits.{first_lack};
+ghost use Rattle.td_batch.specs.Meaning.{run, numbered};
 ghost use Rattle.td_console.specs.Answer.{stored_in, IsAnswer, IsAsciiAnswer, plan_answer, lack_fault, output_line, output_text};
 ghost use Rattle.td_console.specs.CodeSteps.{IsOfInput};
 
@@ -10,10 +17,10 @@ use crate::faults::Fault;
 use crate::parts::{ascii_text, find_wide_fault, split_input};
 use std::alloc::Global;
 use std::fmt::Write;
-use td_batch::evaluate;
+use td_batch::{evaluate_epoch, laws};
 use td_calls::{CallsError, Closures, Law};
 use td_plan::{Plan, PlanError};
-use td_stamp::{EpochOut, Output, States};
+use td_stamp::{Batch, EpochOut, Output, States};
 
 /// The answer text of an input. Refusals: its first fault; `Memory`.
 pub(crate) fn answer<L: Law, C: Closures<L>>(
@@ -77,9 +84,7 @@ fn answer_data<L: Law, C: Closures<L>>(
         return Err(lack_fault(lack));
     }
     let batches = read_batches(alloc, plan, lines, first)?;
-    let states = States::new(alloc);
-    let (_, epochs) = evaluate::<L, C>(alloc, plan, calls, &states, 1, &batches)?;
-    print_epochs(alloc, &epochs)
+    run_text::<L, C>(alloc, plan, calls, batches)
 }
 
 /// The fault for a plan text that spells no plan.
@@ -105,14 +110,28 @@ fn lack_fault(lack: CallsError) -> Fault
     }
 }
 
-/// The lines of epochs. Refusal: `Memory`.
-fn print_epochs(alloc: Global, epochs: &[EpochOut]) -> Result<String, Fault>
-    ensures ok { IfOk result (λ text. string_bytes text ≡ output_text epochs.now) }
+/// The output lines of a run from no states, the epochs numbered from 1. Each batch, and what its epoch brings, is let go
+/// once its lines are printed. Refusal: `Memory`.
+fn run_text<L: Law, C: Closures<L>>(
+    alloc: Global,
+    plan: &Plan,
+    calls: &C,
+    batches: Vec<Batch>,
+) -> Result<String, Fault>
+    requires fits { first_lack (C.has_map calls.now) (C.has_group calls.now) (C.has_fold calls.now) (vertices plan.now) ≡ None }
+    requires accepted { All (λ batch. IsTrue (list_all (λ e. is_input_of plan.now e.input) batch)) batches.items }
+    requires few { length batches.items < 2 ^ 63 }
+    ensures ok { IfOk result (λ text. string_bytes text ≡ output_text (numbered 1 (run L.answers (tree_of plan.now) [] batches.items).outs)) }
     ensures err { IfErr result (λ f. f ≡ Fault.Memory) }
 {
+    laws::run_joins::<L>();
+    let mut states = States::new(alloc);
     let mut text = String::new(alloc);
-    for epoch in epochs {
-        print_epoch(&mut text, epoch)?;
+    let mut epoch = 1;
+    for batch in batches {
+        let out = evaluate_epoch::<L, C>(alloc, plan, calls, &mut states, epoch, &batch)?;
+        print_epoch(&mut text, &out)?;
+        epoch += 1;
     }
     Ok(text)
 }
