@@ -3,7 +3,7 @@ ghost use Rattle.std.specs.Prelude.{◌≡◌, ◌∷◌, [], All, IsTrue, pos, 
 ghost use Rattle.std.specs.List.{list_all};
 ghost use Rattle.td_plan.specs.Inputs.{is_input_of};
 ghost use Rattle.td_calls.specs.Stock.{stock, single, sum_from};
-ghost use Rattle.td_calls.specs.StockFew.{stock_few};
+ghost use Rattle.td_calls.specs.ProvedStock.{stock_few};
 
 use crate::{BatchError, evaluate};
 use std::alloc::{AllocError, Global};

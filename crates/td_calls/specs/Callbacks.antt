@@ -34,7 +34,7 @@ pub record Added : Type 0 where
 abbrev pub only_sent : List Rec → Added
 only_sent sent = record { seen = []; buffered = []; sent = sent }
 
--- of a record that arrives (OnRecv)
+-- of a record that arrives (OnRecv); what is at the edge of a loop, and an output, pass it on
 abbrev pub on_arrival : Answers → Kind → Kept → Arrival → Added
 on_arrival answers Input kept a = only_sent []
 on_arrival answers (Map code) kept a = only_sent (answers.emit code a.item.port (rec_of a))
@@ -61,8 +61,8 @@ is_notified _ = false
 abbrev pub sent_when_notified : Answers → (ℕ → Option State) → Kind → List Arrival → List Rec
 sent_when_notified answers state kind arrived = flat_map (λ g. (on_notification answers kind g.0 (state g.0) g.1).1) (groups arrived)
 
--- What a vertex sends at a time, from this moment on: so much is kept of the time so far, and these still arrive. They are
--- a list, but what is sent does not depend on their order (law `in_any_order`)
+-- All that a vertex sends at a time from now on, where it has kept this much of the time so far, and these records still
+-- arrive, in whatever order
 abbrev pub sends : Answers → (ℕ → Option State) → Kind → Kept → List Arrival → List Rec
 sends answers state Input kept arrived = []
 sends answers state (Map code) kept arrived = bag_of rec_cmp (flat_map (λ a. answers.emit code a.item.port (rec_of a)) arrived)

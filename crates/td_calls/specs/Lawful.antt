@@ -18,7 +18,8 @@ IsLawfulGroup {Sent} {Lent} records items answers post code =
     (key : ℕ) (lent : Lent) (sent : Sent) → key < 2 ^ 64 → post key lent sent → records sent ≡ answers.group code key (items lent)
 
 -- of a fold's closure
-abbrev pub IsLawfulFold : {Sent Lent : Type 0} → (Sent → List Rec) → (Lent → List Item) → Answers → (ℕ → Option State → Lent → Option State × Sent → Type 0) → ℕ → Type 0
+abbrev pub IsLawfulFold : {Sent Lent : Type 0} → (Sent → List Rec) → (Lent → List Item) → Answers
+    → (ℕ → Option State → Lent → Option State × Sent → Type 0) → ℕ → Type 0
 IsLawfulFold {Sent} {Lent} records items answers post code =
-    (key : ℕ) (state : Option State) (lent : Lent) (answer : Option State × Sent) → key < 2 ^ 64 → IsOptionalState state → post key state lent answer
-    → (answer.0, records answer.1) ≡ answers.fold code key state (items lent)
+    (key : ℕ) (state : Option State) (lent : Lent) (answer : Option State × Sent) →
+    key < 2 ^ 64 → IsOptionalState state → post key state lent answer → (answer.0, records answer.1) ≡ answers.fold code key state (items lent)

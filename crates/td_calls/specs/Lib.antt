@@ -4,9 +4,8 @@ pub mod Codes
 pub mod Fits
 pub mod Lawful
 pub mod Laws
+pub mod ProvedStock
 pub mod Ranges
 pub mod Refusals
-pub mod Sample
+pub mod Steps
 pub mod Stock
-pub mod StockFew
-pub mod Vals

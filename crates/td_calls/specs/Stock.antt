@@ -1,5 +1,6 @@
 -- The catalogue of closures that the program has.
-use Rattle.std.specs.Prelude.{ℕ, ◌+◌, ◌/◌, ◌%◌, ◌^◌, ◌-◌, Bool, ◌==◌, not, List, [], ◌∷◌, filter, fold, length, min, Option, Some, None, ℤ, pos, negsuc, ◌+ℤ◌, int_lt, int_rem, unwrap_or, if◌then◌else◌}
+use Rattle.std.specs.Prelude.{ℕ, ◌+◌, ◌/◌, ◌%◌, ◌^◌, ◌-◌, ℤ, pos, negsuc, ◌+ℤ◌, int_lt, int_rem, min, Bool, ◌==◌, not, if◌then◌else◌}
+use Rattle.std.specs.Prelude.{List, [], ◌∷◌, filter, fold, length, Option, Some, None, unwrap_or}
 use Rattle.std.specs.Ordering.{int_eq}
 use Rattle.std.specs.Int.{int_min, int_max, saturate_signed, w64}
 use Rattle.std.specs.Map.{lookup}
@@ -54,6 +55,11 @@ map_answers =
     ∷ (9, λ port r. single ((r.key % 4 + 1) % 4) r.val)
     ∷ []
 
+-- the sum of the least vals of ports 0 and 1, where both have items
+abbrev pub joined_least : ℕ → List Item → List Rec
+joined_least key items =
+    by_first (λ i left. by_first (λ j right. single key (saturating_add (least i left) (least j right))) (at_port 1 items)) (at_port 0 items)
+
 -- what the groups send, by code, of a key and its sorted items
 abbrev pub group_answers : List (ℕ × (ℕ → List Item → List Rec))
 group_answers =
@@ -61,7 +67,7 @@ group_answers =
     ∷ (21, λ key items. single key (sum_from (pos 0) items))
     ∷ (22, λ key items. by_first (λ i rest. single key (least i rest)) items)
     ∷ (23, λ key items. by_first (λ i rest. single key (greatest i rest)) items)
-    ∷ (24, λ key items. by_first (λ i left. by_first (λ j right. single key (saturating_add (least i left) (least j right))) (at_port 1 items)) (at_port 0 items))
+    ∷ (24, joined_least)
     ∷ []
 
 -- a total and a count

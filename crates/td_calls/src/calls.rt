@@ -1,7 +1,7 @@
 //! Closures of all three kinds, and what the crates above know of them.
-ghost use Rattle.std.specs.Prelude.{◌≡◌, ◌↔◌, ◌⊎◌, ◌==◌, ◌||◌, ℕ, Bool, [], IsTrue, OnOk, OnErr, IfErr, IfSome, IsErrAnd, is_some};
+ghost use Rattle.std.specs.Prelude.{◌≡◌, ◌↔◌, ◌⊎◌, ℕ, Bool, [], IsTrue, OnOk, OnErr, IfErr, IfSome, IsErrAnd, is_some};
 ghost use Rattle.td_plan.specs.Blocks.{vertices};
-ghost use Rattle.td_calls.specs.Codes.{has_code};
+ghost use Rattle.td_calls.specs.Codes.{has_code, GainsCode};
 ghost use Rattle.td_calls.specs.Fits.{lacking_code, first_lack};
 
 use crate::error::CallsError;
@@ -109,7 +109,7 @@ impl<M, G, F> Calls<M, G, F> {
     pub fn add_map(&mut self, call: M) -> Result<(), (CallsError, M)>
     where
         M: Coded + Drop,
-        ensures ok { OnOk result ((code : ℕ) → has_code M.code_of self.new.maps code ≡ ((code == M.code_of call) || has_code M.code_of self.old.maps code)) }
+        ensures ok { OnOk result (GainsCode M.code_of self.old.maps self.new.maps (M.code_of call)) }
         ensures used { IsErrAnd result (λ e. e.0 ≡ CallsError.CodeUsed) ↔ IsTrue (has_code M.code_of self.old.maps (M.code_of call)) }
         ensures refusals { IfErr result (λ e. (e.0 ≡ CallsError.CodeUsed) ⊎ (e.0 ≡ CallsError.Memory)) }
         ensures back { IfErr result (λ e. e.1 ≡ call) }
@@ -124,7 +124,7 @@ impl<M, G, F> Calls<M, G, F> {
     pub fn add_group(&mut self, call: G) -> Result<(), (CallsError, G)>
     where
         G: Coded + Drop,
-        ensures ok { OnOk result ((code : ℕ) → has_code G.code_of self.new.groups code ≡ ((code == G.code_of call) || has_code G.code_of self.old.groups code)) }
+        ensures ok { OnOk result (GainsCode G.code_of self.old.groups self.new.groups (G.code_of call)) }
         ensures used { IsErrAnd result (λ e. e.0 ≡ CallsError.CodeUsed) ↔ IsTrue (has_code G.code_of self.old.groups (G.code_of call)) }
         ensures refusals { IfErr result (λ e. (e.0 ≡ CallsError.CodeUsed) ⊎ (e.0 ≡ CallsError.Memory)) }
         ensures back { IfErr result (λ e. e.1 ≡ call) }
@@ -139,7 +139,7 @@ impl<M, G, F> Calls<M, G, F> {
     pub fn add_fold(&mut self, call: F) -> Result<(), (CallsError, F)>
     where
         F: Coded + Drop,
-        ensures ok { OnOk result ((code : ℕ) → has_code F.code_of self.new.folds code ≡ ((code == F.code_of call) || has_code F.code_of self.old.folds code)) }
+        ensures ok { OnOk result (GainsCode F.code_of self.old.folds self.new.folds (F.code_of call)) }
         ensures used { IsErrAnd result (λ e. e.0 ≡ CallsError.CodeUsed) ↔ IsTrue (has_code F.code_of self.old.folds (F.code_of call)) }
         ensures refusals { IfErr result (λ e. (e.0 ≡ CallsError.CodeUsed) ⊎ (e.0 ≡ CallsError.Memory)) }
         ensures back { IfErr result (λ e. e.1 ≡ call) }

@@ -8,8 +8,6 @@ mod error;
 mod law;
 pub mod laws;
 pub mod stock;
-#[cfg(test)]
-mod stock_tests;
 mod stored;
 #[cfg(test)]
 mod tests;

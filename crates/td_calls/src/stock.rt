@@ -1,8 +1,8 @@
 //! The catalogue of closures that the program has, and the functions that do their work.
 ghost use Rattle.std.specs.Prelude.{◌≡◌, [], ◌∷◌, pos, length, min, ◌-◌, ◌^◌};
 ghost use Rattle.td_calls.specs.Stock.{stock, single, record_if, sum_from, is_even, at_port};
-ghost use Rattle.td_calls.specs.StockFew.{stock_few};
-ghost use Rattle.td_calls.specs.Vals.{least_of, greatest_of, lower, last_of};
+ghost use Rattle.td_calls.specs.ProvedStock.{stock_few};
+ghost use Rattle.td_calls.specs.Steps.{least_of, greatest_of, lower, last_of};
 
 use crate::law::Law;
 use td_stamp::{Few, Item, Rec, State};

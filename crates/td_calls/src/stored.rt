@@ -1,7 +1,7 @@
 //! Closures of one kind, by their codes.
-ghost use Rattle.std.specs.Prelude.{◌≡◌, ◌↔◌, ◌⊎◌, ◌==◌, ◌||◌, ℕ, [], IsTrue, OnOk, OnErr, IfErr, IfSome, IsErrAnd, is_some};
+ghost use Rattle.std.specs.Prelude.{◌≡◌, ◌↔◌, ◌⊎◌, [], IsTrue, OnOk, OnErr, IfErr, IfSome, IsErrAnd, is_some};
 ghost use Rattle.std.specs.Option.{option_copied};
-ghost use Rattle.td_calls.specs.Codes.{call_at, has_code};
+ghost use Rattle.td_calls.specs.Codes.{call_at, has_code, GainsCode};
 
 use crate::error::CallsError;
 use crate::law::Coded;
@@ -54,7 +54,7 @@ impl<C> Stored<C> {
     pub fn add(&mut self, call: C) -> Result<(), (CallsError, C)>
     where
         C: Coded + Drop,
-        ensures ok { OnOk result ((code : ℕ) → has_code C.code_of self.new code ≡ ((code == C.code_of call) || has_code C.code_of self.old code)) }
+        ensures ok { OnOk result (GainsCode C.code_of self.old self.new (C.code_of call)) }
         ensures stored { OnOk result (call_at self.new (C.code_of call) ≡ Some call) }
         ensures used { IsErrAnd result (λ e. e.0 ≡ CallsError.CodeUsed) ↔ IsTrue (has_code C.code_of self.old (C.code_of call)) }
         ensures refusals { IfErr result (λ e. (e.0 ≡ CallsError.CodeUsed) ⊎ (e.0 ≡ CallsError.Memory)) }

@@ -13,8 +13,6 @@ mod parts;
 mod sink;
 mod source;
 #[cfg(test)]
-mod stock_tests;
-#[cfg(test)]
 mod tests;
 pub mod words;
 

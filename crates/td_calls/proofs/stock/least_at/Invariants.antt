@@ -1,6 +1,6 @@
 use Rattle.std.proofs.Common.{◌≡◌, take}
 use Rattle.td_calls.specs.Stock.{at_port}
-use Rattle.td_calls.specs.Vals.{least_of}
+use Rattle.td_calls.specs.Steps.{least_of}
 use Rattle.td_calls.proofs.stock.least_at.Given as goal
 
 abbrev pub invariant-loop-item : goal.invariant-loop-item

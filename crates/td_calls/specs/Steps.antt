@@ -1,4 +1,5 @@
--- The least, the greatest and the last val, where there are items.
+-- The steps of the catalogue's functions: the least, the greatest and the last val, where there are items. What the
+-- catalogue answers does not rest on them.
 use Rattle.std.specs.Prelude.{List, [], ◌∷◌, fold, Option, Some, None, ℤ}
 use Rattle.std.specs.Int.{int_min}
 use Rattle.td_stamp.specs.declared.values.Item.{Item}
