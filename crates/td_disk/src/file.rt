@@ -1,5 +1,5 @@
 // A file as a disk. It claims no law.
-ghost use Rattle.std.specs.Prelude.{◌≡◌, ◌-◌, ◌^◌, ◌<◌, ◌≤◌, ◌↔◌, [], ℕ, IfOk, IsTrue, true, false};
+ghost use Rattle.std.specs.Prelude.{◌≡◌, ◌-◌, ◌^◌, ◌<◌, ◌≤◌, ◌↔◌, [], ℕ, IfOk, IsTrue, false};
 ghost use Rattle.td_disk.specs.Disk.{Rises};
 
 use crate::{Disk, Fault, MakeError};
