@@ -128,3 +128,49 @@ fn plans_have_bounds(rt: HostRuntime) -> Result<(), Fail> {
     }
     Ok(())
 }
+
+#[test]
+fn what_a_plan_hands_out(rt: HostRuntime) -> Result<(), Fail> {
+    let plan = Plan::read(
+        rt.alloc(),
+        "0 input\nloop 7\n1 enter 0\n2 leave 1\nend\n3 output 2 0\n",
+    )?;
+    let kinds = [Kind::Input, Kind::Enter, Kind::Leave, Kind::Output];
+    let depths = [0, 1, 1, 0];
+    for (i, vertex) in plan.vertices().iter().enumerate() {
+        assert_eq!(rt; usize::from(vertex.number()), i);
+        assert_eq!(rt; vertex.kind(), kinds[i]);
+        assert_eq!(rt; vertex.is_input(), i == 0);
+        assert_eq!(rt; vertex.is_output(), i == 3);
+        assert_eq!(rt; vertex.copy().sources().len(), [0, 1, 1, 2][i]);
+        assert_eq!(rt; vertex.loops().len(), depths[i]);
+        assert_eq!(rt; vertex.reads_on().len(), [0, 0, 1, 0][i]);
+        assert_eq!(rt;
+            vertex.read_on().map(|loops| loops.len()),
+            [Some(0), Some(1), Some(0), None][i]
+        );
+    }
+    let last = Edge {
+        source: 0,
+        reader: 3,
+        port: 1,
+    };
+    assert_eq!(rt; plan.edges().len(), 4);
+    assert_eq!(rt; plan.edges()[3], last);
+    assert_eq!(rt; plan.blocks(), [Loop { first: 1, bound: 7 }].as_slice());
+    assert!(rt; plan.same(&plan.copy()?));
+    assert!(rt; !plan.same(&Plan::read(rt.alloc(), "0 input\n1 output 0\n")?));
+    Ok(())
+}
+
+#[test]
+fn a_batch_is_accepted_where_each_entry_names_an_input(rt: HostRuntime) -> Result<(), Fail> {
+    let plan = Plan::read(rt.alloc(), "0 input\n1 map 1 0\n2 input\n3 output 1\n")?;
+    let rec = Rec { key: 7, val: 5 };
+    let mut batch: Batch = Bag::new(rt.alloc());
+    batch.add(Entry { input: 2, rec })?;
+    assert!(rt; plan.accepts(&batch));
+    batch.add(Entry { input: 3, rec })?;
+    assert!(rt; !plan.accepts(&batch));
+    Ok(())
+}

@@ -1,0 +1,15 @@
+-- What the look-ups by number find.
+use Rattle.std.specs.Prelude.{◌≡◌, ℕ, List, Some}
+use Rattle.std.specs.List.{slice_get}
+use Rattle.td_plan.specs.Lines.{Line}
+use Rattle.td_plan.specs.Blocks.{PlacedVertex, kind_at, sources_at, loops_at, reading_loops_at, read_loops_at, bound_at, bounds, reading_loops, read_loops}
+
+-- the look-ups by this number speak of this vertex, which has it
+pub record IsLookedUp (plan : List Line) (v : ℕ) (p : PlacedVertex) : Type 0 where
+  pub number : p.vertex.number ≡ v
+  pub kind : kind_at plan v ≡ Some p.vertex.kind
+  pub sources : sources_at plan v ≡ p.vertex.sources
+  pub loops : loops_at plan v ≡ p.loops
+  pub bound : bound_at plan v ≡ slice_get (bounds p.loops) 0
+  pub reads_on : reading_loops_at plan v ≡ reading_loops p.vertex.kind p.loops
+  pub read_on : read_loops_at plan v ≡ read_loops p.vertex.kind p.loops
