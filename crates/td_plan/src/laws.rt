@@ -4,8 +4,8 @@ ghost use Rattle.td_plan.specs.declared.error.PlanError.{PlanError as AnyError};
 ghost use Rattle.std.specs.List.{join_with_byte, slice_get};
 ghost use Rattle.td_plan.specs.Text.{words};
 ghost use Rattle.td_plan.specs.Lines.{Line, has_form, text_of, words_of};
-ghost use Rattle.td_plan.specs.Blocks.{PlacedVertex, vertices, edges, edge_at, sources_at};
-ghost use Rattle.td_plan.specs.LookedUp.{IsLookedUp};
+ghost use Rattle.td_plan.specs.Blocks.{PlacedVertex, vertices};
+ghost use Rattle.td_plan.specs.LookedUp.{IsLookedUp, IsSourceAt, IsEdgeAt};
 ghost use Rattle.td_plan.specs.Tree.{tree_of, lines_of, placed_in, IsNumbered};
 ghost use Rattle.td_plan.specs.Faults.{IsPlan};
 ghost use Rattle.td_plan.specs.Sources.{ReadEarlier};
@@ -56,5 +56,5 @@ pub fn well_placed()
 /// Look-ups by number find the vertex of that number, and `edge_at` the edge that leads to a port of a vertex.
 pub fn look_ups()
     ensures vertices { (plan : List Line) (v : ℕ) (p : PlacedVertex) → IsPlan plan → slice_get (vertices plan) v ≡ Some p → IsLookedUp plan v p }
-    ensures edges { (plan : List Line) (reader port source : ℕ) → IsPlan plan → slice_get (sources_at plan reader) port ≡ Some source → slice_get (edges plan) (edge_at plan reader port) ≡ Some (record { source = source; reader = reader; port = port }) }
+    ensures edges { (plan : List Line) (reader port source : ℕ) → IsPlan plan → IsSourceAt plan reader port source → IsEdgeAt plan reader port source }
 {}
