@@ -103,9 +103,9 @@ is_faultless scope (line ∷ lines) = is_none (fault_of scope line) && is_faultl
 abbrev pub is_stray_feedback : List PlacedVertex → PlacedVertex → Bool
 is_stray_feedback placed p = is_feedback p.vertex.kind && reads_elsewhere p.loops placed p.vertex.sources
 
--- whether a line of a plan is one
+-- whether a line of a plan is one, which is told at the vertex of its number
 abbrev pub is_stray : List Line → Line → Bool
-is_stray plan (vertex v) = elim (slice_get (vertices plan) v.number) [ None ↦ false | Some p ↦ is_stray_feedback (vertices plan) p ]
+is_stray plan (vertex v) = is_feedback v.kind && elim (slice_get (vertices plan) v.number) [ None ↦ false | Some p ↦ is_stray_feedback (vertices plan) p ]
 is_stray plan _ = false
 
 abbrev pub is_nil : List Loop → Bool

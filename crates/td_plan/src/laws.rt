@@ -1,18 +1,18 @@
 //! Laws of the definitions. Each is the contract of a function that does nothing.
-ghost use Rattle.std.specs.Prelude.{[], ◌≡◌, ◌⊎◌, ◌≤◌, ℕ, List, length, true};
+ghost use Rattle.std.specs.Prelude.{[], ◌≡◌, ◌⊎◌, ◌≤◌, ℕ, List, length, true, Some};
 ghost use Rattle.td_plan.specs.declared.error.PlanError.{PlanError as AnyError};
-ghost use Rattle.std.specs.List.{join_with_byte, list_all};
+ghost use Rattle.std.specs.List.{join_with_byte, slice_get};
 ghost use Rattle.td_plan.specs.Text.{words};
-ghost use Rattle.td_plan.specs.Lines.{Line, has_form, is_taken, text_of, words_of};
-ghost use Rattle.td_plan.specs.Blocks.{vertices};
+ghost use Rattle.td_plan.specs.Lines.{Line, has_form, text_of, words_of};
+ghost use Rattle.td_plan.specs.Blocks.{PlacedVertex, vertices};
+ghost use Rattle.td_plan.specs.LookedUp.{IsLookedUp, IsSourceAt, IsEdgeAt};
 ghost use Rattle.td_plan.specs.Tree.{tree_of, lines_of, placed_in, IsNumbered};
 ghost use Rattle.td_plan.specs.Faults.{IsPlan};
 ghost use Rattle.td_plan.specs.Sources.{ReadEarlier};
 ghost use Rattle.td_plan.specs.Placed.{IsPlacedTree};
 ghost use Rattle.td_plan.specs.Texts.{PlanText, PlanFault};
 
-/// A text spells one plan, or has one refusal, and never both. The lines that the reader does not take yet count as
-/// syntax faults here: once it takes them, the law speaks of them too.
+/// A text spells one plan, or has one refusal, and never both.
 pub fn one_answer()
     ensures either { (text : List ℕ) → ((p : List Line) × PlanText text p) ⊎ ((e : AnyError) × PlanFault text e) }
     ensures not_both { (text : List ℕ) (p : List Line) (e : AnyError) → PlanText text p → PlanFault text e → ⊥ }
@@ -26,12 +26,11 @@ pub fn lines_by_words()
     ensures read_back { (line : Line) → has_form line ≡ true → words (join_with_byte 32 (words_of line)) ≡ words_of line }
 {}
 
-/// The canonical text of a plan spells that plan and no other, in at most 3,948 bytes. (Of the lines that the reader
-/// takes so far.)
+/// The canonical text of a plan spells that plan and no other, in at most 3,948 bytes.
 pub fn canonical_text()
-    ensures spells { (plan : List Line) → IsPlan plan → list_all is_taken plan ≡ true → PlanText (text_of plan) plan }
-    ensures no_other { (p q : List Line) → IsPlan p → list_all is_taken p ≡ true → PlanText (text_of p) q → q ≡ p }
-    ensures bytes { (plan : List Line) → IsPlan plan → list_all is_taken plan ≡ true → length (text_of plan) ≤ 3948 }
+    ensures spells { (plan : List Line) → IsPlan plan → PlanText (text_of plan) plan }
+    ensures no_other { (p q : List Line) → IsPlan p → PlanText (text_of p) q → q ≡ p }
+    ensures bytes { (plan : List Line) → IsPlan plan → length (text_of plan) ≤ 3948 }
 {}
 
 /// The tree of a plan: its lines are the plan's, its vertices are the plan's in the order of their numbers, each with
@@ -52,4 +51,10 @@ pub fn sources()
 /// of a feedback anywhere on its block, and any other on the block before its reader.
 pub fn well_placed()
     ensures { (plan : List Line) → IsPlan plan → IsPlacedTree (tree_of plan) }
+{}
+
+/// Look-ups by number find the vertex of that number, and `edge_at` the edge that leads to a port of a vertex.
+pub fn look_ups()
+    ensures vertices { (plan : List Line) (v : ℕ) (p : PlacedVertex) → IsPlan plan → slice_get (vertices plan) v ≡ Some p → IsLookedUp plan v p }
+    ensures edges { (plan : List Line) (reader port source : ℕ) → IsPlan plan → IsSourceAt plan reader port source → IsEdgeAt plan reader port source }
 {}

@@ -1,23 +1,22 @@
--- What the reader's own values stand for.
-use Rattle.std.specs.Prelude.{ℕ, List, [], ◌∷◌, Option, Some, None}
+-- What the values that a line is read to stand for.
+use Rattle.std.specs.Prelude.{ℕ, List}
 use Rattle.std.specs.Borrow.{Bor}
 use Rattle.td_plan.specs.declared.vertex.Kind.{Kind}
-use Rattle.td_plan.specs.declared.line.Written.{Written}
+use Rattle.td_plan.specs.declared.line.WrittenLine.{WrittenLine}
+use Rattle.td_plan.specs.declared.line.WrittenLine.TheVariants as written
 use Rattle.td_plan.specs.Text.{words}
-use Rattle.td_plan.specs.Lines.{Vertex}
+use Rattle.td_plan.specs.Lines.{Line}
+use Rattle.td_plan.specs.Lines.Line.{vertex, loop, end}
 
--- the list of a source, if there is one
-abbrev pub sources_of : Option ℕ → List ℕ
-sources_of None = []
-sources_of (Some s) = s ∷ []
+-- a line as it was read
+abbrev pub written_line : WrittenLine → Line
+written_line (written.Vertex v) = vertex v
+written_line (written.Loop bound) = loop bound
+written_line written.End = end
 
--- a vertex as it was read
-abbrev pub written_vertex : Written → Vertex
-written_vertex w = record { number = w.number; kind = w.kind; sources = sources_of w.source }
-
--- a kind with its sources
-abbrev pub kind_and_sources : (Kind × Option ℕ) → (Kind × List ℕ)
-kind_and_sources p = (p.0, sources_of p.1)
+-- a kind with the words that follow it
+abbrev pub kind_words : (Kind × Bor (List ℕ)) → (Kind × List (List ℕ))
+kind_words p = (p.0, words p.1.now)
 
 -- a code with the words that follow it
 abbrev pub rest_words : (ℕ × Bor (List ℕ)) → (ℕ × List (List ℕ))
