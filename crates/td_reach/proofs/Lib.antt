@@ -1,0 +1,17 @@
+pub mod Order
+pub mod Rise
+pub mod Split
+pub mod Effects
+pub mod Shapes
+pub mod Compare
+pub mod Lawful
+pub mod Graph
+pub mod Closed
+pub mod Could
+pub mod Small
+pub mod Reversed
+pub mod Looked
+pub mod Asked
+pub mod Orders
+pub mod Fits
+pub mod Positions
