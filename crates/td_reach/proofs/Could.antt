@@ -123,13 +123,13 @@ module _ (plan : List Line) (lawful : IsPlan plan) where
       }
 
   -- a way, and a path of edges after it
-  record Trip (u v : ℕ) (way : Way u v) (tail : List ℕ) : Type 0 where
-    path : List ℕ
-    is_path : IsPath plan u path
-    times : (t : Timestamp) → adjust plan path t ≡ adjust plan tail (turned t (along_way u v way t.turns))
-    ends : (start : Place) → BeginsAt plan start u → (middle : Place) × BeginsAt plan middle v × (last_of plan start path ≡ last_of plan middle tail)
+  pub record Trip (u v : ℕ) (way : Way u v) (tail : List ℕ) : Type 0 where
+    pub path : List ℕ
+    pub is_path : IsPath plan u path
+    pub times : (t : Timestamp) → adjust plan path t ≡ adjust plan tail (turned t (along_way u v way t.turns))
+    pub ends : (start : Place) → BeginsAt plan start u → (middle : Place) × BeginsAt plan middle v × (last_of plan start path ≡ last_of plan middle tail)
 
-  trip : (u v : ℕ) (way : Way u v) (tail : List ℕ) → IsPath plan v tail → Trip u v way tail
+  pub trip : (u v : ℕ) (way : Way u v) (tail : List ℕ) → IsPath plan v tail → Trip u v way tail
   trip u v (inl e) tail more = record { path = tail; is_path = subst (λ w. IsPath plan w tail) (sym e) more; times = λ t. refl; ends = λ start b. (start, subst (BeginsAt plan start) e b, refl) }
   trip u v (inr w) tail more =
       let r = by_edges w.0 u v tail w.1 more in
@@ -170,12 +170,12 @@ module _ (plan : List Line) (lawful : IsPlan plan) where
       let same : b.0 ≡ h.0 = same_edge e b.0 h.0 b.1 h.1 in
       subst (λ w. Fits plan w t.turns) (sym (ap (λ (x : Edge). x.reader) same) ∙ b.2) (edge_fits h.0 e t h.1 h.2)
 
-  first_is : (place : Place) (u : ℕ) → BeginsAt plan place u → first_vertex plan place ≡ Some u
+  pub first_is : (place : Place) (u : ℕ) → BeginsAt plan place u → first_vertex plan place ≡ Some u
   first_is (places.Vertex v) u b = ap Some b
   first_is (places.Edge e) u b = ap reader_of b.1 ∙ ap Some b.2
 
   module _ (laws : OrderLaws) where
-    way_covers : (u v : ℕ) (w : Way u v) (cs : List ℕ) → Fits plan u cs → Covers (least_effect plan u v) cs (along_way u v w cs)
+    pub way_covers : (u v : ℕ) (w : Way u v) (cs : List ℕ) → Fits plan u cs → Covers (least_effect plan u v) cs (along_way u v w cs)
     way_covers u v (inl e) cs f = subst (λ x. Covers (least_effect plan u x) cs cs) e (record { effect = nothing; is = to_itself plan lawful (length (vertices plan)) u; early = inr (raised-zero cs) })
     way_covers u v (inr w) cs f = covers plan lawful laws (length (vertices plan)) u v w.0 cs f w.1 (all_below w.0 u v w.1)
 
@@ -306,7 +306,7 @@ module _ (plan : List Line) (lawful : IsPlan plan) where
         ap (λ c. c || turns_from plan (first_vertex plan (places.Edge e)) (record { time = t; place = places.Edge e }) (record { time = u; place = qp })) here
 
     -- on to the reader of an edge
-    abbrev way_on : (u last : ℕ) (edge : Edge) → IsEdge plan last edge → Way u edge.source → Way u edge.reader
+    abbrev pub way_on : (u last : ℕ) (edge : Edge) → IsEdge plan last edge → Way u edge.source → Way u edge.reader
     way_on u last edge at (inl x) = inr ([], subst (λ w. Joins plan w edge.reader) (sym x) (joins last edge at))
     way_on u last edge at (inr x) = inr (x.0 ++ edge.source ∷ [], joined_paths plan lawful x.0 [] u edge.source edge.reader x.1 (joins last edge at))
 

@@ -15,3 +15,4 @@ pub mod Asked
 pub mod Orders
 pub mod Fits
 pub mod Positions
+pub mod Leading

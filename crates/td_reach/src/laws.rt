@@ -6,11 +6,12 @@ ghost use Rattle.td_plan.specs.declared.vertex.Edge.{Edge as AnyEdge};
 ghost use Rattle.td_plan.specs.Lines.{Line};
 ghost use Rattle.td_plan.specs.Blocks.{kind_at, read_loops_at};
 ghost use Rattle.td_plan.specs.Faults.{IsPlan};
+ghost use Rattle.td_reach.specs.declared.stamp.Place.{Place as AnyPlace};
 ghost use Rattle.td_reach.specs.declared.stamp.Stamp.{Stamp as AnyStamp};
-ghost use Rattle.td_reach.specs.Paths.{adjust, sent_by, Could, HasDepth, IsEdge, IsOf};
+ghost use Rattle.td_reach.specs.Paths.{adjust, sent_by, Could, HasDepth, HasPlace, IsEdge, IsOf, Leads};
 ghost use Rattle.td_reach.specs.Laws.{IsLeast};
 ghost use Rattle.td_reach.specs.Positions.{Below, position};
-ghost use Rattle.td_reach.specs.Tables.{could_test};
+ghost use Rattle.td_reach.specs.Tables.{could_test, leads_test};
 
 use td_stamp::laws::{counter_order, time_order};
 
@@ -34,9 +35,18 @@ pub fn could_order()
     time_order();
 }
 
-/// Could-result-in has a test: a value of truth, by which pointstamps are counted that could result in another.
+/// Where one pointstamp could result in another, some path leads from its place to the other's; and a plan that has a
+/// pointstamp has its place.
+pub fn could_leads()
+    ensures leads { (plan : List Line) (p q : AnyStamp) → Could plan p q → Leads plan p.place q.place }
+    ensures has_place { (plan : List Line) (p : AnyStamp) → IsOf plan p → HasPlace plan p.place }
+{}
+
+/// Could-result-in has a test, a value of truth, by which pointstamps are counted that could result in another; and so has
+/// whether any path leads from one place to another.
 pub fn could_tested()
-    ensures { (plan : List Line) → IsPlan plan → (p q : AnyStamp) → IsOf plan p → IsOf plan q → (could_test plan p q ≡ true) ↔ Could plan p q }
+    ensures leads { (plan : List Line) → IsPlan plan → (from to : AnyPlace) → HasPlace plan from → HasPlace plan to → (leads_test plan from to ≡ true) ↔ Leads plan from to }
+    ensures could { (plan : List Line) → IsPlan plan → (p q : AnyStamp) → IsOf plan p → IsOf plan q → (could_test plan p q ≡ true) ↔ Could plan p q }
 {
     counter_order();
     time_order();

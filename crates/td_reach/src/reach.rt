@@ -2,8 +2,8 @@
 ghost use Rattle.std.specs.Prelude.{◌≡◌, ◌<◌, ◌↔◌, IsTrue, IfOk, length, Some};
 ghost use Rattle.td_plan.specs.Blocks.{vertices, edges};
 ghost use Rattle.td_plan.specs.Faults.{IsPlan};
-ghost use Rattle.td_reach.specs.Paths.{IsOf, Could};
-ghost use Rattle.td_reach.specs.Tables.{least_effect, first_vertex, effect_to, is_same_edge, could_test, reading_depth, is_of_test};
+ghost use Rattle.td_reach.specs.Paths.{HasPlace, IsOf, Leads, Could};
+ghost use Rattle.td_reach.specs.Tables.{least_effect, first_vertex, last_vertex, effect_to, is_same_edge, could_test, leads_test, reading_depth, is_of_test};
 
 use crate::error::ReachError;
 use crate::laws::could_tested;
@@ -84,6 +84,34 @@ impl Reach {
         }
     }
 
+    /// Whether some path of the plan leads from one of its places to another. Where none does, no pointstamp at the one could
+    /// result in any at the other.
+    pub fn leads(&self, from: Place, to: Place) -> bool
+        requires from { HasPlace self.now from }
+        requires to { HasPlace self.now to }
+        ensures { IsTrue result ↔ Leads self.now from to }
+    {
+        could_tested();
+        self.finds(from, to)
+    }
+
+    /// What the table answers to that.
+    fn finds(&self, from: Place, to: Place) -> bool
+        requires from { HasPlace self.now from }
+        requires to { HasPlace self.now to }
+        ensures value { result ≡ leads_test self.now from to }
+        ensures lawful { IsPlan self.now }
+    {
+        let first = self.first_vertex(from);
+        if is_same_edge(from, to) {
+            return true;
+        }
+        match (first, self.last_vertex(to)) {
+            (Some(first), Some(last)) => self.least(first, last).is_some(),
+            _ => false,
+        }
+    }
+
     /// Whether one pointstamp could result in another: some path of the plan turns its time into one that is at most the
     /// other's. It takes no memory. Each is at a vertex or an edge of the plan, and its time is in as many loops as are
     /// open where the vertex reads, or where the edge's source is read.
@@ -126,6 +154,19 @@ impl Reach {
             Place::Vertex(vertex) => Some(usize::from(vertex)),
             Place::Edge(edge) => match edges.get(usize::from(edge)) {
                 Some(edge) => Some(usize::from(edge.reader)),
+                None => None,
+            },
+        }
+    }
+
+    /// The vertex over which paths to a place end.
+    fn last_vertex(&self, place: Place) -> Option<usize>
+        ensures { result ≡ last_vertex self.now place }
+    {
+        match place {
+            Place::Vertex(vertex) => Some(usize::from(vertex)),
+            Place::Edge(edge) => match self.plan.edges().get(usize::from(edge)) {
+                Some(edge) => Some(usize::from(edge.source)),
                 None => None,
             },
         }
