@@ -11,7 +11,7 @@ use Rattle.std.proofs.lemmas.Fmt.{digits_decimal, decimal_nonempty}
 use Rattle.td_plan.specs.declared.vertex.Kind.{Kind}
 use Rattle.td_plan.specs.declared.vertex.Kind.TheVariants.{Input, Map, Distinct, Group, Fold, Enter, Feedback, Leave, Output}
 use Rattle.td_plan.specs.Text.{text_lines, words, has_nine_digits}
-use Rattle.td_plan.specs.Lines.{Line, words_of, words_of_kind, has_form, has_code, has_arity, is_taken, text_of}
+use Rattle.td_plan.specs.Lines.{Line, words_of, words_of_kind, has_form, has_code, has_arity, text_of}
 use Rattle.td_plan.specs.Lines.Line.{vertex, loop, end}
 use Rattle.td_plan.specs.Faults.{IsPlan}
 use Rattle.td_plan.specs.Texts.{AreReadAs, plan_lines, PlanText}
@@ -124,21 +124,20 @@ first_line l plan h =
     let split : text_of (l ∷ plan) ≡ line ++ 10 ∷ text_of plan = append_assoc line (10 ∷ []) (text_of plan) in
     lines_cut (text_of (l ∷ plan)) line (text_of plan) (ap (slice_split (λ b. b == 10)) split ∙ split_first 10 10 line (text_of plan) (omega arith) (joined_above (words_of l) (line_words l h)))
 
-pub read_again : (plan : List Line) → list_all has_form plan ≡ true → list_all is_taken plan ≡ true → AreReadAs (text_lines (text_of plan)) (map Some plan)
-read_again [] f t = tt
-read_again (l ∷ plan) f t =
+pub read_again : (plan : List Line) → list_all has_form plan ≡ true → AreReadAs (text_lines (text_of plan)) (map Some plan)
+read_again [] f = tt
+read_again (l ∷ plan) f =
     let form = both (has_form l) (list_all has_form plan) f in
-    let taken = both (is_taken l) (list_all is_taken plan) t in
-    subst (λ ts. AreReadAs ts (map Some (l ∷ plan))) (sym (first_line l plan form.0)) ((words_again l form.0, form.0, taken.0), read_again plan form.1 taken.1)
+    subst (λ ts. AreReadAs ts (map Some (l ∷ plan))) (sym (first_line l plan form.0)) ((words_again l form.0, form.0), read_again plan form.1)
 
 lines_again : (plan : List Line) → plan ≡ plan_lines (map Some plan)
 lines_again [] = refl
 lines_again (l ∷ plan) = ap (λ r. l ∷ r) (lines_again plan)
 
-pub canonical : (plan : List Line) → IsPlan plan → list_all is_taken plan ≡ true → PlanText (text_of plan) plan
-canonical plan p t = record { readings = map Some plan; read = read_again plan p.formed t; plan_is = lines_again plan; lawful = p }
+pub canonical : (plan : List Line) → IsPlan plan → PlanText (text_of plan) plan
+canonical plan p = record { readings = map Some plan; read = read_again plan p.formed; plan_is = lines_again plan; lawful = p }
 
 -- what a call answered is the canonical text, so it spells the plan
-pub spelled_again : {S E : Type 0} (bytes : S → List ℕ) (plan : List Line) (r : Result S E) → IsPlan plan → list_all is_taken plan ≡ true → IfOk r (λ text. bytes text ≡ text_of plan) → IfOk r (λ text. PlanText (bytes text) plan)
-spelled_again bytes plan (Ok text) p t e = subst (λ bs. PlanText bs plan) (sym e) (canonical plan p t)
-spelled_again bytes plan (Err e) p t h = tt
+pub spelled_again : {S E : Type 0} (bytes : S → List ℕ) (plan : List Line) (r : Result S E) → IsPlan plan → IfOk r (λ text. bytes text ≡ text_of plan) → IfOk r (λ text. PlanText (bytes text) plan)
+spelled_again bytes plan (Ok text) p e = subst (λ bs. PlanText bs plan) (sym e) (canonical plan p)
+spelled_again bytes plan (Err e) p h = tt

@@ -1,8 +1,9 @@
 pub mod Answered
+pub mod Built
 pub mod Canonical
 pub mod Cuts
-pub mod Flat
-pub mod Kept
+pub mod Edges
+pub mod Growth
 pub mod Lengths
 pub mod Listed
 pub mod Numerals
@@ -10,6 +11,7 @@ pub mod Placed
 pub mod Printing
 pub mod ReadOn
 pub mod Readings
+pub mod SameLoops
 pub mod Spelling
 pub mod Trees
 pub mod Unique

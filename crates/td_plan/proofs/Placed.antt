@@ -61,6 +61,10 @@ record Stands (final vs : List PlacedVertex) (ls : List Loop) (kind : Kind) (sou
   reads : is_feedback kind ≡ false → list_all (is_source_on (reading_loops kind ls) vs) sources ≡ true
   returns : (is_feedback kind && reads_elsewhere ls final sources) ≡ false
 
+alike : (a b : Bool) → (a && (a && b)) ≡ false → (a && b) ≡ false
+alike true b h = h
+alike false b h = h
+
 stands : (plan : List Line) (vs : List PlacedVertex) (ls : List Loop) (v : Vertex) (more : List PlacedVertex) → is_none (fault_of (scope vs ls) (vertex v)) ≡ true
     → is_stray plan (vertex v) ≡ false → vertices plan ≡ vs ++ record { vertex = v; loops = ls } ∷ more → Stands (vertices plan) vs ls v.kind v.sources
 stands plan vs ls v more none stray whole =
@@ -77,7 +81,7 @@ stands plan vs ls v more none stray whole =
       fits = (neither (is_in_loop ls && is_of_outermost v.kind) (not (is_in_loop ls) && is_of_loops v.kind) (neither misplaced elsewhere d.0).0).1;
       enters = (neither (not (is_feedback v.kind) && list_any (λ s. nat_le v.number s) v.sources) (is_enter v.kind && enters_from_within ls v.sources) c.0).1;
       reads = sourced vs ls v none;
-      returns = sym (ap (λ o. elim o [ None ↦ false | Some q ↦ is_stray_feedback (vertices plan) q ]) at) ∙ stray;
+      returns = alike (is_feedback v.kind) (reads_elsewhere ls (vertices plan) v.sources) (sym (ap (λ o. is_feedback v.kind && elim o [ None ↦ false | Some q ↦ is_stray_feedback (vertices plan) q ]) at) ∙ stray);
     }
 
 -- WHAT IS KNOWN IN A BLOCK

@@ -3,11 +3,9 @@ use Rattle.std.proofs.Common.{◌≡◌, ℕ, ◌+◌, List, [], ◌∷◌, ◌+
 use Rattle.std.specs.Prelude.{decimal}
 use Rattle.std.specs.List.{join_with_byte}
 use Rattle.std.proofs.lemmas.List.{append_assoc, append-nil, map-append, take_more}
-use Rattle.td_plan.specs.Lines.{Vertex, text_of, text_of_line, words_of_kind}
+use Rattle.td_plan.specs.Lines.{Vertex, text_of_line, words_of_kind}
 use Rattle.td_plan.specs.Lines.Line.{vertex}
-use Rattle.td_plan.specs.Blocks.{PlacedVertex}
-use Rattle.td_plan.specs.Inside.{lines_of_vertices}
-use Rattle.td_plan.specs.Printed.{spaced, text_of_vertices}
+use Rattle.td_plan.specs.Steps.Printed.{spaced}
 
 pub spaced-append : (xs ys : List (List ℕ)) → spaced (xs ++ ys) ≡ spaced xs ++ spaced ys
 spaced-append [] ys = refl
@@ -26,11 +24,6 @@ line_printed v =
 -- one source more
 pub spaced-push : (sources : List ℕ) (s : ℕ) → spaced (map decimal (sources ++ s ∷ [])) ≡ spaced (map decimal sources) ++ 32 ∷ decimal s
 spaced-push sources s = ap spaced (map-append decimal sources (s ∷ [])) ∙ spaced-append (map decimal sources) (decimal s ∷ []) ∙ ap (λ r. spaced (map decimal sources) ++ r) (append-nil (32 ∷ decimal s))
-
--- the text of the lines of some vertices
-pub text_of-vertices : (placed : List PlacedVertex) → text_of_vertices placed ≡ text_of (lines_of_vertices placed)
-text_of-vertices [] = refl
-text_of-vertices (p ∷ placed) = ap (λ r. text_of_line (vertex p.vertex) ++ r) (text_of-vertices placed)
 
 -- the bytes after one source more
 pub sources_push : (before so_far after : List ℕ) (sources : List ℕ) (i : ℕ) → i < length sources → so_far ≡ before ++ spaced (map decimal (take i sources)) → after ≡ so_far ++ (32 ∷ decimal (get_or sources i 0))

@@ -1,20 +1,21 @@
--- The words of a line, and the vertex that they write.
-use Rattle.std.proofs.Common.{◌≡◌, ℕ, suc, ◌<◌, ◌≤◌, ◌^◌, Bool, true, false, ◌&&◌, ◌==◌, nat_le, List, [], ◌∷◌, ◌++◌, length, map, refl, sym, ap, ◌∙◌, arith, cond, codes, subst, drop, get_or}
-use Rattle.std.specs.Prelude.{Option, Some, None, option_map, decimal}
+-- The words of a line, and the line that they write.
+use Rattle.std.proofs.Common.{◌≡◌, ℕ, ◌<◌, ◌≤◌, ◌^◌, Bool, true, false, ◌&&◌, nat_le, List, [], ◌∷◌, ◌++◌, length, map, refl, sym, ap, ◌∙◌, arith, cond, codes, subst, get_or}
+use Rattle.std.specs.Prelude.{Option, Some, None, option_map, decimal, IfOk, IfSome, Result, Ok, Err}
 use Rattle.std.specs.List.{list_all}
 use Rattle.std.specs.Str.{bytes_eq}
-use Rattle.std.proofs.lemmas.Bool.{ltb-true, leb-true, lt-ltb, eqb-true}
+use Rattle.std.proofs.lemmas.Bool.{ltb-true, leb-true, lt-ltb}
 use Rattle.std.proofs.lemmas.Slice.Eq.{bytes_eq-Decides}
+use Rattle.td_plan.specs.declared.error.PlanError.{PlanError}
 use Rattle.td_plan.specs.declared.vertex.Kind.{Kind}
 use Rattle.td_plan.specs.declared.vertex.Kind.TheVariants.{Input, Map, Distinct, Group, Fold, Enter, Feedback, Leave, Output}
+use Rattle.td_plan.specs.declared.line.WrittenLine.{WrittenLine}
 use Rattle.td_plan.specs.Text.{natural_of, number_of, of_nine_digits, has_nine_digits}
-use Rattle.td_plan.specs.Lines.{Vertex, words_of, words_of_kind, has_form, has_code, has_arity, is_flat_kind, is_taken}
-use Rattle.td_plan.specs.Lines.Line.{vertex}
-use Rattle.td_plan.specs.Reading.{vertex_of, numbered_vertex, kind_of, sources_of_none, sources_of_one, code_of, with_rest, with_code, with_sources}
-use Rattle.std.specs.Prelude.{IfSome}
-use Rattle.td_plan.specs.declared.line.Written.{Written}
-use Rattle.td_plan.specs.Written.{written_vertex}
+use Rattle.td_plan.specs.Lines.{Line, words_of, words_of_kind, has_form, has_code, has_arity}
+use Rattle.td_plan.specs.Lines.Line.{vertex, loop, end}
+use Rattle.td_plan.specs.Steps.Words.{numbers_of, with_number, code_of, with_rest, plain_kind, coded_kind, with_code, kind_of, kind_by, with_sources, with_kind, vertex_of, head_of, end_of, line_of}
+use Rattle.td_plan.specs.Steps.Written.{written_line}
 use Rattle.td_plan.proofs.Numerals.{natural_reads, natural_again}
+use Rattle.td_plan.proofs.Spelling.{first_digit}
 
 pub small : (n : ℕ) → has_nine_digits n ≡ true → n < 2 ^ 64
 small n e = let h : n < 1000000000 = ltb-true n 1000000000 e in omega arith
@@ -42,18 +43,19 @@ pub number_again : (n : ℕ) → has_nine_digits n ≡ true → number_of (decim
 number_again n h = ap of_nine_digits (natural_again n (small n h)) ∙ nine_when n h
 
 -- WHAT IS READ IS WHAT WAS WRITTEN
-none_sound : (rest : List (List ℕ)) (s : List ℕ) → sources_of_none rest ≡ Some s → (rest ≡ []) × (s ≡ [])
-none_sound [] s e = let h : [] ≡ s = cc in (refl, sym h)
-none_sound (word ∷ rest) s e = absurd (cc)
-
-one_sound : (rest : List (List ℕ)) (s : List ℕ) → sources_of_one rest ≡ Some s → (n : ℕ) × (rest ≡ decimal n ∷ []) × (has_nine_digits n ≡ true) × (s ≡ n ∷ [])
-one_sound [] s e = absurd (cc)
-one_sound (word ∷ another ∷ rest) s e = absurd (cc)
-one_sound (word ∷ []) s e = by (number_of word) refl e
+numbers_sound : (ws : List (List ℕ)) (ss : List ℕ) → numbers_of ws ≡ Some ss → (ws ≡ map decimal ss) × (list_all has_nine_digits ss ≡ true)
+numbers_sound [] ss e = let h : [] ≡ ss = cc in (ap (map decimal) h, ap (list_all has_nine_digits) (sym h))
+numbers_sound (w ∷ ws) ss e = by (number_of w) (numbers_of ws) refl refl e (numbers_sound ws)
   where
-    by : (o : Option ℕ) → number_of word ≡ o → option_map (λ n. n ∷ []) o ≡ Some s → (n : ℕ) × (word ∷ [] ≡ decimal n ∷ []) × (has_nine_digits n ≡ true) × (s ≡ n ∷ [])
-    by None at e = absurd (cc)
-    by (Some n) at e = let r = number_reads word n at in let h : n ∷ [] ≡ s = cc in (n, (λ i. r.0 i ∷ []), r.1, sym h)
+    by : (n : Option ℕ) (o : Option (List ℕ)) → number_of w ≡ n → numbers_of ws ≡ o → with_number n o ≡ Some ss
+        → ((ns : List ℕ) → numbers_of ws ≡ Some ns → (ws ≡ map decimal ns) × (list_all has_nine_digits ns ≡ true)) → (w ∷ ws ≡ map decimal ss) × (list_all has_nine_digits ss ≡ true)
+    by None o at more e rest = absurd (cc)
+    by (Some n) None at more e rest = absurd (cc)
+    by (Some n) (Some ns) at more e rest =
+        let same : n ∷ ns ≡ ss = cc in
+        let here = number_reads w n at in
+        let others = rest ns more in
+        subst (λ s. (w ∷ ws ≡ map decimal s) × (list_all has_nine_digits s ≡ true)) same ((λ i. here.0 i ∷ others.0 i), rw (here.1, others.1) refl)
 
 code_sound : (rest : List (List ℕ)) (code : ℕ) (more : List (List ℕ)) → code_of rest ≡ Some (code, more) → (rest ≡ decimal code ∷ more) × (nat_le code 65535 ≡ true)
 code_sound [] code more e = absurd (cc)
@@ -72,183 +74,179 @@ code_sound (word ∷ rest) code more e = by (number_of word) refl e
     by None at e = absurd (cc)
     by (Some c) at e = here c (nat_le c 65535) at refl e
 
--- What is known of a kind and its sources that were read from a name and the words after it
-pub record IsKind (name : List ℕ) (rest : List (List ℕ)) (kind : Kind) (sources : List ℕ) : Type 0 where
-  pub written : name ∷ rest ≡ words_of_kind kind ++ map decimal sources
-  pub code : has_code kind ≡ true
-  pub nine : list_all has_nine_digits sources ≡ true
-  pub arity : has_arity kind (length sources) ≡ true
-  pub flat : is_flat_kind kind (length sources) ≡ true
-
-sources_sound : (k : Kind) (o : Option (List ℕ)) (kind : Kind) (sources : List ℕ) → with_sources k o ≡ Some (kind, sources) → (o ≡ Some sources) × (k ≡ kind)
-sources_sound k None kind sources e = absurd (cc)
-sources_sound k (Some s) kind sources e =
-    let pair : ◌≡◌ {A = Kind × List ℕ} (k, s) (kind, sources) = cc in
-    (ap Some (ap (λ (q : Kind × List ℕ). q.1) pair), ap (λ (q : Kind × List ℕ). q.0) pair)
-
--- a kind whose form has one source
-abbrev IsOfOne : Kind → Type 0
-IsOfOne kind = (has_arity kind 1 ≡ true) × (is_flat_kind kind 1 ≡ true)
-
-input_sound : (name : List ℕ) (rest : List (List ℕ)) (kind : Kind) (sources : List ℕ) → name ≡ codes "input" → with_sources Input (sources_of_none rest) ≡ Some (kind, sources) → IsKind name rest kind sources
-input_sound name rest kind sources n e =
-    let read = sources_sound Input (sources_of_none rest) kind sources e in
-    let none = none_sound rest sources read.0 in
-    let here : IsKind name rest Input [] = record { written = λ i. n i ∷ none.0 i; code = refl; nine = refl; arity = refl; flat = refl } in
-    subst (λ (p : Kind × List ℕ). IsKind name rest p.0 p.1) (λ i. (read.1 i, sym none.1 i)) here
-
-one_kind : (k : Kind) (name : List ℕ) (before rest : List (List ℕ)) (kind : Kind) (sources : List ℕ) → name ∷ before ≡ words_of_kind k → has_code k ≡ true → IsOfOne k
-    → with_sources k (sources_of_one rest) ≡ Some (kind, sources) → IsKind name (before ++ rest) kind sources
-one_kind k name before rest kind sources w code fit e =
-    let read = sources_sound k (sources_of_one rest) kind sources e in
-    let r = one_sound rest sources read.0 in
-    let here : IsKind name (before ++ rest) k (r.0 ∷ []) = record {
-      written = (λ i. name ∷ before ++ r.1 i) ∙ (λ i. w i ++ decimal r.0 ∷ []);
-      code = code;
-      nine = rw r.2 refl;
-      arity = fit.0;
-      flat = fit.1;
-    } in
-    subst (λ (p : Kind × List ℕ). IsKind name (before ++ rest) p.0 p.1) (λ i. (read.1 i, sym r.3 i)) here
-
-code_kind : (k : ℕ → Kind) (name : List ℕ) (rest : List (List ℕ)) (kind : Kind) (sources : List ℕ) → ((c : ℕ) → name ∷ decimal c ∷ [] ≡ words_of_kind (k c)) → ((c : ℕ) → nat_le c 65535 ≡ true → has_code (k c) ≡ true)
-    → ((c : ℕ) → IsOfOne (k c)) → with_code k (code_of rest) ≡ Some (kind, sources) → IsKind name rest kind sources
-code_kind k name rest kind sources w code fit e = by (code_of rest) refl e
-  where
-    by : (o : Option (ℕ × List (List ℕ))) → code_of rest ≡ o → with_code k o ≡ Some (kind, sources) → IsKind name rest kind sources
-    by None at e = absurd (cc)
-    by (Some p) at e =
-        let c = code_sound rest p.0 p.1 at in
-        subst (λ r. IsKind name r kind sources) (sym c.0) (one_kind (k p.0) name (decimal p.0 ∷ []) p.1 kind sources (w p.0) (code p.0 c.1) (fit p.0) e)
-
 is_text : (xs ys : List ℕ) → bytes_eq xs ys ≡ true → xs ≡ ys
 is_text xs ys = (bytes_eq-Decides xs ys).0
 
-kind_sound : (name : List ℕ) (rest : List (List ℕ)) (kind : Kind) (sources : List ℕ) → kind_of name rest ≡ Some (kind, sources) → IsKind name rest kind sources
-kind_sound name rest kind sources e = by_input (bytes_eq name (codes "input")) refl e
+-- one name of a kind after the other
+abbrev IsNamed : List (List ℕ) → Kind → Type 0
+IsNamed ws kind = (ws ≡ words_of_kind kind) × (has_code kind ≡ true)
+
+named : (name word : List ℕ) (code : List (List ℕ)) (k : Kind) (rest : Option Kind) (kind : Kind) → IsNamed (word ∷ code) k → cond (bytes_eq name word) (Some k) rest ≡ Some kind
+    → (rest ≡ Some kind → IsNamed (name ∷ code) kind) → IsNamed (name ∷ code) kind
+named name word code k rest kind here e others = by (bytes_eq name word) refl e
   where
-    by_output : (b : Bool) → bytes_eq name (codes "output") ≡ b → cond b (with_sources Output (sources_of_one rest)) None ≡ Some (kind, sources) → IsKind name rest kind sources
-    by_output true n e = one_kind Output name [] rest kind sources (λ i. is_text name (codes "output") n i ∷ []) refl (refl, refl) e
-    by_output false n e = absurd (cc)
+    by : (b : Bool) → bytes_eq name word ≡ b → cond b (Some k) rest ≡ Some kind → IsNamed (name ∷ code) kind
+    by false t e = others e
+    by true t e =
+        let same : k ≡ kind = cc in
+        subst (IsNamed (name ∷ code)) same ((λ i. is_text name word t i ∷ code) ∙ here.0, here.1)
 
-    by_group : (b : Bool) → bytes_eq name (codes "group") ≡ b → cond b (with_code Group (code_of rest)) (cond (bytes_eq name (codes "output")) (with_sources Output (sources_of_one rest)) None) ≡ Some (kind, sources) → IsKind name rest kind sources
-    by_group true n e = code_kind Group name rest kind sources (λ c i. is_text name (codes "group") n i ∷ decimal c ∷ []) (λ c h. h) (λ c. (refl, refl)) e
-    by_group false n e = by_output (bytes_eq name (codes "output")) refl e
+plain_sound : (name : List ℕ) (kind : Kind) → plain_kind name ≡ Some kind → IsNamed (name ∷ []) kind
+plain_sound name kind e =
+    named name (codes "input") [] Input _ kind (refl, refl) e (λ e1. named name (codes "distinct") [] Distinct _ kind (refl, refl) e1 (λ e2. named name (codes "enter") [] Enter _ kind (refl, refl) e2
+    (λ e3. named name (codes "feedback") [] Feedback _ kind (refl, refl) e3 (λ e4. named name (codes "leave") [] Leave _ kind (refl, refl) e4 (λ e5. named name (codes "output") [] Output _ kind (refl, refl) e5 (λ e6. absurd (cc)))))))
 
-    by_map : (b : Bool) → bytes_eq name (codes "map") ≡ b
-        → cond b (with_code Map (code_of rest)) (cond (bytes_eq name (codes "group")) (with_code Group (code_of rest)) (cond (bytes_eq name (codes "output")) (with_sources Output (sources_of_one rest)) None)) ≡ Some (kind, sources) → IsKind name rest kind sources
-    by_map true n e = code_kind Map name rest kind sources (λ c i. is_text name (codes "map") n i ∷ decimal c ∷ []) (λ c h. h) (λ c. (refl, refl)) e
-    by_map false n e = by_group (bytes_eq name (codes "group")) refl e
+coded_sound : (name : List ℕ) (code : ℕ) (kind : Kind) → nat_le code 65535 ≡ true → coded_kind name code ≡ Some kind → IsNamed (name ∷ decimal code ∷ []) kind
+coded_sound name code kind h e =
+    named name (codes "map") (decimal code ∷ []) (Map code) _ kind (refl, h) e (λ e1. named name (codes "group") (decimal code ∷ []) (Group code) _ kind (refl, h) e1
+    (λ e2. named name (codes "fold") (decimal code ∷ []) (Fold code) _ kind (refl, h) e2 (λ e3. absurd (cc))))
 
-    by_input : (b : Bool) → bytes_eq name (codes "input") ≡ b
-        → cond b (with_sources Input (sources_of_none rest)) (cond (bytes_eq name (codes "map")) (with_code Map (code_of rest)) (cond (bytes_eq name (codes "group")) (with_code Group (code_of rest)) (cond (bytes_eq name (codes "output")) (with_sources Output (sources_of_one rest)) None))) ≡ Some (kind, sources)
-        → IsKind name rest kind sources
-    by_input true n e = input_sound name rest kind sources (is_text name (codes "input") n) e
-    by_input false n e = by_map (bytes_eq name (codes "map")) refl e
+-- a kind, and the words after it
+abbrev IsKind : List (List ℕ) → (Kind × List (List ℕ)) → Type 0
+IsKind ws p = (ws ≡ words_of_kind p.0 ++ p.1) × (has_code p.0 ≡ true)
 
--- What is known of a vertex that was read
-pub record IsVertex (ws : List (List ℕ)) (v : Vertex) : Type 0 where
-  pub written : ws ≡ words_of (vertex v)
-  pub form : has_form (vertex v) ≡ true
-  pub taken : is_taken (vertex v) ≡ true
+kind_sound : (ws : List (List ℕ)) (p : Kind × List (List ℕ)) → kind_of ws ≡ Some p → IsKind ws p
+kind_sound [] p e = absurd (cc)
+kind_sound (name ∷ ws) p e = by (plain_kind name) refl e
+  where
+    coded : (q : ℕ × List (List ℕ)) (o : Option Kind) → code_of ws ≡ Some q → coded_kind name q.0 ≡ o → option_map (λ k. (k, q.1)) o ≡ Some p → IsKind (name ∷ ws) p
+    coded q None at here e = absurd (cc)
+    coded q (Some k) at here e =
+        let same : ◌≡◌ {A = Kind × List (List ℕ)} (k, q.1) p = cc in
+        let c = code_sound ws q.0 q.1 at in
+        let n = coded_sound name q.0 k c.1 here in
+        subst (IsKind (name ∷ ws)) same ((λ i. name ∷ c.0 i) ∙ (λ i. n.0 i ++ q.1), n.1)
+
+    by_code : (o : Option (ℕ × List (List ℕ))) → code_of ws ≡ o → with_code name o ≡ Some p → IsKind (name ∷ ws) p
+    by_code None at e = absurd (cc)
+    by_code (Some q) at e = coded q (coded_kind name q.0) at refl e
+
+    by : (o : Option Kind) → plain_kind name ≡ o → kind_by name ws o ≡ Some p → IsKind (name ∷ ws) p
+    by None at e = by_code (code_of ws) refl e
+    by (Some k) at e =
+        let same : ◌≡◌ {A = Kind × List (List ℕ)} (k, ws) p = cc in
+        let n = plain_sound name k at in
+        subst (IsKind (name ∷ ws)) same ((λ i. n.0 i ++ ws), n.1)
+
+-- What is known of a line that was read
+pub record IsLine (ws : List (List ℕ)) (line : Line) : Type 0 where
+  pub written : ws ≡ words_of line
+  pub form : has_form line ≡ true
 
 and_true : (a b : Bool) → a ≡ true → b ≡ true → (a && b) ≡ true
 and_true true b e f = f
 and_true false b e f = e
 
-pub vertex_sound : (ws : List (List ℕ)) (v : Vertex) → vertex_of ws ≡ Some v → IsVertex ws v
-vertex_sound [] v e = absurd (cc)
-vertex_sound (number ∷ []) v e = absurd (cc)
-vertex_sound (number ∷ name ∷ rest) v e = by (number_of number) (kind_of name rest) refl refl e
+sourced : (word : List ℕ) (rest ws : List (List ℕ)) (n : ℕ) (k : Kind) (line : Line) → (word ≡ decimal n) × (has_nine_digits n ≡ true) → IsKind rest (k, ws) → (o : Option (List ℕ)) → numbers_of ws ≡ o
+    → with_sources n k o ≡ Some line → IsLine (word ∷ rest) line
+sourced word rest ws n k line number kind None at e = absurd (cc)
+sourced word rest ws n k line number kind (Some ss) at e = by (has_arity k (length ss)) refl e
   where
-    by : (n : Option ℕ) (p : Option (Kind × List ℕ)) → number_of number ≡ n → kind_of name rest ≡ p → numbered_vertex n p ≡ Some v → IsVertex (number ∷ name ∷ rest) v
-    by None p at kat e = absurd (cc)
-    by (Some n) None at kat e = absurd (cc)
-    by (Some n) (Some p) at kat e =
-        let same : record { number = n; kind = p.0; sources = p.1 } ≡ v = cc in
-        let w = number_reads number n at in
-        let k = kind_sound name rest p.0 p.1 kat in
-        subst (IsVertex (number ∷ name ∷ rest)) same (record {
-          written = λ i. w.0 i ∷ k.written i;
-          form = and_true _ _ (and_true _ _ (and_true _ _ w.1 k.code) k.nine) k.arity;
-          taken = k.flat;
+    by : (b : Bool) → has_arity k (length ss) ≡ b → cond b (Some (vertex (record { number = n; kind = k; sources = ss }))) None ≡ Some line → IsLine (word ∷ rest) line
+    by false t e = absurd (cc)
+    by true t e =
+        let same : vertex (record { number = n; kind = k; sources = ss }) ≡ line = cc in
+        let s = numbers_sound ws ss at in
+        subst (IsLine (word ∷ rest)) same (record {
+          written = (λ i. number.0 i ∷ kind.0 i) ∙ (λ i. decimal n ∷ words_of_kind k ++ s.0 i);
+          form = and_true _ _ (and_true _ _ (and_true _ _ number.1 kind.1) s.1) t;
         })
+
+vertex_sound : (word : List ℕ) (rest : List (List ℕ)) (line : Line) → vertex_of (number_of word) rest ≡ Some line → IsLine (word ∷ rest) line
+vertex_sound word rest line e = by (number_of word) (kind_of rest) refl refl e
+  where
+    by : (n : Option ℕ) (p : Option (Kind × List (List ℕ))) → number_of word ≡ n → kind_of rest ≡ p → vertex_of n rest ≡ Some line → IsLine (word ∷ rest) line
+    by None p at kat e = absurd (cc)
+    by (Some n) None at kat e = absurd (let none : with_kind n None ≡ Some line = ap (with_kind n) (sym kat) ∙ e in cc)
+    by (Some n) (Some p) at kat e = sourced word rest p.1 n p.0 line (number_reads word n at) (kind_sound rest p kat) (numbers_of p.1) refl (ap (with_kind n) (sym kat) ∙ e)
+
+head_sound : (word : List ℕ) (rest : List (List ℕ)) (line : Line) → word ≡ codes "loop" → head_of rest ≡ Some line → IsLine (word ∷ rest) line
+head_sound word [] line w e = absurd (cc)
+head_sound word (b ∷ c ∷ rest) line w e = absurd (cc)
+head_sound word (b ∷ []) line w e = by (number_of b) refl e
+  where
+    by : (n : Option ℕ) → number_of b ≡ n → option_map loop n ≡ Some line → IsLine (word ∷ b ∷ []) line
+    by None at e = absurd (cc)
+    by (Some n) at e =
+        let same : loop n ≡ line = cc in
+        let r = number_reads b n at in
+        subst (IsLine (word ∷ b ∷ [])) same (record { written = λ i. w i ∷ r.0 i ∷ []; form = r.1 })
+
+end_sound : (word : List ℕ) (rest : List (List ℕ)) (line : Line) → word ≡ codes "end" → end_of rest ≡ Some line → IsLine (word ∷ rest) line
+end_sound word (w ∷ rest) line at e = absurd (cc)
+end_sound word [] line at e = let same : end ≡ line = cc in subst (IsLine (word ∷ [])) same (record { written = λ i. at i ∷ []; form = refl })
+
+pub line_sound : (ws : List (List ℕ)) (line : Line) → line_of ws ≡ Some line → IsLine ws line
+line_sound [] line e = absurd (cc)
+line_sound (word ∷ rest) line e = by (bytes_eq word (codes "loop")) refl e
+  where
+    by_end : (b : Bool) → bytes_eq word (codes "end") ≡ b → cond b (end_of rest) (vertex_of (number_of word) rest) ≡ Some line → IsLine (word ∷ rest) line
+    by_end true t e = end_sound word rest line (is_text word (codes "end") t) e
+    by_end false t e = vertex_sound word rest line e
+
+    by : (b : Bool) → bytes_eq word (codes "loop") ≡ b → cond b (head_of rest) (cond (bytes_eq word (codes "end")) (end_of rest) (vertex_of (number_of word) rest)) ≡ Some line → IsLine (word ∷ rest) line
+    by true t e = head_sound word rest line (is_text word (codes "loop") t) e
+    by false t e = by_end (bytes_eq word (codes "end")) refl e
 
 -- WHAT IS WRITTEN IS READ
 pub below : (c : ℕ) → nat_le c 65535 ≡ true → has_nine_digits c ≡ true
 below c h = let k : c ≤ 65535 = leb-true c 65535 h in lt-ltb c 1000000000 (omega arith)
 
+numbers_again : (ss : List ℕ) → list_all has_nine_digits ss ≡ true → numbers_of (map decimal ss) ≡ Some ss
+numbers_again [] h = refl
+numbers_again (s ∷ ss) h =
+    let parts = both (has_nine_digits s) (list_all has_nine_digits ss) h in
+    ap (λ o. with_number o (numbers_of (map decimal ss))) (number_again s parts.0) ∙ ap (option_map (λ ns. s ∷ ns)) (numbers_again ss parts.1)
+
 rest_when : (c : ℕ) (rest : List (List ℕ)) → nat_le c 65535 ≡ true → with_rest rest (Some c) ≡ Some (c, rest)
 rest_when c rest h = rw h refl
 
-code_again : (c s : ℕ) (k : ℕ → Kind) → nat_le c 65535 ≡ true → has_nine_digits s ≡ true → with_code k (code_of (decimal c ∷ decimal s ∷ [])) ≡ Some (k c, s ∷ [])
-code_again c s k h hs =
-    let code : has_nine_digits c ≡ true = below c h in
-    ap (λ o. with_code k (with_rest (decimal s ∷ []) o)) (number_again c code) ∙ ap (with_code k) (rest_when c (decimal s ∷ []) h) ∙ ap (λ o. with_sources (k c) (option_map (λ n. n ∷ []) o)) (number_again s hs)
+code_again : (c : ℕ) (rest : List (List ℕ)) → nat_le c 65535 ≡ true → code_of (decimal c ∷ rest) ≡ Some (c, rest)
+code_again c rest h = ap (with_rest rest) (number_again c (below c h)) ∙ rest_when c rest h
 
-one_again : (s : ℕ) (k : Kind) → has_nine_digits s ≡ true → with_sources k (sources_of_one (decimal s ∷ [])) ≡ Some (k, s ∷ [])
-one_again s k hs = ap (λ o. with_sources k (option_map (λ n. n ∷ []) o)) (number_again s hs)
+kind_again : (k : Kind) (rest : List (List ℕ)) → has_code k ≡ true → kind_of (words_of_kind k ++ rest) ≡ Some (k, rest)
+kind_again Input rest h = refl
+kind_again (Map c) rest h = ap (with_code (codes "map")) (code_again c rest h)
+kind_again Distinct rest h = refl
+kind_again (Group c) rest h = ap (with_code (codes "group")) (code_again c rest h)
+kind_again (Fold c) rest h = ap (with_code (codes "fold")) (code_again c rest h)
+kind_again Enter rest h = refl
+kind_again Feedback rest h = refl
+kind_again Leave rest h = refl
+kind_again Output rest h = refl
 
--- the kind of a line of one of the forms that are taken so far
-kind_again : (k : Kind) (sources : List ℕ) (name : List ℕ) (rest : List (List ℕ)) → has_code k ≡ true → list_all has_nine_digits sources ≡ true → is_flat_kind k (length sources) ≡ true → name ∷ rest ≡ words_of_kind k ++ map decimal sources
-    → kind_of name rest ≡ Some (k, sources)
-kind_again Input [] name rest code nine flat w = λ i. kind_of (get_or (w i) 0 []) (drop 1 (w i))
-kind_again Input (s ∷ more) name rest code nine flat w = absurd (by (length more) flat)
-  where
-    by : (n : ℕ) → (suc n == 0) ≡ true → ⊥
-    by n e = let h : suc n ≡ 0 = eqb-true (suc n) 0 e in omega arith
-kind_again (Map c) (s ∷ []) name rest code nine flat w = (λ i. kind_of (get_or (w i) 0 []) (drop 1 (w i))) ∙ code_again c s Map code (both (has_nine_digits s) true nine).0
-kind_again (Group c) (s ∷ []) name rest code nine flat w = (λ i. kind_of (get_or (w i) 0 []) (drop 1 (w i))) ∙ code_again c s Group code (both (has_nine_digits s) true nine).0
-kind_again Output (s ∷ []) name rest code nine flat w = (λ i. kind_of (get_or (w i) 0 []) (drop 1 (w i))) ∙ one_again s Output (both (has_nine_digits s) true nine).0
-kind_again (Map c) [] name rest code nine flat w = absurd (cc)
-kind_again (Group c) [] name rest code nine flat w = absurd (cc)
-kind_again Output [] name rest code nine flat w = absurd (cc)
-kind_again (Map c) (s ∷ t ∷ more) name rest code nine flat w = absurd (by (length more) flat)
-  where
-    by : (n : ℕ) → (suc (suc n) == 1) ≡ true → ⊥
-    by n e = let h : suc (suc n) ≡ 1 = eqb-true (suc (suc n)) 1 e in omega arith
-kind_again (Group c) (s ∷ t ∷ more) name rest code nine flat w = absurd (by (length more) flat)
-  where
-    by : (n : ℕ) → (suc (suc n) == 1) ≡ true → ⊥
-    by n e = let h : suc (suc n) ≡ 1 = eqb-true (suc (suc n)) 1 e in omega arith
-kind_again Output (s ∷ t ∷ more) name rest code nine flat w = absurd (by (length more) flat)
-  where
-    by : (n : ℕ) → (suc (suc n) == 1) ≡ true → ⊥
-    by n e = let h : suc (suc n) ≡ 1 = eqb-true (suc (suc n)) 1 e in omega arith
-kind_again Distinct sources name rest code nine flat w = absurd (cc)
-kind_again (Fold c) sources name rest code nine flat w = absurd (cc)
-kind_again Enter sources name rest code nine flat w = absurd (cc)
-kind_again Feedback sources name rest code nine flat w = absurd (cc)
-kind_again Leave sources name rest code nine flat w = absurd (cc)
+sources_when : (n : ℕ) (k : Kind) (ss : List ℕ) → has_arity k (length ss) ≡ true → with_sources n k (Some ss) ≡ Some (vertex (record { number = n; kind = k; sources = ss }))
+sources_when n k ss h = rw h refl
 
--- a kind is written by its name and what follows it
-name_of : (k : Kind) → (name : List ℕ) × (rest : List (List ℕ)) × (words_of_kind k ≡ name ∷ rest)
-name_of Input = (codes "input", [], refl)
-name_of (Map c) = (codes "map", decimal c ∷ [], refl)
-name_of Distinct = (codes "distinct", [], refl)
-name_of (Group c) = (codes "group", decimal c ∷ [], refl)
-name_of (Fold c) = (codes "fold", decimal c ∷ [], refl)
-name_of Enter = (codes "enter", [], refl)
-name_of Feedback = (codes "feedback", [], refl)
-name_of Leave = (codes "leave", [], refl)
-name_of Output = (codes "output", [], refl)
+-- no number is written as a word that begins with a letter
+not_word : (n : ℕ) (word : List ℕ) → n < 2 ^ 64 → 58 ≤ get_or word 0 0 → bytes_eq (decimal n) word ≡ false
+not_word n word h letter = by (bytes_eq (decimal n) word) refl
+  where
+    by : (b : Bool) → bytes_eq (decimal n) word ≡ b → bytes_eq (decimal n) word ≡ false
+    by false t = t
+    by true t =
+        let digit = first_digit n h in
+        let same : get_or (decimal n) 0 0 ≡ get_or word 0 0 = ap (λ ds. get_or ds 0 0) (is_text (decimal n) word t) in
+        absurd (omega arith)
 
-pub vertex_again : (v : Vertex) → has_form (vertex v) ≡ true → is_taken (vertex v) ≡ true → vertex_of (words_of (vertex v)) ≡ Some v
-vertex_again v form taken =
-    let arity = both (has_nine_digits v.number && has_code v.kind && list_all has_nine_digits v.sources) (has_arity v.kind (length v.sources)) form in
+pub line_again : (l : Line) → has_form l ≡ true → line_of (words_of l) ≡ Some l
+line_again (loop b) h = ap (option_map loop) (number_again b h)
+line_again end h = refl
+line_again (vertex v) h =
+    let arity = both (has_nine_digits v.number && has_code v.kind && list_all has_nine_digits v.sources) (has_arity v.kind (length v.sources)) h in
     let nine = both (has_nine_digits v.number && has_code v.kind) (list_all has_nine_digits v.sources) arity.0 in
     let code = both (has_nine_digits v.number) (has_code v.kind) nine.0 in
-    let w = name_of v.kind in
-    let split : words_of_kind v.kind ++ map decimal v.sources ≡ w.0 ∷ w.1 ++ map decimal v.sources = λ i. w.2 i ++ map decimal v.sources in
-    ap (λ ws. vertex_of (decimal v.number ∷ ws)) split
-    ∙ ap (λ o. numbered_vertex o (kind_of w.0 (w.1 ++ map decimal v.sources))) (number_again v.number code.0)
-    ∙ ap (numbered_vertex (Some v.number)) (kind_again v.kind v.sources w.0 (w.1 ++ map decimal v.sources) code.1 nine.1 taken (sym split))
+    let rest = words_of_kind v.kind ++ map decimal v.sources in
+    let n = decimal v.number in
+    ap (λ b. cond b (head_of rest) (cond (bytes_eq n (codes "end")) (end_of rest) (vertex_of (number_of n) rest))) (not_word v.number (codes "loop") (small v.number code.0) (omega arith))
+    ∙ ap (λ b. cond b (end_of rest) (vertex_of (number_of n) rest)) (not_word v.number (codes "end") (small v.number code.0) (omega arith))
+    ∙ ap (λ o. vertex_of o rest) (number_again v.number code.0)
+    ∙ ap (with_kind v.number) (kind_again v.kind (map decimal v.sources) code.1)
+    ∙ ap (with_sources v.number v.kind) (numbers_again v.sources nine.1)
+    ∙ sources_when v.number v.kind v.sources arity.1
 
--- what the reader's own value stands for, then, is a line of a form that is taken
-pub written_form : (ws : List (List ℕ)) (o : Option Written) → option_map written_vertex o ≡ vertex_of ws → IfSome o (λ w. has_form (vertex (written_vertex w)) ≡ true)
-written_form ws None e = tt
-written_form ws (Some w) e = (vertex_sound ws (written_vertex w) (sym e)).form
-
-pub written_taken : (ws : List (List ℕ)) (o : Option Written) → option_map written_vertex o ≡ vertex_of ws → IfSome o (λ w. is_taken (vertex (written_vertex w)) ≡ true)
-written_taken ws None e = tt
-written_taken ws (Some w) e = (vertex_sound ws (written_vertex w) (sym e)).taken
+-- what the reader's own value stands for, then, is a line of one of the forms
+pub written_form : (ws : List (List ℕ)) (r : Result (Option WrittenLine) PlanError) → IfOk r (λ read. option_map written_line read ≡ line_of ws) → IfOk r (λ read. IfSome read (λ w. has_form (written_line w) ≡ true))
+written_form ws (Err e) h = tt
+written_form ws (Ok None) h = tt
+written_form ws (Ok (Some w)) h = (line_sound ws (written_line w) (sym h)).form

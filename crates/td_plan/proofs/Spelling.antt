@@ -54,7 +54,7 @@ kinds_same (Fold c) (Fold d) xs ys p q e = (ap Fold (code_same c d p q (ap (λ l
 kinds_same _ _ xs ys p q e = let h = ap two_letters e in absurd (omega arith)
 
 -- a number is not written as a word
-first_digit : (n : ℕ) → n < 2 ^ 64 → get_or (decimal n) 0 0 < 58
+pub first_digit : (n : ℕ) → n < 2 ^ 64 → get_or (decimal n) 0 0 < 58
 first_digit n h =
     (decimal_by_steps (λ m ds. (0 < length ds) × (get_or ds 0 0 < 58)) (λ m lt. (lit< tt, omega arith))
     (λ m ds ten p. let l : length (ds ++ (48 + m % 10) ∷ []) ≡ length ds + 1 = length-append ds ((48 + m % 10) ∷ []) in (omega (arith, p.0), rw (get_or_append_left ds ((48 + m % 10) ∷ []) 0 0 p.0) p.1)) n h).1

@@ -87,7 +87,7 @@ pub count_spelled : PlanText (lf (codes " 0  input ") (lf (codes "# a comment") 
 unfolding digits
 count_spelled = record {
   readings = Some (at 0 Input []) ∷ None ∷ Some (at 1 (Group 20) (0 ∷ [])) ∷ Some (at 2 Output (1 ∷ [])) ∷ [];
-  read = ((refl, refl, refl), (refl, ((refl, refl, refl), ((refl, refl, refl), tt))));
+  read = ((refl, refl), (refl, ((refl, refl), ((refl, refl), tt))));
   plan_is = refl;
   lawful = count_is_plan;
 }
@@ -101,10 +101,10 @@ misnumbered = record {
   rest = [];
   splits = refl;
   readings = Some (at 0 Input []) ∷ [];
-  read = ((refl, refl, refl), tt);
+  read = ((refl, refl), tt);
   faultless = refl;
   is_number = refl;
-  has = inr (at 2 (Map 1) (5 ∷ []), (refl, refl, refl), refl);
+  has = inr (at 2 (Map 1) (5 ∷ []), (refl, refl), refl);
 }
 
 empty_text : PlanFault [] errors.NoInputOrOutput

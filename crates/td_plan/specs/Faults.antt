@@ -46,7 +46,7 @@ is_of_loops Feedback = true
 is_of_loops Leave = true
 is_of_loops _ = false
 
--- a kind that stands in no loop, but for a fold, which has a fault of its own there
+-- a kind that stands in no loop. (A fold stands in none either, but has a fault of its own there.)
 abbrev pub is_of_outermost : Kind → Bool
 is_of_outermost Input = true
 is_of_outermost Output = true
@@ -56,7 +56,7 @@ abbrev pub is_in_loop : List Loop → Bool
 is_in_loop [] = false
 is_in_loop (l ∷ outer) = true
 
--- no loop is open that could end here: there is none, or no vertex stands in it
+-- the line `end` has nothing to end: no loop is open, or the innermost has no vertex (count is that of all so far)
 abbrev pub ends_nothing : List Loop → ℕ → Bool
 ends_nothing [] count = true
 ends_nothing (l ∷ outer) count = l.first == count
@@ -103,9 +103,9 @@ is_faultless scope (line ∷ lines) = is_none (fault_of scope line) && is_faultl
 abbrev pub is_stray_feedback : List PlacedVertex → PlacedVertex → Bool
 is_stray_feedback placed p = is_feedback p.vertex.kind && reads_elsewhere p.loops placed p.vertex.sources
 
--- whether a line of a plan is one
+-- whether a line of a plan is one, which is told at the vertex of its number
 abbrev pub is_stray : List Line → Line → Bool
-is_stray plan (vertex v) = elim (slice_get (vertices plan) v.number) [ None ↦ false | Some p ↦ is_stray_feedback (vertices plan) p ]
+is_stray plan (vertex v) = is_feedback v.kind && elim (slice_get (vertices plan) v.number) [ None ↦ false | Some p ↦ is_stray_feedback (vertices plan) p ]
 is_stray plan _ = false
 
 abbrev pub is_nil : List Loop → Bool

@@ -7,11 +7,7 @@ pub mod Tree
 pub mod Sources
 pub mod Placed
 pub mod Texts
-pub mod Reading
-pub mod Written
-pub mod Printed
-pub mod Inside
+pub mod Steps
 pub mod Inputs
-pub mod Kept
 pub mod Named
 pub mod Examples

@@ -1,5 +1,5 @@
 -- A plan is the list of its lines.
-use Rattle.std.specs.Prelude.{ℕ, List, [], ◌∷◌, ◌++◌, map, codes, decimal, flat_map, Bool, true, false, ◌&&◌, ◌==◌, nat_lt, nat_le, length}
+use Rattle.std.specs.Prelude.{ℕ, List, [], ◌∷◌, ◌++◌, map, codes, decimal, flat_map, Bool, true, ◌&&◌, ◌==◌, nat_lt, nat_le, length}
 use Rattle.std.specs.List.{join_with_byte, list_all}
 use Rattle.td_plan.specs.declared.vertex.Kind.{Kind}
 use Rattle.td_plan.specs.declared.vertex.Kind.TheVariants.{Input, Map, Distinct, Group, Fold, Enter, Feedback, Leave, Output}
@@ -66,18 +66,3 @@ text_of_line line = join_with_byte 32 (words_of line) ++ 10 ∷ []
 
 abbrev pub text_of : List Line → List ℕ
 text_of plan = flat_map text_of_line plan
-
--- the kinds that the reader takes so far, with how many sources
-abbrev pub is_flat_kind : Kind → ℕ → Bool
-is_flat_kind Input n = n == 0
-is_flat_kind (Map code) n = n == 1
-is_flat_kind (Group code) n = n == 1
-is_flat_kind Output n = n == 1
-is_flat_kind _ n = false
-
--- THE LINES THAT THE READER TAKES SO FAR: every other one is a syntax fault for now. Once it takes them all, this
--- predicate goes, with its use in `Spells` and the premises of laws that name it
-abbrev pub is_taken : Line → Bool
-is_taken (vertex v) = is_flat_kind v.kind (length v.sources)
-is_taken (loop bound) = false
-is_taken end = false

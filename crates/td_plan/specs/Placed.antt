@@ -7,7 +7,7 @@ use Rattle.td_plan.specs.Lines.{Vertex}
 use Rattle.td_plan.specs.Tree.{Nodes, size}
 use Rattle.td_plan.specs.Tree.Nodes.{done, node, block}
 
--- the numbers of the leaves of a loop, which are read on the block around it
+-- the numbers of the leave vertices of a loop, which are read on the block around it
 abbrev pub leave_of : Vertex → Kind → List ℕ
 leave_of v Leave = v.number ∷ []
 leave_of v _ = []

@@ -4,13 +4,13 @@ use Rattle.std.specs.List.{list_any, filter_map}
 use Rattle.td_plan.specs.declared.error.PlanError.{PlanError}
 use Rattle.td_plan.specs.declared.error.PlanError.TheVariants as errors
 use Rattle.td_plan.specs.Text.{text_lines, words, is_passed_over}
-use Rattle.td_plan.specs.Lines.{Line, words_of, has_form, is_taken}
+use Rattle.td_plan.specs.Lines.{Line, words_of, has_form}
 use Rattle.td_plan.specs.Blocks.{no_scope, scope_of, vertices}
 use Rattle.td_plan.specs.Faults.{Fault, fault_of, is_faultless, is_stray, is_nil, has_ends, IsPlan}
 
--- the line of the text is written as this line of a plan, which the reader takes
+-- the line of the text is written as this line of a plan
 abbrev pub Spells : List ℕ → Line → Type 0
-Spells text line = (words text ≡ words_of line) × IsTrue (has_form line) × IsTrue (is_taken line)
+Spells text line = (words text ≡ words_of line) × IsTrue (has_form line)
 
 -- it is passed over, or written as this line of a plan
 abbrev pub IsReadAs : List ℕ → Option Line → Type 0

@@ -11,8 +11,8 @@ pub data Nodes : Type 0 where
   node : Vertex → Nodes → Nodes
   block : ℕ → Nodes → Nodes → Nodes
 
--- Of the last lines of a plan: those up to the end of the innermost loop that is not opened in them, and
--- what follows each such loop, the innermost first
+-- The lines of a plan from some line on, as parts of a tree: what stands in the block where they begin, up to its
+-- end; and what follows the end of that block, of the block around it, and so on, the innermost first
 pub record Rest : Type 0 where
   pub inside : Nodes
   pub after : List Nodes

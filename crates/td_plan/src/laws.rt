@@ -1,9 +1,9 @@
 //! Laws of the definitions. Each is the contract of a function that does nothing.
 ghost use Rattle.std.specs.Prelude.{[], ◌≡◌, ◌⊎◌, ◌≤◌, ℕ, List, length, true};
 ghost use Rattle.td_plan.specs.declared.error.PlanError.{PlanError as AnyError};
-ghost use Rattle.std.specs.List.{join_with_byte, list_all};
+ghost use Rattle.std.specs.List.{join_with_byte};
 ghost use Rattle.td_plan.specs.Text.{words};
-ghost use Rattle.td_plan.specs.Lines.{Line, has_form, is_taken, text_of, words_of};
+ghost use Rattle.td_plan.specs.Lines.{Line, has_form, text_of, words_of};
 ghost use Rattle.td_plan.specs.Blocks.{vertices};
 ghost use Rattle.td_plan.specs.Tree.{tree_of, lines_of, placed_in, IsNumbered};
 ghost use Rattle.td_plan.specs.Faults.{IsPlan};
@@ -11,8 +11,7 @@ ghost use Rattle.td_plan.specs.Sources.{ReadEarlier};
 ghost use Rattle.td_plan.specs.Placed.{IsPlacedTree};
 ghost use Rattle.td_plan.specs.Texts.{PlanText, PlanFault};
 
-/// A text spells one plan, or has one refusal, and never both. The lines that the reader does not take yet count as
-/// syntax faults here: once it takes them, the law speaks of them too.
+/// A text spells one plan, or has one refusal, and never both.
 pub fn one_answer()
     ensures either { (text : List ℕ) → ((p : List Line) × PlanText text p) ⊎ ((e : AnyError) × PlanFault text e) }
     ensures not_both { (text : List ℕ) (p : List Line) (e : AnyError) → PlanText text p → PlanFault text e → ⊥ }
@@ -26,12 +25,11 @@ pub fn lines_by_words()
     ensures read_back { (line : Line) → has_form line ≡ true → words (join_with_byte 32 (words_of line)) ≡ words_of line }
 {}
 
-/// The canonical text of a plan spells that plan and no other, in at most 3,948 bytes. (Of the lines that the reader
-/// takes so far.)
+/// The canonical text of a plan spells that plan and no other, in at most 3,948 bytes.
 pub fn canonical_text()
-    ensures spells { (plan : List Line) → IsPlan plan → list_all is_taken plan ≡ true → PlanText (text_of plan) plan }
-    ensures no_other { (p q : List Line) → IsPlan p → list_all is_taken p ≡ true → PlanText (text_of p) q → q ≡ p }
-    ensures bytes { (plan : List Line) → IsPlan plan → list_all is_taken plan ≡ true → length (text_of plan) ≤ 3948 }
+    ensures spells { (plan : List Line) → IsPlan plan → PlanText (text_of plan) plan }
+    ensures no_other { (p q : List Line) → IsPlan p → PlanText (text_of p) q → q ≡ p }
+    ensures bytes { (plan : List Line) → IsPlan plan → length (text_of plan) ≤ 3948 }
 {}
 
 /// The tree of a plan: its lines are the plan's, its vertices are the plan's in the order of their numbers, each with

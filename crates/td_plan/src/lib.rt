@@ -5,9 +5,11 @@
 mod error;
 pub mod laws;
 mod line;
+mod mark;
 mod plan;
 mod printer;
 mod reader;
+mod scope;
 #[cfg(test)]
 mod tests;
 pub mod text;
@@ -15,4 +17,4 @@ mod vertex;
 
 pub use error::PlanError;
 pub use plan::Plan;
-pub use vertex::{EDGES, Edge, Kind, LEVELS, Loop, SOURCES, VERTICES, Vertex};
+pub use vertex::{EDGES, Edge, Kind, LEVELS, Loop, MOST_TURNS, SOURCES, VERTICES, Vertex};

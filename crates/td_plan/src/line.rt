@@ -1,120 +1,188 @@
 //! One line of a plan text.
-ghost use Rattle.std.specs.Prelude.{◌≡◌, ◌<◌, ◌≤◌, ◌∷◌, [], length, true, IfSome, option_map};
+ghost use Rattle.std.specs.Prelude.{◌≡◌, nat_le, true, IfOk, IfErr, IfSome, option_map};
+ghost use Rattle.std.specs.List.{list_any};
 ghost use Rattle.td_plan.specs.Text.{words};
-ghost use Rattle.td_plan.specs.Lines.{has_form, is_taken};
-ghost use Rattle.td_plan.specs.Lines.Line.{vertex};
-ghost use Rattle.td_plan.specs.Reading.{vertex_of, kind_of, sources_of_none, sources_of_one, code_of, is_late};
-ghost use Rattle.td_plan.specs.Written.{sources_of, written_vertex, kind_and_sources, rest_words};
+ghost use Rattle.td_plan.specs.Lines.{has_form, has_arity};
+ghost use Rattle.td_plan.specs.Steps.Words.{line_of, head_of, end_of, with_kind, kind_of, code_of, plain_kind, coded_kind, numbers_of};
+ghost use Rattle.td_plan.specs.Steps.Written.{written_line, kind_words, rest_words};
 
+use crate::error::PlanError;
 use crate::text::{next_word, number};
 use crate::vertex::Kind;
+use std::alloc::Global;
+use std::marker::Model;
 
-/// A vertex as its line has it.
-#[derive(Clone, Copy, Drop)]
+/// A vertex as its line has it: with any number and any sources.
+#[derive(Drop)]
 pub(crate) struct Written {
-    pub number: u32,
-    pub kind: Kind,
-    pub source: Option<u32>,
+    number: u32,
+    kind: Kind,
+    sources: Vec<u32>,
+}
+
+impl Model for Written {
+    ghost use Rattle.td_plan.specs.Lines.{Vertex};
+
+    ghost Value = { Vertex };
+
+    ghost view = { λ w. record { number = w.number; kind = w.kind; sources = w.sources.items } };
 }
 
 impl Written {
-    /// Its source, where it is the number of a vertex.
-    pub(crate) fn narrow_source(&self) -> Option<u8>
-        requires { IfSome self.now.source (λ s. s < 256) }
-        ensures { result ≡ self.now.source }
+    pub(crate) fn number(&self) -> u32
+        ensures { result ≡ self.now.number }
     {
-        match self.source {
-            Some(source) => Some(source as u8),
-            None => None,
-        }
+        self.number
     }
 
-    /// How many sources it has.
-    pub(crate) fn source_count(&self) -> usize
-        ensures { result ≡ length (sources_of self.now.source) }
+    pub(crate) fn kind(&self) -> Kind
+        ensures { result ≡ self.now.kind }
     {
-        match self.source {
-            Some(_) => 1,
-            None => 0,
-        }
+        self.kind
     }
 
-    /// Whether the source does not stand before the vertex.
-    pub(crate) fn is_late(&self) -> bool
-        ensures { result ≡ is_late self.now.number (sources_of self.now.source) }
+    pub(crate) fn sources(&self) -> &[u32]
+        ensures { result.now ≡ self.now.sources }
     {
-        match self.source {
-            Some(source) => source >= self.number,
-            None => false,
-        }
+        self.sources.as_slice()
+    }
+
+    /// Whether some source is this number, or a greater one.
+    pub(crate) fn has_source_from(&self, number: u32) -> bool
+        ensures { result ≡ list_any (λ s. nat_le number s) self.now.sources }
+    {
+        self.sources.iter().any(|source| *source >= number)
     }
 }
 
-/// The vertex that a line writes, if it has one of the forms that the reader takes so far.
-pub(crate) fn read_vertex(line: &str) -> Option<Written>
-    ensures exact { option_map written_vertex result ≡ vertex_of (words line.now) }
-    ensures form { IfSome result (λ w. has_form (vertex (written_vertex w)) ≡ true) }
-    ensures taken { IfSome result (λ w. is_taken (vertex (written_vertex w)) ≡ true) }
+/// A line as it is written.
+#[derive(Drop)]
+pub(crate) enum WrittenLine {
+    Vertex(Written),
+    Loop(u32),
+    End,
+}
+
+/// The line that is written here, if it has one of the forms. Refusal: `Memory`.
+pub(crate) fn read_line(alloc: Global, line: &str) -> Result<Option<WrittenLine>, PlanError>
+    ensures exact { IfOk result (λ read. option_map written_line read ≡ line_of (words line.now)) }
+    ensures form { IfOk result (λ read. IfSome read (λ w. has_form (written_line w) ≡ true)) }
+    ensures err { IfErr result (λ e. e ≡ PlanError.Memory) }
 {
-    read_words(line)
+    read_words(alloc, line)
 }
 
-/// The vertex that the words of a line write.
-fn read_words(line: &str) -> Option<Written>
-    ensures { option_map written_vertex result ≡ vertex_of (words line.now) }
+fn read_words(alloc: Global, line: &str) -> Result<Option<WrittenLine>, PlanError>
+    ensures ok { IfOk result (λ read. option_map written_line read ≡ line_of (words line.now)) }
+    ensures err { IfErr result (λ e. e ≡ PlanError.Memory) }
 {
-    let (word, rest) = next_word(line)?;
-    let (name, rest) = next_word(rest)?;
-    let number = number(word)?;
-    let (kind, source) = read_kind(name, rest)?;
-    Some(Written {
-        number,
-        kind,
-        source,
-    })
+    let Some((word, rest)) = next_word(line) else {
+        return Ok(None);
+    };
+    if word == "loop" {
+        return Ok(read_head(rest));
+    }
+    if word == "end" {
+        return Ok(read_end(rest));
+    }
+    match number(word) {
+        Some(number) => read_vertex(alloc, number, rest),
+        None => Ok(None),
+    }
 }
 
-/// The kind of a vertex and its source, from the name of the kind and what follows it.
-fn read_kind(name: &str, rest: &str) -> Option<(Kind, Option<u32>)>
-    ensures { option_map kind_and_sources result ≡ kind_of name.now (words rest.now) }
+/// The head of a loop, from what follows its name.
+fn read_head(rest: &str) -> Option<WrittenLine>
+    ensures { option_map written_line result ≡ head_of (words rest.now) }
+{
+    let (word, rest) = next_word(rest)?;
+    match next_word(rest) {
+        None => Some(WrittenLine::Loop(number(word)?)),
+        Some(_) => None,
+    }
+}
+
+/// The end of a loop, where no word is left.
+fn read_end(rest: &str) -> Option<WrittenLine>
+    ensures { option_map written_line result ≡ end_of (words rest.now) }
+{
+    match next_word(rest) {
+        None => Some(WrittenLine::End),
+        Some(_) => None,
+    }
+}
+
+/// A vertex, from what follows its number. Refusal: `Memory`.
+fn read_vertex(alloc: Global, number: u32, rest: &str) -> Result<Option<WrittenLine>, PlanError>
+    ensures ok { IfOk result (λ read. option_map written_line read ≡ with_kind number (kind_of (words rest.now))) }
+    ensures err { IfErr result (λ e. e ≡ PlanError.Memory) }
+{
+    let Some((kind, rest)) = read_kind(rest) else {
+        return Ok(None);
+    };
+    match read_sources(alloc, rest)? {
+        Some(sources) if has_arity(kind, sources.len()) => {
+            Ok(Some(WrittenLine::Vertex(Written {
+                number,
+                kind,
+                sources,
+            })))
+        }
+        _ => Ok(None),
+    }
+}
+
+/// The kind that the next words write, and what follows them.
+fn read_kind(line: &str) -> Option<(Kind, &str)>
+    ensures { option_map kind_words result ≡ kind_of (words line.now) }
+{
+    let (name, rest) = next_word(line)?;
+    if let Some(kind) = plain_kind(name) {
+        return Some((kind, rest));
+    }
+    let (code, rest) = read_code(rest)?;
+    Some((coded_kind(name, code)?, rest))
+}
+
+/// The kind of this name, of those without a code.
+fn plain_kind(name: &str) -> Option<Kind>
+    ensures { result ≡ plain_kind name.now }
 {
     if name == "input" {
-        read_no_source(rest)?;
-        return Some((Kind::Input, None));
+        return Some(Kind::Input);
     }
-    if name == "map" {
-        let (code, rest) = read_code(rest)?;
-        return Some((Kind::Map(code), Some(read_source(rest)?)));
+    if name == "distinct" {
+        return Some(Kind::Distinct);
     }
-    if name == "group" {
-        let (code, rest) = read_code(rest)?;
-        return Some((Kind::Group(code), Some(read_source(rest)?)));
+    if name == "enter" {
+        return Some(Kind::Enter);
+    }
+    if name == "feedback" {
+        return Some(Kind::Feedback);
+    }
+    if name == "leave" {
+        return Some(Kind::Leave);
     }
     if name == "output" {
-        return Some((Kind::Output, Some(read_source(rest)?)));
+        return Some(Kind::Output);
     }
     None
 }
 
-/// Nothing, where no word is left.
-fn read_no_source(rest: &str) -> Option<()>
-    ensures { option_map (λ _. []) result ≡ sources_of_none (words rest.now) }
+/// The kind of this name and code, of those with one.
+fn coded_kind(name: &str, code: u16) -> Option<Kind>
+    ensures { result ≡ coded_kind name.now code }
 {
-    match next_word(rest) {
-        None => Some(()),
-        Some(_) => None,
+    if name == "map" {
+        return Some(Kind::Map(code));
     }
-}
-
-/// The number that is the one word left.
-fn read_source(rest: &str) -> Option<u32>
-    ensures { option_map (λ s. s ∷ []) result ≡ sources_of_one (words rest.now) }
-{
-    let (word, rest) = next_word(rest)?;
-    match next_word(rest) {
-        None => number(word),
-        Some(_) => None,
+    if name == "group" {
+        return Some(Kind::Group(code));
     }
+    if name == "fold" {
+        return Some(Kind::Fold(code));
+    }
+    None
 }
 
 /// The code that is the first word left, and what follows it.
@@ -127,5 +195,34 @@ fn read_code(rest: &str) -> Option<(u16, &str)>
         Some((code as u16, rest))
     } else {
         None
+    }
+}
+
+/// The numbers that all words left write. Refusal: `Memory`.
+fn read_sources(alloc: Global, rest: &str) -> Result<Option<Vec<u32>>, PlanError>
+    ensures ok { IfOk result (λ read. option_map (λ sources. sources.items) read ≡ numbers_of (words rest.now)) }
+    ensures err { IfErr result (λ e. e ≡ PlanError.Memory) }
+{
+    let mut sources = Vec::new(alloc);
+    let mut left = rest;
+    while let Some((word, others)) = next_word(left) {
+        let Some(source) = number(word) else {
+            return Ok(None);
+        };
+        sources.push(source)?;
+        left = others;
+    }
+    Ok(Some(sources))
+}
+
+/// Whether the form of a kind has so many sources.
+fn has_arity(kind: Kind, count: usize) -> bool
+    ensures { result ≡ has_arity kind count }
+{
+    match kind {
+        Kind::Input => count == 0,
+        Kind::Enter | Kind::Leave => count == 1,
+        Kind::Feedback => true,
+        Kind::Map(_) | Kind::Distinct | Kind::Group(_) | Kind::Fold(_) | Kind::Output => count > 0,
     }
 }

@@ -1,14 +1,18 @@
 //! Plans.
-ghost use Rattle.std.specs.Prelude.{◌≡◌, ◌≤◌, ◌⊎◌, ◌↔◌, length, IsTrue, IfOk, IfErr, string_bytes, true};
+ghost use Rattle.std.specs.Prelude.{◌≡◌, ◌≤◌, ◌⊎◌, length, flat_map, IfOk, IfErr, string_bytes, true};
 ghost use Rattle.std.specs.List.{list_all};
-ghost use Rattle.td_plan.specs.Lines.{is_taken, text_of};
-ghost use Rattle.td_plan.specs.Blocks.{vertices, edges, loops};
+ghost use Rattle.td_plan.specs.Lines.{text_of};
+ghost use Rattle.td_plan.specs.Blocks.{vertices, edges, edges_to, loops};
 ghost use Rattle.td_plan.specs.Faults.{IsPlan};
 ghost use Rattle.td_plan.specs.Inputs.{is_input_of};
 ghost use Rattle.td_plan.specs.Texts.{PlanText, PlanFault};
+ghost use Rattle.td_plan.specs.Steps.Inside.{is_narrow};
 
 use crate::error::PlanError;
-use crate::reader::{Lines, read_lines};
+use crate::mark::Mark;
+use crate::printer::print;
+use crate::reader::{Draft, read_draft};
+use crate::scope::Standing;
 use crate::vertex::{Edge, Loop, Vertex};
 use std::alloc::Global;
 use std::marker::Model;
@@ -18,7 +22,9 @@ use td_stamp::Batch;
 /// lines.
 #[derive(Drop)]
 pub struct Plan {
-    lines: Lines,
+    marks: Vec<Mark>,
+    vertices: Vec<Vertex>,
+    edges: Vec<Edge>,
     loops: Vec<Loop>,
     alloc: Global,
 }
@@ -29,11 +35,11 @@ impl Model for Plan {
 
     ghost Value = { List Line };
 
-    ghost use Rattle.td_plan.specs.Kept.{IsKeptPlan};
+    ghost use Rattle.td_plan.specs.Steps.Inside.{lines_of_marks, IsKept};
 
-    ghost view = { λ p. p.lines };
+    ghost view = { λ p. lines_of_marks p.marks.items p.vertices.items };
 
-    ghost invariant = { λ p. IsKeptPlan p.lines p.loops.items };
+    ghost invariant = { λ p. IsKept (lines_of_marks p.marks.items p.vertices.items) p.marks.items p.vertices.items p.edges.items p.loops.items };
 }
 
 impl Plan {
@@ -42,29 +48,46 @@ impl Plan {
         ensures ok { IfOk result (λ plan. PlanText text.now plan) }
         ensures refused { IfErr result (λ e. (e ≡ PlanError.Memory) ⊎ PlanFault text.now e) }
     {
-        let lines = read_lines(alloc, text)?;
+        Plan::of(alloc, read_draft(alloc, text)?)
+    }
+
+    /// The plan of which these are the lines. Refusal: `Memory`.
+    fn of(alloc: Global, draft: Draft) -> Result<Plan, PlanError>
+        requires { IsPlan draft.lines }
+        ensures ok { IfOk result (λ plan. plan ≡ draft.lines) }
+        ensures err { IfErr result (λ e. e ≡ PlanError.Memory) }
+    {
+        let Draft {
+            marks,
+            scope,
+            loops,
+            feedbacks: _,
+        } = draft;
+        let vertices = narrow(alloc, scope.vertices())?;
+        let edges = edges_to(alloc, vertices.as_slice())?;
         Ok(Plan {
-            lines,
-            loops: Vec::new(alloc),
+            marks,
+            vertices,
+            edges,
+            loops,
             alloc,
         })
     }
 
-    /// The vertices, in the order of their numbers. (So far each is of a line that the reader takes.)
+    /// The vertices, in the order of their numbers.
     pub fn vertices(&self) -> &[Vertex]
         ensures all { result.now ≡ vertices self.now }
         ensures lawful { IsPlan self.now }
-        ensures taken { list_all is_taken self.now ≡ true }
         ensures few { length result.now ≤ 64 }
     {
-        self.lines.vertices()
+        self.vertices.as_slice()
     }
 
     /// The edges, by reader and then port.
     pub fn edges(&self) -> &[Edge]
         ensures { result.now ≡ edges self.now }
     {
-        self.lines.edges()
+        self.edges.as_slice()
     }
 
     /// The loops, in the order in which they begin. Each is a block, and the outermost block is none of them.
@@ -80,7 +103,7 @@ impl Plan {
         ensures again { IfOk result (λ text. PlanText (string_bytes text) self.now) }
         ensures err { IfErr result (λ e. e ≡ PlanError.Memory) }
     {
-        self.lines.text(self.alloc)
+        print(self.alloc, self.marks.as_slice(), self.vertices.as_slice())
     }
 
     /// The same plan, in memory of its own. Refusal: `Memory`.
@@ -89,7 +112,9 @@ impl Plan {
         ensures err { IfErr result (λ e. e ≡ PlanError.Memory) }
     {
         Ok(Plan {
-            lines: self.lines.copy(self.alloc)?,
+            marks: Vec::from_slice(self.alloc, self.marks.as_slice())?,
+            vertices: copy_vertices(self.alloc, self.vertices.as_slice())?,
+            edges: Vec::from_slice(self.alloc, self.edges.as_slice())?,
             loops: Vec::from_slice(self.alloc, self.loops.as_slice())?,
             alloc: self.alloc,
         })
@@ -116,4 +141,47 @@ impl Plan {
             None => false,
         }
     }
+}
+
+/// The same vertices, in memory of their own. Refusal: `Memory`.
+fn copy_vertices(alloc: Global, vertices: &[Vertex]) -> Result<Vec<Vertex>, PlanError>
+    ensures ok { IfOk result (λ copied. copied.items ≡ vertices.now) }
+    ensures err { IfErr result (λ e. e ≡ PlanError.Memory) }
+{
+    let mut copied = Vec::new(alloc);
+    for vertex in vertices {
+        copied.push(vertex.copy())?;
+    }
+    Ok(copied)
+}
+
+/// The same vertices, whose numbers are small. Refusal: `Memory`.
+fn narrow(alloc: Global, standing: &[Standing]) -> Result<Vec<Vertex>, PlanError>
+    requires { list_all is_narrow standing.now ≡ true }
+    ensures ok { IfOk result (λ vertices. vertices.items ≡ standing.now) }
+    ensures err { IfErr result (λ e. e ≡ PlanError.Memory) }
+{
+    let mut vertices = Vec::new(alloc);
+    for each in standing {
+        let written = each.written();
+        vertices.push(Vertex::new(
+            written.number() as u8,
+            written.kind(),
+            written.sources(),
+            each.loops(),
+        ))?;
+    }
+    Ok(vertices)
+}
+
+/// The edges that lead to some vertices. Refusal: `Memory`.
+fn edges_to(alloc: Global, vertices: &[Vertex]) -> Result<Vec<Edge>, PlanError>
+    ensures ok { IfOk result (λ found. found.items ≡ flat_map edges_to vertices.now) }
+    ensures err { IfErr result (λ e. e ≡ PlanError.Memory) }
+{
+    let mut edges = Vec::new(alloc);
+    for vertex in vertices {
+        vertex.add_edges(&mut edges)?;
+    }
+    Ok(edges)
 }

@@ -1,24 +1,50 @@
 //! The canonical text of a plan.
-ghost use Rattle.std.specs.Prelude.{◌≡◌, ◌++◌, ◌∷◌, [], IfOk, OnOk, IfErr, string_bytes, map, decimal};
-ghost use Rattle.td_plan.specs.Lines.{text_of_line, words_of_kind};
+ghost use Rattle.std.specs.Prelude.{◌≡◌, ◌++◌, ◌∷◌, [], List, IfOk, OnOk, IfErr, string_bytes, map, decimal};
+ghost use Rattle.td_plan.specs.declared.mark.Mark.{Mark as AnyMark};
+ghost use Rattle.td_plan.specs.Lines.{text_of, text_of_line, words_of_kind};
 ghost use Rattle.td_plan.specs.Lines.Line.{vertex as vertex_line};
-ghost use Rattle.td_plan.specs.Printed.{spaced, text_of_vertices};
+ghost use Rattle.td_plan.specs.Steps.Inside.{lines_of_marks};
+ghost use Rattle.td_plan.specs.Steps.Printed.{spaced};
 
 use crate::error::PlanError;
+use crate::mark::Mark;
 use crate::vertex::{Kind, Vertex};
 use std::alloc::Global;
 use std::fmt::Write;
 
-/// The lines of some vertices. Refusal: `Memory`.
-pub(crate) fn print(alloc: Global, vertices: &[Vertex]) -> Result<String, PlanError>
-    ensures ok { IfOk result (λ text. string_bytes text ≡ text_of_vertices vertices.now) }
+/// The lines for which these marks stand, with their vertices. Refusal: `Memory`.
+pub(crate) fn print(alloc: Global, marks: &[Mark], vertices: &[Vertex]) -> Result<String, PlanError>
+    ensures ok { IfOk result (λ text. string_bytes text ≡ text_of (lines_of_marks marks.now vertices.now)) }
     ensures err { IfErr result (λ e. e ≡ PlanError.Memory) }
 {
     let mut text = String::new(alloc);
-    for vertex in vertices {
-        print_vertex(&mut text, vertex)?;
+    let mut left = vertices;
+    for mark in marks {
+        left = print_line(&mut text, *mark, left)?;
     }
     Ok(text)
+}
+
+/// Appends the line of a mark, and answers the vertices that are left after it. Refusal: `Memory`.
+fn print_line<'a>(
+    text: &mut String,
+    mark: Mark,
+    vertices: &'a [Vertex],
+) -> Result<&'a [Vertex], PlanError>
+    ensures ok { IfOk result (λ left. (marks : List AnyMark) → string_bytes text.new ++ text_of (lines_of_marks marks left.now) ≡ string_bytes text.old ++ text_of (lines_of_marks (mark ∷ marks) vertices.now)) }
+    ensures err { IfErr result (λ e. e ≡ PlanError.Memory) }
+{
+    match mark {
+        Mark::Vertex => {
+            if let Some((vertex, left)) = vertices.split_first() {
+                print_vertex(text, vertex)?;
+                return Ok(left);
+            }
+        }
+        Mark::Loop(bound) => write!(text, "loop {bound}\n")?,
+        Mark::End => text.push_str("end\n")?,
+    }
+    Ok(vertices)
 }
 
 /// Appends the line of a vertex. Refusal: `Memory`.

@@ -1,256 +1,266 @@
-//! The reader of plan texts.
-ghost use Rattle.std.specs.Prelude.{◌≡◌, ◌+◌, ◌<◌, ◌≤◌, None, true, [], length, ◌++◌, map, string_bytes, OnOk, IfOk, IfErr, ◌⊎◌, IfNone, IfSome, option_map};
-ghost use Rattle.std.specs.List.{enumerate_from, list_all, list_any};
-ghost use Rattle.td_plan.specs.Text.{text_lines};
-ghost use Rattle.td_plan.specs.Lines.{is_taken, has_form, text_of};
-ghost use Rattle.td_plan.specs.Lines.Line.{vertex};
-ghost use Rattle.td_plan.specs.Blocks.{vertices, edges, edge_count};
-ghost use Rattle.td_plan.specs.Faults.{reads_elsewhere, has_ends, is_input, is_output};
-ghost use Rattle.td_plan.specs.Reading.{Answers, answer_of, lines_from, with_text, with_line, error_of, flat_fault_of, is_one_too_many};
+//! The reader of plan texts: a pass over the lines, and one over the feedbacks.
+ghost use Rattle.std.specs.Prelude.{◌≡◌, ◌⊎◌, ◌++◌, None, Ok, Err, true, IfOk, OnOk, IfErr, find, option_map};
+ghost use Rattle.std.specs.List.{list_any};
+ghost use Rattle.td_plan.specs.Lines.{has_form};
+ghost use Rattle.td_plan.specs.Lines.Line.{vertex, loop, end};
+ghost use Rattle.td_plan.specs.Blocks.{scope_of, vertices};
+ghost use Rattle.td_plan.specs.Faults.{fault_of, has_ends, is_input, is_output};
 ghost use Rattle.td_plan.specs.Texts.{PlanText, PlanFault};
-ghost use Rattle.td_plan.specs.Written.{written_vertex, sources_of};
+ghost use Rattle.td_plan.specs.Steps.Reading.{Answers, error_of, no_draft, feedback_of, is_stray_at, line_or_fault, with_text, with_line, first_pass, second_pass, stray_line, answer_of};
+ghost use Rattle.td_plan.specs.Steps.Written.{written_line};
 
 use crate::error::PlanError;
-use crate::line::{Written, read_vertex};
-use crate::printer::print;
+use crate::line::{Written, WrittenLine, read_line};
+use crate::mark::Mark;
+use crate::scope::{Scope, Standing};
 use crate::text::{is_passed_over, next_line};
-use crate::vertex::{EDGES, Edge, SOURCES, VERTICES, Vertex};
+use crate::vertex::Loop;
 use std::alloc::Global;
 use std::marker::Model;
 
-/// Lines of a plan that were read so far, without a fault: their vertices, in order, and the edges that lead to them.
+/// A feedback, by the number of its line in the text and its own number.
+#[derive(Clone, Copy, Debug)]
+pub(crate) struct Feedback {
+    pub line: u64,
+    pub number: u32,
+}
+
+/// The lines of a plan that were read so far, without a fault that the first pass tells.
 #[derive(Drop)]
-pub(crate) struct Lines {
-    vertices: Vec<Vertex>,
-    edges: Vec<Edge>,
+pub(crate) struct Draft {
+    pub marks: Vec<Mark>,
+    pub scope: Scope,
+    pub loops: Vec<Loop>,
+    pub feedbacks: Vec<Feedback>,
 }
 
-impl Model for Lines {
-    ghost use Rattle.std.specs.Prelude.{List};
-    ghost use Rattle.td_plan.specs.Lines.{Line};
+impl Model for Draft {
+    ghost use Rattle.td_plan.specs.Steps.Reading.{Draft as AnyDraft};
 
-    ghost Value = { List Line };
+    ghost Value = { AnyDraft };
 
-    ghost use Rattle.td_plan.specs.Inside.{lines_of_vertices, AreKept};
+    ghost use Rattle.td_plan.specs.Steps.Inside.{lines_of_marks, AreRead};
 
-    ghost view = { λ l. lines_of_vertices l.vertices.items };
+    ghost view = { λ d. record { lines = lines_of_marks d.marks.items d.scope.vertices; feedbacks = d.feedbacks.items } };
 
-    ghost invariant = { λ l. AreKept l.vertices.items l.edges.items };
+    ghost invariant = { λ d. AreRead (lines_of_marks d.marks.items d.scope.vertices) d.marks.items d.scope d.loops.items };
 }
 
-impl Lines {
+impl Draft {
     /// No lines.
-    pub(crate) fn new(alloc: Global) -> Lines
-        ensures { result ≡ [] }
+    fn new(alloc: Global) -> Draft
+        ensures { result ≡ no_draft }
     {
-        Lines {
-            vertices: Vec::new(alloc),
-            edges: Vec::new(alloc),
+        Draft {
+            marks: Vec::new(alloc),
+            scope: Scope::new(alloc),
+            loops: Vec::new(alloc),
+            feedbacks: Vec::new(alloc),
         }
     }
 
-    /// The vertices, in the order of their numbers.
-    pub(crate) fn vertices(&self) -> &[Vertex]
-        ensures all { result.now ≡ vertices self.now }
-        ensures taken { list_all is_taken self.now ≡ true }
-        ensures few { length result.now ≤ 64 }
+    /// With what line `number` of the text adds. Refusals: its first fault; `Memory`.
+    fn with_text(self, alloc: Global, number: u64, text: &str) -> Result<Draft, PlanError>
+        ensures { Answers result (with_text self number text.now) }
     {
-        self.vertices.as_slice()
+        if is_passed_over(text) {
+            return Ok(self);
+        }
+        match read_line(alloc, text)? {
+            Some(line) => self.with_line(number, line),
+            None => Err(PlanError::Syntax(number)),
+        }
     }
 
-    /// The edges, by reader and then port.
-    pub(crate) fn edges(&self) -> &[Edge]
-        ensures { result.now ≡ edges self.now }
+    /// The first fault of a further line, which is line `number` of the text.
+    fn fault(&self, number: u64, line: &WrittenLine) -> Option<PlanError>
+        ensures { result ≡ option_map (λ fault. error_of fault number) (fault_of (scope_of self.now.lines) (written_line line.now)) }
     {
-        self.edges.as_slice()
+        self.scope.fault(number, line)
     }
 
-    /// The canonical text. Refusal: `Memory`.
-    pub(crate) fn text(&self, alloc: Global) -> Result<String, PlanError>
-        ensures ok { IfOk result (λ text. string_bytes text ≡ text_of self.now) }
-        ensures taken { list_all is_taken self.now ≡ true }
-        ensures err { IfErr result (λ e. e ≡ PlanError.Memory) }
+    /// With one line more, which is line `number` of the text. Refusals: its first fault; `Memory`.
+    fn with_line(self, number: u64, line: WrittenLine) -> Result<Draft, PlanError>
+        requires { has_form (written_line line) ≡ true }
+        ensures { Answers result (with_line self number (written_line line)) }
     {
-        print(alloc, self.vertices.as_slice())
+        if let Some(fault) = self.fault(number, &line) {
+            return Err(fault);
+        }
+        match line {
+            WrittenLine::Vertex(written) => self.with_vertex(number, written),
+            WrittenLine::Loop(bound) => self.with_head(number, bound),
+            WrittenLine::End => self.with_end(number),
+        }
     }
 
-    /// The same lines, in memory of their own. Refusal: `Memory`.
-    pub(crate) fn copy(&self, alloc: Global) -> Result<Lines, PlanError>
-        ensures ok { IfOk result (λ lines. lines ≡ self.now) }
-        ensures err { IfErr result (λ e. e ≡ PlanError.Memory) }
+    /// With a vertex that has no fault. Refusal: `Memory`.
+    fn with_vertex(self, number: u64, written: Written) -> Result<Draft, PlanError>
+        requires form { has_form (vertex written) ≡ true }
+        requires faultless { fault_of (scope_of self.lines) (vertex written) ≡ None }
+        ensures { Answers result (line_or_fault self number (vertex written) None) }
     {
-        Ok(Lines {
-            vertices: copy_vertices(alloc, self.vertices.as_slice())?,
-            edges: Vec::from_slice(alloc, self.edges.as_slice())?,
+        let Draft {
+            mut marks,
+            scope,
+            loops,
+            mut feedbacks,
+        } = self;
+        add_feedback(&mut feedbacks, number, &written)?;
+        marks.push(Mark::Vertex)?;
+        let scope = scope.with_vertex(written)?;
+        Ok(Draft {
+            marks,
+            scope,
+            loops,
+            feedbacks,
         })
+    }
+
+    /// With the head of a loop, which has no fault. Refusal: `Memory`.
+    fn with_head(self, number: u64, bound: u32) -> Result<Draft, PlanError>
+        requires form { has_form (loop bound) ≡ true }
+        requires faultless { fault_of (scope_of self.lines) (loop bound) ≡ None }
+        ensures { Answers result (line_or_fault self number (loop bound) None) }
+    {
+        let Draft {
+            mut marks,
+            scope,
+            mut loops,
+            feedbacks,
+        } = self;
+        let opened = scope.opened(bound);
+        loops.push(opened)?;
+        marks.push(Mark::Loop(opened.bound))?;
+        Ok(Draft {
+            marks,
+            scope: scope.in_loop(opened),
+            loops,
+            feedbacks,
+        })
+    }
+
+    /// With the end of a loop, which has no fault. Refusal: `Memory`.
+    fn with_end(self, number: u64) -> Result<Draft, PlanError>
+        requires { fault_of (scope_of self.lines) end ≡ None }
+        ensures { Answers result (line_or_fault self number end None) }
+    {
+        let Draft {
+            mut marks,
+            scope,
+            loops,
+            feedbacks,
+        } = self;
+        marks.push(Mark::End)?;
+        Ok(Draft {
+            marks,
+            scope: scope.around_loop(),
+            loops,
+            feedbacks,
+        })
+    }
+
+    /// The line of the first feedback whose source is no vertex, or is not read on the feedback's block.
+    fn stray_line(&self) -> Option<u64>
+        ensures { result ≡ stray_line self.now }
+    {
+        first_stray(&self.scope, self.feedbacks.as_slice())
+    }
+
+    /// The second pass. Refusals: `Again`, for the first feedback whose source is not read on its block;
+    /// `NoInputOrOutput`.
+    fn checked(self) -> Result<Draft, PlanError>
+        ensures ok { IfOk result (λ draft. second_pass self ≡ Ok draft.lines) }
+        ensures refused { IfErr result (λ e. second_pass self ≡ Err e) }
+    {
+        if let Some(line) = self.stray_line() {
+            return Err(PlanError::Again(line));
+        }
+        if !self.has_ends() {
+            return Err(PlanError::NoInputOrOutput);
+        }
+        Ok(self)
     }
 
     /// Whether some vertex is an input, and some an output.
     fn has_ends(&self) -> bool
-        ensures { result ≡ has_ends (vertices self.now) }
+        ensures { result ≡ has_ends (vertices self.now.lines) }
     {
-        self.has_input() && self.has_output()
-    }
-
-    fn has_input(&self) -> bool
-        ensures { result ≡ list_any (λ p. is_input p.vertex.kind) (vertices self.now) }
-    {
-        self.vertices().iter().any(|v| v.is_input())
-    }
-
-    fn has_output(&self) -> bool
-        ensures { result ≡ list_any (λ p. is_output p.vertex.kind) (vertices self.now) }
-    {
-        self.vertices().iter().any(|v| v.is_output())
-    }
-
-    /// The first fault of a further line, which is line `number` of the text.
-    fn fault(&self, number: u64, written: &Written) -> Option<PlanError>
-        ensures first { result ≡ option_map (λ fault. error_of fault number) (flat_fault_of (vertices self.now) (written_vertex written.now)) }
-        ensures numbered { IfNone result (written.now.number ≡ length (vertices self.now)) }
-        ensures small { IfNone result (written.now.number < 64) }
-        ensures early { IfNone result (IfSome written.now.source (λ s. s < written.now.number)) }
-        ensures few { IfNone result (edge_count (vertices self.now) + length (sources_of written.now.source) ≤ 128) }
-        ensures none { IfNone result (flat_fault_of (vertices self.now) (written_vertex written.now) ≡ None) }
-    {
-        if written.number as usize != self.vertices.len() {
-            return Some(PlanError::Number(number));
-        }
-        if written.is_late() {
-            return Some(PlanError::Order(number));
-        }
-        if self.reads_elsewhere(written) {
-            return Some(PlanError::Nest(number));
-        }
-        if self.is_one_too_many(written) {
-            return Some(PlanError::TooMany(number));
-        }
-        None
-    }
-
-    /// Whether the source is not read on the outermost block.
-    fn reads_elsewhere(&self, written: &Written) -> bool
-        ensures { result ≡ reads_elsewhere [] (vertices self.now) (sources_of written.now.source) }
-    {
-        match written.source {
-            Some(source) => match self.vertices.as_slice().get(source as usize) {
-                Some(vertex) => !vertex.is_read_outermost(),
-                None => true,
-            },
-            None => false,
-        }
-    }
-
-    /// Whether the vertex, or the edge that leads to it, is one too many.
-    fn is_one_too_many(&self, written: &Written) -> bool
-        ensures { result ≡ is_one_too_many (vertices self.now) (sources_of written.now.source) }
-    {
-        let sources = written.source_count();
-        if self.vertices.len() >= VERTICES || sources > SOURCES {
-            return true;
-        }
-        self.edge_count() + sources > EDGES
-    }
-
-    /// How many edges there are.
-    fn edge_count(&self) -> usize
-        ensures value { result ≡ edge_count (vertices self.now) }
-        ensures few { result ≤ 128 }
-    {
-        self.edges.as_slice().len()
-    }
-
-    /// These lines and one more, which is line `number` of the text. Refusals: its first fault; `Memory`.
-    fn with_vertex(self, number: u64, written: &Written) -> Result<Lines, PlanError>
-        requires form { has_form (vertex (written_vertex written.now)) ≡ true }
-        requires taken { is_taken (vertex (written_vertex written.now)) ≡ true }
-        ensures { Answers result (with_line self number (vertex (written_vertex written.now))) }
-    {
-        if let Some(fault) = self.fault(number, written) {
-            return Err(fault);
-        }
-        let Lines {
-            mut vertices,
-            mut edges,
-        } = self;
-        let reader = written.number as u8;
-        let source = written.narrow_source();
-        add_edge(&mut edges, reader, source)?;
-        vertices.push(Vertex::outermost(reader, written.kind, source))?;
-        Ok(Lines { vertices, edges })
-    }
-
-    /// These lines and what line `number` of the text adds. Refusals: its first fault; `Memory`.
-    fn with_text(self, number: u64, line: &str) -> Result<Lines, PlanError>
-        ensures { Answers result (with_text self number line.now) }
-    {
-        if is_passed_over(line) {
-            return Ok(self);
-        }
-        match read_vertex(line) {
-            Some(written) => self.with_vertex(number, &written),
-            None => Err(PlanError::Syntax(number)),
-        }
+        has_input(self.scope.vertices()) && has_output(self.scope.vertices())
     }
 }
 
-/// The same vertices, in memory of their own. Refusal: `Memory`.
-fn copy_vertices(alloc: Global, vertices: &[Vertex]) -> Result<Vec<Vertex>, PlanError>
-    ensures ok { IfOk result (λ copied. copied.items ≡ vertices.now) }
-    ensures err { IfErr result (λ e. e ≡ PlanError.Memory) }
+/// The line of the first of these feedbacks whose source is no vertex, or is not read on the feedback's block.
+fn first_stray(scope: &Scope, feedbacks: &[Feedback]) -> Option<u64>
+    ensures { result ≡ option_map (λ f. f.line) (find (λ f. is_stray_at scope.now.vertices f.number) feedbacks.now) }
 {
-    let mut copied = Vec::new(alloc);
-    for vertex in vertices {
-        copied.push(vertex.copy())?;
+    for feedback in feedbacks {
+        if scope.is_stray(feedback.number) {
+            return Some(feedback.line);
+        }
     }
-    Ok(copied)
+    None
 }
 
-/// Adds the edge that leads to `reader`, if it has a source. Refusal: `Memory`.
-fn add_edge(edges: &mut Vec<Edge>, reader: u8, source: Option<u8>) -> Result<(), PlanError>
-    ensures ok { OnOk result (edges.new.items ≡ edges.old.items ++ map (λ s. record { source = s.1; reader = reader; port = s.0 }) (enumerate_from 0 (sources_of source))) }
+fn has_input(vertices: &[Standing]) -> bool
+    ensures { result ≡ list_any (λ p. is_input p.vertex.kind) vertices.now }
+{
+    vertices.iter().any(|v| v.written().kind().is_input())
+}
+
+fn has_output(vertices: &[Standing]) -> bool
+    ensures { result ≡ list_any (λ p. is_output p.vertex.kind) vertices.now }
+{
+    vertices.iter().any(|v| v.written().kind().is_output())
+}
+
+/// Adds a vertex, whose line is line `line` of the text, if it is a feedback. Refusal: `Memory`.
+fn add_feedback(
+    feedbacks: &mut Vec<Feedback>,
+    line: u64,
+    written: &Written,
+) -> Result<(), PlanError>
+    ensures ok { OnOk result (feedbacks.new.items ≡ feedbacks.old.items ++ feedback_of line (vertex written.now)) }
     ensures err { IfErr result (λ e. e ≡ PlanError.Memory) }
 {
-    if let Some(source) = source {
-        edges.push(Edge {
-            source,
-            reader,
-            port: 0,
+    if written.kind().is_feedback() {
+        feedbacks.push(Feedback {
+            line,
+            number: written.number(),
         })?;
     }
     Ok(())
 }
 
-/// The lines of the plan that a text spells. Refusals: why it spells none; `Memory`.
-pub(crate) fn read_lines(alloc: Global, text: &str) -> Result<Lines, PlanError>
-    ensures ok { IfOk result (λ plan. PlanText text.now plan) }
-    ensures refused { IfErr result (λ e. (e ≡ PlanError.Memory) ⊎ PlanFault text.now e) }
+/// The first pass. Refusals: the first fault of a line; `Syntax`, where a loop is open at the end; `Memory`.
+fn read_each(alloc: Global, text: &str) -> Result<Draft, PlanError>
+    ensures { Answers result (first_pass text.now) }
 {
-    read_answer(alloc, text)
-}
-
-fn read_answer(alloc: Global, text: &str) -> Result<Lines, PlanError>
-    ensures { Answers result (answer_of text.now) }
-{
-    let lines = read_each(alloc, text)?;
-    if lines.has_ends() {
-        Ok(lines)
-    } else {
-        Err(PlanError::NoInputOrOutput)
-    }
-}
-
-/// The lines of a text. Refusals: the first fault of a line; `Memory`.
-fn read_each(alloc: Global, text: &str) -> Result<Lines, PlanError>
-    ensures { Answers result (lines_from [] 0 (text_lines text.now)) }
-{
-    let mut lines = Lines::new(alloc);
+    let mut draft = Draft::new(alloc);
     let mut number: u64 = 0;
     let mut rest = text;
     while let Some((line, others)) = next_line(rest) {
         number += 1;
-        lines = lines.with_text(number, line)?;
+        draft = draft.with_text(alloc, number, line)?;
         rest = others;
     }
-    Ok(lines)
+    if draft.scope.is_in_loop() {
+        return Err(PlanError::Syntax(number + 1));
+    }
+    Ok(draft)
+}
+
+/// The lines of the plan that a text spells. Refusals: why it spells none; `Memory`.
+pub(crate) fn read_draft(alloc: Global, text: &str) -> Result<Draft, PlanError>
+    ensures ok { IfOk result (λ draft. PlanText text.now draft.lines) }
+    ensures refused { IfErr result (λ e. (e ≡ PlanError.Memory) ⊎ PlanFault text.now e) }
+{
+    read_both(alloc, text)
+}
+
+fn read_both(alloc: Global, text: &str) -> Result<Draft, PlanError>
+    ensures ok { IfOk result (λ draft. answer_of text.now ≡ Ok draft.lines) }
+    ensures refused { IfErr result (λ e. (e ≡ PlanError.Memory) ⊎ (answer_of text.now ≡ Err e)) }
+{
+    read_each(alloc, text)?.checked()
 }

@@ -1,213 +1,130 @@
-//! Texts with their answers, and that each call succeeds with ample memory.
+//! Texts with their answers, and that each call succeeds with ample memory. A bar ends a line.
 use crate::{Edge, Kind, Loop, Plan, PlanError};
 use std::alloc::Global;
 use std::test::Fail;
 use td_stamp::{Bag, Batch, Entry, Rec};
 
-const COUNT: &str = "0 input\n1 group 20 0\n2 output 1\n";
+const NEST: &str =
+    "0 input|loop 2|1 enter 0|2 feedback 7|3 map 1 1 2|loop 2|4 enter 3|5 feedback 6|6 group 21 4 5|7 leave 6|end|8 leave 7|end|9 output 8|";
 
-const SUM: &str = "0 input\n1 group 21 0\n2 output 1\n";
-
-/// The refusal of a text, if it is refused.
-fn refusal(alloc: Global, text: &str) -> Option<PlanError> {
-    Plan::read(alloc, text).err()
+/// The canonical text of the plan that a text spells, or the text of its refusal.
+fn answer(alloc: Global, text: &str) -> Result<String, PlanError> {
+    let mut lines = String::new(alloc);
+    for letter in text.chars() {
+        lines.push(if letter == '|' { '\n' } else { letter })?;
+    }
+    let mut answer = String::new(alloc);
+    match Plan::read(alloc, lines.as_str()) {
+        Ok(plan) => {
+            let text = plan.text()?;
+            let again = Plan::read(alloc, text.as_str())?;
+            for letter in again.copy()?.text()?.as_str().chars() {
+                answer.push(if letter == '\n' { '|' } else { letter })?;
+            }
+        }
+        Err(error) => write!(answer, "{error}")?,
+    }
+    Ok(answer)
 }
 
 #[test]
-fn texts_that_are_read(rt: HostRuntime) -> Result<(), Fail> {
-    let texts = [
-        (COUNT, COUNT),
-        (SUM, SUM),
-        ("0 input\n1 output 0", "0 input\n1 output 0\n"),
+fn texts_have_answers(rt: HostRuntime) -> Result<(), Fail> {
+    let loop_1000 =
+        "0 input|loop 1000|1 enter 0|2 feedback 3|3 map 2 1 2|4 leave 3|end|5 output 4|";
+    let ring =
+        "0 input|loop 10|1 enter 0|2 feedback 4|3 distinct 1 2|4 map 9 3|5 leave 3|end|6 group 20 5|7 output 6|";
+    let rows = [
+        (NEST, NEST),
+        (loop_1000, loop_1000),
+        (ring, ring),
         (
-            "\n# a comment \n 0  input \n\n1 map 65535 0\n   #\n2 output 1\n\n",
-            "0 input\n1 map 65535 0\n2 output 1\n",
+            "\n# x| 0  input ||1 fold 65535 0|  #|2 output 1",
+            "0 input|1 fold 65535 0|2 output 1|",
         ),
         (
-            "0 input\n1 map 0 0\n2 map 7 0\n3 output 2\n",
-            "0 input\n1 map 0 0\n2 map 7 0\n3 output 2\n",
+            "0 input|1 input|2 group 24 0 1|3 output 2 0 0|",
+            "0 input|1 input|2 group 24 0 1|3 output 2 0 0|",
+        ),
+        ("", "plan: no input or output"),
+        ("0 input|1 sort 0|", "plan line 2: syntax"),
+        ("0 input|01 output 0|", "plan line 2: syntax"),
+        ("0 input|1 map 65536 0|", "plan line 2: syntax"),
+        ("# \u{e9}|", "plan line 1: syntax"),
+        ("0 input|end|", "plan line 2: syntax"),
+        ("0 input|loop 2|end|", "plan line 3: syntax"),
+        ("0 input|loop 2|1 enter 0|", "plan line 4: syntax"),
+        ("0 input|2 map 1 5|", "plan line 2: number"),
+        (
+            "0 input|loop 2|1 enter 0|2 leave 1|3 enter 2|4 feedback 3|end|5 output 2|",
+            "plan line 5: order",
         ),
         (
-            "0 input\n1 input\n2 output 0\n3 output 1\n",
-            "0 input\n1 input\n2 output 0\n3 output 1\n",
+            "0 input|loop 3|1 enter 0|2 feedback 3|3 map 2 1 2|4 leave 3|end|5 output 3|",
+            "plan line 8: nest",
         ),
+        ("0 input|1 enter 0|", "plan line 2: nest"),
+        ("0 input|loop 0|", "plan line 2: bound"),
+        ("0 input|loop 1001|", "plan line 2: bound"),
+        (
+            "0 input|loop 2|1 enter 0|2 fold 40 1|end|3 output 0|",
+            "plan line 4: fold in loop",
+        ),
+        (
+            "0 input|loop 2|1 enter 0|2 feedback 9|end|3 output 0|",
+            "plan line 4: again",
+        ),
+        (
+            "0 input|loop 2|1 enter 0|2 feedback 999999999|end|3 output 0|4 sort|",
+            "plan line 7: syntax",
+        ),
+        (
+            "0 input|loop 2|1 enter 0|2 feedback 0|end|",
+            "plan line 4: again",
+        ),
+        ("0 input|loop 2|1 enter 0|2 feedback|", "plan line 4: again"),
+        (
+            "0 input|1 map 0 0 0 0 0 0 0 0 0 0|",
+            "plan line 2: too many",
+        ),
+        ("loop 1|loop 1|loop 1|loop 1|", "plan line 4: too many"),
     ];
-    for (text, canonical) in texts {
-        let plan = Plan::read(rt.alloc(), text)?;
-        assert_eq!(rt; plan.text()?.as_str(), canonical);
-        let again = Plan::read(rt.alloc(), plan.text()?.as_str())?;
-        assert_eq!(rt; again.text()?.as_str(), canonical);
-        assert_eq!(rt; plan.copy()?.text()?.as_str(), canonical);
+    for (text, wanted) in rows {
+        assert_eq!(rt; answer(rt.alloc(), text)?.as_str(), wanted, "{text}");
     }
     Ok(())
 }
 
-#[test]
-fn texts_that_are_refused(rt: HostRuntime) {
-    let texts = [
-        ("", PlanError::NoInputOrOutput),
-        ("# nothing\n", PlanError::NoInputOrOutput),
-        ("0 input\n", PlanError::NoInputOrOutput),
-        ("0 input\n1 map 5 0\n", PlanError::NoInputOrOutput),
-        // No line of a plan.
-        ("0 input\n1 sort 0\n", PlanError::Syntax(2)),
-        ("0\n", PlanError::Syntax(1)),
-        ("input\n", PlanError::Syntax(1)),
-        ("0 input 0\n", PlanError::Syntax(1)),
-        ("0 input\n1 map 5\n", PlanError::Syntax(2)),
-        ("0 input\n1 map 5 0 \u{e9}\n", PlanError::Syntax(2)),
-        ("0 input\n# \u{e9}\n", PlanError::Syntax(2)),
-        ("0 input\t\n", PlanError::Syntax(1)),
-        ("0 input\r\n1 output 0\r\n", PlanError::Syntax(1)),
-        ("# a\ttab\n", PlanError::Syntax(1)),
-        ("# \u{7f}\n", PlanError::Syntax(1)),
-        // Numbers.
-        ("00 input\n", PlanError::Syntax(1)),
-        ("0 input\n01 output 0\n", PlanError::Syntax(2)),
-        ("+0 input\n", PlanError::Syntax(1)),
-        ("999999999 input\n", PlanError::Number(1)),
-        ("1000000000 input\n", PlanError::Syntax(1)),
-        ("99999999999999999999 input\n", PlanError::Syntax(1)),
-        ("0 input\n1 map 65536 0\n", PlanError::Syntax(2)),
-        ("0 input\n1 output 1000000000\n", PlanError::Syntax(2)),
-        // What the reader does not take yet.
-        ("0 input\n1 distinct 0\n", PlanError::Syntax(2)),
-        ("0 input\n1 fold 40 0\n", PlanError::Syntax(2)),
-        ("0 input\nloop 2\n", PlanError::Syntax(2)),
-        ("end\n", PlanError::Syntax(1)),
-        ("0 input\n1 map 5 0 0\n", PlanError::Syntax(2)),
-        // One fault each.
-        ("0 input\n2 map 1 5\n", PlanError::Number(2)),
-        ("1 input\n", PlanError::Number(1)),
-        ("0 input\n1 map 1 1\n2 output 1\n", PlanError::Order(2)),
-        ("0 input\n1 output 2\n", PlanError::Order(2)),
-        ("0 input\n1 output 0\n2 map 1 1\n", PlanError::Nest(3)),
-        ("0 input\n\n#\n1 output 0\n2 output 1", PlanError::Nest(5)),
-        // Two on one line, and on two.
-        ("0 input\n1 output 0\n4 map 1 9\n", PlanError::Number(3)),
-        (
-            "0 input\n1 output 0\n2 map 1 2\n3 sort\n",
-            PlanError::Order(3),
-        ),
-        (
-            "0 input\n1 output 0\n2 map 1 1\n7 output 9\n",
-            PlanError::Nest(3),
-        ),
-    ];
-    for (text, wanted) in texts {
-        assert_eq!(rt; refusal(rt.alloc(), text), Some(wanted), "{text}");
-    }
-}
-
-/// A plan of so many inputs, and one output.
-fn inputs(alloc: Global, count: u32) -> Result<String, PlanError> {
+/// An input, this many maps of this many sources each, and an output of so many.
+fn wide(alloc: Global, maps: u32, sources: u32, last: u32) -> Result<String, PlanError> {
     let mut text = String::new(alloc);
-    for number in 0..count {
-        writeln!(text, "{number} input")?;
+    text.push_str("0 input|")?;
+    for number in 1..=maps {
+        write!(text, "{number} map 1")?;
+        for _ in 0..sources {
+            text.push_str(" 0")?;
+        }
+        text.push('|')?;
     }
-    writeln!(text, "{count} output 0")?;
-    Ok(text)
-}
-
-#[test]
-fn a_plan_has_64_vertices_at_most(rt: HostRuntime) -> Result<(), Fail> {
-    let plan = Plan::read(rt.alloc(), inputs(rt.alloc(), 63)?.as_str())?;
-    assert_eq!(rt; plan.vertices().len(), 64);
-    assert_eq!(rt;
-        refusal(rt.alloc(), inputs(rt.alloc(), 64)?.as_str()),
-        Some(PlanError::TooMany(65))
-    );
-    Ok(())
-}
-
-#[test]
-fn a_long_text_is_read_in_one_pass(rt: HostRuntime) -> Result<(), Fail> {
-    let mut text = String::new(rt.alloc());
-    for _ in 0..250_000u32 {
-        text.push_str("   \n")?;
+    write!(text, "{} output", maps + 1)?;
+    for _ in 0..last {
+        text.push_str(" 0")?;
     }
-    text.push_str(COUNT)?;
-    let plan = Plan::read(rt.alloc(), text.as_str())?;
-    assert_eq!(rt; plan.text()?.as_str(), COUNT);
-    text.push_str("0 input")?;
-    assert_eq!(rt;
-        refusal(rt.alloc(), text.as_str()),
-        Some(PlanError::Number(250_004))
-    );
-    Ok(())
+    text.push('|')?;
+    answer(alloc, text.as_str())
 }
 
 #[test]
-fn what_a_plan_hands_out(rt: HostRuntime) -> Result<(), Fail> {
-    let plan = Plan::read(rt.alloc(), COUNT)?;
-    let kinds = [Kind::Input, Kind::Group(20), Kind::Output];
-    let mut number = 0u8;
-    for (vertex, kind) in plan.vertices().iter().zip(kinds) {
-        assert_eq!(rt; vertex.number(), number);
-        assert_eq!(rt; vertex.kind(), kind);
-        assert_eq!(rt; vertex.is_input(), number == 0);
-        assert_eq!(rt; vertex.is_output(), number == 2);
-        assert_eq!(rt; vertex.loops().len(), 0);
-        assert_eq!(rt; vertex.reads_on().len(), 0);
-        assert_eq!(rt; vertex.is_read_on().is_some(), number < 2);
-        assert_eq!(rt; vertex.copy().sources().len(), vertex.sources().len());
-        number = number.wrapping_add(1);
+fn plans_have_bounds(rt: HostRuntime) -> Result<(), Fail> {
+    for (maps, sources, last) in [(62, 1, 8), (15, 8, 8), (62, 2, 4)] {
+        let text = wide(rt.alloc(), maps, sources, last)?;
+        assert_eq!(rt; text.as_str().starts_with("0 input|"), true);
     }
-    assert_eq!(rt; number, 3);
-    let edges = [
-        Edge {
-            source: 0,
-            reader: 1,
-            port: 0,
-        },
-        Edge {
-            source: 1,
-            reader: 2,
-            port: 0,
-        },
-    ];
-    assert_eq!(rt; plan.edges(), edges.as_slice());
-    let none: &[Loop] = &[];
-    assert_eq!(rt; plan.blocks(), none);
-    Ok(())
-}
-
-#[test]
-fn a_batch_is_accepted_where_each_entry_names_an_input(rt: HostRuntime) -> Result<(), Fail> {
-    let plan = Plan::read(rt.alloc(), "0 input\n1 map 1 0\n2 input\n3 output 1\n")?;
-    let rec = Rec { key: 7, val: 5 };
-    let mut batch: Batch = Bag::new(rt.alloc());
-    assert!(rt; plan.accepts(&batch));
-    batch.add(Entry { input: 0, rec })?;
-    batch.add(Entry { input: 2, rec })?;
-    assert!(rt; plan.accepts(&batch));
-    for input in [1, 3, 4, 255] {
-        let mut more = batch.copy()?;
-        more.add(Entry { input, rec })?;
-        assert!(rt; !plan.accepts(&more));
-    }
-    Ok(())
-}
-
-#[test]
-fn refusals_have_numbers_and_texts(rt: HostRuntime) -> Result<(), Fail> {
-    let all = [
-        (PlanError::Syntax(1), "plan line 1: syntax"),
-        (PlanError::Number(2), "plan line 2: number"),
-        (PlanError::Order(3), "plan line 3: order"),
-        (PlanError::Nest(4), "plan line 4: nest"),
-        (PlanError::Bound(5), "plan line 5: bound"),
-        (PlanError::FoldInLoop(12), "plan line 12: fold in loop"),
-        (PlanError::Again(7), "plan line 7: again"),
-        (PlanError::TooMany(65), "plan line 65: too many"),
-        (PlanError::NoInputOrOutput, "plan: no input or output"),
-        (PlanError::Memory, "memory"),
-    ];
-    let mut number = 1u8;
-    for (error, text) in all {
-        assert_eq!(rt; error.number(), number);
-        assert_eq!(rt; error.to_string(rt.alloc())?.as_str(), text);
-        number = number.wrapping_add(1);
+    for (maps, sources, last, wanted) in [
+        (63, 1, 1, "plan line 65: too many"),
+        (16, 8, 1, "plan line 18: too many"),
+        (1, 9, 1, "plan line 2: too many"),
+    ] {
+        assert_eq!(rt; wide(rt.alloc(), maps, sources, last)?.as_str(), wanted);
     }
     Ok(())
 }

@@ -1,11 +1,13 @@
 //! What a plan consists of.
-ghost use Rattle.std.specs.Prelude.{◌≡◌, [], drop, reverse, option_map};
+ghost use Rattle.std.specs.Prelude.{◌≡◌, ◌≤◌, ◌++◌, OnOk, drop, length, nat_lt, reverse, option_map, true};
+ghost use Rattle.std.specs.List.{list_all};
 ghost use Rattle.std.specs.Option.{option_copied};
-ghost use Rattle.td_plan.specs.Blocks.{reading_loops, read_loops, is_read_on};
-ghost use Rattle.td_plan.specs.Faults.{is_input, is_output};
-ghost use Rattle.td_plan.specs.Written.{sources_of};
+ghost use Rattle.std.specs.Str.{bytes_eq};
+ghost use Rattle.td_plan.specs.Blocks.{edges_to, reading_loops, read_loops, firsts};
+ghost use Rattle.td_plan.specs.Faults.{is_input, is_output, is_fold, is_feedback, is_of_loops, is_of_outermost};
 
 use arrayvec::ArrayVec;
+use std::alloc::AllocError;
 use std::marker::Model;
 
 /// The most vertices of a plan.
@@ -19,6 +21,9 @@ pub const SOURCES: usize = 8;
 
 /// The most loops in which a vertex stands.
 pub const LEVELS: usize = 3;
+
+/// The most turns of a loop.
+pub const MOST_TURNS: u32 = 1000;
 
 /// What a vertex does. A map, a group and a fold have the code of their closure.
 #[derive(Clone, Copy, Debug, PartialEq, Eq)]
@@ -43,6 +48,95 @@ pub enum Kind {
     Output,
 }
 
+impl Kind {
+    pub(crate) fn is_input(self) -> bool
+        ensures { result ≡ is_input self }
+    {
+        match self {
+            Kind::Input => true,
+            _ => false,
+        }
+    }
+
+    pub(crate) fn is_output(self) -> bool
+        ensures { result ≡ is_output self }
+    {
+        match self {
+            Kind::Output => true,
+            _ => false,
+        }
+    }
+
+    pub(crate) fn is_fold(self) -> bool
+        ensures { result ≡ is_fold self }
+    {
+        match self {
+            Kind::Fold(_) => true,
+            _ => false,
+        }
+    }
+
+    pub(crate) fn is_feedback(self) -> bool
+        ensures { result ≡ is_feedback self }
+    {
+        match self {
+            Kind::Feedback => true,
+            _ => false,
+        }
+    }
+
+    /// Whether it stands in loops alone.
+    pub(crate) fn is_of_loops(self) -> bool
+        ensures { result ≡ is_of_loops self }
+    {
+        match self {
+            Kind::Enter | Kind::Feedback | Kind::Leave => true,
+            _ => false,
+        }
+    }
+
+    /// Whether it stands in no loop. (A fold has a fault of its own there.)
+    pub(crate) fn is_of_outermost(self) -> bool
+        ensures { result ≡ is_of_outermost self }
+    {
+        match self {
+            Kind::Input | Kind::Output => true,
+            _ => false,
+        }
+    }
+
+    /// The block on which it reads where it stands in these loops.
+    pub(crate) fn reads_on(self, loops: &[Loop]) -> &[Loop]
+        ensures { result.now ≡ reverse (reading_loops self (reverse loops.now)) }
+    {
+        match self {
+            Kind::Enter => around(loops),
+            _ => loops,
+        }
+    }
+
+    /// The block on which it is read, if it is, where it stands in these loops.
+    pub(crate) fn read_on(self, loops: &[Loop]) -> Option<&[Loop]>
+        ensures { option_copied result ≡ option_map reverse (read_loops self (reverse loops.now)) }
+    {
+        match self {
+            Kind::Leave => Some(around(loops)),
+            Kind::Output => None,
+            _ => Some(loops),
+        }
+    }
+}
+
+/// These loops without the innermost.
+fn around(loops: &[Loop]) -> &[Loop]
+    ensures { result.now ≡ reverse (drop 1 (reverse loops.now)) }
+{
+    match loops.split_last() {
+        Some((_, around)) => around,
+        None => loops,
+    }
+}
+
 /// A loop: the number of the first vertex after its head, and how many turns it makes at most, 1 to 1,000.
 #[derive(Clone, Copy, Debug, Default, PartialEq, Eq)]
 pub struct Loop {
@@ -57,6 +151,46 @@ pub struct Edge {
     pub source: u8,
     pub reader: u8,
     pub port: u8,
+}
+
+/// Whether these are the loops of one block: whether they begin at the same vertices.
+pub(crate) fn is_same_block(some: &[Loop], others: &[Loop]) -> bool
+    ensures { result ≡ bytes_eq (firsts some.now) (firsts others.now) }
+{
+    if some.len() != others.len() {
+        return false;
+    }
+    for (i, each) in some.iter().enumerate() {
+        if each.first != others[i].first {
+            return false;
+        }
+    }
+    true
+}
+
+/// The same loops, in room of their own.
+pub(crate) fn copy_loops(loops: &[Loop]) -> ArrayVec<Loop, LEVELS>
+    requires { length loops.now ≤ 3 }
+    ensures { result.items ≡ loops.now }
+{
+    let mut copied = ArrayVec::new();
+    for each in loops {
+        copied.push(*each);
+    }
+    copied
+}
+
+/// The same numbers, each of which is that of a vertex.
+fn narrow_sources(sources: &[u32]) -> ArrayVec<u8, SOURCES>
+    requires few { length sources.now ≤ 8 }
+    requires small { list_all (λ s. nat_lt s 64) sources.now ≡ true }
+    ensures { result.items ≡ sources.now }
+{
+    let mut narrow = ArrayVec::new();
+    for source in sources {
+        narrow.push(*source as u8);
+    }
+    narrow
 }
 
 /// A vertex of a plan, with the loops in which it stands. A block is named by the loops that are open in it, here the
@@ -97,20 +231,14 @@ impl Vertex {
     pub fn is_input(&self) -> bool
         ensures { result ≡ is_input self.now.vertex.kind }
     {
-        match self.kind {
-            Kind::Input => true,
-            _ => false,
-        }
+        self.kind.is_input()
     }
 
     /// Whether it is an output.
     pub fn is_output(&self) -> bool
         ensures { result ≡ is_output self.now.vertex.kind }
     {
-        match self.kind {
-            Kind::Output => true,
-            _ => false,
-        }
+        self.kind.is_output()
     }
 
     /// The numbers of its sources, by port.
@@ -131,57 +259,44 @@ impl Vertex {
     pub fn reads_on(&self) -> &[Loop]
         ensures { result.now ≡ reverse (reading_loops self.now.vertex.kind self.now.loops) }
     {
-        match self.kind {
-            Kind::Enter => self.around(),
-            _ => self.loops.as_slice(),
-        }
+        self.kind.reads_on(self.loops.as_slice())
     }
 
     /// The block on which it is read, if it is: the loops that are open there, the outermost first.
-    pub fn is_read_on(&self) -> Option<&[Loop]>
+    pub fn read_on(&self) -> Option<&[Loop]>
         ensures { option_copied result ≡ option_map reverse (read_loops self.now.vertex.kind self.now.loops) }
     {
-        match self.kind {
-            Kind::Leave => Some(self.around()),
-            Kind::Output => None,
-            _ => Some(self.loops.as_slice()),
-        }
+        self.kind.read_on(self.loops.as_slice())
     }
 
-    /// The loops without the innermost, the outermost first.
-    fn around(&self) -> &[Loop]
-        ensures { result.now ≡ reverse (drop 1 self.now.loops) }
+    /// Adds the edges that lead to it. Refusal: `Memory`.
+    pub(crate) fn add_edges(&self, edges: &mut Vec<Edge>) -> Result<(), AllocError>
+        ensures { OnOk result (edges.new.items ≡ edges.old.items ++ edges_to self.now) }
     {
-        let loops = self.loops.as_slice();
-        match loops.split_last() {
-            Some((_, around)) => around,
-            None => loops,
+        let mut port: u8 = 0;
+        for source in self.sources.as_slice() {
+            edges.push(Edge {
+                source: *source,
+                reader: self.number,
+                port,
+            })?;
+            port += 1;
         }
+        Ok(())
     }
 
-    /// Whether it is read on the outermost block.
-    pub(crate) fn is_read_outermost(&self) -> bool
-        ensures { result ≡ is_read_on [] self.now }
+    /// A vertex in these loops.
+    pub(crate) fn new(number: u8, kind: Kind, sources: &[u32], loops: &[Loop]) -> Vertex
+        requires few_sources { length sources.now ≤ 8 }
+        requires small { list_all (λ s. nat_lt s 64) sources.now ≡ true }
+        requires few_loops { length loops.now ≤ 3 }
+        ensures { result ≡ record { vertex = record { number = number; kind = kind; sources = sources.now }; loops = reverse loops.now } }
     {
-        match self.is_read_on() {
-            Some(loops) => loops.is_empty(),
-            None => false,
-        }
-    }
-
-    /// A vertex of the outermost block with one source or none.
-    pub(crate) fn outermost(number: u8, kind: Kind, source: Option<u8>) -> Vertex
-        ensures { result ≡ record { vertex = record { number = number; kind = kind; sources = sources_of source }; loops = [] } }
-    {
-        let mut sources = ArrayVec::new();
-        if let Some(source) = source {
-            sources.push(source);
-        }
         Vertex {
             number,
             kind,
-            sources,
-            loops: ArrayVec::new(),
+            sources: narrow_sources(sources),
+            loops: copy_loops(loops),
         }
     }
 
@@ -193,15 +308,11 @@ impl Vertex {
         for source in self.sources.as_slice() {
             sources.push(*source);
         }
-        let mut loops = ArrayVec::new();
-        for each in self.loops.as_slice() {
-            loops.push(*each);
-        }
         Vertex {
             number: self.number,
             kind: self.kind,
             sources,
-            loops,
+            loops: copy_loops(self.loops.as_slice()),
         }
     }
 }

@@ -8,7 +8,7 @@ pub returns-clause-spells : goal.returns-clause-spells
 returns-clause-spells c = canonical
 
 pub returns-clause-no_other : goal.returns-clause-no_other
-returns-clause-no_other c p q lawful taken spelled = one_plan (text_of p) q p spelled (canonical p lawful taken)
+returns-clause-no_other c p q lawful spelled = one_plan (text_of p) q p spelled (canonical p lawful)
 
 pub returns-clause-bytes : goal.returns-clause-bytes
 returns-clause-bytes c = at_most

@@ -1,7 +1,9 @@
-use Rattle.std.proofs.Common.{◌≡◌, take}
+use Rattle.std.proofs.Common.{◌≡◌, ◌++◌, drop}
 use Rattle.std.specs.Prelude.{string_bytes}
-use Rattle.td_plan.specs.Printed.{text_of_vertices}
+use Rattle.td_plan.specs.Lines.{text_of}
+use Rattle.td_plan.specs.Steps.Inside.{lines_of_marks}
 use Rattle.td_plan.proofs.printer.print.Given as goal
 
-abbrev pub invariant-loop-vertex : goal.invariant-loop-vertex
-invariant-loop-vertex l = string_bytes l.text ≡ text_of_vertices (take l.vertex-index l.vertices)
+abbrev pub invariant-loop-mark : goal.invariant-loop-mark
+invariant-loop-mark l =
+    string_bytes l.text ++ text_of (lines_of_marks (drop l.mark-index l.marks) l.left) ≡ text_of (lines_of_marks l.marks l.fn.vertices)

@@ -1,7 +1,7 @@
 use Rattle.std.proofs.Common.{ap, ◌∙◌, ◌++◌, map, lit<}
 use Rattle.std.specs.Prelude.{string_bytes, decimal}
 use Rattle.td_plan.specs.Lines.{words_of_kind}
-use Rattle.td_plan.specs.Printed.{spaced}
+use Rattle.td_plan.specs.Steps.Printed.{spaced}
 use Rattle.td_plan.proofs.Printing.{vertex_printed}
 use Rattle.td_plan.proofs.printer.print_vertex.Goals as goal
 

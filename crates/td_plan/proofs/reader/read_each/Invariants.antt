@@ -1,13 +1,13 @@
-use Rattle.std.proofs.Common.{◌≡◌, ◌+◌, ◌≤◌, [], length}
+use Rattle.std.proofs.Common.{◌≡◌, ◌+◌, ◌≤◌, length}
 use denote.Text.{Utf8}
 use denote.Shadow.{shadow}
 use Rattle.td_plan.specs.Text.{text_lines}
-use Rattle.td_plan.specs.Reading.{lines_from}
+use Rattle.td_plan.specs.Steps.Reading.{no_draft, lines_from}
 use Rattle.td_plan.proofs.reader.read_each.Given as goal
 
 abbrev pub invariant-loop-line : goal.invariant-loop-line
 invariant-loop-line l =
-    shadow (Utf8 l.rest) × (lines_from [] 0 (text_lines l.fn.text) ≡ lines_from l.lines l.number (text_lines l.rest)) × (l.number + length l.rest ≤ length l.fn.text)
+    shadow (Utf8 l.rest) × (lines_from no_draft 0 (text_lines l.fn.text) ≡ lines_from l.draft l.number (text_lines l.rest)) × (l.number + length (text_lines l.rest) ≡ length (text_lines l.fn.text)) × (l.number + length l.rest ≤ length l.fn.text)
 
 abbrev pub decreases-loop-line : goal.decreases-loop-line
 decreases-loop-line l = length l.rest

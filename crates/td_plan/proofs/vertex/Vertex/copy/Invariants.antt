@@ -3,6 +3,3 @@ use Rattle.td_plan.proofs.vertex.Vertex.copy.Given as goal
 
 abbrev pub invariant-loop-source : goal.invariant-loop-source
 invariant-loop-source l = (l.sources.items ≡ take l.source-index l.source-items) × (length l.source-items ≤ 8)
-
-abbrev pub invariant-loop-each : goal.invariant-loop-each
-invariant-loop-each l = (l.loops.items ≡ take l.each-index l.each-items) × (length l.each-items ≤ 3)
