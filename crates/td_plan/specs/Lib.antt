@@ -9,5 +9,6 @@ pub mod Placed
 pub mod Texts
 pub mod Steps
 pub mod Inputs
+pub mod Times
 pub mod Named
 pub mod Examples
