@@ -10,5 +10,6 @@ pub mod Texts
 pub mod Steps
 pub mod Inputs
 pub mod LookedUp
+pub mod Standing
 pub mod Named
 pub mod Examples
