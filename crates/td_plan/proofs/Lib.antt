@@ -6,12 +6,14 @@ pub mod Edges
 pub mod Growth
 pub mod Lengths
 pub mod Listed
+pub mod Looked
 pub mod Numerals
 pub mod Placed
 pub mod Printing
 pub mod ReadOn
 pub mod Readings
 pub mod SameLoops
+pub mod SamePlans
 pub mod Spelling
 pub mod Trees
 pub mod Unique

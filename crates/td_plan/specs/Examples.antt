@@ -1,5 +1,5 @@
 -- Worked examples of the definitions, by computation.
-use Rattle.std.specs.Prelude.{◌≡◌, ◌++◌, ℕ, true, List, [], ◌∷◌, codes, Some, None, map}
+use Rattle.std.specs.Prelude.{◌≡◌, ◌++◌, ℕ, true, false, List, [], ◌∷◌, codes, Some, None, map}
 use Rattle.std.proofs.Common.{refl, inr}
 use Rattle.std.specs.Fmt.{digits}
 use Rattle.td_plan.specs.declared.vertex.Kind.TheVariants.{Input, Map, Group, Fold, Enter, Feedback, Leave, Output}
@@ -112,14 +112,28 @@ empty_text = record { readings = []; whole = record { read = tt; faultless = ref
 
 -- REFUSED LINES, by what stands before them
 -- a source lower than the vertex, but not than the first number of the block
-order_in_loop : fault_of (scope_of (at 0 Input [] ∷ loop 2 ∷ at 1 Enter (0 ∷ []) ∷ at 2 Leave (1 ∷ []) ∷ [])) (at 3 Enter (2 ∷ [])) ≡ Some Fault.order
+abbrev left_within : List Line
+left_within = at 0 Input [] ∷ loop 2 ∷ at 1 Enter (0 ∷ []) ∷ at 2 Leave (1 ∷ []) ∷ []
+
+order_in_loop : fault_of (scope_of left_within) (at 3 Enter (2 ∷ [])) ≡ Some Fault.order
 order_in_loop = refl
 
 fold_in_loop : fault_of (scope_of (at 0 Input [] ∷ loop 2 ∷ at 1 Enter (0 ∷ []) ∷ [])) (at 2 (Fold 40) (1 ∷ [])) ≡ Some Fault.fold_in_loop
 fold_in_loop = refl
 
 -- an output that reads within the loop
-read_within : fault_of (scope_of (at 0 Input [] ∷ loop 3 ∷ at 1 Enter (0 ∷ []) ∷ at 2 Feedback (3 ∷ []) ∷ at 3 (Map 2) (1 ∷ 2 ∷ []) ∷ at 4 Leave (3 ∷ []) ∷ end ∷ [])) (at 5 Output (3 ∷ [])) ≡ Some Fault.nest
+abbrev counted_down : List Line
+counted_down =
+    at 0 Input []
+    ∷ loop 3
+    ∷ at 1 Enter (0 ∷ [])
+    ∷ at 2 Feedback (3 ∷ [])
+    ∷ at 3 (Map 2) (1 ∷ 2 ∷ [])
+    ∷ at 4 Leave (3 ∷ [])
+    ∷ end
+    ∷ []
+
+read_within : fault_of (scope_of counted_down) (at 5 Output (3 ∷ [])) ≡ Some Fault.nest
 read_within = refl
 
 bound_0 : fault_of (scope_of (at 0 Input [] ∷ [])) (loop 0) ≡ Some Fault.bound
@@ -141,8 +155,14 @@ two_feedback_sources : fault_of (scope_of (at 0 Input [] ∷ loop 2 ∷ at 1 Ent
 two_feedback_sources = refl
 
 -- a feedback whose source is no vertex, and one whose source is read on another block
-stray_number : is_stray (at 0 Input [] ∷ loop 2 ∷ at 1 Enter (0 ∷ []) ∷ at 2 Feedback (9 ∷ []) ∷ end ∷ at 3 Output (0 ∷ []) ∷ []) (at 2 Feedback (9 ∷ [])) ≡ true
+abbrev fed_back : ℕ → List Line
+fed_back source = at 0 Input [] ∷ loop 2 ∷ at 1 Enter (0 ∷ []) ∷ at 2 Feedback (source ∷ []) ∷ end ∷ at 3 Output (0 ∷ []) ∷ []
+
+stray_number : is_stray (fed_back 9) (at 2 Feedback (9 ∷ [])) ≡ true
 stray_number = refl
 
-stray_block : is_stray (at 0 Input [] ∷ loop 2 ∷ at 1 Enter (0 ∷ []) ∷ at 2 Feedback (0 ∷ []) ∷ end ∷ at 3 Output (0 ∷ []) ∷ []) (at 2 Feedback (0 ∷ [])) ≡ true
+stray_block : is_stray (fed_back 0) (at 2 Feedback (0 ∷ [])) ≡ true
 stray_block = refl
+
+not_stray : is_stray (fed_back 1) (at 2 Feedback (1 ∷ [])) ≡ false
+not_stray = refl

@@ -10,5 +10,6 @@ pub mod Texts
 pub mod Steps
 pub mod Inputs
 pub mod Times
+pub mod LookedUp
 pub mod Named
 pub mod Examples

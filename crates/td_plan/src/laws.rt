@@ -1,10 +1,11 @@
 //! Laws of the definitions. Each is the contract of a function that does nothing.
-ghost use Rattle.std.specs.Prelude.{[], ◌≡◌, ◌⊎◌, ◌≤◌, ℕ, List, length, true};
+ghost use Rattle.std.specs.Prelude.{[], ◌≡◌, ◌⊎◌, ◌≤◌, ℕ, List, length, true, Some};
 ghost use Rattle.td_plan.specs.declared.error.PlanError.{PlanError as AnyError};
-ghost use Rattle.std.specs.List.{join_with_byte};
+ghost use Rattle.std.specs.List.{join_with_byte, slice_get};
 ghost use Rattle.td_plan.specs.Text.{words};
 ghost use Rattle.td_plan.specs.Lines.{Line, has_form, text_of, words_of};
-ghost use Rattle.td_plan.specs.Blocks.{vertices};
+ghost use Rattle.td_plan.specs.Blocks.{PlacedVertex, vertices};
+ghost use Rattle.td_plan.specs.LookedUp.{IsLookedUp, IsSourceAt, IsEdgeAt};
 ghost use Rattle.td_plan.specs.Tree.{tree_of, lines_of, placed_in, IsNumbered};
 ghost use Rattle.td_plan.specs.Faults.{IsPlan};
 ghost use Rattle.td_plan.specs.Sources.{ReadEarlier};
@@ -50,4 +51,10 @@ pub fn sources()
 /// of a feedback anywhere on its block, and any other on the block before its reader.
 pub fn well_placed()
     ensures { (plan : List Line) → IsPlan plan → IsPlacedTree (tree_of plan) }
+{}
+
+/// Look-ups by number find the vertex of that number, and `edge_at` the edge that leads to a port of a vertex.
+pub fn look_ups()
+    ensures vertices { (plan : List Line) (v : ℕ) (p : PlacedVertex) → IsPlan plan → slice_get (vertices plan) v ≡ Some p → IsLookedUp plan v p }
+    ensures edges { (plan : List Line) (reader port source : ℕ) → IsPlan plan → IsSourceAt plan reader port source → IsEdgeAt plan reader port source }
 {}

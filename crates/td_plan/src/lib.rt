@@ -9,6 +9,7 @@ mod mark;
 mod plan;
 mod printer;
 mod reader;
+mod same;
 mod scope;
 #[cfg(test)]
 mod tests;

@@ -1,5 +1,5 @@
 //! Plans.
-ghost use Rattle.std.specs.Prelude.{◌≡◌, ◌≤◌, ◌⊎◌, length, flat_map, IfOk, IfErr, string_bytes, true};
+ghost use Rattle.std.specs.Prelude.{◌≡◌, ◌≤◌, ◌⊎◌, ◌↔◌, IsTrue, length, flat_map, IfOk, IfErr, string_bytes, true};
 ghost use Rattle.std.specs.List.{list_all};
 ghost use Rattle.td_plan.specs.Lines.{text_of};
 ghost use Rattle.td_plan.specs.Blocks.{vertices, edges, edges_to, loops};
@@ -12,6 +12,7 @@ use crate::error::PlanError;
 use crate::mark::Mark;
 use crate::printer::print;
 use crate::reader::{Draft, read_draft};
+use crate::same::{are_same_marks, are_same_vertices};
 use crate::scope::Standing;
 use crate::vertex::{Edge, Loop, Vertex};
 use std::alloc::Global;
@@ -118,6 +119,14 @@ impl Plan {
             loops: Vec::from_slice(self.alloc, self.loops.as_slice())?,
             alloc: self.alloc,
         })
+    }
+
+    /// Whether this is the same plan as another: whether they have the same lines. It takes no memory.
+    pub fn same(&self, other: &Plan) -> bool
+        ensures { IsTrue result ↔ (self.now ≡ other.now) }
+    {
+        are_same_marks(self.marks.as_slice(), other.marks.as_slice())
+            && are_same_vertices(self.vertices.as_slice(), other.vertices.as_slice())
     }
 
     /// Whether every entry of a batch names an input vertex. It takes no memory.

@@ -1,10 +1,9 @@
 //! The canonical text of a plan.
-ghost use Rattle.std.specs.Prelude.{◌≡◌, ◌++◌, ◌∷◌, [], List, IfOk, OnOk, IfErr, string_bytes, map, decimal};
-ghost use Rattle.td_plan.specs.declared.mark.Mark.{Mark as AnyMark};
+ghost use Rattle.std.specs.Prelude.{◌≡◌, ◌++◌, ◌∷◌, [], IfOk, OnOk, IfErr, string_bytes, map, decimal};
 ghost use Rattle.td_plan.specs.Lines.{text_of, text_of_line, words_of_kind};
 ghost use Rattle.td_plan.specs.Lines.Line.{vertex as vertex_line};
 ghost use Rattle.td_plan.specs.Steps.Inside.{lines_of_marks};
-ghost use Rattle.td_plan.specs.Steps.Printed.{spaced};
+ghost use Rattle.td_plan.specs.Steps.Printed.{spaced, IsPrinted};
 
 use crate::error::PlanError;
 use crate::mark::Mark;
@@ -31,7 +30,7 @@ fn print_line<'a>(
     mark: Mark,
     vertices: &'a [Vertex],
 ) -> Result<&'a [Vertex], PlanError>
-    ensures ok { IfOk result (λ left. (marks : List AnyMark) → string_bytes text.new ++ text_of (lines_of_marks marks left.now) ≡ string_bytes text.old ++ text_of (lines_of_marks (mark ∷ marks) vertices.now)) }
+    ensures ok { IfOk result (λ left. IsPrinted (string_bytes text.old) (string_bytes text.new) mark vertices.now left.now) }
     ensures err { IfErr result (λ e. e ≡ PlanError.Memory) }
 {
     match mark {

@@ -98,14 +98,16 @@ fn texts_have_answers(rt: HostRuntime) -> Result<(), Fail> {
 fn wide(alloc: Global, maps: u32, sources: u32, last: u32) -> Result<String, PlanError> {
     let mut text = String::new(alloc);
     text.push_str("0 input|")?;
-    for number in 1..=maps {
+    let mut number = 1u32;
+    for _ in 0..maps {
         write!(text, "{number} map 1")?;
         for _ in 0..sources {
             text.push_str(" 0")?;
         }
         text.push('|')?;
+        number = number.wrapping_add(1);
     }
-    write!(text, "{} output", maps + 1)?;
+    write!(text, "{number} output")?;
     for _ in 0..last {
         text.push_str(" 0")?;
     }
@@ -126,5 +128,54 @@ fn plans_have_bounds(rt: HostRuntime) -> Result<(), Fail> {
     ] {
         assert_eq!(rt; wide(rt.alloc(), maps, sources, last)?.as_str(), wanted);
     }
+    Ok(())
+}
+
+#[test]
+fn what_a_plan_hands_out(rt: HostRuntime) -> Result<(), Fail> {
+    let plan = Plan::read(
+        rt.alloc(),
+        "0 input\nloop 7\n1 enter 0\n2 leave 1\nend\n3 output 2 0\n",
+    )?;
+    let rows = [
+        (Kind::Input, 0, 0, 0, Some(0)),
+        (Kind::Enter, 1, 1, 0, Some(1)),
+        (Kind::Leave, 1, 1, 1, Some(0)),
+        (Kind::Output, 2, 0, 0, None),
+    ];
+    let mut number = 0u8;
+    for (vertex, (kind, sources, loops, reads_on, read_on)) in plan.vertices().iter().zip(rows) {
+        assert_eq!(rt; vertex.number(), number);
+        assert_eq!(rt; vertex.kind(), kind);
+        assert_eq!(rt; vertex.is_input(), number == 0);
+        assert_eq!(rt; vertex.is_output(), number == 3);
+        assert_eq!(rt; vertex.copy().sources().len(), sources);
+        assert_eq!(rt; vertex.loops().len(), loops);
+        assert_eq!(rt; vertex.reads_on().len(), reads_on);
+        assert_eq!(rt; vertex.read_on().map(|loops| loops.len()), read_on);
+        number = number.wrapping_add(1);
+    }
+    assert_eq!(rt; number, 4);
+    let last = Edge {
+        source: 0,
+        reader: 3,
+        port: 1,
+    };
+    assert_eq!(rt; plan.edges().last(), Some(&last));
+    assert_eq!(rt; plan.blocks(), [Loop { first: 1, bound: 7 }].as_slice());
+    assert!(rt; plan.same(&plan.copy()?));
+    assert!(rt; !plan.same(&Plan::read(rt.alloc(), "0 input\n1 output 0\n")?));
+    Ok(())
+}
+
+#[test]
+fn a_batch_is_accepted_where_each_entry_names_an_input(rt: HostRuntime) -> Result<(), Fail> {
+    let plan = Plan::read(rt.alloc(), "0 input\n1 map 1 0\n2 input\n3 output 1\n")?;
+    let rec = Rec { key: 7, val: 5 };
+    let mut batch: Batch = Bag::new(rt.alloc());
+    batch.add(Entry { input: 2, rec })?;
+    assert!(rt; plan.accepts(&batch));
+    batch.add(Entry { input: 3, rec })?;
+    assert!(rt; !plan.accepts(&batch));
     Ok(())
 }

@@ -1,5 +1,5 @@
 //! What a plan consists of.
-ghost use Rattle.std.specs.Prelude.{◌≡◌, ◌≤◌, ◌++◌, OnOk, drop, length, nat_lt, reverse, option_map, true};
+ghost use Rattle.std.specs.Prelude.{◌≡◌, ◌≤◌, ◌++◌, ◌↔◌, IsTrue, OnOk, drop, length, nat_lt, reverse, option_map, true};
 ghost use Rattle.std.specs.List.{list_all};
 ghost use Rattle.std.specs.Option.{option_copied};
 ghost use Rattle.std.specs.Str.{bytes_eq};
@@ -248,21 +248,23 @@ impl Vertex {
         self.sources.as_slice()
     }
 
-    /// The loops in which it stands, the outermost first.
+    /// The loops in which it stands, the outermost first. (Contracts have the innermost first.)
     pub fn loops(&self) -> &[Loop]
         ensures { result.now ≡ reverse self.now.loops }
     {
         self.loops.as_slice()
     }
 
-    /// The block on which it reads: the loops that are open there, the outermost first.
+    /// The block on which it reads: the loops that are open there, the outermost first. (Contracts have the innermost
+    /// first.)
     pub fn reads_on(&self) -> &[Loop]
         ensures { result.now ≡ reverse (reading_loops self.now.vertex.kind self.now.loops) }
     {
         self.kind.reads_on(self.loops.as_slice())
     }
 
-    /// The block on which it is read, if it is: the loops that are open there, the outermost first.
+    /// The block on which it is read, if it is: the loops that are open there, the outermost first. (Contracts have the
+    /// innermost first.)
     pub fn read_on(&self) -> Option<&[Loop]>
         ensures { option_copied result ≡ option_map reverse (read_loops self.now.vertex.kind self.now.loops) }
     {
@@ -298,6 +300,15 @@ impl Vertex {
             sources: narrow_sources(sources),
             loops: copy_loops(loops),
         }
+    }
+
+    /// Whether it has the number, the kind and the sources of another vertex.
+    pub(crate) fn same(&self, other: &Vertex) -> bool
+        ensures { IsTrue result ↔ (self.now.vertex ≡ other.now.vertex) }
+    {
+        other.number == self.number
+            && self.kind == other.kind
+            && self.sources.as_slice() == other.sources.as_slice()
     }
 
     /// The same vertex.
