@@ -149,7 +149,7 @@ class Search:
 def build(folder):
     """The program's path, in a repository of its own: copies of the crates and of what earlier checks kept."""
     for crate in BELOW:
-        shutil.copytree(ROOT / "crates" / crate, folder / "crates" / crate, copy_function=shutil.copy2)
+        shutil.copytree(ROOT / "crates" / crate, folder / "crates" / crate, ignore=shutil.ignore_patterns("edit_times"))
     source = folder / "crates/could/src"
     source.mkdir(parents=True)
     shutil.copy(ROOT / "bench/could/main.rt", source / "main.rt")

@@ -28,7 +28,8 @@ pub fn paths()
 pub fn could_order()
     ensures reflexive { (plan : List Line) (p : AnyStamp) → IsOf plan p → Could plan p p }
     ensures transitive { (plan : List Line) (p q r : AnyStamp) → Could plan p q → Could plan q r → Could plan p r }
-    ensures antisymmetric { (plan : List Line) → IsPlan plan → (p q : AnyStamp) → IsOf plan p → IsOf plan q → Could plan p q → Could plan q p → p ≡ q }
+    ensures antisymmetric { (plan : List Line) → IsPlan plan → (p q : AnyStamp) → IsOf plan p → IsOf plan q
+        → Could plan p q → Could plan q p → p ≡ q }
     ensures no_way_back { (plan : List Line) → IsPlan plan → (p : AnyStamp) → IsOf plan p → (k : Could plan p p) → k.path ≡ [] }
     ensures epochs { (plan : List Line) (p q : AnyStamp) → Could plan p q → p.time.epoch ≤ q.time.epoch }
 {
@@ -46,8 +47,10 @@ pub fn could_leads()
 /// Could-result-in has a test, a value of truth, by which pointstamps are counted that could result in another; and so has
 /// whether any path leads from one place to another.
 pub fn could_tested()
-    ensures leads { (plan : List Line) → IsPlan plan → (from to : AnyPlace) → HasPlace plan from → HasPlace plan to → (leads_test plan from to ≡ true) ↔ Leads plan from to }
-    ensures could { (plan : List Line) → IsPlan plan → (p q : AnyStamp) → IsOf plan p → IsOf plan q → (could_test plan p q ≡ true) ↔ Could plan p q }
+    ensures leads { (plan : List Line) → IsPlan plan → (from to : AnyPlace) → HasPlace plan from → HasPlace plan to
+        → (leads_test plan from to ≡ true) ↔ Leads plan from to }
+    ensures could { (plan : List Line) → IsPlan plan → (p q : AnyStamp) → IsOf plan p → IsOf plan q
+        → (could_test plan p q ≡ true) ↔ Could plan p q }
 {
     counter_order();
     time_order();
@@ -56,8 +59,8 @@ pub fn could_tested()
 /// Along each edge the position in the schedule rises: that at which the source sends comes before that at which the
 /// reader sends what it makes of it.
 pub fn positions()
-    ensures { (plan : List Line) → IsPlan plan → (e : ℕ) (edge : AnyEdge) (t : Timestamp) → IsEdge plan e edge → HasDepth plan (read_loops_at plan edge.source) t
-        → Below (position plan edge.source t) (position plan edge.reader (sent_by (kind_at plan edge.reader) t)) }
+    ensures { (plan : List Line) → IsPlan plan → (e : ℕ) (edge : AnyEdge) (t : Timestamp) → IsEdge plan e edge
+        → HasDepth plan (read_loops_at plan edge.source) t → Below (position plan edge.source t) (position plan edge.reader (sent_by (kind_at plan edge.reader) t)) }
 {}
 
 /// Of some pointstamps of a plan there is one that no other of them could result in.
