@@ -1,11 +1,11 @@
 //! Readers and writers that are slow, that fail in mid-stream or that are interrupted, and the program's words: what no
 //! contract says, and no row on the program shows.
 use crate::words::{Job, WordsError, words};
-use crate::{Fault, StdReader, StdWriter, Stock, StockCalls, batch, fault_line};
+use crate::{Fault, StdReader, StdWriter, batch, fault_line};
 use std::alloc::Global;
 use std::io::{Error, ErrorKind, Read, Write};
 use std::test::Fail;
-use td_calls::Calls;
+use td_calls::{Calls, Stock, StockCalls};
 
 const INPUT: &str = "0 input\n1 output 0\n--\n0 9 -2\n0 7 1\n.\n";
 
