@@ -1,5 +1,5 @@
 -- An epoch from vertex to vertex.
-use Rattle.std.proofs.Common.{◌≡◌, ℕ, ◌+◌, ◌<◌, Bool, true, false, List, [], ◌∷◌, ◌++◌, map, fold, length, None, refl, ap, sym, ◌∙◌, subst, arith}
+use Rattle.std.proofs.Common.{length-append, ◌≡◌, ℕ, ◌+◌, ◌<◌, Bool, true, false, List, [], ◌∷◌, ◌++◌, map, fold, length, None, refl, ap, sym, ◌∙◌, subst, arith}
 use Rattle.std.specs.List.{AllByRecursion}
 use Rattle.std.proofs.lemmas.List.{length_push, append_assoc, append-nil, get_or_append_left}
 use Rattle.std.proofs.Math.Seq.{get_or-append_seam}
@@ -13,18 +13,18 @@ use Rattle.td_plan.specs.declared.vertex.Kind.{Kind}
 use Rattle.td_plan.specs.declared.vertex.Kind.TheVariants.{Input, Map, Distinct, Group, Fold, Enter, Feedback, Leave, Output}
 use Rattle.td_plan.specs.Lines.{Vertex}
 use Rattle.td_plan.specs.Faults.{is_output}
-use Rattle.td_plan.specs.Tree.{Nodes}
-use Rattle.td_plan.specs.Tree.Nodes.{done, node}
+use Rattle.td_plan.specs.Tree.{Nodes, size}
+use Rattle.td_plan.specs.Tree.Nodes.{done, node, block}
 use Rattle.td_calls.specs.Callbacks.{arrivals, on_notification}
 use Rattle.td_batch.specs.declared.sent.Change.{Change}
 use Rattle.td_batch.specs.Meaning.{EpochInput, Bags, emitted, emission, turn, epoch_bags, outputs_at, outputs_in, with_kept, states_by, states_in}
-use Rattle.td_batch.specs.Quiet.{fed_back_by}
+use Rattle.td_batch.specs.Quiet.{fed_back_by, fed_back}
 use Rattle.td_batch.specs.Steps.Epoch.{IsOuter}
 use Rattle.td_batch.specs.Steps.Sent.{changes_by, with_change}
 use Rattle.td_batch.specs.Steps.Tree.{read_by, reads, AreAlike}
-use Rattle.td_batch.proofs.Lists.{all_left, all_right, map_alike}
-use Rattle.td_batch.proofs.Turns.{turn_keeps}
-use Rattle.td_batch.proofs.Alike.{alike_then, alike_push, alike_same, emission_alike}
+use Rattle.td_batch.proofs.Lists.{all_append, all_left, all_right, map_alike}
+use Rattle.td_batch.proofs.Turns.{turn_keeps, loop_bags, length-loop_bags}
+use Rattle.td_batch.proofs.Alike.{alike_then, alike_push, alike_same, emission_alike, turn_alike}
 
 -- what is kept by changes one after the other
 fold_append : (states : StateList) (xs ys : List Change) → fold with_change states (xs ++ ys) ≡ fold with_change (fold with_change states xs) ys
@@ -173,6 +173,28 @@ module _ (epoch : EpochInput) (maps groups folds : ℕ → Bool) (all rest : Nod
       states_alike Feedback a = refl
       states_alike Leave a = refl
       states_alike Output a = refl
+
+-- past a loop
+pub past_loop : (epoch : EpochInput) (maps groups folds : ℕ → Bool) (all body rest : Nodes) (bound : ℕ) (bags more : Bags) (outputs : List AnyOutput) (changes : List Change)
+    → Going epoch maps groups folds all (block bound body rest) bags outputs changes → length more ≡ length bags + size body
+    → AreAlike (reads true rest) more (bags ++ loop_bags epoch bound body bags) → Going epoch maps groups folds all rest more outputs changes
+past_loop epoch maps groups folds all body rest bound bags more outputs changes g longer kept = record {
+  exact = g.exact ++ loop_bags epoch bound body g.exact;
+  long = longer ∙ ap (λ n. n + size body) g.long ∙ sym (length-append g.exact (loop_bags epoch bound body g.exact) ∙ ap (λ n. length g.exact + n) (length-loop_bags epoch bound body g.exact));
+  alike = alike_then (reads true rest) more (bags ++ loop_bags epoch bound body bags) (g.exact ++ loop_bags epoch bound body g.exact) kept
+      (turn_alike epoch (block bound body done) (reads true rest) None None bags g.exact g.long tt
+      (all_append P inner [] (all_left P inner (reads true rest) g.alike) tt) (all_right P inner (reads true rest) g.alike) tt);
+  ends = g.ends;
+  lawful = subst (λ n. IsOuter maps groups folds n rest) (sym longer) g.lawful.3;
+  outs = g.outs;
+  states = g.states;
+}
+  where
+    P : ℕ → Type 0
+    P s = emitted bags s ≡ emitted g.exact s
+
+    inner : List ℕ
+    inner = reads true body ++ fed_back body
 
 -- at the end
 pub ends : (epoch : EpochInput) (maps groups folds : ℕ → Bool) (all : Nodes) (bags : Bags) (outputs : List AnyOutput) (changes : List Change) → Going epoch maps groups folds all done bags outputs changes

@@ -12,6 +12,7 @@ mod Alike
 mod Epochs
 mod Flat
 mod Joins
+mod Loops
 mod MoreEpochs
 mod Once
 mod KeyRuns

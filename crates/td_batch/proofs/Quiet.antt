@@ -104,9 +104,8 @@ past_end (x ∷ xs) zero g = absurd (omega arith)
 past_end (x ∷ xs) (suc s) g = past_end xs s (omega arith)
 
 -- the numbers of the sources in the body of a loop
-body_range : (body : Nodes) (outer : List ℕ) (bags : Bags) → IsLoopBody outer bags body → IsRanged 0 (length bags) (length bags + size body) (length bags) body
-body_range body outer bags is =
-    let n = length bags in
+pub body_range : (body : Nodes) (outer : List ℕ) (n : ℕ) → IsLoopBody outer n body → IsRanged 0 n (n + size body) n body
+body_range body outer n is =
     ranged body (read_in body) outer [] 0 n (n + size body) n (omega arith) (block_range body (read_in body) outer [] n (n + size body) (omega arith) is.1)
     (all_map (λ s. s < n) (λ s. (0 ≤ s) × (s < n)) (λ s l. (omega arith, l)) outer is.0) tt is.1
 
@@ -156,19 +155,19 @@ module _ (epoch : EpochInput) where
       enters_inside (Some e) = nothing_yet (entered_from body)
 
   -- of the body of a loop, where its sources are read where their readers read
-  pub quiet_turn : (body : Nodes) (outer : List ℕ) (before : Option Bags) (bags : Bags) → IsLoopBody outer bags body → NothingEnters before bags body → NothingReturns before body
+  pub quiet_turn : (body : Nodes) (outer : List ℕ) (before : Option Bags) (bags : Bags) → IsLoopBody outer (length bags) body → NothingEnters before bags body → NothingReturns before body
       → (v : ℕ) → length bags ≤ v → emitted (turn epoch body before bags) v ≡ []
   quiet_turn body outer before bags is enters returns v h =
       let n = length bags in
-      quiet body 0 n (n + size body) before bags (omega arith) (body_range body outer bags is) is.2 enters (λ s g. past_end bags s g) returns v h
+      quiet body 0 n (n + size body) before bags (omega arith) (body_range body outer (length bags) is) is.2 enters (λ s g. past_end bags s g) returns v h
 
-  pub quiet_later : (body : Nodes) (outer : List ℕ) (before : Option Bags) (bags : Bags) → IsLoopBody outer bags body → NothingEnters before bags body → NothingReturns before body
+  pub quiet_later : (body : Nodes) (outer : List ℕ) (before : Option Bags) (bags : Bags) → IsLoopBody outer (length bags) body → NothingEnters before bags body → NothingReturns before body
       → (count v : ℕ) → length bags ≤ v → flat_map (λ each. emitted each v) (turns (λ earlier. turn epoch body earlier bags) count before) ≡ []
   quiet_later body outer before bags is enters returns zero v h = refl
   quiet_later body outer before bags is enters returns (suc count) v h =
       let n = length bags in
       let now : Bags = turn epoch body before bags in
-      let within : AllIn n (n + size body) (fed_back body) = fed_back_in body 0 n (n + size body) n (body_range body outer bags is) in
+      let within : AllIn n (n + size body) (fed_back body) = fed_back_in body 0 n (n + size body) n (body_range body outer (length bags) is) in
       let next : NothingReturns (Some now) body =
       all_map (λ t. (n ≤ t) × (t < n + size body)) (λ t. emitted now t ≡ []) (λ t b. quiet_turn body outer before bags is enters returns t b.0) (fed_back body) within in
       λ i. quiet_turn body outer before bags is enters returns v h i ++ quiet_later body outer (Some now) bags is (nothing_yet (entered_from body)) next count v h i

@@ -1,5 +1,5 @@
 -- What brings records into a turn of a loop: its enters, in its first turn, and its feedbacks, in each later one.
-use Rattle.std.specs.Prelude.{◌≡◌, ◌<◌, ℕ, length, List, [], ◌++◌, false, Option}
+use Rattle.std.specs.Prelude.{◌≡◌, ◌<◌, ℕ, List, [], ◌++◌, false, Option}
 use Rattle.std.specs.List.{AllByRecursion}
 use Rattle.td_plan.specs.declared.vertex.Kind.{Kind}
 use Rattle.td_plan.specs.declared.vertex.Kind.TheVariants.{Enter, Feedback}
@@ -44,7 +44,7 @@ NothingEnters before bags body = AllByRecursion (λ s. emitted (entered before b
 abbrev pub NothingReturns : Option Bags → Nodes → Type 0
 NothingReturns before body = AllByRecursion (λ s. emitted (returned before) s ≡ []) (fed_back body)
 
--- the body of a loop, after these bags: each source is read where its reader reads, those of enters are among the vertices
--- outside, which come before it, and no vertex is an input
-abbrev pub IsLoopBody : List ℕ → Bags → Nodes → Type 0
-IsLoopBody outer bags body = AllByRecursion (λ s. s < length bags) outer × IsWellPlaced (read_in body) outer [] (length bags) body × HasNoInputs body
+-- the body of a loop, whose first vertex has number n: each source is read where its reader reads, those of enters are among
+-- the vertices outside, which come before it, and no vertex is an input
+abbrev pub IsLoopBody : List ℕ → ℕ → Nodes → Type 0
+IsLoopBody outer n body = AllByRecursion (λ s. s < n) outer × IsWellPlaced (read_in body) outer [] n body × HasNoInputs body

@@ -71,20 +71,20 @@ pub(crate) fn keep<'a>(
     vertex: &Vertex,
     rest: &Tree,
     is_first: bool,
-    need: &[u8],
+    need: &[usize],
 ) -> Result<(), BatchError>
     requires { vertex.now.vertex.number ≡ length bags.old.items }
     ensures length { OnOk result (length bags.new.items ≡ length bags.old.items + 1) }
     ensures alike { OnOk result (AreAlike (reads is_first (nodes_of rest.now) ++ need.now) bags.new.items (bags.old.items ++ bag.entry ∷ [])) }
 {
-    let kept = if is_needed(rest, is_first, need, vertex.number()) {
+    let kept = if is_needed(rest, is_first, need, usize::from(vertex.number())) {
         bag
     } else {
         Emitted::nothing(alloc)
     };
     bags.push(kept)?;
     for source in vertex.sources() {
-        if !is_needed(rest, is_first, need, *source) {
+        if !is_needed(rest, is_first, need, usize::from(*source)) {
             let_go(alloc, bags, *source);
         }
     }
@@ -103,7 +103,7 @@ fn let_go(alloc: Global, bags: &mut Vec<Emitted<'_>>, source: u8)
 }
 
 /// Whether the bag of a source is still read: by one of these vertices, or because `need` has it.
-pub(crate) fn is_needed(rest: &Tree, is_first: bool, need: &[u8], source: u8) -> bool
+pub(crate) fn is_needed(rest: &Tree, is_first: bool, need: &[usize], source: usize) -> bool
     ensures { result ≡ list_any (λ s. s == source) (reads is_first (nodes_of rest.now) ++ need.now) }
 {
     rest.is_read(is_first, source) || need.contains(&source)

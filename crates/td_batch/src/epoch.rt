@@ -12,6 +12,7 @@ ghost use Rattle.td_batch.specs.Steps.Tree.{nodes_of, reads, AreAlike};
 use crate::emission::{Given, emission, keep};
 use crate::emitted::{Before, Emitted};
 use crate::error::BatchError;
+use crate::rounds::go_round;
 use crate::sent::Change;
 use crate::tree::Tree;
 use std::alloc::Global;
@@ -54,7 +55,10 @@ pub(crate) fn bring<'a, L: Law, C: Closures<L>>(
                 step::<L, C>(alloc, given, &before, vertex, rest, &mut bags, &mut brought)?;
                 left = rest;
             }
-            Tree::Loop(_, _, _) => unreachable!(),
+            Tree::Loop(bound, body, rest) => {
+                go_round::<L, C>(alloc, given, true, *bound, body, rest, &[], &mut bags)?;
+                left = rest;
+            }
         }
     }
 }

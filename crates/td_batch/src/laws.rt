@@ -58,10 +58,10 @@ pub fn turns_solve()
 /// read where their readers read, and no input is among them; nor does any turn after it.
 pub fn quiet_turns()
     ensures turn { (epoch : EpochInput) (body : Nodes) (outer : List ℕ) (before : Option Bags) (bags : Bags)
-        → IsLoopBody outer bags body → NothingEnters before bags body → NothingReturns before body
+        → IsLoopBody outer (length bags) body → NothingEnters before bags body → NothingReturns before body
         → (v : ℕ) → length bags ≤ v → emitted (turn epoch body before bags) v ≡ [] }
     ensures later { (epoch : EpochInput) (body : Nodes) (outer : List ℕ) (before : Option Bags) (bags : Bags)
-        → IsLoopBody outer bags body → NothingEnters before bags body → NothingReturns before body
+        → IsLoopBody outer (length bags) body → NothingEnters before bags body → NothingReturns before body
         → (count v : ℕ) → length bags ≤ v → flat_map (λ each. emitted each v) (turns (λ earlier. turn epoch body earlier bags) count before) ≡ [] }
 {}
 

@@ -9,6 +9,7 @@ mod error;
 mod evaluator;
 mod groups;
 pub mod laws;
+mod rounds;
 mod sent;
 #[cfg(test)]
 mod tests;

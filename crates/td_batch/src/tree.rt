@@ -1,13 +1,16 @@
 //! The tree of a plan: what stands in a loop is a part of it.
-ghost use Rattle.std.specs.Prelude.{ℕ, ◌≡◌, ◌==◌, Bool, None, IfOk};
-ghost use Rattle.std.specs.List.{list_any};
+ghost use Rattle.std.specs.Prelude.{ℕ, ◌≡◌, ◌==◌, ◌++◌, [], Bool, None, IfOk, OnOk, IsTrue};
+ghost use Rattle.std.specs.List.{list_any, AllByRecursion};
 ghost use Rattle.td_plan.specs.Tree.{tree_of};
 ghost use Rattle.td_plan.specs.Blocks.{vertices};
 ghost use Rattle.td_calls.specs.Fits.{first_lack};
-ghost use Rattle.td_batch.specs.Quiet.{fed_back, fed_back_by};
+ghost use Rattle.td_batch.specs.Quiet.{fed_back, fed_back_by, NothingReturns};
+ghost use Rattle.td_batch.specs.Meaning.{emitted, returned};
+ghost use Rattle.td_batch.specs.Steps.Emitted.{bag_or_none};
 ghost use Rattle.td_batch.specs.Steps.Epoch.{IsOuter};
 ghost use Rattle.td_batch.specs.Steps.Tree.{flat_tree, nodes_of, read_by, reads};
 
+use crate::emitted::{Before, Emitted};
 use crate::error::BatchError;
 use std::alloc::Global;
 use td_plan::{Kind, Plan, Vertex, laws};
@@ -51,7 +54,7 @@ impl Tree {
 
     /// Whether one of these vertices, or of those in their loops, reads a source among the bags of its own turn, which is
     /// the first turn of its block or a later one.
-    pub(crate) fn is_read(&self, is_first: bool, source: u8) -> bool
+    pub(crate) fn is_read(&self, is_first: bool, source: usize) -> bool
         ensures { result ≡ list_any (λ s. s == source) (reads is_first (nodes_of self.now)) }
     {
         match self {
@@ -71,8 +74,61 @@ impl Tree {
         }
     }
 
+    /// Appends the sources that these vertices read among the bags of their own turn. Refusal: `Memory`.
+    pub(crate) fn push_reads(
+        &self,
+        is_first: bool,
+        numbers: &mut Vec<usize>,
+    ) -> Result<(), BatchError>
+        ensures { OnOk result (numbers.new.items ≡ numbers.old.items ++ reads is_first (nodes_of self.now)) }
+    {
+        match self {
+            Tree::Done => Ok(()),
+            Tree::Then(vertex, rest) => {
+                match vertex.kind() {
+                    Kind::Enter if !is_first => {}
+                    Kind::Feedback => {}
+                    _ => push_all(vertex.sources(), numbers)?,
+                }
+                rest.push_reads(is_first, numbers)
+            }
+            Tree::Loop(_, body, rest) => {
+                body.push_reads(true, numbers)?;
+                body.push_fed_back(numbers)?;
+                rest.push_reads(is_first, numbers)
+            }
+        }
+    }
+
+    /// Appends the sources of the feedbacks of this block. Refusal: `Memory`.
+    pub(crate) fn push_fed_back(&self, numbers: &mut Vec<usize>) -> Result<(), BatchError>
+        ensures { OnOk result (numbers.new.items ≡ numbers.old.items ++ fed_back (nodes_of self.now)) }
+    {
+        match self {
+            Tree::Done => Ok(()),
+            Tree::Then(vertex, rest) => {
+                if let Kind::Feedback = vertex.kind() {
+                    push_all(vertex.sources(), numbers)?;
+                }
+                rest.push_fed_back(numbers)
+            }
+            Tree::Loop(_, _, rest) => rest.push_fed_back(numbers),
+        }
+    }
+
+    /// Whether nothing comes back from the turn before.
+    pub(crate) fn is_quiet(&self, before: &Before<'_>) -> bool
+        ensures { IsTrue result → NothingReturns before.now (nodes_of self.now) }
+    {
+        match self {
+            Tree::Done => true,
+            Tree::Then(vertex, rest) => feeds_nothing(vertex, before) && rest.is_quiet(before),
+            Tree::Loop(_, _, rest) => rest.is_quiet(before),
+        }
+    }
+
     /// Whether a feedback of this block reads a source.
-    pub(crate) fn is_fed_back(&self, source: u8) -> bool
+    pub(crate) fn is_fed_back(&self, source: usize) -> bool
         ensures { result ≡ list_any (λ s. s == source) (fed_back (nodes_of self.now)) }
     {
         match self {
@@ -84,22 +140,73 @@ impl Tree {
 }
 
 /// Whether a vertex reads a source among the bags of its own turn.
-fn reads(is_first: bool, vertex: &Vertex, source: u8) -> bool
+fn reads(is_first: bool, vertex: &Vertex, source: usize) -> bool
     ensures { result ≡ list_any (λ s. s == source) (read_by is_first vertex.now.vertex.kind vertex.now.vertex.sources) }
 {
     match vertex.kind() {
         Kind::Enter if !is_first => false,
         Kind::Feedback => false,
-        _ => vertex.sources().contains(&source),
+        _ => has(vertex.sources(), source),
     }
 }
 
 /// Whether a vertex is a feedback that reads a source.
-fn feeds_back(vertex: &Vertex, source: u8) -> bool
+fn feeds_back(vertex: &Vertex, source: usize) -> bool
     ensures { result ≡ list_any (λ s. s == source) (fed_back_by vertex.now.vertex vertex.now.vertex.kind) }
 {
     match vertex.kind() {
-        Kind::Feedback => vertex.sources().contains(&source),
+        Kind::Feedback => has(vertex.sources(), source),
         _ => false,
+    }
+}
+
+/// Whether a number is among some.
+fn has(sources: &[u8], source: usize) -> bool
+    ensures { result ≡ list_any (λ s. s == source) sources.now }
+{
+    sources.iter().any(|s| usize::from(*s) == source)
+}
+
+/// Appends some numbers. Refusal: `Memory`.
+fn push_all(sources: &[u8], numbers: &mut Vec<usize>) -> Result<(), BatchError>
+    ensures { OnOk result (numbers.new.items ≡ numbers.old.items ++ sources.now) }
+{
+    for source in sources {
+        numbers.push(usize::from(*source))?;
+    }
+    Ok(())
+}
+
+/// Whether a vertex, if it is a feedback, passes nothing on.
+fn feeds_nothing(vertex: &Vertex, before: &Before<'_>) -> bool
+    ensures { IsTrue result → AllByRecursion (λ s. emitted (returned before.now) s ≡ []) (fed_back_by vertex.now.vertex vertex.now.vertex.kind) }
+{
+    match vertex.kind() {
+        Kind::Feedback => are_empty(vertex.sources(), before),
+        _ => true,
+    }
+}
+
+/// Whether none of these emitted anything in the turn before.
+fn are_empty(sources: &[u8], before: &Before<'_>) -> bool
+    ensures { IsTrue result → AllByRecursion (λ s. emitted (returned before.now) s ≡ []) sources.now }
+{
+    let mut left = sources;
+    while let Some((source, later)) = left.split_first() {
+        if !is_empty(before.get(*source)) {
+            return false;
+        }
+        left = later;
+    }
+    true
+}
+
+/// Whether a bag, if there is one, has no records.
+fn is_empty(bag: Option<&Emitted<'_>>) -> bool
+    ensures { IsTrue result → bag_or_none bag.entry ≡ [] }
+{
+    match bag {
+        Some(bag) => bag.list().next().is_none(),
+        None => true,
     }
 }

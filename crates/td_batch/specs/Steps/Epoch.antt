@@ -1,18 +1,31 @@
 -- What the evaluator knows of the tree that it walks.
-use Rattle.std.specs.Prelude.{◌≡◌, ℕ, ◌+◌, ◌<◌, Bool, None}
+use Rattle.std.specs.Prelude.{List, ◌≡◌, ℕ, ◌+◌, ◌<◌, ◌≤◌, Bool, None}
 use Rattle.std.specs.List.{AllByRecursion}
 use Rattle.td_plan.specs.Lines.{Vertex}
-use Rattle.td_plan.specs.Tree.{Nodes}
+use Rattle.td_plan.specs.Tree.{Nodes, size}
 use Rattle.td_plan.specs.Tree.Nodes.{done, node, block}
 use Rattle.td_calls.specs.Fits.{lacking_code}
+use Rattle.td_batch.specs.Quiet.{IsLoopBody}
 
 module _ (maps groups folds : ℕ → Bool) where
   -- a vertex of this number, whose closure is stored
   abbrev pub IsAt : ℕ → Vertex → Type 0
   IsAt n v = (v.number ≡ n) × (lacking_code maps groups folds v.kind ≡ None)
 
+  -- the vertices in loops, from number n on
+  abbrev pub IsInner : ℕ → Nodes → Type 0
+  IsInner n done = Unit {0}
+  IsInner n (node v rest) = IsAt n v × IsInner (n + 1) rest
+  IsInner n (block bound body rest) = (1 ≤ bound) × ((outer : List ℕ) × IsLoopBody outer n body) × IsInner n body × IsInner (n + size body) rest
+
   -- the vertices outside loops, whose sources come before them
   abbrev pub IsOuter : ℕ → Nodes → Type 0
   IsOuter n done = Unit {0}
   IsOuter n (node v rest) = IsAt n v × AllByRecursion (λ s. s < n) v.sources × IsOuter (n + 1) rest
-  IsOuter n (block bound body rest) = ⊥
+  IsOuter n (block bound body rest) = (1 ≤ bound) × ((outer : List ℕ) × IsLoopBody outer n body) × IsInner n body × IsOuter (n + size body) rest
+
+-- how much a tree has: each loop counts more than its body
+abbrev pub weight : Nodes → ℕ
+weight done = 0
+weight (node v rest) = 1 + weight rest
+weight (block bound body rest) = 1 + weight body + weight rest

@@ -20,7 +20,7 @@ loop-source-init c =
         | then-is_needed w ↦ alike_same list c.push.new.self.items (bags ++ bag ∷ []) (pushed ∙ ap (λ b. bags ++ b ∷ []) w.kept-is)
         | else-is_needed w ↦
             let none : list_any (λ s. s == length bags) list ≡ false =
-            ap (λ n. list_any (λ s. s == n) list) (sym (c.number.ensures ∙ c.requires)) ∙ sym c.is_needed.ensures ∙ w.if-is_needed.false in
+            ap (λ n. list_any (λ s. s == n) list) (sym (c.from.ensures ∙ c.number.ensures ∙ c.requires)) ∙ sym c.is_needed.ensures ∙ w.if-is_needed.false in
             alike_but list (length bags) c.push.new.self.items (bags ++ bag ∷ []) none (λ s other. ap (λ (bs : Bags). emitted bs s) pushed ∙ last_but bags kept bag s other)
       ],
     )
@@ -36,7 +36,7 @@ loop-source-preserved c =
           let same : now ≡ w.let_go.new.bags.items = ap (λ v. v.items) w.bags-is in (
             ap (length {A = List Rec}) same ∙ w.let_go.ensures.length ∙ c.loop-source.invariant.0,
             alike_then list now bags all
-                (alike_but list _ now bags (sym c.is_needed-in-loop-source.ensures ∙ w.if-not-is_needed.true) (λ s other. ap (λ (bs : Bags). emitted bs s) same ∙ w.let_go.ensures.others s other))
+                (alike_but list _ now bags (sym c.is_needed-in-loop-source.ensures ∙ w.if-not-is_needed.true) (λ s other. ap (λ (bs : Bags). emitted bs s) same ∙ w.let_go.ensures.others s (λ e. other (e ∙ sym c.from-in-loop-source.ensures))))
                 c.loop-source.invariant.1,
           )
       | else-not-is_needed w ↦
