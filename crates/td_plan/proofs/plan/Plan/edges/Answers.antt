@@ -1,0 +1,5 @@
+use Rattle.std.proofs.Common.{rules}
+use Rattle.td_plan.proofs.plan.Plan.edges.Goals as goal
+
+pub returns : goal.returns
+returns c = search rules
