@@ -170,7 +170,7 @@ vertex_fits vs ls v none =
     ap not (neither (is_in_loop ls && is_of_outermost v.kind) (not (is_in_loop ls) && is_of_loops v.kind) misplaced.0).0
 
 -- ALONG THE LINES
-abbrev after : List PlacedVertex → List Loop → List Line → List PlacedVertex
+abbrev pub after : List PlacedVertex → List Loop → List Line → List PlacedVertex
 after vs ls lines = (fold scope_after (scope vs ls) lines).vertices
 
 record IsMeasured (lines : List Line) (vs : List PlacedVertex) (ls : List Loop) : Type 0 where

@@ -15,5 +15,6 @@ pub mod Readings
 pub mod SameLoops
 pub mod SamePlans
 pub mod Spelling
+pub mod Standing
 pub mod Trees
 pub mod Unique

@@ -11,5 +11,6 @@ pub mod Steps
 pub mod Inputs
 pub mod Times
 pub mod LookedUp
+pub mod Standing
 pub mod Named
 pub mod Examples

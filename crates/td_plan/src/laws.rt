@@ -1,10 +1,11 @@
 //! Laws of the definitions. Each is the contract of a function that does nothing.
 ghost use Rattle.std.specs.Prelude.{[], ◌≡◌, ◌⊎◌, ◌≤◌, ℕ, List, length, true, Some};
 ghost use Rattle.td_plan.specs.declared.error.PlanError.{PlanError as AnyError};
-ghost use Rattle.std.specs.List.{join_with_byte, slice_get};
+ghost use Rattle.std.specs.List.{AllByRecursion, join_with_byte, slice_get};
 ghost use Rattle.td_plan.specs.Text.{words};
 ghost use Rattle.td_plan.specs.Lines.{Line, has_form, text_of, words_of};
-ghost use Rattle.td_plan.specs.Blocks.{PlacedVertex, vertices};
+ghost use Rattle.td_plan.specs.Blocks.{PlacedVertex, loops, vertices};
+ghost use Rattle.td_plan.specs.Standing.{HasFirst, StandsAmong};
 ghost use Rattle.td_plan.specs.LookedUp.{IsLookedUp, IsSourceAt, IsEdgeAt};
 ghost use Rattle.td_plan.specs.Tree.{tree_of, lines_of, placed_in, IsNumbered};
 ghost use Rattle.td_plan.specs.Faults.{IsPlan};
@@ -57,4 +58,11 @@ pub fn well_placed()
 pub fn look_ups()
     ensures vertices { (plan : List Line) (v : ℕ) (p : PlacedVertex) → IsPlan plan → slice_get (vertices plan) v ≡ Some p → IsLookedUp plan v p }
     ensures edges { (plan : List Line) (reader port source : ℕ) → IsPlan plan → IsSourceAt plan reader port source → IsEdgeAt plan reader port source }
+{}
+
+/// The loops of a plan and the vertices that stand in them: each loop in which a vertex stands is one of the plan's, and
+/// in each loop of the plan stands the vertex of its first number.
+pub fn blocks()
+    ensures among { (plan : List Line) → IsPlan plan → AllByRecursion (StandsAmong (loops plan)) (vertices plan) }
+    ensures begun { (plan : List Line) → IsPlan plan → AllByRecursion (HasFirst (vertices plan)) (loops plan) }
 {}

@@ -91,7 +91,8 @@ impl Plan {
         self.edges.as_slice()
     }
 
-    /// The loops, in the order in which they begin. Each is a block, and the outermost block is none of them.
+    /// The loops, in the order in which they begin, each with its bound. Each is a block, in which stand the vertices
+    /// that have it among their loops; the outermost block is none of them.
     pub fn blocks(&self) -> &[Loop]
         ensures { result.now ≡ loops self.now }
     {
