@@ -11,9 +11,6 @@ pub mod TurnsSolve
 mod Alike
 mod Epochs
 mod Flat
-mod Joins
 mod Loops
 mod MoreEpochs
 mod Once
-mod KeyRuns
-mod Listed

@@ -256,14 +256,6 @@ impl Vertex {
         self.sources.len()
     }
 
-    /// How many loops it stands in.
-    pub fn depth(&self) -> usize
-        ensures count { result ≡ length self.now.loops }
-        ensures few { result ≤ 3 }
-    {
-        self.loops.len()
-    }
-
     /// The loops in which it stands, the outermost first. (Contracts have the innermost first.)
     pub fn loops(&self) -> &[Loop]
         ensures { result.now ≡ reverse self.now.loops }
