@@ -13,7 +13,8 @@ use Rattle.td_plan.specs.Lines.{Vertex, Line}
 use Rattle.td_plan.specs.Lines.Line.{vertex, loop, end}
 use Rattle.td_plan.specs.Blocks.{PlacedVertex, Scope, scope_after, vertices, edges_to, is_source_on}
 use Rattle.td_plan.specs.Faults.{Fault, has_fault, faults, fault_of, is_faultless, is_feedback, is_enter, enters_from_within, is_stray, is_stray_feedback, reads_elsewhere, IsPlan}
-use Rattle.td_plan.specs.Steps.Inside.{lines_of_marks, AreRead, IsKept, is_narrow}
+use Rattle.td_plan.specs.Marks.{lines_of_marks}
+use Rattle.td_plan.specs.Steps.Inside.{AreRead, IsKept, is_narrow}
 use Rattle.td_plan.proofs.Readings.{both}
 use Rattle.td_plan.proofs.Growth.{few}
 use Rattle.td_plan.proofs.Trees.{none_found, neither, numbered, scope}

@@ -17,7 +17,8 @@ use Rattle.td_plan.specs.Lines.Line.{vertex, loop, end}
 use Rattle.td_plan.specs.Blocks.{PlacedVertex, Scope, no_scope, scope_after, scope_of, edges_to, edge_count, loops, loops_from}
 use Rattle.td_plan.specs.Faults.{Fault, has_fault, faults, fault_of, is_faultless}
 use Rattle.td_plan.specs.Steps.Reading.{Draft, Answers, error_of, line_or_fault, with_line}
-use Rattle.td_plan.specs.Steps.Inside.{lines_of_marks, AreMarked, AreRead, IsCounted}
+use Rattle.td_plan.specs.Marks.{lines_of_marks, AreMarked}
+use Rattle.td_plan.specs.Steps.Inside.{AreRead, IsCounted}
 use Rattle.std.proofs.lemmas.Bool.Decides.{nat_tests}
 use Rattle.td_plan.proofs.Trees.{none_found, neither}
 

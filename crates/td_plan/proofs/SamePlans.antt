@@ -6,7 +6,7 @@ use Rattle.td_plan.specs.declared.mark.Mark.TheVariants as mark
 use Rattle.td_plan.specs.Lines.{Vertex, Line}
 use Rattle.td_plan.specs.Lines.Line.{vertex, loop, end}
 use Rattle.td_plan.specs.Blocks.{PlacedVertex, vertices}
-use Rattle.td_plan.specs.Steps.Inside.{lines_of_marks, AreMarked}
+use Rattle.td_plan.specs.Marks.{lines_of_marks, AreMarked}
 
 -- an item that differs
 module _ {X Y : Type 0} (f : X → Y) where

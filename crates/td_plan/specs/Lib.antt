@@ -7,6 +7,7 @@ pub mod Tree
 pub mod Sources
 pub mod Placed
 pub mod Texts
+pub mod Marks
 pub mod Steps
 pub mod Inputs
 pub mod LookedUp

@@ -1,11 +1,11 @@
 //! Laws of the definitions. Each is the contract of a function that does nothing.
-ghost use Rattle.std.specs.Prelude.{[], ◌≡◌, ◌⊎◌, ◌≤◌, ℕ, List, length, true, Some};
+ghost use Rattle.std.specs.Prelude.{[], ◌≡◌, ◌⊎◌, ◌≤◌, ℕ, List, length, true, false, Some};
 ghost use Rattle.td_plan.specs.declared.error.PlanError.{PlanError as AnyError};
 ghost use Rattle.std.specs.List.{AllByRecursion, join_with_byte, slice_get};
 ghost use Rattle.td_plan.specs.Text.{words};
 ghost use Rattle.td_plan.specs.Lines.{Line, has_form, text_of, words_of};
 ghost use Rattle.td_plan.specs.Blocks.{PlacedVertex, loops, vertices};
-ghost use Rattle.td_plan.specs.Standing.{HasFirst, StandsAmong};
+ghost use Rattle.td_plan.specs.Standing.{HasFirst, StandsAmong, StandsWell};
 ghost use Rattle.td_plan.specs.LookedUp.{IsLookedUp, IsSourceAt, IsEdgeAt};
 ghost use Rattle.td_plan.specs.Tree.{tree_of, lines_of, placed_in, IsNumbered};
 ghost use Rattle.td_plan.specs.Faults.{IsPlan};
@@ -52,6 +52,12 @@ pub fn sources()
 /// of a feedback anywhere on its block, and any other on the block before its reader.
 pub fn well_placed()
     ensures { (plan : List Line) → IsPlan plan → IsPlacedTree (tree_of plan) }
+{}
+
+/// Each vertex of a plan stands where its kind may, in a loop or outside all loops, and each loop has a bound from 1 to
+/// 1,000.
+pub fn stands_well()
+    ensures { (plan : List Line) → IsPlan plan → StandsWell false (tree_of plan) }
 {}
 
 /// Look-ups by number find the vertex of that number, and `edge_at` the edge that leads to a port of a vertex.

@@ -17,5 +17,6 @@ pub mod text;
 mod vertex;
 
 pub use error::PlanError;
+pub use mark::Mark;
 pub use plan::Plan;
 pub use vertex::{EDGES, Edge, Kind, LEVELS, Loop, MOST_TURNS, SOURCES, VERTICES, Vertex};

@@ -1,11 +1,14 @@
 //! The lines of a plan, beside its vertices.
 ghost use Rattle.std.specs.Prelude.{◌≡◌, ◌↔◌, IsTrue};
 
-/// A line: the next vertex, the head of a loop with its bound, or the end of a loop.
+/// What a line of a plan is, beside the list of its vertices.
 #[derive(Clone, Copy, Debug)]
-pub(crate) enum Mark {
+pub enum Mark {
+    /// The next vertex.
     Vertex,
+    /// The head of a loop, with its bound.
     Loop(u16),
+    /// The end of the innermost loop that is open.
     End,
 }
 

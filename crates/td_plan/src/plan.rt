@@ -6,6 +6,7 @@ ghost use Rattle.td_plan.specs.Blocks.{vertices, edges, edges_to, loops};
 ghost use Rattle.td_plan.specs.Faults.{IsPlan};
 ghost use Rattle.td_plan.specs.Inputs.{is_input_of};
 ghost use Rattle.td_plan.specs.Texts.{PlanText, PlanFault};
+ghost use Rattle.td_plan.specs.Marks.{lines_of_marks, AreMarked};
 ghost use Rattle.td_plan.specs.Steps.Inside.{is_narrow};
 
 use crate::error::PlanError;
@@ -36,7 +37,8 @@ impl Model for Plan {
 
     ghost Value = { List Line };
 
-    ghost use Rattle.td_plan.specs.Steps.Inside.{lines_of_marks, IsKept};
+    ghost use Rattle.td_plan.specs.Marks.{lines_of_marks};
+    ghost use Rattle.td_plan.specs.Steps.Inside.{IsKept};
 
     ghost view = { λ p. lines_of_marks p.marks.items p.vertices.items };
 
@@ -89,6 +91,14 @@ impl Plan {
         ensures { result.now ≡ edges self.now }
     {
         self.edges.as_slice()
+    }
+
+    /// The lines of the plan, in order: each mark for a vertex stands for the next of `vertices`.
+    pub fn marks(&self) -> &[Mark]
+        ensures lines { lines_of_marks result.now (vertices self.now) ≡ self.now }
+        ensures marked { AreMarked result.now (vertices self.now) }
+    {
+        self.marks.as_slice()
     }
 
     /// The loops, in the order in which they begin, each with its bound. Each is a block, in which stand the vertices

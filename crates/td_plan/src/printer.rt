@@ -2,7 +2,7 @@
 ghost use Rattle.std.specs.Prelude.{◌≡◌, ◌++◌, ◌∷◌, [], IfOk, OnOk, IfErr, string_bytes, map, decimal};
 ghost use Rattle.td_plan.specs.Lines.{text_of, text_of_line, words_of_kind};
 ghost use Rattle.td_plan.specs.Lines.Line.{vertex as vertex_line};
-ghost use Rattle.td_plan.specs.Steps.Inside.{lines_of_marks};
+ghost use Rattle.td_plan.specs.Marks.{lines_of_marks};
 ghost use Rattle.td_plan.specs.Steps.Printed.{spaced, IsPrinted};
 
 use crate::error::PlanError;

@@ -39,7 +39,8 @@ impl Model for Draft {
 
     ghost Value = { AnyDraft };
 
-    ghost use Rattle.td_plan.specs.Steps.Inside.{lines_of_marks, AreRead};
+    ghost use Rattle.td_plan.specs.Marks.{lines_of_marks};
+    ghost use Rattle.td_plan.specs.Steps.Inside.{AreRead};
 
     ghost view = { λ d. record { lines = lines_of_marks d.marks.items d.scope.vertices; feedbacks = d.feedbacks.items } };
 

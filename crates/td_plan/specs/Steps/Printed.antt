@@ -3,7 +3,7 @@ use Rattle.std.specs.Prelude.{◌≡◌, ℕ, List, [], ◌∷◌, ◌++◌}
 use Rattle.td_plan.specs.declared.mark.Mark.{Mark}
 use Rattle.td_plan.specs.Lines.{text_of}
 use Rattle.td_plan.specs.Blocks.{PlacedVertex}
-use Rattle.td_plan.specs.Steps.Inside.{lines_of_marks}
+use Rattle.td_plan.specs.Marks.{lines_of_marks}
 
 -- words, each after a space
 abbrev pub spaced : List (List ℕ) → List ℕ

@@ -1,7 +1,7 @@
 use Rattle.std.proofs.Common.{◌≡◌, ◌++◌, drop}
 use Rattle.std.specs.Prelude.{string_bytes}
 use Rattle.td_plan.specs.Lines.{text_of}
-use Rattle.td_plan.specs.Steps.Inside.{lines_of_marks}
+use Rattle.td_plan.specs.Marks.{lines_of_marks}
 use Rattle.td_plan.proofs.printer.print.Given as goal
 
 abbrev pub invariant-loop-mark : goal.invariant-loop-mark

@@ -3,7 +3,8 @@ use Rattle.std.specs.Prelude.{flat_map}
 use Rattle.std.specs.List.{list_all}
 use Rattle.td_plan.specs.Blocks.{Scope, vertices, edges_to}
 use Rattle.td_plan.specs.Faults.{IsPlan}
-use Rattle.td_plan.specs.Steps.Inside.{lines_of_marks, is_narrow}
+use Rattle.td_plan.specs.Marks.{lines_of_marks}
+use Rattle.td_plan.specs.Steps.Inside.{is_narrow}
 use Rattle.td_plan.proofs.Built.{plan_narrow, kept}
 use Rattle.td_plan.proofs.plan.Plan.of.Goals as goal
 

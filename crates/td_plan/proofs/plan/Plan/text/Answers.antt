@@ -2,7 +2,7 @@ use Rattle.std.proofs.Common.{◌≡◌, List, ℕ, ap, ◌∙◌, subst}
 use Rattle.std.specs.Prelude.{IfOk, string_bytes}
 use Rattle.td_plan.specs.Lines.{text_of}
 use Rattle.td_plan.specs.Faults.{IsPlan}
-use Rattle.td_plan.specs.Steps.Inside.{lines_of_marks}
+use Rattle.td_plan.specs.Marks.{lines_of_marks}
 use Rattle.td_plan.proofs.Canonical.{spelled_again}
 use Rattle.td_plan.proofs.plan.Plan.text.Goals as goal
 
