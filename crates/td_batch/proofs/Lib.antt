@@ -10,7 +10,6 @@ pub mod Turns
 pub mod TurnsSolve
 mod Alike
 mod Epochs
-mod Flat
 mod Loops
 mod MoreEpochs
 mod Once

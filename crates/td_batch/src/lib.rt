@@ -2,6 +2,7 @@
 #![tactic(auto)]
 
 mod arriving;
+mod built;
 mod emission;
 mod emitted;
 mod epoch;

@@ -8,8 +8,9 @@ ghost use Rattle.td_batch.specs.Quiet.{fed_back, fed_back_by, NothingReturns};
 ghost use Rattle.td_batch.specs.Meaning.{emitted, returned};
 ghost use Rattle.td_batch.specs.Steps.Emitted.{bag_or_none};
 ghost use Rattle.td_batch.specs.Steps.Epoch.{IsOuter};
-ghost use Rattle.td_batch.specs.Steps.Tree.{flat_tree, nodes_of, read_by, reads};
+ghost use Rattle.td_batch.specs.Steps.Tree.{nodes_of, read_by, reads};
 
+use crate::built::Built;
 use crate::emitted::{Before, Emitted};
 use crate::error::BatchError;
 use std::alloc::Global;
@@ -35,21 +36,9 @@ impl Tree {
     {
         laws::trees();
         laws::well_placed();
-        let tree = Tree::of_vertices(alloc, plan.vertices())?;
-        Ok(tree)
-    }
-
-    /// The tree of vertices outside loops. Refusal: `Memory`.
-    fn of_vertices(alloc: Global, vertices: &[Vertex]) -> Result<Tree, BatchError>
-        ensures { IfOk result (λ tree. nodes_of tree ≡ flat_tree vertices.now) }
-    {
-        let mut tree = Tree::Done;
-        let mut left = vertices;
-        while let Some((vertex, earlier)) = left.split_last() {
-            tree = Tree::Then(vertex.copy(), Box::new(alloc, tree)?);
-            left = earlier;
-        }
-        Ok(tree)
+        laws::stands_well();
+        let built = Built::of_lines(alloc, plan.marks(), plan.vertices())?;
+        Ok(built.into_tree())
     }
 
     /// Whether one of these vertices, or of those in their loops, reads a source among the bags of its own turn, which is

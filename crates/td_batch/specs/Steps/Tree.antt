@@ -3,7 +3,6 @@ use Rattle.std.specs.Prelude.{◌≡◌, ℕ, List, [], ◌∷◌, ◌++◌, Boo
 use Rattle.std.specs.List.{AllByRecursion}
 use Rattle.td_plan.specs.declared.vertex.Kind.{Kind}
 use Rattle.td_plan.specs.declared.vertex.Kind.TheVariants.{Enter, Feedback}
-use Rattle.td_plan.specs.Blocks.{PlacedVertex}
 use Rattle.td_plan.specs.Tree.{Nodes}
 use Rattle.td_plan.specs.Tree.Nodes.{done, node, block}
 use Rattle.td_batch.specs.declared.tree.Tree.{Tree, Done, Then', Loop'}
@@ -15,16 +14,6 @@ abbrev pub nodes_of : Tree → Nodes
 nodes_of Done = done
 nodes_of (Then' vertex p rest) = node vertex.vertex (nodes_of rest)
 nodes_of (Loop' bound p body q rest) = block bound (nodes_of body) (nodes_of rest)
-
--- the tree of vertices outside loops
-abbrev pub flat_tree : List PlacedVertex → Nodes
-flat_tree [] = done
-flat_tree (p ∷ ps) = node p.vertex (flat_tree ps)
-
--- a tree with these vertices before it
-abbrev pub before_tree : List PlacedVertex → Nodes → Nodes
-before_tree [] nodes = nodes
-before_tree (p ∷ ps) nodes = node p.vertex (before_tree ps nodes)
 
 -- the sources that a vertex reads among the bags of its own turn: what enters a loop is read in its first turn alone, and
 -- a feedback reads the turn before
