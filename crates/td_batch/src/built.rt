@@ -3,13 +3,11 @@ ghost use Rattle.std.specs.Prelude.{◌≡◌, ◌∷◌, [], IfOk};
 ghost use Rattle.td_plan.specs.Marks.{lines_of_marks, AreMarked};
 ghost use Rattle.td_plan.specs.Tree.{opened, rest_of};
 ghost use Rattle.td_plan.specs.Tree.Nodes.{done, node};
-ghost use Rattle.td_batch.specs.Steps.Tree.{nodes_of};
 
 use crate::error::BatchError;
 use crate::tree::Tree;
 use std::alloc::Global;
 use std::collections::VecDeque;
-use std::marker::Model;
 use td_plan::{Mark, Vertex};
 
 /// What the lines from some line on make of the tree: what stands in the block where they begin, and what follows the
@@ -20,17 +18,10 @@ pub(crate) struct Built {
     after: VecDeque<Tree>,
 }
 
-impl Model for Built {
-    ghost use Rattle.std.specs.Prelude.{map};
-    ghost use Rattle.td_plan.specs.Tree.{Rest};
+impl Built {
+    ghost use Rattle.td_batch.specs.Steps.Built.{rest_built};
     ghost use Rattle.td_batch.specs.Steps.Tree.{nodes_of};
 
-    ghost Value = { Rest };
-
-    ghost view = { λ b. record { inside = nodes_of b.inside; after = map nodes_of b.after.items } };
-}
-
-impl Built {
     /// What these lines make, which are marks with the vertices for which they stand. Refusal: `Memory`.
     pub(crate) fn of_lines(
         alloc: Global,
@@ -38,7 +29,7 @@ impl Built {
         vertices: &[Vertex],
     ) -> Result<Built, BatchError>
         requires { AreMarked marks.now vertices.now }
-        ensures { IfOk result (λ built. built ≡ rest_of (lines_of_marks marks.now vertices.now)) }
+        ensures { IfOk result (λ built. rest_built built ≡ rest_of (lines_of_marks marks.now vertices.now)) }
     {
         let Some((mark, later)) = marks.split_first() else {
             return Ok(Built::nothing(alloc));
@@ -64,7 +55,7 @@ impl Built {
 
     /// The tree.
     pub(crate) fn into_tree(self) -> Tree
-        ensures { nodes_of result ≡ self.inside }
+        ensures { nodes_of result ≡ (rest_built self).inside }
     {
         let Built { inside, after: _ } = self;
         inside
@@ -72,7 +63,7 @@ impl Built {
 
     /// What no lines make.
     fn nothing(alloc: Global) -> Built
-        ensures { result ≡ record { inside = done; after = [] } }
+        ensures { rest_built result ≡ record { inside = done; after = [] } }
     {
         Built {
             inside: Tree::Done,
@@ -82,7 +73,7 @@ impl Built {
 
     /// With a vertex before these lines. Refusal: `Memory`.
     fn with_vertex(self, alloc: Global, vertex: &Vertex) -> Result<Built, BatchError>
-        ensures { IfOk result (λ built. built ≡ record self { inside = node vertex.now.vertex self.inside }) }
+        ensures { IfOk result (λ built. rest_built built ≡ record (rest_built self) { inside = node vertex.now.vertex (rest_built self).inside }) }
     {
         let Built { inside, after } = self;
         let inside = Tree::Then(vertex.copy(), Box::new(alloc, inside)?);
@@ -91,7 +82,7 @@ impl Built {
 
     /// With the head of a loop before these lines. Refusal: `Memory`.
     fn with_head(self, alloc: Global, bound: u16) -> Result<Built, BatchError>
-        ensures { IfOk result (λ built. built ≡ opened bound self) }
+        ensures { IfOk result (λ built. rest_built built ≡ opened bound (rest_built self)) }
     {
         let Built { inside, mut after } = self;
         let next = after.pop_front().unwrap_or(Tree::Done);
@@ -101,7 +92,7 @@ impl Built {
 
     /// With the end of a loop before these lines. Refusal: `Memory`.
     fn with_end(self) -> Result<Built, BatchError>
-        ensures { IfOk result (λ built. built ≡ record { inside = done; after = self.inside ∷ self.after }) }
+        ensures { IfOk result (λ built. rest_built built ≡ record { inside = done; after = (rest_built self).inside ∷ (rest_built self).after }) }
     {
         let Built { inside, mut after } = self;
         after.push_front(inside)?;
