@@ -16,5 +16,6 @@ pub mod SameLoops
 pub mod SamePlans
 pub mod Spelling
 pub mod Standing
+pub mod StandsWell
 pub mod Trees
 pub mod Unique
