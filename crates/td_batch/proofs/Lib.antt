@@ -14,3 +14,4 @@ mod Flat
 mod Loops
 mod MoreEpochs
 mod Once
+mod Outer
