@@ -13,3 +13,4 @@ mod Epochs
 mod Loops
 mod MoreEpochs
 mod Once
+mod Outer
