@@ -1,5 +1,5 @@
 -- Which vertices stand in a loop, and which may.
-use Rattle.std.specs.Prelude.{◌≡◌, ℕ, ◌≤◌, Bool, true, false, not, ◌&&◌, List, Some}
+use Rattle.std.specs.Prelude.{◌≡◌, ◌≤◌, Bool, true, false, not, ◌&&◌, List, Some}
 use Rattle.std.specs.List.{Contains, AllByRecursion, slice_get}
 use Rattle.td_plan.specs.declared.vertex.Loop.{Loop}
 use Rattle.td_plan.specs.declared.vertex.Kind.{Kind}
