@@ -1,257 +1,118 @@
-//! Plans evaluated on worked rows, with closures that answer the catalogue.
-ghost use Rattle.std.specs.Prelude.{◌≡◌, ◌∷◌, [], All, IsTrue, pos, if◌then◌else◌};
-ghost use Rattle.std.specs.List.{list_all};
-ghost use Rattle.td_plan.specs.Inputs.{is_input_of};
-ghost use Rattle.td_calls.specs.Stock.{stock, single, sum_from};
-ghost use Rattle.td_calls.specs.ProvedStock.{stock_few};
-
-use crate::{BatchError, evaluate};
+//! The evaluator at the catalogue's law, with states before and after, and its refusal. What plans mean is shown by the
+//! program's rows.
+use crate::{BatchError, evaluate, evaluate_epoch};
 use std::alloc::{AllocError, Global};
 use std::test::Fail;
-use td_calls::{Calls, Closures, Coded, FoldCall, GroupCall, Law, MapCall};
+use td_calls::{Calls, Closures, FoldBox, MapBox, Stock, StockCalls, StockFold, StockMap, stock};
 use td_plan::Plan;
-use td_stamp::{Bag, Batch, Entry, EpochOut, Few, Item, Output, Rec, StampError, State, States};
+use td_stamp::{Bag, Batch, Entry, EpochOut, Item, Rec, StampError, State, States};
 
-struct Stock;
+/// Three turns count down, and what leaves them is totalled.
+const COUNTDOWN: &str =
+    "0 input\nloop 3\n1 enter 0\n2 feedback 3\n3 map 2 1 2\n4 leave 3\nend\n5 fold 40 4\n6 output 5\n";
 
-impl Law for Stock {
-    ghost answers = { stock };
+const TOGGLE: &str = "0 input\n1 fold 41 0\n2 output 1\n";
 
-    ghost few = { stock_few };
-}
-
-/// Code 1: the record.
-#[derive(Drop)]
-struct Same;
-
-impl Coded for Same {
-    ghost code_of = { λ _. 1 };
-
-    fn code(&self) -> u16 {
-        1
-    }
-}
-
-impl MapCall<Stock> for Same {
-    fn call(&self, _port: u8, rec: Rec) -> Few {
-        one(rec.key, rec.val)
-    }
-}
-
-/// Code 21, the sum, or else 20, the number of items.
-#[derive(Drop)]
-struct Summary {
-    is_sum: bool,
-}
-
-impl Coded for Summary {
-    ghost code_of = { λ s. if s.is_sum then 21 else 20 };
-
-    fn code(&self) -> u16 {
-        if self.is_sum { 21 } else { 20 }
-    }
-}
-
-impl GroupCall<Stock> for Summary {
-    fn call(&self, key: u64, items: &[Item]) -> Few {
-        if self.is_sum {
-            one(key, sum(items))
-        } else {
-            one(key, items.len().min(i64::MAX as usize) as i64)
-        }
-    }
-}
-
-/// Code 0, which the catalogue does not have: the state stays, and nothing is sent.
-#[derive(Drop)]
-struct Still;
-
-impl Coded for Still {
-    ghost code_of = { λ _. 0 };
-
-    fn code(&self) -> u16 {
-        0
-    }
-}
-
-impl FoldCall<Stock> for Still {
-    fn call(&self, _key: u64, state: Option<State>, _items: &[Item]) -> (Option<State>, Few) {
-        (state, Few::new())
-    }
-}
-
-fn one(key: u64, val: i64) -> Few
-    ensures { result.items ≡ single key val }
-{
-    let mut few = Few::new();
-    few.push(Rec { key, val });
-    few
-}
-
-fn sum(items: &[Item]) -> i64
-    ensures { result ≡ sum_from (pos 0) items.now }
-{
-    let mut sum = 0i64;
-    let mut left = items;
-    while let Some((item, others)) = left.split_first() {
-        sum = sum.saturating_add(item.val);
-        left = others;
-    }
-    sum
-}
-
-type Catalogue = Calls<Same, Summary, Still>;
-
-fn catalogue(alloc: Global) -> Result<Catalogue, Fail> {
-    let mut calls = Calls::new(alloc);
-    let added = calls.add_map(Same).is_ok()
-        && calls.add_group(Summary { is_sum: false }).is_ok()
-        && calls.add_group(Summary { is_sum: true }).is_ok()
-        && calls.add_fold(Still).is_ok();
-    if added { Ok(calls) } else { Err("memory")? }
-}
-
-fn entry(input: u8, key: u64, val: i64) -> Entry {
-    Entry {
-        input,
-        rec: Rec { key, val },
-    }
-}
-
-fn batch(alloc: Global, entries: &[Entry]) -> Result<Batch, StampError> {
+fn batch(alloc: Global, recs: &[(u64, i64)]) -> Result<Batch, StampError> {
     let mut batch = Bag::new(alloc);
-    for entry in entries {
-        batch.add(*entry)?;
+    for (key, val) in recs {
+        let (key, val) = (*key, *val);
+        batch.add(Entry {
+            input: 0,
+            rec: Rec { key, val },
+        })?;
     }
     Ok(batch)
 }
 
-fn are_accepted(plan: &Plan, batches: &[Batch]) -> bool
-    ensures { IsTrue result → All (λ batch. IsTrue (list_all (λ e. is_input_of plan.now e.input) batch)) batches.now }
-{
-    batches.iter().all(|b| plan.accepts(b))
-}
-
-/// The outputs of a plan, from no states, numbered from 1.
-fn outputs(alloc: Global, text: &str, batches: &[Batch]) -> Result<Vec<EpochOut>, Fail> {
-    let plan = Plan::read(alloc, text)?;
-    let calls = catalogue(alloc)?;
-    calls.fits(&plan)?;
-    if !are_accepted(&plan, batches) || batches.len() > 1000 {
-        return Err("a batch that is not accepted")?;
-    }
-    let states = States::new(alloc);
-    let (after, outs) = evaluate::<Stock, Catalogue>(alloc, &plan, &calls, &states, 1, batches)?;
-    if !after.is_empty() {
-        return Err("states that nobody keeps")?;
-    }
-    Ok(outs)
-}
-
 fn listed(alloc: Global, out: &EpochOut) -> Result<Vec<(u8, u64, i64)>, AllocError> {
     let mut all = Vec::new(alloc);
-    for Output { vertex, rec } in out.recs.list() {
-        all.push((vertex, rec.key, rec.val))?;
+    for output in out.recs.list() {
+        all.push((output.vertex, output.rec.key, output.rec.val))?;
     }
     Ok(all)
 }
 
-const COUNT: &str = "0 input\n1 group 20 0\n2 output 1\n";
-
-const SUM: &str = "0 input\n1 group 21 0\n2 output 1\n";
-
+/// A loop and a fold over two epochs: the state before them, that after them, and another key's, which stays.
 #[test]
-fn records_are_counted_by_key(rt: HostRuntime) -> Result<(), Fail> {
-    let batches = [batch(
+fn two_epochs(rt: HostRuntime) -> Result<(), Fail> {
+    let mut calls: StockCalls = Calls::new(rt.alloc());
+    let less: MapBox = Box::new(rt.alloc(), |port: u8, rec: Rec| stock::less(port, rec))?;
+    assert!(rt; calls.add_map(StockMap::new(2, less)).is_ok());
+    let totalled: FoldBox = Box::new(
         rt.alloc(),
-        &[entry(0, 7, 1), entry(0, 9, 0), entry(0, 7, 1)],
-    )?];
-    let outs = outputs(rt.alloc(), COUNT, &batches)?;
-    assert_eq!(rt; outs.len(), 1);
-    assert_eq!(rt; outs[0].epoch, 1);
-    assert_eq!(rt;
-        listed(rt.alloc(), &outs[0])?.as_slice(),
-        [(2, 7, 2), (2, 9, 1)].as_slice()
-    );
-    Ok(())
-}
-
-#[test]
-fn no_epochs_have_no_outputs(rt: HostRuntime) -> Result<(), Fail> {
-    assert!(rt; outputs(rt.alloc(), COUNT, &[])?.is_empty());
-    Ok(())
-}
-
-#[test]
-fn a_sum_stops_at_the_greatest(rt: HostRuntime) -> Result<(), Fail> {
-    let batches = [batch(
-        rt.alloc(),
-        &[entry(0, 7, i64::MAX), entry(0, 7, 1), entry(0, 7, -1)],
-    )?];
-    let outs = outputs(rt.alloc(), SUM, &batches)?;
-    assert_eq!(rt; outs.len(), 1);
-    assert_eq!(rt;
-        listed(rt.alloc(), &outs[0])?.as_slice(),
-        [(2, 7, i64::MAX)].as_slice()
-    );
-    Ok(())
-}
-
-#[test]
-fn an_empty_epoch_has_its_output(rt: HostRuntime) -> Result<(), Fail> {
+        |key: u64, state: Option<State>, items: &[Item]| stock::totalled(key, state, items),
+    )?;
+    assert!(rt; calls.add_fold(StockFold::new(40, totalled)).is_ok());
+    let plan = Plan::read(rt.alloc(), COUNTDOWN)?;
+    calls.fits(&plan)?;
+    let mut states = States::new(rt.alloc());
+    states.set(5, 7, State { a: 1, b: 1 })?;
+    states.set(5, 9, State { a: -4, b: 2 })?;
     let batches = [
-        batch(rt.alloc(), &[entry(0, 7, 1)])?,
-        batch(rt.alloc(), &[])?,
-        batch(rt.alloc(), &[entry(0, 8, 1)])?,
+        batch(rt.alloc(), &[(7, 5), (8, 0)])?,
+        batch(rt.alloc(), &[(7, 1)])?,
     ];
-    let outs = outputs(rt.alloc(), COUNT, &batches)?;
-    assert_eq!(rt; outs.len(), 3);
-    let epochs = [outs[0].epoch, outs[1].epoch, outs[2].epoch];
-    assert_eq!(rt; epochs, [1, 2, 3]);
-    assert_eq!(rt;
-        listed(rt.alloc(), &outs[0])?.as_slice(),
-        [(2, 7, 1)].as_slice()
-    );
-    assert!(rt; outs[1].recs.is_empty());
-    assert_eq!(rt;
-        listed(rt.alloc(), &outs[2])?.as_slice(),
-        [(2, 8, 1)].as_slice()
-    );
-    Ok(())
-}
-
-/// Two inputs, a bag with two readers, and outputs whose order is not that in which they are reached.
-#[test]
-fn each_output_has_its_records(rt: HostRuntime) -> Result<(), Fail> {
-    let text = "0 input\n1 input\n2 map 1 0\n3 output 2\n4 group 20 2\n5 output 4\n6 output 1\n";
-    let batches = [batch(
+    if !plan.accepts(&batches[0]) || !plan.accepts(&batches[1]) {
+        return Err("a batch that is not accepted")?;
+    }
+    let (after, outs) = evaluate::<Stock, StockCalls>(
         rt.alloc(),
-        &[
-            entry(1, 3, 4),
-            entry(0, 9, 2),
-            entry(0, 7, 5),
-            entry(0, 7, 5),
-        ],
-    )?];
-    let outs = outputs(rt.alloc(), text, &batches)?;
-    assert_eq!(rt; outs.len(), 1);
-    assert_eq!(rt;
-        listed(rt.alloc(), &outs[0])?.as_slice(),
-        [
-            (3, 7, 5),
-            (3, 7, 5),
-            (3, 9, 2),
-            (5, 7, 2),
-            (5, 9, 1),
-            (6, 3, 4)
-        ]
-        .as_slice()
-    );
+        &plan,
+        &calls,
+        &states,
+        4,
+        &batches,
+    )?;
+    assert_eq!(rt; outs.len(), 2);
+    assert_eq!(rt; (outs[0].epoch, outs[1].epoch), (4, 5));
+    let first = listed(rt.alloc(), &outs[0])?;
+    assert_eq!(rt; first.as_slice(), [(6, 7, 10), (6, 8, -6)].as_slice());
+    let second = listed(rt.alloc(), &outs[1])?;
+    assert_eq!(rt; second.as_slice(), [(6, 7, 7)].as_slice());
+    assert_eq!(rt; after.len(), 3);
+    assert_eq!(rt; after.get(5, 7), Some(State { a: 7, b: 7 }));
+    assert_eq!(rt; after.get(5, 8), Some(State { a: -6, b: 3 }));
+    assert_eq!(rt; after.get(5, 9), Some(State { a: -4, b: 2 }));
+    assert_eq!(rt; states.get(5, 7), Some(State { a: 1, b: 1 }));
+    Ok(())
+}
+
+/// One epoch in which a fold lets one key's state go, and keeps another's.
+#[test]
+fn a_removed_key(rt: HostRuntime) -> Result<(), Fail> {
+    let mut calls: StockCalls = Calls::new(rt.alloc());
+    let toggled: FoldBox = Box::new(
+        rt.alloc(),
+        |key: u64, state: Option<State>, items: &[Item]| stock::toggled(key, state, items),
+    )?;
+    assert!(rt; calls.add_fold(StockFold::new(41, toggled)).is_ok());
+    let plan = Plan::read(rt.alloc(), TOGGLE)?;
+    calls.fits(&plan)?;
+    let mut states = States::new(rt.alloc());
+    states.set(1, 7, State { a: 3, b: 0 })?;
+    let batch = batch(rt.alloc(), &[(7, 1), (9, 2)])?;
+    if !plan.accepts(&batch) {
+        return Err("a batch that is not accepted")?;
+    }
+    let out = evaluate_epoch::<Stock, StockCalls>(
+        rt.alloc(),
+        &plan,
+        &calls,
+        &mut states,
+        1,
+        &batch,
+    )?;
+    assert_eq!(rt; out.epoch, 1);
+    let sent = listed(rt.alloc(), &out)?;
+    assert_eq!(rt; sent.as_slice(), [(2, 7, 0), (2, 9, 1)].as_slice());
+    assert_eq!(rt; states.len(), 1);
+    assert_eq!(rt; states.get(1, 9), Some(State { a: 2, b: 0 }));
     Ok(())
 }
 
 #[test]
-fn the_refusal_has_a_number_and_a_text(rt: HostRuntime) -> Result<(), Fail> {
+fn the_refusal(rt: HostRuntime) -> Result<(), Fail> {
     assert_eq!(rt; BatchError::Memory.number(), 1);
     assert_eq!(rt;
         BatchError::Memory.to_string(rt.alloc())?.as_str(),

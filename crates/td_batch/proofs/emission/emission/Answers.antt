@@ -1,0 +1,5 @@
+use Rattle.std.proofs.Common.{rules}
+use Rattle.td_batch.proofs.emission.emission.Goals as goal
+
+pub returns-then-is_input-clause-sent : goal.returns-then-is_input-clause-sent
+returns-then-is_input-clause-sent g c = search rules
