@@ -8,6 +8,7 @@ pub mod Sources
 pub mod Placed
 pub mod Texts
 pub mod Marks
+pub mod Extents
 pub mod Steps
 pub mod Inputs
 pub mod LookedUp

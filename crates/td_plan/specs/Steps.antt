@@ -5,3 +5,4 @@ pub mod Written
 pub mod Reading
 pub mod Inside
 pub mod Printed
+pub mod Extents

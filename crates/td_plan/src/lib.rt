@@ -3,6 +3,7 @@
 #![tactic(auto)]
 
 mod error;
+mod extents;
 pub mod laws;
 mod line;
 mod mark;
@@ -17,6 +18,7 @@ pub mod text;
 mod vertex;
 
 pub use error::PlanError;
+pub use extents::Block;
 pub use mark::Mark;
 pub use plan::Plan;
 pub use vertex::{EDGES, Edge, Kind, LEVELS, Loop, MOST_TURNS, SOURCES, VERTICES, Vertex};

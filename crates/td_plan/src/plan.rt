@@ -6,10 +6,12 @@ ghost use Rattle.td_plan.specs.Blocks.{vertices, edges, edges_to, loops};
 ghost use Rattle.td_plan.specs.Faults.{IsPlan};
 ghost use Rattle.td_plan.specs.Inputs.{is_input_of};
 ghost use Rattle.td_plan.specs.Texts.{PlanText, PlanFault};
+ghost use Rattle.td_plan.specs.Extents.{blocks_of};
 ghost use Rattle.td_plan.specs.Marks.{lines_of_marks, AreMarked};
 ghost use Rattle.td_plan.specs.Steps.Inside.{is_narrow};
 
 use crate::error::PlanError;
+use crate::extents::{Block, Found};
 use crate::mark::Mark;
 use crate::printer::print;
 use crate::reader::{Draft, read_draft};
@@ -101,12 +103,21 @@ impl Plan {
         self.marks.as_slice()
     }
 
-    /// The loops, in the order in which they begin, each with its bound. Each is a block, in which stand the vertices
-    /// that have it among their loops; the outermost block is none of them.
-    pub fn blocks(&self) -> &[Loop]
+    /// The loops, in the order in which they begin.
+    pub fn loops(&self) -> &[Loop]
         ensures { result.now ≡ loops self.now }
     {
         self.loops.as_slice()
+    }
+
+    /// The blocks of the loops, in the order in which they begin, each with its loop's bound and the vertices that stand in
+    /// it. The outermost block is none of them. Refusal: `Memory`.
+    pub fn blocks(&self) -> Result<Vec<Block>, PlanError>
+        ensures ok { IfOk result (λ blocks. blocks.items ≡ blocks_of self.now) }
+        ensures err { IfErr result (λ e. e ≡ PlanError.Memory) }
+    {
+        let found = Found::of_lines(self.alloc, 0, self.marks(), self.vertices())?;
+        Ok(found.into_blocks())
     }
 
     /// The canonical text, which spells this plan, in at most 3,948 bytes. Refusal: `Memory`.

@@ -1,5 +1,5 @@
 //! Texts with their answers, and that each call succeeds with ample memory. A bar ends a line.
-use crate::{Edge, Kind, Loop, Plan, PlanError};
+use crate::{Block, Edge, Kind, Loop, Plan, PlanError};
 use std::alloc::Global;
 use std::test::Fail;
 use td_stamp::{Bag, Batch, Entry, Rec};
@@ -162,7 +162,13 @@ fn what_a_plan_hands_out(rt: HostRuntime) -> Result<(), Fail> {
         port: 1,
     };
     assert_eq!(rt; plan.edges().last(), Some(&last));
-    assert_eq!(rt; plan.blocks(), [Loop { first: 1, bound: 7 }].as_slice());
+    assert_eq!(rt; plan.loops(), [Loop { first: 1, bound: 7 }].as_slice());
+    let block = Block {
+        first: 1,
+        end: 3,
+        bound: 7,
+    };
+    assert_eq!(rt; plan.blocks()?.as_slice(), [block].as_slice());
     assert!(rt; plan.same(&plan.copy()?));
     assert!(rt; !plan.same(&Plan::read(rt.alloc(), "0 input\n1 output 0\n")?));
     Ok(())
