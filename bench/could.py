@@ -3,7 +3,7 @@
 
     bench/could.py [PLANS [SEED]]       needs the kit; by default 20 random plans of 64 vertices beside LOOP, NEST and RING
 
-It builds bench/could/main.rt in a copy of the repository's crates below it, which is proved on the way. The search shares
+It builds bench/could.rattle in a copy of the repository's crates below it, which is proved on the way. The search shares
 nothing with td_reach: it goes along edges and keeps the earliest time at each place. Of each plan it compares every pair of
 places, at each time of epoch 1 whose counters are 0, 1 or 2. Last come the times: nanoseconds for the table of a plan, and
 for one answer, the mean over all pairs of places and times, ten rounds."""
@@ -152,7 +152,7 @@ def build(folder):
         shutil.copytree(ROOT / "crates" / crate, folder / "crates" / crate, ignore=shutil.ignore_patterns("edit_times"))
     source = folder / "crates/could/src"
     source.mkdir(parents=True)
-    shutil.copy(ROOT / "bench/could/main.rt", source / "main.rt")
+    shutil.copy(ROOT / "bench/could.rattle", source / "main.rt")
     lines = [line for line in (ROOT / "crates.txt").read_text().splitlines() if line.split(":")[0] in BELOW]
     (folder / "crates.txt").write_text("\n".join([*lines, "could: td_reach td_plan td_stamp", ""]))
     shutil.copy(ROOT / "HANDLES", folder / "HANDLES")
