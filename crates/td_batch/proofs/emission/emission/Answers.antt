@@ -1,5 +1,6 @@
-use Rattle.std.proofs.Common.{rules}
+use Rattle.std.proofs.Common.{arith}
+use Rattle.std.proofs.lemmas.Grind.{common_steps}
 use Rattle.td_batch.proofs.emission.emission.Goals as goal
 
 pub returns-then-is_input-clause-sent : goal.returns-then-is_input-clause-sent
-returns-then-is_input-clause-sent g c = search rules
+returns-then-is_input-clause-sent g c = grind (arith, common_steps)
