@@ -22,7 +22,7 @@ pub trait Coded {
         ensures { result ≡ code_of self.now };
 }
 
-/// A map's closure that answers the law for its code.
+/// A map's closure that answers the law for its code. What it sends is at most eight records (`Few`).
 pub trait MapCall<L: Law>: Coded {
     /// What it sends for a record that arrives at `port`.
     fn call(&self, port: u8, rec: Rec) -> Few
@@ -38,7 +38,8 @@ pub trait GroupCall<L: Law>: Coded {
 
 /// A fold's closure that answers the law for its code.
 pub trait FoldCall<L: Law>: Coded {
-    /// The state that it keeps for a key, which had `state`, at these sorted items, and what it sends.
+    /// The state that it keeps for a key, which had `state`, at these sorted items, and what it sends. `None` removes the
+    /// key's state.
     fn call(&self, key: u64, state: Option<State>, items: &[Item]) -> (Option<State>, Few)
         ensures { (result.0, result.1.items) ≡ L.answers.fold (Self.code_of self.now) key state items.now };
 }

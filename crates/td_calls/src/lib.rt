@@ -7,6 +7,7 @@ mod closures;
 mod error;
 mod law;
 pub mod laws;
+mod no_calls;
 pub mod stock;
 mod stored;
 #[cfg(test)]
@@ -16,5 +17,6 @@ pub use calls::{Calls, Closures};
 pub use closures::{FoldBox, GroupBox, MapBox, StockCalls, StockFold, StockGroup, StockMap};
 pub use error::CallsError;
 pub use law::{Coded, FoldCall, GroupCall, Law, MapCall};
+pub use no_calls::NoCalls;
 pub use stock::Stock;
 pub use stored::Stored;

@@ -1,8 +1,7 @@
 -- The numbers and the texts of the faults.
 use Rattle.std.specs.Prelude.{ℕ, List, ◌++◌, codes}
 use Rattle.std.specs.Fmt.{decimal}
-use Rattle.td_plan.specs.declared.error.PlanError.{PlanError}
-use Rattle.td_plan.specs.declared.error.PlanError.TheVariants as errors
+use Rattle.td_plan.specs.Refusals.{refusal_text}
 use Rattle.td_console.specs.declared.faults.LineFault.{LineFault}
 use Rattle.td_console.specs.declared.faults.LineFault.TheVariants.{Syntax, NoSuchInput, NotClosed}
 use Rattle.td_console.specs.declared.faults.Fault.{Fault}
@@ -23,26 +22,9 @@ line_fault_text Syntax = codes "syntax"
 line_fault_text NoSuchInput = codes "no such input"
 line_fault_text NotClosed = codes "epoch not closed"
 
--- a line of the plan, and what is wrong with it
-abbrev pub at_plan_line : ℕ → List ℕ → List ℕ
-at_plan_line line what = codes "plan line " ++ (decimal line ++ (codes ": " ++ what))
-
--- the text of a plan's refusal
-abbrev pub plan_error_text : PlanError → List ℕ
-plan_error_text (errors.Syntax line) = at_plan_line line (codes "syntax")
-plan_error_text (errors.Number line) = at_plan_line line (codes "number")
-plan_error_text (errors.Order line) = at_plan_line line (codes "order")
-plan_error_text (errors.Nest line) = at_plan_line line (codes "nest")
-plan_error_text (errors.Bound line) = at_plan_line line (codes "bound")
-plan_error_text (errors.FoldInLoop line) = at_plan_line line (codes "fold in loop")
-plan_error_text (errors.Again line) = at_plan_line line (codes "again")
-plan_error_text (errors.TooMany line) = at_plan_line line (codes "too many")
-plan_error_text errors.NoInputOrOutput = codes "plan: no input or output"
-plan_error_text errors.Memory = codes "memory"
-
 -- the text of a fault
 abbrev pub fault_text : Fault → List ℕ
-fault_text (Plan e) = plan_error_text e
+fault_text (Plan e) = refusal_text e
 fault_text (NoCall vertex code) = codes "vertex " ++ (decimal vertex ++ (codes ": no closure " ++ decimal code))
 fault_text (Line line fault) = codes "line " ++ (decimal line ++ (codes ": " ++ line_fault_text fault))
 fault_text Input = codes "input"

@@ -71,18 +71,7 @@ impl fmt::Display for Fault {
 
     fn fmt<W: fmt::Write>(&self, f: &mut fmt::Formatter<W>) -> fmt::Result {
         match self {
-            Fault::Plan(error) => match error {
-                PlanError::Syntax(line) => write!(f, "plan line {line}: syntax"),
-                PlanError::Number(line) => write!(f, "plan line {line}: number"),
-                PlanError::Order(line) => write!(f, "plan line {line}: order"),
-                PlanError::Nest(line) => write!(f, "plan line {line}: nest"),
-                PlanError::Bound(line) => write!(f, "plan line {line}: bound"),
-                PlanError::FoldInLoop(line) => write!(f, "plan line {line}: fold in loop"),
-                PlanError::Again(line) => write!(f, "plan line {line}: again"),
-                PlanError::TooMany(line) => write!(f, "plan line {line}: too many"),
-                PlanError::NoInputOrOutput => write!(f, "plan: no input or output"),
-                PlanError::Memory => write!(f, "memory"),
-            },
+            Fault::Plan(error) => write!(f, "{error}"),
             Fault::NoCall(vertex, code) => write!(f, "vertex {vertex}: no closure {code}"),
             Fault::Line(line, fault) => write!(f, "line {line}: {fault}"),
             Fault::Input => write!(f, "input"),

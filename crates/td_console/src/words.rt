@@ -15,6 +15,17 @@ const TD: &str =
 const BATCH: &str =
     "Reads a plan and its epochs from standard input, and writes the output records of each epoch to standard output";
 
+/// What help says at its end.
+const TD_MORE: &str = "\
+Output goes to standard output, faults to standard error. Exit status: 0, 1 after a fault, 2 for words that do not parse.
+Faults are explained in docs/FAULTS.md";
+
+const BATCH_MORE: &str = "\
+Reads:  the lines of a plan, a line '--', and lines 'INPUT KEY VALUE', where a line '.' closes an epoch
+Writes: lines 'EPOCH VERTEX KEY VALUE', after all was read; nothing where there is a fault
+Exit status: 0, or 1 after a fault, which is told on standard error
+Faults are explained in docs/FAULTS.md";
+
 /// What is asked for.
 #[derive(Debug, Drop)]
 pub enum Job {
@@ -67,9 +78,12 @@ fn named(name: Option<&str>) -> Result<Job, WordsError>
 fn command<'a>(alloc: Global) -> Result<Command<'a>, AllocError>
     ensures { IfOk result (λ c. app_of c ≡ td) }
 {
-    let batch = Command::new(alloc, "batch").about(BATCH);
+    let batch = Command::new(alloc, "batch")
+        .about(BATCH)
+        .after_help(BATCH_MORE);
     let td = Command::new(alloc, "td")
         .about(TD)
+        .after_help(TD_MORE)
         .subcommand_required(true);
     td.subcommand(batch)
 }

@@ -1,44 +1,34 @@
 //! Why a text is no plan.
-ghost use Rattle.std.specs.Prelude.{◌≡◌};
+ghost use Rattle.std.specs.Prelude.{◌≡◌, Some};
 ghost use Rattle.td_plan.specs.declared.error.PlanError.TheVariants.{Memory};
-ghost use Rattle.td_plan.specs.Refusals.{number_of};
+ghost use Rattle.td_plan.specs.Refusals.{number_of, refusal_text};
 
 use std::alloc::{AllocError, AllocFailed};
+use std::error::Error;
 use std::fmt;
-use thiserror::Error;
 
 /// Why a text is no plan, in the order in which the faults of one line count, with the number of the line, from 1.
-#[derive(Clone, Copy, Debug, PartialEq, Eq, Error)]
+#[derive(Clone, Copy, Debug, PartialEq, Eq)]
 pub enum PlanError {
     /// The line has none of the forms of a line, or a loop is ended that is not open, is empty, or is never ended.
-    #[error("plan line {0}: syntax")]
     Syntax(u64),
     /// The vertex's number is not the count of vertices before it.
-    #[error("plan line {0}: number")]
     Number(u64),
     /// A source does not stand before its reader, or that of an enter not before the loop.
-    #[error("plan line {0}: order")]
     Order(u64),
     /// The kind does not belong in this block, or a source is not read on the block on which the vertex reads.
-    #[error("plan line {0}: nest")]
     Nest(u64),
     /// The bound of a loop is not 1 to 1,000.
-    #[error("plan line {0}: bound")]
     Bound(u64),
     /// A fold stands in a loop.
-    #[error("plan line {0}: fold in loop")]
     FoldInLoop(u64),
     /// A feedback has not one source, or its source is not read on its block.
-    #[error("plan line {0}: again")]
     Again(u64),
     /// One vertex, loop level, source or edge too many.
-    #[error("plan line {0}: too many")]
     TooMany(u64),
     /// The plan has no input or no output.
-    #[error("plan: no input or output")]
     NoInputOrOutput,
     /// A growth was refused.
-    #[error("memory")]
     Memory,
 }
 
@@ -61,6 +51,27 @@ impl PlanError {
         }
     }
 }
+
+impl fmt::Display for PlanError {
+    ghost output = { λ e. Some (refusal_text e) };
+
+    fn fmt<W: fmt::Write>(&self, f: &mut fmt::Formatter<W>) -> fmt::Result {
+        match self {
+            PlanError::Syntax(line) => write!(f, "plan line {line}: syntax"),
+            PlanError::Number(line) => write!(f, "plan line {line}: number"),
+            PlanError::Order(line) => write!(f, "plan line {line}: order"),
+            PlanError::Nest(line) => write!(f, "plan line {line}: nest"),
+            PlanError::Bound(line) => write!(f, "plan line {line}: bound"),
+            PlanError::FoldInLoop(line) => write!(f, "plan line {line}: fold in loop"),
+            PlanError::Again(line) => write!(f, "plan line {line}: again"),
+            PlanError::TooMany(line) => write!(f, "plan line {line}: too many"),
+            PlanError::NoInputOrOutput => write!(f, "plan: no input or output"),
+            PlanError::Memory => write!(f, "memory"),
+        }
+    }
+}
+
+impl Error for PlanError {}
 
 impl From<AllocError> for PlanError {
     ghost from_gives = { λ _ e. e ≡ Memory };

@@ -1,5 +1,6 @@
 //! Plans.
-ghost use Rattle.std.specs.Prelude.{◌≡◌, ◌≤◌, ◌⊎◌, ◌↔◌, IsTrue, length, flat_map, IfOk, IfErr, string_bytes, true};
+ghost use Rattle.std.specs.Prelude.{◌≡◌, ◌≤◌, ◌⊎◌, ◌↔◌, IsTrue, All, length, flat_map, IfOk, IfErr, string_bytes, true};
+ghost use Rattle.std.specs.Bool.{OnTrue};
 ghost use Rattle.std.specs.List.{list_all};
 ghost use Rattle.td_plan.specs.Lines.{text_of};
 ghost use Rattle.td_plan.specs.Blocks.{vertices, edges, edges_to, loops};
@@ -161,6 +162,14 @@ impl Plan {
             }
         }
         true
+    }
+
+    /// Whether every batch is accepted, as `accepts` has it. It takes no memory.
+    pub fn accepts_all(&self, batches: &[Batch]) -> bool
+        ensures yes { OnTrue result (All (λ batch. IsTrue (list_all (λ e. is_input_of self.now e.input) batch)) batches.now) }
+        ensures no { All (λ batch. IsTrue (list_all (λ e. is_input_of self.now e.input) batch)) batches.now → IsTrue result }
+    {
+        batches.iter().all(|batch| self.accepts(batch))
     }
 
     /// Whether a number is that of an input vertex.
