@@ -7,6 +7,8 @@ pub mod laws;
 mod parse;
 mod payload;
 mod slots;
+#[cfg(test)]
+mod tests;
 
 pub use error::SlotsError;
 pub use slots::{Checkpoint, Slots};
