@@ -1,5 +1,7 @@
 pub mod CrashSafe
+pub mod Fields
 pub mod GateError
+pub mod Reading
 pub mod Region
 pub mod Regions
 pub mod States

@@ -1,9 +1,11 @@
 //! What holds of regions by their definitions, for every lawful disk. A caller that needs one of
 //! these calls it, which does nothing, and learns its clause.
-ghost use Rattle.std.specs.Prelude.{◌≡◌, ◌++◌, [], ◌∷◌, ℕ, List};
+ghost use Rattle.std.specs.Prelude.{◌≡◌, ◌<◌, ◌^◌, ◌++◌, [], ◌∷◌, ℕ, ℤ, FitsSigned, List, length, drop};
+ghost use Rattle.std.specs.Int.{w64};
 ghost use Rattle.td_disk.specs.Disk.{ImagesFollow, NoNewImages, TimePasses, IsDurable};
 ghost use Rattle.td_gate.specs.declared.region.Region.{Region as AnyRegion};
 ghost use Rattle.td_gate.specs.CrashSafe.{CrashSafe, Unchanged};
+ghost use Rattle.td_gate.specs.Fields.{Front, FitsFront, front_bytes, front_in, front_len, number_at, number_bytes, signed_at, signed_bytes};
 ghost use Rattle.td_gate.specs.Region.{opened, IsSettled, IsOpen, Closes, Fills, Opens, Puts};
 ghost use Rattle.td_gate.specs.Regions.{Apart, ApartFromAll, KeepsRegion, Put, PutsDone, PutsInTurn};
 
@@ -129,4 +131,13 @@ pub fn puts_keep_others<D: Disk>()
         → IsSettled s (D.state old)
         → CrashSafe (PutsInTurn puts) (D.state old) (D.state new)
         → KeepsRegion s (D.state old) (D.state new) }
+{}
+
+/// What the module `fields` writes is read back, whatever follows it.
+pub fn read_back()
+    ensures number { (n x : ℕ) (rest : List ℕ) → x < 256 ^ n → number_at n 0 (number_bytes n x ++ rest) ≡ x }
+    ensures signed { (z : ℤ) (rest : List ℕ) → FitsSigned w64 z → signed_at 0 (signed_bytes z ++ rest) ≡ z }
+    ensures front { (f : Front) (rest : List ℕ) → FitsFront f → front_in (front_bytes f ++ rest) ≡ f }
+    ensures past { (f : Front) (rest : List ℕ) → drop front_len (front_bytes f ++ rest) ≡ rest }
+    ensures size { (f : Front) → length (front_bytes f) ≡ front_len }
 {}

@@ -4,6 +4,7 @@
 #![tactic(auto)]
 
 mod error;
+pub mod fields;
 mod get;
 pub mod laws;
 mod region;
