@@ -8,9 +8,12 @@ use Rattle.td_stamp.specs.declared.values.Rec.{Rec}
 use Rattle.td_stamp.specs.declared.values.Entry.{Entry}
 use Rattle.td_gate.specs.Fields.{number_bytes, number_at, signed_at, signed_bytes, Front, FitsFront, front_bytes, front_in, front_len, front_of, is_plain, each_in}
 use Rattle.td_gate.specs.Reading.{Each, number_behind, signed_behind, length_bytes, front_back, front_past, front_size, each_back, each_size}
+use Rattle.td_gate.specs.Region.{opened}
+use Rattle.td_journal.specs.declared.journal.Journal.{Journal}
 use Rattle.td_journal.specs.declared.submitted.Submitted.{Submitted}
 use Rattle.td_journal.specs.Numbers.{may_come}
-use Rattle.td_journal.specs.Cell.{Found, cell_len, entry_bytes, entry_in, cell_bytes, batch_in, submitted_in, is_batch, is_cell, bears, where_borne, where_valid, found_in, FitsEntry, IsCellBatch}
+use Rattle.td_journal.specs.Images.{IsBorne}
+use Rattle.td_journal.specs.Cell.{Found, cell_of, cell_len, entry_bytes, entry_in, cell_bytes, batch_in, submitted_in, is_batch, is_cell, bears, where_borne, where_valid, found_in, FitsEntry, IsCellBatch}
 use Rattle.td_journal.specs.Cell.Found.{ended, submitted, damaged}
 
 -- a cell that has something for an epoch bears it
@@ -52,6 +55,13 @@ bears_one bytes e f one other =
     let is : (front_in bytes).epoch ≡ e = eqb-true _ e (and_parts (nat_lt e (2 ^ 63)) _ one).1 in
     let also : (front_in bytes).epoch ≡ f = eqb-true _ f (and_parts (nat_lt f (2 ^ 63)) _ other).1 in
     sym is ∙ also
+
+-- a closed cell bears nothing
+pub closed_bears_nothing : (j : Journal) (c : List ℕ) (e : ℕ) → opened (cell_of j e) c ≡ None → IsBorne j c e → ⊥
+closed_bears_nothing j c e none borne = apart borne.0 (sym none ∙ borne.1)
+  where
+    apart : (bytes : List ℕ) → None ≡ Some bytes → ⊥
+    apart bytes is = cc
 
 -- an entry is read back
 three_parts : (a b c rest : List ℕ) → (a ++ (b ++ c)) ++ rest ≡ a ++ (b ++ (c ++ rest))

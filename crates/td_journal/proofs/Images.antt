@@ -27,13 +27,6 @@ cases_ended ended = inl refl
 cases_ended (submitted s) = inr (λ is. cc)
 cases_ended (damaged i) = inr (λ is. cc)
 
--- a closed cell bears nothing
-pub closed_bears_nothing : (j : Journal) (c : List ℕ) (e : ℕ) → opened (cell_of j e) c ≡ None → IsBorne j c e → ⊥
-closed_bears_nothing j c e none borne = apart borne.0 (sym none ∙ borne.1)
-  where
-    apart : (bytes : List ℕ) → None ≡ Some bytes → ⊥
-    apart bytes is = cc
-
 -- a cell bears one epoch
 one_epoch : (j : Journal) (d : List ℕ) (e f : ℕ) → e % j.n ≡ f % j.n → IsBorne j d e → IsBorne j d f → e ≡ f
 one_epoch j d e f same here there =
