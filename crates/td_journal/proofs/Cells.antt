@@ -1,20 +1,19 @@
 -- What a cell has for an epoch.
-use Rattle.std.proofs.Common.{◌≡◌, ◌⊎◌, inl, inr, ℕ, zero, suc, ◌+◌, ◌-◌, ◌*◌, ◌<◌, ◌≤◌, ◌^◌, Bool, true, false, ◌&&◌, ◌==◌, nat_lt, nat_le, List, [], ◌∷◌, ◌++◌, length, drop, replicate, Option, Some, None, refl, sym, ap, ◌∙◌, subst, arith}
+use Rattle.std.proofs.Common.{◌≡◌, inl, inr, ℕ, ◌+◌, ◌-◌, ◌*◌, ◌<◌, ◌≤◌, ◌^◌, Bool, true, false, ◌&&◌, ◌==◌, nat_lt, List, [], ◌++◌, length, drop, replicate, Option, Some, None, refl, sym, ap, ◌∙◌, arith}
 use Rattle.std.specs.Prelude.{flat_map}
 use Rattle.std.specs.Int.{w64, cast_unsigned}
-use Rattle.std.proofs.lemmas.Bool.{cases_Bool, and_parts, and_from, eqb-true, ltb-true, lt-ltb, le-leb, eq-eqb}
+use Rattle.std.proofs.lemmas.Bool.{cases_Bool, and_parts, and_from, eqb-true, lt-ltb, le-leb, eq-eqb}
 use Rattle.std.proofs.lemmas.List.{append_assoc, length-append, length-replicate}
-use Rattle.td_stamp.specs.declared.values.Rec.{Rec}
 use Rattle.td_stamp.specs.declared.values.Entry.{Entry}
-use Rattle.td_gate.specs.Fields.{number_bytes, number_at, signed_at, signed_bytes, Front, FitsFront, front_bytes, front_in, front_len, front_of, is_plain, each_in}
-use Rattle.td_gate.specs.Reading.{Each, number_behind, signed_behind, length_bytes, front_back, front_past, front_size, each_back, each_size}
+use Rattle.td_gate.specs.Fields.{number_bytes, number_at, signed_at, signed_bytes, Front, front_bytes, front_in, front_len, front_of, is_plain, each_in}
+use Rattle.td_gate.specs.Reading.{number_behind, signed_behind, length_bytes, front_back, front_past, front_size, each_back, each_size}
 use Rattle.td_gate.specs.Region.{opened}
 use Rattle.td_journal.specs.declared.journal.Journal.{Journal}
 use Rattle.td_journal.specs.declared.submitted.Submitted.{Submitted}
 use Rattle.td_journal.specs.Numbers.{may_come}
 use Rattle.td_journal.specs.Images.{IsBorne}
-use Rattle.td_journal.specs.Cell.{Found, cell_of, cell_len, entry_bytes, entry_in, cell_bytes, batch_in, submitted_in, is_batch, is_cell, bears, where_borne, where_valid, found_in, FitsEntry, IsCellBatch}
-use Rattle.td_journal.specs.Cell.Found.{ended, submitted, damaged}
+use Rattle.td_journal.specs.Cell.{cell_of, cell_len, entry_bytes, entry_in, cell_bytes, batch_in, submitted_in, is_batch, is_cell, bears, where_borne, where_valid, found_in, FitsEntry, IsCellBatch}
+use Rattle.td_journal.specs.Cell.Found.{ended, submitted}
 
 -- a cell that has something for an epoch bears it
 pub borne : (inputs : List ℕ) (floor : Option ℕ) (m e i : ℕ) (h : Option (List ℕ)) → (found_in inputs floor m e i h ≡ ended → ⊥) → (bytes : List ℕ) × (h ≡ Some bytes) × (bears bytes e ≡ true)
@@ -42,6 +41,7 @@ found_may_come inputs floor m e i (Some bytes) s is = elim (cases_Bool (bears by
   where
     apart : (s : Submitted) → ended ≡ submitted s → ⊥
     apart s is = cc
+
     valid_may_come : (t : Bool) → is_cell inputs floor m bytes ≡ t → where_valid t i (submitted_in bytes) ≡ submitted s → may_come floor s.request ≡ true
     valid_may_come true valid is =
         let same : submitted_in bytes ≡ s = cc in
@@ -129,8 +129,8 @@ module _ (inputs : List ℕ) (floor : Option ℕ) (m e : ℕ) (x : Submitted) (o
       and_from (is_plain m (front_in bytes)) (may_come floor (front_in bytes).request && is_batch inputs (batch_in bytes))
       (ap (is_plain m) (cell_front lt) ∙ le-leb (length x.batch) m ok.few)
       (and_from (may_come floor (front_in bytes).request) (is_batch inputs (batch_in bytes))
-          (ap (λ (f : Front). may_come floor f.request) (cell_front lt) ∙ may)
-          (ap (is_batch inputs) (cell_batch lt) ∙ ok.lawful))
+      (ap (λ (f : Front). may_come floor f.request) (cell_front lt) ∙ may)
+      (ap (is_batch inputs) (cell_batch lt) ∙ ok.lawful))
 
   pub cell_found : (i : ℕ) → may_come floor x.request ≡ true → e < 2 ^ 63 → found_in inputs floor m e i (Some bytes) ≡ submitted x
   cell_found i may lt =

@@ -6,7 +6,7 @@ use Rattle.td_disk.specs.Disk.{DiskState}
 use Rattle.td_gate.specs.CrashSafe.{CrashSafe, Unchanged}
 use Rattle.td_gate.specs.declared.region.Region.{Region}
 use Rattle.td_gate.specs.Region.{gate_of, opened, start_of, SameWithin, IsSettled, IsClosed, Closes}
-use Rattle.td_gate.specs.Fields.{front_in, number_at}
+use Rattle.td_gate.specs.Fields.{number_at}
 use Rattle.td_gate.specs.Reading.{number_taken}
 use Rattle.td_journal.specs.declared.journal.Journal.{Journal}
 use Rattle.td_journal.specs.declared.submitted.Submitted.{Submitted}

@@ -12,7 +12,7 @@ use Rattle.td_journal.specs.Cell.Found.{ended, submitted, damaged}
 use Rattle.td_journal.specs.Ring.{found, told_after}
 use Rattle.td_journal.specs.Images.{IsBorne, IsNext, SameCells, NothingFollows}
 use Rattle.td_journal.proofs.Places.{residues}
-use Rattle.td_journal.proofs.Ring.{Runs, IsRead, read_from_runs, runs_from_read, runs_same, runs_push, runs_drop, run_at, floor_none, floor_past_first}
+use Rattle.td_journal.proofs.Ring.{Runs, IsRead, read_from_runs, runs_from_read, runs_same, runs_push, runs_drop, run_at, floor_past_first}
 use Rattle.td_journal.proofs.Rising.{runs_rise}
 use Rattle.td_journal.proofs.Cells.{borne, not_borne, found_may_come, bears_one, cell_found}
 
@@ -22,6 +22,7 @@ pub record SameBut (j : Journal) (i : ℕ) (old new : List ℕ) : Type 0 where
 
 not_ended : (s : Submitted) → submitted s ≡ ended → ⊥
 not_ended s is = cc
+
 cases_ended : (f : Found) → (f ≡ ended) ⊎ (f ≢ ended)
 cases_ended ended = inl refl
 cases_ended (submitted s) = inr (λ is. cc)
@@ -139,7 +140,7 @@ module _ (inputs : List ℕ) (j : Journal) where
     closed_following follows none = read_from_runs (found inputs j c) floor j.n (suc checkpoint) w (record {
       runs = runs_same (found inputs j d) (found inputs j c) floor (suc checkpoint) w
           (λ o f low high. let stood = run_at (found inputs j d) floor (suc checkpoint) w told_so_far.runs f low high in
-              elsewhere o f (λ is. absurd (omega (arith, is, here, high))) follows (is_borne d stood.0 f (λ is. not_ended stood.1 (sym stood.2 ∙ is))))
+          elsewhere o f (λ is. absurd (omega (arith, is, here, high))) follows (is_borne d stood.0 f (λ is. not_ended stood.1 (sym stood.2 ∙ is))))
           told_so_far.runs;
       most = told_so_far.most;
       ends = λ lt. ap (found inputs j c (floor_after floor w)) here ∙ still (floor_after floor w) refl;
@@ -177,8 +178,8 @@ module _ (inputs : List ℕ) (j : Journal) where
             let around : (suc checkpoint + length w) % j.n ≡ suc checkpoint % j.n = ap (λ (n : ℕ). (suc checkpoint + n) % j.n) whole ∙ add-mod_right (suc checkpoint) j.n in
             let o = floor_after floor w in
             elim (cases_ended (found inputs j d o (suc checkpoint + length w))) [
-            | inl is ↦ is
-            | inr not ↦ absurd (omega (arith, whole, some, one_epoch j d (suc checkpoint + length w) (suc checkpoint) around (is_borne d o (suc checkpoint + length w) not) (is_borne d first.0 (suc checkpoint) (λ is. not_ended first.1 (sym first.2 ∙ is)))))
+              | inl is ↦ is
+              | inr not ↦ absurd (omega (arith, whole, some, one_epoch j d (suc checkpoint + length w) (suc checkpoint) around (is_borne d o (suc checkpoint + length w) not) (is_borne d first.0 (suc checkpoint) (λ is. not_ended first.1 (sym first.2 ∙ is)))))
             ]
       ]
 

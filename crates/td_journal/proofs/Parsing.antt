@@ -1,5 +1,5 @@
 -- How a payload is read, record by record.
-use Rattle.std.proofs.Common.{◌≡◌, ℕ, zero, suc, ◌+◌, ◌-◌, ◌*◌, ◌<◌, ◌≤◌, Bool, true, false, ◌&&◌, ◌==◌, nat_le, List, [], ◌∷◌, ◌++◌, length, drop, Option, Some, None, refl, sym, ap, ◌∙◌, subst, arith, append-nil}
+use Rattle.std.proofs.Common.{◌≡◌, ℕ, suc, ◌+◌, ◌-◌, ◌*◌, ◌<◌, ◌≤◌, Bool, true, false, ◌&&◌, ◌==◌, nat_le, List, [], ◌∷◌, ◌++◌, length, drop, Option, refl, sym, ap, ◌∙◌, subst, arith, append-nil}
 use Rattle.std.specs.List.{list_all, list_any, slice_get}
 use Rattle.std.specs.Ordering.{is_le}
 use Rattle.std.proofs.lemmas.List.{append_assoc, drop-drop}
@@ -9,7 +9,7 @@ use Rattle.td_stamp.specs.declared.values.Entry.{Entry}
 use Rattle.td_stamp.specs.Orders.{entry_cmp}
 use Rattle.td_stamp.specs.ProvedOrders.{entry_total}
 use Rattle.td_stamp.specs.Bag.{bag_of}
-use Rattle.td_gate.specs.Fields.{front_in, front_len, number_at, is_plain, each_in, is_chain}
+use Rattle.td_gate.specs.Fields.{front_in, number_at, is_plain, each_in, is_chain}
 use Rattle.td_journal.specs.Numbers.{may_come}
 use Rattle.td_journal.specs.Cell.{entry_in, batch_in, is_batch, is_cell}
 use Rattle.td_journal.specs.Parsed.{may_come_after, may_follow}
@@ -99,17 +99,18 @@ module _ (inputs : List ℕ) (floor : Option ℕ) (m : ℕ) (bytes : List ℕ) w
   not_ordered count i es e lt is read no_ =
       let rest = left count (i + 1) bytes in
       not_a_batch (ap (is_batch inputs) (read ∙ ap (λ (l : List Entry). es ++ l) (left_step count i bytes lt ∙ ap (λ (x : Entry). x ∷ rest) (sym is)))
-          ∙ and_right (list_all (names inputs) (es ++ e ∷ rest)) (in_order (es ++ e ∷ rest)) (broken es rest e no_))
+      ∙ and_right (list_all (names inputs) (es ++ e ∷ rest)) (in_order (es ++ e ∷ rest)) (broken es rest e no_))
 
   -- the fields of the front
   pub is_valid : (count : ℕ) (es : List Entry) → may ≡ true → zeros ≡ 0 → count ≡ counted → count ≤ m → batch_in bytes ≡ es ++ left count count bytes
       → list_all (names inputs) es ≡ true → in_order es ≡ true → (is_cell inputs floor m bytes ≡ true) × (bag_of entry_cmp es ≡ batch_in bytes)
   is_valid count es number none is le read named chain =
-      let all : batch_in bytes ≡ es = read ∙ ap (λ (l : List Entry). es ++ l) (left_all count bytes) ∙ append-nil es in
-      (and_from (is_plain m (front_in bytes)) (may && of_batch)
-          (and_from (zeros == 0) (nat_le counted m) (eq-eqb zeros 0 none) (le-leb counted m (subst (λ (n : ℕ). n ≤ m) is le)))
-          (and_from may of_batch number (ap (is_batch inputs) all ∙ and_from (list_all (names inputs) es) (in_order es) named chain)),
-       bag_from_chain entry_cmp entry_total es chain ∙ sym all)
+      let all : batch_in bytes ≡ es = read ∙ ap (λ (l : List Entry). es ++ l) (left_all count bytes) ∙ append-nil es in (
+        and_from (is_plain m (front_in bytes)) (may && of_batch)
+            (and_from (zeros == 0) (nat_le counted m) (eq-eqb zeros 0 none) (le-leb counted m (subst (λ (n : ℕ). n ≤ m) is le)))
+            (and_from may of_batch number (ap (is_batch inputs) all ∙ and_from (list_all (names inputs) es) (in_order es) named chain)),
+        bag_from_chain entry_cmp entry_total es chain ∙ sym all,
+      )
 
   pub bad_request : may ≡ false → is_cell inputs floor m bytes ≡ false
   bad_request not_ = and_right (is_plain m (front_in bytes)) (may && of_batch) (and_left may of_batch not_)

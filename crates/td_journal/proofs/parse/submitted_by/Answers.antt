@@ -1,10 +1,10 @@
-use Rattle.std.proofs.Common.{◌≡◌, ℕ, ◌+◌, ◌*◌, ◌<◌, ◌≤◌, ◌==◌, true, false, not, Bool, List, [], ◌∷◌, ◌++◌, drop, refl, sym, ap, ◌∙◌, subst, arith}
+use Rattle.std.proofs.Common.{◌≡◌, ℕ, ◌+◌, ◌<◌, true, false, not, List, [], ◌∷◌, ◌++◌, refl, sym, ap, ◌∙◌, arith}
 use Rattle.std.specs.Prelude.{Option, Some, None, IfNone}
-use Rattle.std.specs.List.{list_all, list_any}
+use Rattle.std.specs.List.{list_all}
 use Rattle.td_stamp.specs.declared.values.Entry.{Entry}
 use Rattle.td_gate.specs.Fields.{number_at}
 use Rattle.td_journal.specs.Numbers.{may_come}
-use Rattle.td_journal.specs.Cell.{entry_in, batch_in}
+use Rattle.td_journal.specs.Cell.{batch_in}
 use Rattle.td_journal.specs.Parsed.{may_follow}
 use Rattle.td_journal.proofs.Parsing.{names, in_order, left, read_more, named_more, ordered_more, not_named, not_ordered, is_valid, bad_request}
 use Rattle.td_journal.proofs.parse.submitted_by.Goals as goal

@@ -1,9 +1,9 @@
-use Rattle.std.proofs.Common.{◌≡◌, ℕ, ◌+◌, ◌-◌, ◌*◌, ◌≤◌, List, [], ◌++◌, length, take, replicate, flat_map, ap, sym, ◌∙◌, arith, append_assoc, length-append}
+use Rattle.std.proofs.Common.{◌≡◌, ℕ, ◌+◌, ◌-◌, ◌*◌, ◌≤◌, List, [], ◌++◌, length, take, replicate, flat_map, ap, ◌∙◌, arith, append_assoc, length-append}
 use Rattle.std.proofs.lemmas.List.{take_all}
 use Rattle.td_stamp.specs.declared.values.Entry.{Entry}
 use Rattle.td_gate.specs.Fields.{number_bytes}
 use Rattle.td_gate.specs.Reading.{length_bytes, each_size}
-use Rattle.td_journal.specs.Cell.{entry_bytes, cell_bytes}
+use Rattle.td_journal.specs.Cell.{entry_bytes}
 use Rattle.td_journal.proofs.Cells.{entry_size}
 use Rattle.td_journal.proofs.payload.cell_payload.Goals as goal
 

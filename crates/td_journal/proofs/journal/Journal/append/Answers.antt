@@ -1,8 +1,8 @@
-use Rattle.std.proofs.Common.{arith, ◌≡◌, ◌≤◌, ℕ, List, length, ap, sym, ◌∙◌, subst}
+use Rattle.std.proofs.Common.{arith, ℕ, List, length, ap, sym, ◌∙◌, subst}
 use Rattle.td_gate.specs.CrashSafe.{CrashSafe}
 use Rattle.td_gate.specs.declared.region.Region.{Region}
-use Rattle.td_gate.specs.Region.{IsSettled, IsOpen, Puts}
-use Rattle.td_journal.specs.Cell.{cell_of, cell_bytes}
+use Rattle.td_gate.specs.Region.{IsSettled, Puts}
+use Rattle.td_journal.specs.Cell.{cell_bytes}
 use Rattle.td_journal.proofs.Cells.{cell_size}
 use Rattle.td_journal.proofs.journal.Journal.append.Goals as goal
 

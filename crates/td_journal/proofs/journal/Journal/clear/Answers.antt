@@ -1,10 +1,9 @@
-use Rattle.std.proofs.Common.{◌≡◌, ◌<◌, ◌^◌, ℕ, List, Some, refl, ap, sym, ◌∙◌, subst, arith}
+use Rattle.std.proofs.Common.{◌≡◌, ℕ, List, Some, refl, ap, sym, ◌∙◌, subst, arith}
 use Rattle.std.specs.Prelude.{Option, None, Vec}
 use Rattle.std.specs.declared.alloc.Global.{Global}
 use Rattle.td_gate.specs.declared.region.Region.{Region}
-use Rattle.td_gate.specs.Region.{opened, payload_of, start_of, IsSettled}
+use Rattle.td_gate.specs.Region.{opened, payload_of, IsSettled}
 use Rattle.td_gate.specs.Fields.{number_at}
-use Rattle.td_journal.specs.Cell.{cell_of}
 use Rattle.td_journal.proofs.Cells.{closed_bears_nothing}
 use Rattle.td_journal.proofs.Clearing.{WasRead, same_images, begins_not, far_borne, cleared, closed_is_gone, other_is_gone}
 use Rattle.td_journal.proofs.journal.Journal.clear.Goals as goal
@@ -76,7 +75,7 @@ returns-in_default-clause-gone g c lawful settled f now =
     let image = same_images (state old) (state mid) (λ (t : ℕ) (f : List ℕ). g.met.D.Disk.counts_now mid t f still) (c.in_ok-number.ensures.crash_safe lawful) f now in
     let here = subst (λ (r : Region). IsSettled r (state old)) (sym region) settled in
     closed_bears_nothing c.args.self.now f c.args.epoch (ap (λ (r : Region). opened r f) (sym region)
-        ∙ begins_not 8 (opened c.cell_of-cell.result f) (sym (not_some c.in_ok-number.field-0 c.in_default.not-Some) ∙ c.in_ok-number.ensures.every lawful here f image))
+    ∙ begins_not 8 (opened c.cell_of-cell.result f) (sym (not_some c.in_ok-number.field-0 c.in_default.not-Some) ∙ c.in_ok-number.ensures.every lawful here f image))
 
 pub returns-then-u64_at-epoch-clause-gone : goal.returns-then-u64_at-epoch-clause-gone
 returns-then-u64_at-epoch-clause-gone g c lawful settled =

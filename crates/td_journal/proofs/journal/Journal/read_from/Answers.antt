@@ -1,5 +1,4 @@
-use Rattle.std.proofs.Common.{◌≡◌, ◌<◌, ◌+◌, ℕ, List, [], ◌∷◌, ◌++◌, Option, inl, inr, ⊎_elim, ap, sym, ◌∙◌, subst, arith}
-use Rattle.td_journal.specs.declared.error.JournalError.{JournalError}
+use Rattle.std.proofs.Common.{◌≡◌, ◌+◌, ℕ, List, Option, inl, inr, ⊎_elim, ap, sym, ◌∙◌, subst, arith}
 use Rattle.td_journal.specs.declared.submitted.Submitted.{Submitted}
 use Rattle.td_journal.specs.Cell.{Found}
 use Rattle.td_journal.specs.Cell.Found.{ended, submitted}
@@ -25,9 +24,9 @@ returns-in-Ok-None-clause-told g c lawful =
     let floor = c.loop-i.greatest in
     let still = c.loop-i.invariant.lawful.0 lawful in
     let here : find floor (c.args.checkpoint + 1 + i) ≡ ended =
-        ap (λ (n : ℕ). find floor (c.args.checkpoint + 1 + n)) (sym c.from.ensures)
-        ∙ ap (λ (b : List ℕ). found c.args.inputs.now c.args.self.now b floor (c.args.checkpoint + 1 + c.from.result)) (sym (c.loop-i.invariant.same lawful))
-        ∙ c.in-Ok-None.ensures.found still ∙ ap found_by c.in-Ok-None.field-0-is in
+    ap (λ (n : ℕ). find floor (c.args.checkpoint + 1 + n)) (sym c.from.ensures)
+    ∙ ap (λ (b : List ℕ). found c.args.inputs.now c.args.self.now b floor (c.args.checkpoint + 1 + c.from.result)) (sym (c.loop-i.invariant.same lawful))
+    ∙ c.in-Ok-None.ensures.found still ∙ ap found_by c.in-Ok-None.field-0-is in
     c.loop-i.invariant.told lawful ∙ ap (joined w) (left_found find c.args.self.now.n c.args.checkpoint floor i ended c.loop-i-test.true here) ∙ joined_ok w
 
 pub returns-in-Err-clause-refused : goal.returns-in-Err-clause-refused
@@ -40,13 +39,13 @@ returns-in-Err-clause-refused g c =
     let f = find floor (c.args.checkpoint + 1 + i) in
     let rest = left_from find c.args.self.now.n c.args.checkpoint (past floor f) (i + 1) in
     ⊎_elim (λ device. inl device) (λ other. ⊎_elim (λ memory. inr (inl memory)) (λ damage. inr (inr (λ lawful.
-        let still = c.loop-i.invariant.lawful.0 lawful in
-        let here : f ≡ found c.args.inputs.now c.args.self.now (state c.loop-i.device).bytes floor (c.args.checkpoint + 1 + c.from.result) =
-            ap (λ (n : ℕ). find floor (c.args.checkpoint + 1 + n)) (sym c.from.ensures)
-            ∙ ap (λ (b : List ℕ). found c.args.inputs.now c.args.self.now b floor (c.args.checkpoint + 1 + c.from.result)) (sym (c.loop-i.invariant.same lawful)) in
-        c.loop-i.invariant.told lawful
-        ∙ ap (joined w) (left_more find c.args.self.now.n c.args.checkpoint floor i c.loop-i-test.true ∙ damage_refuses c.in-Err.refusal f rest (subst (IsDamage c.in-Err.refusal) (sym here) (damage still)))
-        ∙ joined_err w c.in-Err.refusal))) other) c.in-Err.ensures.refused
+    let still = c.loop-i.invariant.lawful.0 lawful in
+    let here : f ≡ found c.args.inputs.now c.args.self.now (state c.loop-i.device).bytes floor (c.args.checkpoint + 1 + c.from.result) =
+    ap (λ (n : ℕ). find floor (c.args.checkpoint + 1 + n)) (sym c.from.ensures)
+    ∙ ap (λ (b : List ℕ). found c.args.inputs.now c.args.self.now b floor (c.args.checkpoint + 1 + c.from.result)) (sym (c.loop-i.invariant.same lawful)) in
+    c.loop-i.invariant.told lawful
+    ∙ ap (joined w) (left_more find c.args.self.now.n c.args.checkpoint floor i c.loop-i-test.true ∙ damage_refuses c.in-Err.refusal f rest (subst (IsDamage c.in-Err.refusal) (sym here) (damage still)))
+    ∙ joined_err w c.in-Err.refusal))) other) c.in-Err.ensures.refused
 
 pub loop-i-preserved : goal.loop-i-preserved
 loop-i-preserved g c =
@@ -60,9 +59,9 @@ loop-i-preserved g c =
     record {
       told = λ lawful.
           let here : find floor (c.args.checkpoint + 1 + i) ≡ submitted s =
-              ap (λ (n : ℕ). find floor (c.args.checkpoint + 1 + n)) (sym c.from.ensures)
-              ∙ ap (λ (l : List ℕ). found c.args.inputs.now c.args.self.now l floor (c.args.checkpoint + 1 + c.from.result)) (sym (inv.same lawful))
-              ∙ c.in-Ok-Some.ensures.found (inv.lawful.0 lawful) ∙ ap found_by c.in-Ok-Some.field-0-is in
+          ap (λ (n : ℕ). find floor (c.args.checkpoint + 1 + n)) (sym c.from.ensures)
+          ∙ ap (λ (l : List ℕ). found c.args.inputs.now c.args.self.now l floor (c.args.checkpoint + 1 + c.from.result)) (sym (inv.same lawful))
+          ∙ c.in-Ok-Some.ensures.found (inv.lawful.0 lawful) ∙ ap found_by c.in-Ok-Some.field-0-is in
           let rest = left_from find c.args.self.now.n c.args.checkpoint (past floor (submitted s)) (i + 1) in
           inv.told lawful
           ∙ ap (joined w) (left_found find c.args.self.now.n c.args.checkpoint floor i (submitted s) c.loop-i-test.true here)

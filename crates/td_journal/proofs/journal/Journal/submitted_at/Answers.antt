@@ -1,4 +1,4 @@
-use Rattle.std.proofs.Common.{◌≡◌, ◌<◌, ◌^◌, ◌%◌, ℕ, List, inl, inr, Some, None, ap, sym, ◌∙◌, subst, arith}
+use Rattle.std.proofs.Common.{◌≡◌, ◌<◌, ◌^◌, ◌%◌, ℕ, List, inr, Some, None, ap, sym, ◌∙◌, subst, arith}
 use Rattle.std.specs.Prelude.{Option}
 use Rattle.td_gate.specs.declared.region.Region.{Region}
 use Rattle.td_gate.specs.Region.{opened, payload_of}
@@ -6,7 +6,6 @@ use Rattle.td_gate.specs.Fields.{number_at}
 use Rattle.td_journal.specs.declared.submitted.Submitted.{Submitted}
 use Rattle.td_journal.specs.Cell.{cell_of}
 use Rattle.td_journal.specs.Cell.Found.{damaged}
-use Rattle.td_journal.specs.Ring.{found}
 use Rattle.td_journal.specs.Parsed.{IsSubmittedBy}
 use Rattle.td_journal.proofs.Clearing.{bears_it, valid_found, damaged_found}
 use Rattle.td_journal.proofs.journal.Journal.submitted_at.Goals as goal
