@@ -1,75 +1,68 @@
--- Exact work: how many records a run delivers and how many notifications it gives, by the batch meaning alone.
-use Rattle.std.specs.Prelude.{ℕ, ◌+◌, Bool, true, false, List, [], ◌∷◌, ◌++◌, map, flat_map, filter, length, ◌==◌}
-use Rattle.std.specs.List.{list_any}
+-- Exact work: how many records a run delivers and how many notifications it gives, by the bags of the batch meaning alone.
+use Rattle.std.specs.Prelude.{ℕ, ◌==◌, List, [], ◌∷◌, map, flat_map, filter, length, get_or, Option, Some, None}
+use Rattle.std.specs.List.{list_any, sum_by}
 use Rattle.td_stamp.specs.declared.values.Entry.{Entry}
 use Rattle.td_stamp.specs.declared.values.Arrival.{Arrival}
 use Rattle.td_stamp.specs.States.{StateList}
-use Rattle.td_plan.specs.Lines.{Vertex}
-use Rattle.td_plan.specs.Tree.{Nodes}
-use Rattle.td_plan.specs.Tree.Nodes.{done, node, block}
+use Rattle.td_plan.specs.declared.vertex.Loop.{Loop}
+use Rattle.td_plan.specs.declared.vertex.Edge.{Edge}
+use Rattle.td_plan.specs.Lines.{Vertex, Line}
+use Rattle.td_plan.specs.Blocks.{PlacedVertex, vertices, edges, bounds, reading_loops, read_loops_at}
+use Rattle.td_plan.specs.Tree.{tree_of}
 use Rattle.td_calls.specs.Answers.{Answers}
 use Rattle.td_calls.specs.Callbacks.{arrivals}
-use Rattle.td_batch.specs.Meaning.{EpochInput, epoch_result}
+use Rattle.td_batch.specs.Meaning.{EpochInput, states_after}
 use Rattle.td_batch.specs.Flow.{Flow, numbers_from}
 use Rattle.td_batch.specs.BagAt.{bag_at}
 use Rattle.td_machine.specs.State.{shard_of_key}
 use Rattle.td_machine.specs.History.{is_grouping}
-use Rattle.td_machine.specs.Flows.{read_bounds}
-
-abbrev pub sum_of : {X : Type 0} → (X → ℕ) → List X → ℕ
-sum_of f [] = 0
-sum_of f (x ∷ xs) = f x + sum_of f xs
 
 -- the turns of a block in loops of these bounds, the innermost first: all counters below them
 abbrev pub turns_of : List ℕ → List (List ℕ)
 turns_of [] = [] ∷ []
 turns_of (bound ∷ bounds) = flat_map (λ k. map (λ counters. k ∷ counters) (turns_of bounds)) (numbers_from 0 bound)
 
--- a vertex, in a turn of the block on which it reads (that on which its sources are read)
-abbrev pub Place : Type 0
-Place = Vertex × List ℕ
+-- the turns of the block on which a vertex is read, if it is
+abbrev pub turns_read : Option (List Loop) → List (List ℕ)
+turns_read None = []
+turns_read (Some loops) = turns_of (bounds loops)
 
-abbrev pub places : List ℕ → Nodes → List Place
-places bounds done = []
-places bounds (node v rest) = map (λ counters. (v, counters)) (turns_of (read_bounds v.kind bounds)) ++ places bounds rest
-places bounds (block bound body rest) = places (bound ∷ bounds) body ++ places bounds rest
+-- of an edge: the sizes of the bags on it in all turns of the block on which its source is read
+abbrev pub edge_records : Flow → List Line → Edge → ℕ
+edge_records flow plan e = sum_by (λ counters. length (flow e.source counters)) (turns_read (read_loops_at plan e.source))
 
--- what comes to it over all edges that lead to it
-abbrev pub comes_at : Flow → Place → List Arrival
-comes_at flow p = arrivals (map (λ s. flow s p.1) p.0.sources)
+-- what comes to a vertex in a turn of the block on which it reads, over all edges that lead to it
+abbrev pub comes_to : Flow → Vertex → List ℕ → List Arrival
+comes_to flow v counters = arrivals (map (λ s. flow s counters) v.sources)
 
--- whether one of them belongs to this shard
-abbrev pub arrives_in : ℕ → List Arrival → ℕ → Bool
-arrives_in workers arrived s = list_any (λ a. shard_of_key workers a.key == s) arrived
+-- the shards at which one of these arrives
+abbrev pub shards_of : ℕ → List Arrival → List ℕ
+shards_of workers arrived = filter (λ s. list_any (λ a. shard_of_key workers a.key == s) arrived) (numbers_from 0 workers)
 
--- at how many shards one arrives
-abbrev pub shards_in : ℕ → List Arrival → ℕ
-shards_in workers arrived = length (filter (arrives_in workers arrived) (numbers_from 0 workers))
+-- of a vertex: the shards at which records arrive, in all turns of the block on which it reads
+abbrev pub vertex_notes : ℕ → Flow → PlacedVertex → ℕ
+vertex_notes workers flow p = sum_by (λ counters. length (shards_of workers (comes_to flow p.vertex counters))) (turns_of (bounds (reading_loops p.vertex.kind p.loops)))
 
-abbrev pub notes_by : ℕ → List Arrival → Bool → ℕ
-notes_by workers arrived true = shards_in workers arrived
-notes_by workers arrived false = 0
+-- the groups and folds of a plan
+abbrev pub groupings : List Line → List PlacedVertex
+groupings plan = filter (λ p. is_grouping p.vertex.kind) (vertices plan)
 
-abbrev pub notes_at : ℕ → Flow → Place → ℕ
-notes_at workers flow p = notes_by workers (comes_at flow p) (is_grouping p.0.kind)
+-- of an epoch: the records on all edges, and the notifications of all groups and folds
+abbrev pub epoch_records : List Line → EpochInput → ℕ
+epoch_records plan epoch = sum_by (edge_records (bag_at epoch (tree_of plan)) plan) (edges plan)
 
--- of an epoch: the sizes of the bags on all edges in all turns, and the shards to which they come at groups and folds
-abbrev pub epoch_records : EpochInput → Nodes → ℕ
-epoch_records epoch nodes = sum_of (λ p. length (comes_at (bag_at epoch nodes) p)) (places [] nodes)
+abbrev pub epoch_notes : ℕ → List Line → EpochInput → ℕ
+epoch_notes workers plan epoch = sum_by (vertex_notes workers (bag_at epoch (tree_of plan))) (groupings plan)
 
-abbrev pub epoch_notes : ℕ → EpochInput → Nodes → ℕ
-epoch_notes workers epoch nodes = sum_of (notes_at workers (bag_at epoch nodes)) (places [] nodes)
+-- the epochs of a run: each batch, with the states that the run has before it
+abbrev pub epochs_of : Answers → List Line → StateList → List (List Entry) → List EpochInput
+epochs_of answers plan states batches =
+    map (λ m. record { answers = answers; states = states_after answers (tree_of plan) states batches m; batch = get_or batches m [] }) (numbers_from 0 (length batches))
 
--- along a run, each epoch from the states that the one before leaves
-abbrev pub along_run : (EpochInput → ℕ) → Answers → Nodes → StateList → List (List Entry) → ℕ
-along_run work answers nodes states [] = 0
-along_run work answers nodes states (batch ∷ later) =
-    let epoch : EpochInput = record { answers = answers; states = states; batch = batch } in
-    work epoch + along_run work answers nodes (epoch_result epoch nodes).states later
+-- DELIVERIES of a run: the records on all edges in all turns, and the notifications, one for each group or fold, time and
+-- shard at which records arrive
+abbrev pub Records : Answers → List Line → StateList → List (List Entry) → ℕ
+Records answers plan states batches = sum_by (epoch_records plan) (epochs_of answers plan states batches)
 
--- DELIVERIES of a run
-abbrev pub Records : Answers → Nodes → StateList → List (List Entry) → ℕ
-Records answers nodes states batches = along_run (λ epoch. epoch_records epoch nodes) answers nodes states batches
-
-abbrev pub Notes : ℕ → Answers → Nodes → StateList → List (List Entry) → ℕ
-Notes workers answers nodes states batches = along_run (λ epoch. epoch_notes workers epoch nodes) answers nodes states batches
+abbrev pub Notes : ℕ → Answers → List Line → StateList → List (List Entry) → ℕ
+Notes workers answers plan states batches = sum_by (epoch_notes workers plan) (epochs_of answers plan states batches)
