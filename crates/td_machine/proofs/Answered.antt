@@ -1,9 +1,9 @@
 -- A record that is answered: what was sent answers what came, in the history with it.
-use Rattle.std.proofs.Common.{◌≡◌, ℕ, List, [], ◌∷◌, ◌++◌, map, filter, refl, ap, sym, ◌∙◌, subst, Bool, true, false, not, ◌||◌}
+use Rattle.std.proofs.Common.{◌≡◌, ℕ, ◌<◌, List, [], ◌∷◌, ◌++◌, map, filter, refl, ap, sym, ◌∙◌, subst, Bool, true, false, not, ◌||◌}
 use Rattle.std.specs.List.{AllByRecursion}
 use Rattle.td_stamp.specs.declared.values.Rec.{Rec}
 use Rattle.td_stamp.specs.Orders.{rec_cmp}
-use Rattle.td_stamp.specs.OrderLaws.{rec_total, rec_apart}
+use Rattle.td_stamp.specs.ProvedOrders.{rec_total, rec_apart}
 use Rattle.td_stamp.specs.Time.{Timestamp}
 use Rattle.td_stamp.specs.Bag.{bag_insert, join, bag_of, has}
 use Rattle.td_stamp.specs.Groups.{rec_of, groups}
@@ -14,12 +14,14 @@ use Rattle.td_plan.specs.Lines.{Line}
 use Rattle.td_calls.specs.Answers.{Answers}
 use Rattle.td_calls.specs.Callbacks.{Added}
 use Rattle.td_batch.specs.Meaning.{answer}
-use Rattle.td_machine.specs.State.{HallState, Coming, Stamped, coming_cmp, asked_cmp, is_there, arrival, asked_of, local_at}
+use Rattle.td_machine.specs.declared.records.Message.{Message}
+use Rattle.td_machine.specs.declared.records.Stamped.{Stamped}
+use Rattle.td_machine.specs.State.{HallState, message_cmp, notification_cmp, is_there, arrival, asked_of, local_at}
 use Rattle.td_machine.specs.Active.{kind_of}
 use Rattle.td_machine.specs.Steps.{posts, stamped, called, delivered}
 use Rattle.td_machine.specs.History.{Origin, History, IsTold, AreAnswered, IsTime, is_grouping, is_distinct, stamped_of, has_answer, also_delivered, epoch_from, sent_at, came_at, left_by}
 use Rattle.td_machine.specs.PlanFacts.{PlanFacts}
-use Rattle.td_machine.proofs.Orders.{coming_total, coming_apart, there_is}
+use Rattle.td_machine.proofs.Orders.{message_total, message_apart, there_is}
 use Rattle.td_machine.proofs.Lists.{filter_yes, filter_no, all_app, all_map, all_everywhere, all_join, from_insert}
 use Rattle.td_machine.proofs.Callings.{groups_send_later, answer_step}
 use Rattle.td_machine.proofs.Told.{seen_there, distinct_is, removed}
@@ -32,27 +34,27 @@ not_grouping : (kind : Kind) → is_distinct kind ≡ true → is_grouping kind 
 not_grouping kind e = ap is_grouping (distinct_is kind e)
 
 -- what came to a distinct at a time is all that came to it
-module _ (plan : List Line) (ready : Coming → Bool) (always : (c : Coming) → is_grouping (kind_of plan c.vertex) ≡ false → ready c ≡ true) (v : ℕ) (t : Timestamp) (k : kind_of plan v ≡ Distinct) where
-  abbrev once : Coming → Bool
+module _ (plan : List Line) (ready : Message → Bool) (always : (c : Message) → is_grouping (kind_of plan c.vertex) ≡ false → ready c ≡ true) (v : ℕ) (t : Timestamp) (k : kind_of plan v ≡ Distinct) where
+  abbrev once : Message → Bool
   once = λ c. is_distinct (kind_of plan c.vertex)
 
-  abbrev Left : List Coming → List Rec
+  abbrev Left : List Message → List Rec
   Left cs = map (λ (x : Stamped). x.rec) (filter (λ x. is_there v t x.vertex x.time) (map stamped_of cs))
 
-  abbrev Right : List Coming → List Rec
+  abbrev Right : List Message → List Rec
   Right cs = map rec_of (came_at cs v t)
 
-  came_distinct : (cs : List Coming) → Left (filter once cs) ≡ Right (filter ready cs)
+  came_distinct : (cs : List Message) → Left (filter once cs) ≡ Right (filter ready cs)
   came_distinct [] = refl
   came_distinct (c ∷ cs) = by (is_there v t c.vertex c.time) refl (is_distinct (kind_of plan c.vertex)) refl (ready c) refl (came_distinct cs)
     where
-      left_yes : is_there v t c.vertex c.time ≡ true → (cs : List Coming) → Left (c ∷ cs) ≡ c.rec ∷ Left cs
+      left_yes : is_there v t c.vertex c.time ≡ true → (cs : List Message) → Left (c ∷ cs) ≡ c.rec ∷ Left cs
       left_yes e cs = ap (map (λ (x : Stamped). x.rec)) (filter_yes (λ x. is_there v t x.vertex x.time) (stamped_of c) (map stamped_of cs) e)
 
-      left_no : is_there v t c.vertex c.time ≡ false → (cs : List Coming) → Left (c ∷ cs) ≡ Left cs
+      left_no : is_there v t c.vertex c.time ≡ false → (cs : List Message) → Left (c ∷ cs) ≡ Left cs
       left_no e cs = ap (map (λ (x : Stamped). x.rec)) (filter_no (λ x. is_there v t x.vertex x.time) (stamped_of c) (map stamped_of cs) e)
 
-      right_no : is_there v t c.vertex c.time ≡ false → (cs : List Coming) → Right (c ∷ cs) ≡ Right cs
+      right_no : is_there v t c.vertex c.time ≡ false → (cs : List Message) → Right (c ∷ cs) ≡ Right cs
       right_no e cs = ap (map rec_of) (came_elsewhere v t c cs e)
 
       mine : is_there v t c.vertex c.time ≡ true → kind_of plan c.vertex ≡ Distinct
@@ -69,40 +71,40 @@ module _ (plan : List Line) (ready : Coming → Bool) (always : (c : Coming) →
       by false e false f true g rest = ap Left (filter_no once c cs f) ∙ rest ∙ sym (right_no e (filter ready cs)) ∙ ap Right (sym (filter_yes ready c cs g))
       by false e false f false g rest = ap Left (filter_no once c cs f) ∙ rest ∙ ap Right (sym (filter_no ready c cs g))
 
-module _ (answers : Answers) (origin : Origin) (S : HallState) (H : History) (facts : PlanFacts S.plan) (c : Coming) (rest : List Coming)
-    (here : S.messages ≡ bag_insert coming_cmp c rest) (told : IsTold origin S H) (known : AreAnswered answers origin S H)
-    (waits : is_grouping (kind_of S.plan c.vertex) ≡ true → has asked_cmp (asked_of S.workers c) H.notified ≡ false) where
+module _ (answers : Answers) (origin : Origin) (S : HallState) (H : History) (facts : PlanFacts S.plan) (c : Message) (rest : List Message)
+    (here : S.messages ≡ bag_insert message_cmp c rest) (told : IsTold origin S H) (known : AreAnswered answers origin S H)
+    (waits : is_grouping (kind_of S.plan c.vertex) ≡ true → has notification_cmp (asked_of S.workers c) H.notified ≡ false) (after_base : S.base < c.time.epoch) where
   abbrev kind : Kind
   kind = kind_of S.plan c.vertex
 
   abbrev added : Added
   added = called answers S kind c
 
-  abbrev ready : Coming → Bool
+  abbrev ready : Message → Bool
   ready = has_answer S.plan S.workers H.notified
 
   abbrev new : List Stamped
   new = stamped c.vertex c.time added.sent
 
-  abbrev Placed : Coming → Type 0
+  abbrev Placed : Message → Type 0
   Placed c = IsTime origin S.next S.plan c.vertex c.time
 
   abbrev Sent : Stamped → Type 0
   Sent x = IsTime origin S.next S.plan x.vertex x.time
 
   placed : Placed c × AllByRecursion Placed rest
-  placed = from_insert coming_cmp coming_total coming_apart Placed c rest (subst (AllByRecursion Placed) here known.message_times)
+  placed = from_insert message_cmp message_total message_apart Placed c rest (subst (AllByRecursion Placed) here known.message_times)
 
   new_times : AllByRecursion Sent new
   new_times = all_map Sent (λ r. record { vertex = c.vertex; time = c.time; rec = r }) added.sent (all_everywhere (λ r. Placed c) (λ r. placed.0) added.sent)
 
   message_times : AllByRecursion Placed (delivered answers S kind c).messages
   message_times =
-      all_join coming_cmp coming_total coming_apart Placed (posts S.plan new) _ (posts_times S.plan facts origin S.next new new_times)
+      all_join message_cmp message_total message_apart Placed (posts S.plan new) _ (posts_times S.plan facts origin S.next new new_times)
       (subst (AllByRecursion Placed) (sym (removed c S.messages rest here)) placed.1)
 
   answered : is_grouping kind ≡ false → ready c ≡ true
-  answered e = λ i. not (e i) || has asked_cmp (asked_of S.workers c) H.notified
+  answered e = λ i. not (e i) || has notification_cmp (asked_of S.workers c) H.notified
 
   unanswered : is_grouping kind ≡ true → ready c ≡ false
   unanswered e = λ i. not (e i) || waits e i
@@ -118,7 +120,7 @@ module _ (answers : Answers) (origin : Origin) (S : HallState) (H : History) (fa
   came_more : is_grouping kind ≡ false → (v : ℕ) (t : Timestamp) → is_there v t c.vertex c.time ≡ true → came_at (filter ready (c ∷ H.arrived)) v t ≡ arrival c ∷ came_at (filter ready H.arrived) v t
   came_more e v t here = ap (λ l. came_at l v t) (filter_yes ready c H.arrived (answered e)) ∙ came_here v t c (filter ready H.arrived) here
 
-  abbrev answer_at : ℕ → Timestamp → List Coming → List Rec
+  abbrev answer_at : ℕ → Timestamp → List Message → List Rec
   answer_at v t cs = answer (epoch_from answers origin H.left t.epoch) v (kind_of S.plan v) (came_at (filter ready cs) v t)
 
   sent_new : (v : ℕ) (t : Timestamp) → bag_of rec_cmp (sent_at (new ++ H.sent) v t) ≡ join rec_cmp (sent_at new v t) (bag_of rec_cmp (sent_at H.sent v t))
@@ -127,8 +129,8 @@ module _ (answers : Answers) (origin : Origin) (S : HallState) (H : History) (fa
   -- what a distinct has seen there is what came there
   has_seen : kind ≡ Distinct → has rec_cmp c.rec (local_at S c.vertex c.time).seen ≡ has rec_cmp c.rec (map rec_of (came_at (filter ready H.arrived) c.vertex c.time))
   has_seen k =
-      seen_there c.vertex c.time c.rec S.seen ∙ told.seen (stamped_of c) ∙ sym (seen_there c.vertex c.time c.rec (map stamped_of (filter (λ c. is_distinct (kind_of S.plan c.vertex)) H.arrived)))
-      ∙ ap (has rec_cmp c.rec) (came_distinct S.plan ready (λ c e. λ i. not (e i) || has asked_cmp (asked_of S.workers c) H.notified) c.vertex c.time k H.arrived)
+      seen_there c.vertex c.time c.rec S.seen ∙ told.seen (stamped_of c) after_base ∙ sym (seen_there c.vertex c.time c.rec (map stamped_of (filter (λ c. is_distinct (kind_of S.plan c.vertex)) H.arrived)))
+      ∙ ap (has rec_cmp c.rec) (came_distinct S.plan ready (λ c e. λ i. not (e i) || has notification_cmp (asked_of S.workers c) H.notified) c.vertex c.time k H.arrived)
 
   sent_here_by : (b : Bool) → is_grouping kind ≡ b → IsTime origin S.next S.plan c.vertex c.time → (here : is_there c.vertex c.time c.vertex c.time ≡ true) → bag_of rec_cmp (sent_at (new ++ H.sent) c.vertex c.time) ≡ answer_at c.vertex c.time (c ∷ H.arrived)
   sent_here_by true e p h =

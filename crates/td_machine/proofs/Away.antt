@@ -12,7 +12,9 @@ use Rattle.td_plan.specs.Lines.{Line}
 use Rattle.td_plan.specs.Blocks.{PlacedVertex, vertices, edges, edge_at, kind_at, bounds, reading_loops_at}
 use Rattle.td_plan.specs.Faults.{IsPlan}
 use Rattle.td_batch.specs.Flow.{AreBelow}
-use Rattle.td_reach.specs.Paths.{Could, IsOf, IsPath, adjust, over, sent_at, sent_by}
+use Rattle.td_plan.specs.Times.{sent_at, sent_by}
+use Rattle.td_reach.specs.Paths.{Could, IsOf, IsPath, adjust, over}
+use Rattle.td_stamp.proofs.TimeLaws.{AreNotLater-trans, AreNotLater-antisymmetric, counters_cmp-ranks, time_le-IsAtMost, IsAtMost-time_le, IsAtMost-trans, IsAtMost-antisymmetric}
 use Rattle.td_reach.proofs.Orders.{never_back}
 use Rattle.td_machine.specs.Active.{kind_of, kind_or, stamp_at}
 use Rattle.td_machine.specs.History.{is_grouping}
@@ -62,4 +64,4 @@ module _ (plan : List Line) where
         ends = k.ends;
         in_time = subst (λ u. IsAtMost (adjust plan k.path u) t) (sym same) k.in_time;
       } in
-      let none : edge_at plan e.reader e.port ∷ k.path ≡ [] = never_back plan lawful (stamp_at e.source t) here round in absurd (cc)
+      let none : edge_at plan e.reader e.port ∷ k.path ≡ [] = never_back (record { transitive = AreNotLater-trans; antisymmetric = AreNotLater-antisymmetric; compared = counters_cmp-ranks; tested = λ t u e. (time_le-IsAtMost t u e, IsAtMost-time_le t u e); times_transitive = IsAtMost-trans; times_antisymmetric = IsAtMost-antisymmetric }) plan lawful (stamp_at e.source t) here round in absurd (cc)

@@ -3,7 +3,7 @@ use Rattle.std.proofs.Common.{◌≡◌, ℕ, List, [], ◌∷◌, map, filter, 
 use Rattle.td_stamp.specs.declared.values.Rec.{Rec}
 use Rattle.td_stamp.specs.declared.values.Arrival.{Arrival}
 use Rattle.td_stamp.specs.Orders.{rec_cmp}
-use Rattle.td_stamp.specs.OrderLaws.{rec_total, rec_apart}
+use Rattle.td_stamp.specs.ProvedOrders.{rec_total, rec_apart}
 use Rattle.td_stamp.specs.Bag.{set_of, join, has}
 use Rattle.td_stamp.specs.Groups.{rec_of}
 use Rattle.td_stamp.proofs.Bags.{bag_of-append, set_has-set_of}

@@ -14,7 +14,8 @@ use Rattle.td_batch.specs.Flow.{numbers_from}
 use Rattle.td_batch.proofs.Runs.{outs-append}
 use Rattle.std.specs.Prelude.{Option, Some, None, unwrap_or, ◌==◌}
 use Rattle.td_plan.specs.declared.vertex.Kind.{Kind}
-use Rattle.td_machine.specs.State.{HallState, Coming, Task, Content, states_at}
+use Rattle.td_machine.specs.declared.records.Message.{Message}
+use Rattle.td_machine.specs.State.{HallState, Task, Content, states_at}
 use Rattle.td_machine.specs.State.Content.{messages, notification}
 use Rattle.td_machine.specs.Active.{has_passed, unpassed}
 use Rattle.td_machine.specs.Steps.{Event, Answer, Step, Plays, Takes, Gives, to_collect, outputs_at, release_by, with_batch, with_task, all_delivered, delivered, effect, coming, is_given, cut_by, cut_at_by, cut_to, collect_step, ends}
@@ -123,7 +124,7 @@ module _ (answers : Answers) (plan : List Line) (states : StateList) (first : �
     takes_say s _ _ (is_spent e task may l) = silent all S (refused spent) S refl refl tt
     takes_say s _ _ (takes e task may l) = silent all S (has_taken (Some task)) (with_task S task) refl refl tt
 
-    each_collected : (kind : Kind) (cs : List Coming) (X : HallState) → (all_delivered answers kind X cs).collected ≡ X.collected
+    each_collected : (kind : Kind) (cs : List Message) (X : HallState) → (all_delivered answers kind X cs).collected ≡ X.collected
     each_collected kind [] X = refl
     each_collected kind (c ∷ cs) X = each_collected kind cs (delivered answers X kind c)
 
@@ -189,11 +190,12 @@ module _ (answers : Answers) (plan : List Line) (states : StateList) (first : �
       let a : ℕ = p.0.collected - S.collected in
       let b : ℕ = after.collected - p.0.collected in
       let total : a + b ≡ after.collected - S.collected = omega (arith, says.rises, rest.0) in
-      let start : S.collected + 1 + a ≡ p.0.collected + 1 = omega (arith, says.rises) in
-      (omega (arith, says.rises, rest.0),
-          (λ i. says.outs i ++ (rest.1 ∙ ap (λ l. map (out_at l) (numbers_from (p.0.collected + 1) b)) assoc ∙ ap (λ n. map (out_at (batches ++ more)) (numbers_from n b)) (sym start)) i)
-          ∙ sym (map-append (out_at (batches ++ more)) (numbers_from (S.collected + 1) a) (numbers_from (S.collected + 1 + a) b)) ∙ ap (map (out_at (batches ++ more))) (sym (numbers_more (S.collected + 1) a b) ∙ ap (numbers_from (S.collected + 1)) total),
-          (says.cut_is, subst (λ l. CutsAre answers plan states first l replies) assoc rest.2))
+      let start : S.collected + 1 + a ≡ p.0.collected + 1 = omega (arith, says.rises) in (
+        omega (arith, says.rises, rest.0),
+        (λ i. says.outs i ++ (rest.1 ∙ ap (λ l. map (out_at l) (numbers_from (p.0.collected + 1) b)) assoc ∙ ap (λ n. map (out_at (batches ++ more)) (numbers_from n b)) (sym start)) i)
+            ∙ sym (map-append (out_at (batches ++ more)) (numbers_from (S.collected + 1) a) (numbers_from (S.collected + 1 + a) b)) ∙ ap (map (out_at (batches ++ more))) (sym (numbers_more (S.collected + 1) a b) ∙ ap (numbers_from (S.collected + 1)) total),
+        (says.cut_is, subst (λ l. CutsAre answers plan states first l replies) assoc rest.2),
+      )
 
 range_alike : {X : Type 0} (f g : ℕ → X) (k m : ℕ) → ((e : ℕ) → k ≤ e → f e ≡ g e) → map f (numbers_from k m) ≡ map g (numbers_from k m)
 range_alike f g k zero h = refl

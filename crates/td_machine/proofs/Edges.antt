@@ -50,17 +50,21 @@ at_readers k (p ∷ ps) o =
     own : (e : Edge) → AtPort p.vertex.number 0 (edges_to p) e → AtReader k (p ∷ ps) e
     own e h =
         let here : h.0 ≡ e.port = let r = h.2 in omega (arith, r) in
-        let place : 0 + e.port ≡ e.port = omega arith in
-        (0, h.1 ∙ (let n = o.0 in omega (arith, n)),
-          ap (slice_get (edges_to p ++ flat_map edges_to ps)) place ∙ get_left (edges_to p) (flat_map edges_to ps) e.port e (subst (λ d. slice_get (edges_to p) d ≡ Some e) here h.3))
+        let place : 0 + e.port ≡ e.port = omega arith in (
+          0,
+          h.1 ∙ (let n = o.0 in omega (arith, n)),
+          ap (slice_get (edges_to p ++ flat_map edges_to ps)) place ∙ get_left (edges_to p) (flat_map edges_to ps) e.port e (subst (λ d. slice_get (edges_to p) d ≡ Some e) here h.3),
+        )
 
     later : (e : Edge) → AtReader (k + 1) ps e → AtReader k (p ∷ ps) e
     later e h =
         let long : length (edges_to p) ≡ length p.vertex.sources = length-edges_from p.vertex.number 0 p.vertex.sources in
         let counted : edge_count (p ∷ take h.0 ps) ≡ length p.vertex.sources + edge_count (take h.0 ps) = sum_by-cons (λ (q : PlacedVertex). length q.vertex.sources) p (take h.0 ps) in
-        let place : edge_count (p ∷ take h.0 ps) + e.port ≡ length (edges_to p) + (edge_count (take h.0 ps) + e.port) = omega (arith, long, counted) in
-        (suc h.0, (let r = h.1 in omega (arith, r)),
-          ap (slice_get (edges_to p ++ flat_map edges_to ps)) place ∙ get_right (edges_to p) (flat_map edges_to ps) (edge_count (take h.0 ps) + e.port) ∙ h.2)
+        let place : edge_count (p ∷ take h.0 ps) + e.port ≡ length (edges_to p) + (edge_count (take h.0 ps) + e.port) = omega (arith, long, counted) in (
+          suc h.0,
+          (let r = h.1 in omega (arith, r)),
+          ap (slice_get (edges_to p ++ flat_map edges_to ps)) place ∙ get_right (edges_to p) (flat_map edges_to ps) (edge_count (take h.0 ps) + e.port) ∙ h.2,
+        )
 
 -- those that lead to one vertex
 pub leading_to : (k d : ℕ) (ps : List PlacedVertex) (p : PlacedVertex) → InOrder k ps → slice_get ps d ≡ Some p → filter (λ e. e.reader == k + d) (flat_map edges_to ps) ≡ edges_to p
@@ -71,7 +75,7 @@ leading_to k zero (x ∷ ps) p o at =
     let same : x ≡ p = cc in
     filter_app (λ e. e.reader == k + 0) (edges_to x) (flat_map edges_to ps)
     ∙ (λ i. filter_all (λ e. e.reader == k + 0) (edges_to x) (all_weaken (AtPort x.vertex.number 0 (edges_to x)) (λ e. (e.reader == k + 0) ≡ true) here (edges_to x) (at_ports x.vertex.number 0 x.vertex.sources)) i
-        ++ filter_none (λ e. e.reader == k + 0) (flat_map edges_to ps) (all_weaken (AtReader (k + 1) ps) (λ e. (e.reader == k + 0) ≡ false) past (flat_map edges_to ps) (at_readers (k + 1) ps o.2)) i)
+    ++ filter_none (λ e. e.reader == k + 0) (flat_map edges_to ps) (all_weaken (AtReader (k + 1) ps) (λ e. (e.reader == k + 0) ≡ false) past (flat_map edges_to ps) (at_readers (k + 1) ps o.2)) i)
     ∙ append_nil (edges_to x) ∙ ap edges_to same
   where
     append_nil : (es : List Edge) → es ++ [] ≡ es
@@ -82,7 +86,7 @@ leading_to k (suc d) (x ∷ ps) p o at =
     let next : k + suc d ≡ k + 1 + d = omega arith in
     filter_app (λ e. e.reader == k + suc d) (edges_to x) (flat_map edges_to ps)
     ∙ ap (λ l. l ++ filter (λ (e : Edge). e.reader == k + suc d) (flat_map edges_to ps))
-        (filter_none (λ e. e.reader == k + suc d) (edges_to x) (all_weaken (AtPort x.vertex.number 0 (edges_to x)) (λ e. (e.reader == k + suc d) ≡ false) before (edges_to x) (at_ports x.vertex.number 0 x.vertex.sources)))
+    (filter_none (λ e. e.reader == k + suc d) (edges_to x) (all_weaken (AtPort x.vertex.number 0 (edges_to x)) (λ e. (e.reader == k + suc d) ≡ false) before (edges_to x) (at_ports x.vertex.number 0 x.vertex.sources)))
     ∙ ap (λ n. filter (λ (e : Edge). e.reader == n) (flat_map edges_to ps)) next ∙ leading_to (k + 1) d ps p o.2 at
 
 -- the number of each is its place

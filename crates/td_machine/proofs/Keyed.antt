@@ -11,10 +11,12 @@ use Rattle.td_stamp.specs.Time.{Timestamp}
 use Rattle.td_stamp.specs.Bag.{join, bag_of, has}
 use Rattle.td_stamp.specs.Groups.{groups}
 use Rattle.td_plan.specs.Lines.{Line}
-use Rattle.td_machine.specs.State.{Coming, Asked, coming_cmp, asked_cmp, is_there, arrival, asked_of, shard_of_key}
+use Rattle.td_machine.specs.declared.records.Message.{Message}
+use Rattle.td_machine.specs.declared.records.Notification.{Notification}
+use Rattle.td_machine.specs.State.{message_cmp, notification_cmp, is_there, arrival, asked_of, shard_of_key}
 use Rattle.td_machine.specs.Active.{kind_of}
 use Rattle.td_machine.specs.History.{is_grouping, has_answer, came_at}
-use Rattle.td_machine.proofs.Orders.{coming_total, coming_apart, asked_total, asked_apart, there_is, there_itself, tied}
+use Rattle.td_machine.proofs.Orders.{message_total, message_apart, notification_total, notification_apart, there_is, there_itself, tied}
 use Rattle.td_machine.proofs.Lists.{filter_filter, filter_alike, filter_map, filter-bag_of, all_everywhere}
 use Rattle.td_machine.proofs.Splits.{groups_split, groups_of_came}
 
@@ -23,8 +25,8 @@ reverse_eq Less = refl
 reverse_eq Equal = refl
 reverse_eq Greater = refl
 
-pub eq_swap : (x y : Asked) → is_eq (asked_cmp x y) ≡ is_eq (asked_cmp y x)
-eq_swap x y = ap is_eq (asked_total.antisymm x y) ∙ reverse_eq (asked_cmp y x)
+pub eq_swap : (x y : Notification) → is_eq (notification_cmp x y) ≡ is_eq (notification_cmp y x)
+eq_swap x y = ap is_eq (notification_total.antisymm x y) ∙ reverse_eq (notification_cmp y x)
 
 and_no : (b : Bool) → (b && false) ≡ false
 and_no true = refl
@@ -35,20 +37,20 @@ and_yes true = refl
 and_yes false = refl
 
 -- lists at a vertex and time are alike where their tests are alike there
-pub came_alike : (v : ℕ) (t : Timestamp) (p q : Coming → Bool) → ((c : Coming) → is_there v t c.vertex c.time ≡ true → p c ≡ q c) → (cs : List Coming) → came_at (filter p cs) v t ≡ came_at (filter q cs) v t
+pub came_alike : (v : ℕ) (t : Timestamp) (p q : Message → Bool) → ((c : Message) → is_there v t c.vertex c.time ≡ true → p c ≡ q c) → (cs : List Message) → came_at (filter p cs) v t ≡ came_at (filter q cs) v t
 came_alike v t p q same cs =
-    let there : Coming → Bool = λ c. is_there v t c.vertex c.time in
+    let there : Message → Bool = λ c. is_there v t c.vertex c.time in
     ap (map arrival) (filter_filter there p cs ∙ filter_alike (λ c. p c && there c) (λ c. q c && there c) cs (all_everywhere (λ c. (p c && there c) ≡ (q c && there c)) (λ c. by c (there c) refl) cs) ∙ sym (filter_filter there q cs))
   where
-    by : (c : Coming) (b : Bool) → is_there v t c.vertex c.time ≡ b → (p c && is_there v t c.vertex c.time) ≡ (q c && is_there v t c.vertex c.time)
+    by : (c : Message) (b : Bool) → is_there v t c.vertex c.time ≡ b → (p c && is_there v t c.vertex c.time) ≡ (q c && is_there v t c.vertex c.time)
     by c true e = λ i. same c e i && is_there v t c.vertex c.time
     by c false e = ap (λ b. p c && b) e ∙ and_no (p c) ∙ sym (ap (λ b. q c && b) e ∙ and_no (q c))
 
 -- by keys
-pub came_keyed : (v : ℕ) (t : Timestamp) (p : Coming → Bool) (q : ℕ → Bool) → ((c : Coming) → is_there v t c.vertex c.time ≡ true → p c ≡ q c.rec.key) → (cs : List Coming)
+pub came_keyed : (v : ℕ) (t : Timestamp) (p : Message → Bool) (q : ℕ → Bool) → ((c : Message) → is_there v t c.vertex c.time ≡ true → p c ≡ q c.rec.key) → (cs : List Message)
     → came_at (filter p cs) v t ≡ filter (λ b. q b.key) (came_at cs v t)
 came_keyed v t p q same cs =
-    let there : Coming → Bool = λ c. is_there v t c.vertex c.time in
+    let there : Message → Bool = λ c. is_there v t c.vertex c.time in
     came_alike v t p (λ c. q c.rec.key) same cs
     ∙ ap (map arrival) (filter_filter there (λ c. q c.rec.key) cs ∙ filter_alike (λ c. q c.rec.key && there c) (λ c. there c && q c.rec.key) cs (all_everywhere (λ c. (q c.rec.key && there c) ≡ (there c && q c.rec.key)) (λ c. swap (q c.rec.key) (there c)) cs)
     ∙ sym (filter_filter (λ c. q c.rec.key) there cs)) ∙ sym (filter_map (λ (b : Arrival). q b.key) arrival (filter there cs))
@@ -57,54 +59,54 @@ came_keyed v t p q same cs =
     swap true b = sym (and_yes b)
     swap false b = sym (and_no b)
 
-module _ (plan : List Line) (workers : ℕ) (notified : List Asked) (s v : ℕ) (t : Timestamp) (groups_here : is_grouping (kind_of plan v) ≡ true) (new : has asked_cmp (record { shard = s; vertex = v; time = t }) notified ≡ false) where
-  abbrev pub it : Asked
+module _ (plan : List Line) (workers : ℕ) (notified : List Notification) (s v : ℕ) (t : Timestamp) (groups_here : is_grouping (kind_of plan v) ≡ true) (new : has notification_cmp (record { shard = s; vertex = v; time = t }) notified ≡ false) where
+  abbrev pub it : Notification
   it = record { shard = s; vertex = v; time = t }
 
   -- what is asked for a key
-  abbrev pub for_key : ℕ → Asked
+  abbrev pub for_key : ℕ → Notification
   for_key k = record { shard = shard_of_key workers k; vertex = v; time = t }
 
   abbrev was : ℕ → Bool
-  was k = has asked_cmp (for_key k) notified
+  was k = has notification_cmp (for_key k) notified
 
   abbrev pub is_now : ℕ → Bool
-  is_now k = is_eq (asked_cmp (for_key k) it)
+  is_now k = is_eq (notification_cmp (for_key k) it)
 
-  abbrev ready : Coming → Bool
+  abbrev ready : Message → Bool
   ready = has_answer plan workers notified
 
-  abbrev ready_now : Coming → Bool
+  abbrev ready_now : Message → Bool
   ready_now = has_answer plan workers (it ∷ notified)
 
   now_was : (k : ℕ) → is_now k ≡ true → was k ≡ false
-  now_was k e = ap (λ a. has asked_cmp a notified) (asked_apart (for_key k) it (tied (asked_cmp (for_key k) it) e)) ∙ new
+  now_was k e = ap (λ a. has notification_cmp a notified) (notification_apart (for_key k) it (tied (notification_cmp (for_key k) it) e)) ∙ new
 
-  ready_key : (c : Coming) → is_there v t c.vertex c.time ≡ true → ready c ≡ was c.rec.key
+  ready_key : (c : Message) → is_there v t c.vertex c.time ≡ true → ready c ≡ was c.rec.key
   ready_key c e =
       let w = there_is v c.vertex t c.time e in
-      (λ i. not (is_grouping (kind_of plan (w.0 i))) || has asked_cmp (record { shard = shard_of_key workers c.rec.key; vertex = w.0 i; time = w.1 i }) notified) ∙ ap (λ b. not b || was c.rec.key) groups_here
+      (λ i. not (is_grouping (kind_of plan (w.0 i))) || has notification_cmp (record { shard = shard_of_key workers c.rec.key; vertex = w.0 i; time = w.1 i }) notified) ∙ ap (λ b. not b || was c.rec.key) groups_here
 
-  ready_now_key : (c : Coming) → is_there v t c.vertex c.time ≡ true → ready_now c ≡ (is_now c.rec.key || was c.rec.key)
+  ready_now_key : (c : Message) → is_there v t c.vertex c.time ≡ true → ready_now c ≡ (is_now c.rec.key || was c.rec.key)
   ready_now_key c e =
       let w = there_is v c.vertex t c.time e in
-      (λ i. not (is_grouping (kind_of plan (w.0 i))) || has asked_cmp (record { shard = shard_of_key workers c.rec.key; vertex = w.0 i; time = w.1 i }) (it ∷ notified)) ∙ ap (λ b. not b || has asked_cmp (for_key c.rec.key) (it ∷ notified)) groups_here
+      (λ i. not (is_grouping (kind_of plan (w.0 i))) || has notification_cmp (record { shard = shard_of_key workers c.rec.key; vertex = w.0 i; time = w.1 i }) (it ∷ notified)) ∙ ap (λ b. not b || has notification_cmp (for_key c.rec.key) (it ∷ notified)) groups_here
 
   -- elsewhere it is as it was
-  pub came_other : (w : ℕ) (u : Timestamp) → is_there w u v t ≡ false → (cs : List Coming) → came_at (filter ready_now cs) w u ≡ came_at (filter ready cs) w u
+  pub came_other : (w : ℕ) (u : Timestamp) → is_there w u v t ≡ false → (cs : List Message) → came_at (filter ready_now cs) w u ≡ came_at (filter ready cs) w u
   came_other w u n cs = came_alike w u ready_now ready same cs
     where
-      by : (c : Coming) → is_there w u c.vertex c.time ≡ true → (o : Ordering) → asked_cmp (asked_of workers c) it ≡ o → is_eq (asked_cmp (asked_of workers c) it) ≡ false
+      by : (c : Message) → is_there w u c.vertex c.time ≡ true → (o : Ordering) → notification_cmp (asked_of workers c) it ≡ o → is_eq (notification_cmp (asked_of workers c) it) ≡ false
       by c e Less f = ap is_eq f
       by c e Greater f = ap is_eq f
       by c e Equal f =
-          let p = asked_apart (asked_of workers c) it f in
+          let p = notification_apart (asked_of workers c) it f in
           let no : true ≡ false = sym e ∙ (λ i. is_there w u (p i).vertex (p i).time) ∙ n in cc
 
-      same : (c : Coming) → is_there w u c.vertex c.time ≡ true → ready_now c ≡ ready c
-      same c e = ap (λ b. not (is_grouping (kind_of plan c.vertex)) || (b || has asked_cmp (asked_of workers c) notified)) (by c e (asked_cmp (asked_of workers c) it) refl)
+      same : (c : Message) → is_there w u c.vertex c.time ≡ true → ready_now c ≡ ready c
+      same c e = ap (λ b. not (is_grouping (kind_of plan c.vertex)) || (b || has notification_cmp (asked_of workers c) notified)) (by c e (notification_cmp (asked_of workers c) it) refl)
 
-  module _ (cs : List Coming) where
+  module _ (cs : List Message) where
     abbrev pub all : List Arrival
     all = came_at cs v t
 
@@ -149,28 +151,28 @@ module _ (plan : List Line) (workers : ℕ) (notified : List Asked) (s v : ℕ) 
             ∙ sym was_all
 
     -- the items of the notification
-    pub waiting_groups : groups (map arrival (filter (λ c. is_eq (asked_cmp it (asked_of workers c))) (bag_of coming_cmp (filter (λ c. not (ready c)) cs)))) ≡ groups mine
+    pub waiting_groups : groups (map arrival (filter (λ c. is_eq (notification_cmp it (asked_of workers c))) (bag_of message_cmp (filter (λ c. not (ready c)) cs)))) ≡ groups mine
     waiting_groups =
-        let is_for : Coming → Bool = λ c. is_eq (asked_cmp it (asked_of workers c)) in
-        let no : Coming → Bool = λ c. not (ready c) in
-        ap (λ l. groups (map arrival l)) (filter-bag_of coming_cmp coming_total coming_apart is_for (filter no cs)) ∙ groups_of_came (filter is_for (filter no cs))
+        let is_for : Message → Bool = λ c. is_eq (notification_cmp it (asked_of workers c)) in
+        let no : Message → Bool = λ c. not (ready c) in
+        ap (λ l. groups (map arrival l)) (filter-bag_of message_cmp message_total message_apart is_for (filter no cs)) ∙ groups_of_came (filter is_for (filter no cs))
         ∙ ap (λ l. groups (map arrival l)) (filter_filter is_for no cs ∙ filter_alike (λ c. no c && is_for c) (λ c. is_there v t c.vertex c.time && is_now c.rec.key) cs (all_everywhere (λ c. (no c && is_for c) ≡ (is_there v t c.vertex c.time && is_now c.rec.key)) (λ c. each c (is_there v t c.vertex c.time) refl) cs)
         ∙ sym (filter_filter (λ c. is_now c.rec.key) (λ c. is_there v t c.vertex c.time) cs)) ∙ ap groups (sym (filter_map (λ (b : Arrival). is_now b.key) arrival (filter (λ c. is_there v t c.vertex c.time) cs)))
       where
-        elsewhere : (c : Coming) → is_there v t c.vertex c.time ≡ false → (o : Ordering) → asked_cmp it (asked_of workers c) ≡ o → is_eq (asked_cmp it (asked_of workers c)) ≡ false
+        elsewhere : (c : Message) → is_there v t c.vertex c.time ≡ false → (o : Ordering) → notification_cmp it (asked_of workers c) ≡ o → is_eq (notification_cmp it (asked_of workers c)) ≡ false
         elsewhere c e Less f = ap is_eq f
         elsewhere c e Greater f = ap is_eq f
-        elsewhere c e Equal f = let p = asked_apart it (asked_of workers c) f in let no : true ≡ false = sym (there_itself v t) ∙ (λ i. is_there v t (p i).vertex (p i).time) ∙ e in cc
+        elsewhere c e Equal f = let p = notification_apart it (asked_of workers c) f in let no : true ≡ false = sym (there_itself v t) ∙ (λ i. is_there v t (p i).vertex (p i).time) ∙ e in cc
 
-        for_it : (c : Coming) → is_there v t c.vertex c.time ≡ true → is_eq (asked_cmp it (asked_of workers c)) ≡ is_now c.rec.key
+        for_it : (c : Message) → is_there v t c.vertex c.time ≡ true → is_eq (notification_cmp it (asked_of workers c)) ≡ is_now c.rec.key
         for_it c e =
             let w = there_is v c.vertex t c.time e in
-            eq_swap it (asked_of workers c) ∙ (λ i. is_eq (asked_cmp (record { shard = shard_of_key workers c.rec.key; vertex = w.0 i; time = w.1 i }) it))
+            eq_swap it (asked_of workers c) ∙ (λ i. is_eq (notification_cmp (record { shard = shard_of_key workers c.rec.key; vertex = w.0 i; time = w.1 i }) it))
 
-        here : (c : Coming) → is_there v t c.vertex c.time ≡ true → (b : Bool) → is_now c.rec.key ≡ b → (not (ready c) && is_eq (asked_cmp it (asked_of workers c))) ≡ is_now c.rec.key
+        here : (c : Message) → is_there v t c.vertex c.time ≡ true → (b : Bool) → is_now c.rec.key ≡ b → (not (ready c) && is_eq (notification_cmp it (asked_of workers c))) ≡ is_now c.rec.key
         here c e true f = (λ i. not ((ready_key c e ∙ now_was c.rec.key f) i) && (for_it c e ∙ f) i) ∙ sym f
         here c e false f = (λ i. not (ready c) && (for_it c e ∙ f) i) ∙ and_no (not (ready c)) ∙ sym f
 
-        each : (c : Coming) → (b : Bool) → is_there v t c.vertex c.time ≡ b → (not (ready c) && is_eq (asked_cmp it (asked_of workers c))) ≡ (is_there v t c.vertex c.time && is_now c.rec.key)
+        each : (c : Message) → (b : Bool) → is_there v t c.vertex c.time ≡ b → (not (ready c) && is_eq (notification_cmp it (asked_of workers c))) ≡ (is_there v t c.vertex c.time && is_now c.rec.key)
         each c true e = here c e (is_now c.rec.key) refl ∙ sym (ap (λ b. b && is_now c.rec.key) e)
-        each c false e = (λ i. not (ready c) && elsewhere c e (asked_cmp it (asked_of workers c)) refl i) ∙ and_no (not (ready c)) ∙ sym (ap (λ b. b && is_now c.rec.key) e)
+        each c false e = (λ i. not (ready c) && elsewhere c e (notification_cmp it (asked_of workers c)) refl i) ∙ and_no (not (ready c)) ∙ sym (ap (λ b. b && is_now c.rec.key) e)

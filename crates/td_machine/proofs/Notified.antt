@@ -18,7 +18,7 @@ use Rattle.td_stamp.specs.declared.values.Rec.{Rec}
 use Rattle.td_stamp.specs.declared.values.Item.{Item}
 use Rattle.td_stamp.specs.declared.values.Arrival.{Arrival}
 use Rattle.td_stamp.specs.Orders.{rec_cmp}
-use Rattle.td_stamp.specs.OrderLaws.{rec_total, rec_apart}
+use Rattle.td_stamp.specs.ProvedOrders.{rec_total, rec_apart}
 use Rattle.td_stamp.specs.Time.{Timestamp}
 use Rattle.td_stamp.specs.Bag.{join, bag_of, set_of, has, IsBag}
 use Rattle.td_stamp.specs.Groups.{groups, items_of}
@@ -34,7 +34,8 @@ use Rattle.td_plan.specs.Faults.{is_fold}
 use Rattle.td_reach.specs.declared.stamp.Stamp.{Stamp}
 use Rattle.td_reach.specs.declared.stamp.Place.{Place}
 use Rattle.td_reach.specs.declared.stamp.Place.TheVariants as places
-use Rattle.td_reach.specs.Paths.{Could, sent_by}
+use Rattle.td_plan.specs.Times.{sent_by}
+use Rattle.td_reach.specs.Paths.{Could}
 use Rattle.td_machine.specs.Examples.{sent_by-epoch}
 use Rattle.td_machine.proofs.Paths.{could_from_vertex}
 use Rattle.td_machine.proofs.Plain.{eqb-same}
@@ -42,12 +43,16 @@ use Rattle.td_calls.specs.Answers.{Answers}
 use Rattle.td_calls.specs.Callbacks.{on_notification}
 use Rattle.td_batch.specs.Meaning.{EpochInput, answer}
 use Rattle.td_batch.specs.Flow.{AreBelow}
-use Rattle.td_machine.specs.State.{HallState, Coming, Stamped, Asked, StateLeft, KeyItems, coming_cmp, asked_cmp, left_cmp, state_cmp, is_there, arrival, asked_of, with_left, states_at}
+use Rattle.td_machine.specs.declared.records.Message.{Message}
+use Rattle.td_machine.specs.declared.records.Stamped.{Stamped}
+use Rattle.td_machine.specs.declared.records.Notification.{Notification}
+use Rattle.td_machine.specs.declared.records.StateLeft.{StateLeft}
+use Rattle.td_machine.specs.State.{HallState, KeyItems, message_cmp, notification_cmp, left_cmp, state_cmp, is_there, arrival, asked_of, with_left, states_at}
 use Rattle.td_machine.specs.Active.{kind_or, kind_of, active, IsFree, stamp_at, stamp_of_asked, stamp_of_message}
 use Rattle.td_machine.specs.Steps.{posts, posted, stamped, notified, notified_sends, leaves, to_notify, with_state_of, is_for, on_edge}
 use Rattle.td_machine.specs.History.{Origin, History, IsTold, AreAnswered, Running, IsTime, IsOnEdge, is_grouping, has_answer, also_notified, epoch_from, sent_at, came_at, is_left_at, left_by}
 use Rattle.td_machine.specs.PlanFacts.{PlanFacts, IsFound, LeadsAway, InTurn}
-use Rattle.td_machine.proofs.Orders.{coming_total, coming_apart, asked_apart, left_total, left_apart, there_is, there_itself}
+use Rattle.td_machine.proofs.Orders.{message_total, message_apart, notification_apart, left_total, left_apart, there_is, there_itself}
 use Rattle.td_machine.proofs.Lists.{filter_yes, filter_no, filter_all, filter_none, filter_filter, filter_alike, filter_map, filter-bag_of, filter-join, all_app, all_map, all_everywhere, all_weaken, all_join, all_filter, all_both}
 use Rattle.td_machine.proofs.Times.{posts_times, sent_app, sent_here, sent_elsewhere}
 use Rattle.td_machine.proofs.Delivered.{all_has, from_active, to_active, all_posts, all_posts_of}
@@ -57,30 +62,30 @@ use Rattle.td_machine.proofs.StatesLeft.{states_in_order, others_left}
 use Rattle.td_machine.proofs.Keyed.{eq_swap, came_other, answered_split, waiting_groups, mine}
 
 -- an element of a filtered list
-pub has_passing : (p : Asked → Bool) (a : Asked) (xs : List Asked) → has asked_cmp a (filter p xs) ≡ (p a && has asked_cmp a xs)
+pub has_passing : (p : Notification → Bool) (a : Notification) (xs : List Notification) → has notification_cmp a (filter p xs) ≡ (p a && has notification_cmp a xs)
 has_passing p a [] = sym (no (p a))
   where
     no : (b : Bool) → (b && false) ≡ false
     no true = refl
     no false = refl
-has_passing p a (x ∷ xs) = by (p x) refl (asked_cmp a x) refl (has_passing p a xs)
+has_passing p a (x ∷ xs) = by (p x) refl (notification_cmp a x) refl (has_passing p a xs)
   where
     yes : (b : Bool) → b ≡ true → (c : Bool) → true ≡ (b && (true || c))
     yes b e c = λ i. sym e i && true
 
-    by : (b : Bool) → p x ≡ b → (o : Ordering) → asked_cmp a x ≡ o → has asked_cmp a (filter p xs) ≡ (p a && has asked_cmp a xs) → has asked_cmp a (filter p (x ∷ xs)) ≡ (p a && has asked_cmp a (x ∷ xs))
-    by true e Equal f rest = ap (has asked_cmp a) (filter_yes p x xs e) ∙ ap (λ o. is_eq o || has asked_cmp a (filter p xs)) f ∙ yes (p a) (ap p (asked_apart a x f) ∙ e) (has asked_cmp a xs) ∙ sym (ap (λ o. p a && (is_eq o || has asked_cmp a xs)) f)
-    by true e Less f rest = ap (has asked_cmp a) (filter_yes p x xs e) ∙ ap (λ o. is_eq o || has asked_cmp a (filter p xs)) f ∙ rest ∙ sym (ap (λ o. p a && (is_eq o || has asked_cmp a xs)) f)
-    by true e Greater f rest = ap (has asked_cmp a) (filter_yes p x xs e) ∙ ap (λ o. is_eq o || has asked_cmp a (filter p xs)) f ∙ rest ∙ sym (ap (λ o. p a && (is_eq o || has asked_cmp a xs)) f)
-    by false e Equal f rest = ap (has asked_cmp a) (filter_no p x xs e) ∙ rest ∙ none (p a) (ap p (asked_apart a x f) ∙ e) (has asked_cmp a xs) (is_eq (asked_cmp a x) || has asked_cmp a xs)
+    by : (b : Bool) → p x ≡ b → (o : Ordering) → notification_cmp a x ≡ o → has notification_cmp a (filter p xs) ≡ (p a && has notification_cmp a xs) → has notification_cmp a (filter p (x ∷ xs)) ≡ (p a && has notification_cmp a (x ∷ xs))
+    by true e Equal f rest = ap (has notification_cmp a) (filter_yes p x xs e) ∙ ap (λ o. is_eq o || has notification_cmp a (filter p xs)) f ∙ yes (p a) (ap p (notification_apart a x f) ∙ e) (has notification_cmp a xs) ∙ sym (ap (λ o. p a && (is_eq o || has notification_cmp a xs)) f)
+    by true e Less f rest = ap (has notification_cmp a) (filter_yes p x xs e) ∙ ap (λ o. is_eq o || has notification_cmp a (filter p xs)) f ∙ rest ∙ sym (ap (λ o. p a && (is_eq o || has notification_cmp a xs)) f)
+    by true e Greater f rest = ap (has notification_cmp a) (filter_yes p x xs e) ∙ ap (λ o. is_eq o || has notification_cmp a (filter p xs)) f ∙ rest ∙ sym (ap (λ o. p a && (is_eq o || has notification_cmp a xs)) f)
+    by false e Equal f rest = ap (has notification_cmp a) (filter_no p x xs e) ∙ rest ∙ none (p a) (ap p (notification_apart a x f) ∙ e) (has notification_cmp a xs) (is_eq (notification_cmp a x) || has notification_cmp a xs)
       where
         none : (b : Bool) → b ≡ false → (c d : Bool) → (b && c) ≡ (b && d)
         none b g c d = λ i. ((λ j. g j && c) ∙ (λ j. sym g j && d)) i
-    by false e Less f rest = ap (has asked_cmp a) (filter_no p x xs e) ∙ rest ∙ sym (ap (λ o. p a && (is_eq o || has asked_cmp a xs)) f)
-    by false e Greater f rest = ap (has asked_cmp a) (filter_no p x xs e) ∙ rest ∙ sym (ap (λ o. p a && (is_eq o || has asked_cmp a xs)) f)
+    by false e Less f rest = ap (has notification_cmp a) (filter_no p x xs e) ∙ rest ∙ sym (ap (λ o. p a && (is_eq o || has notification_cmp a xs)) f)
+    by false e Greater f rest = ap (has notification_cmp a) (filter_no p x xs e) ∙ rest ∙ sym (ap (λ o. p a && (is_eq o || has notification_cmp a xs)) f)
 
 -- no answer now: no answer before, and not for this notification
-still_none : (g e h : Bool) → (not (not g || h) && not e) ≡ not (not g || (e || h)) 
+still_none : (g e h : Bool) → (not (not g || h) && not e) ≡ not (not g || (e || h))
 still_none true true true = refl
 still_none true true false = refl
 still_none true false true = refl
@@ -127,8 +132,8 @@ empty_turns [] h = refl
 empty_turns (k ∷ turns) h = absurd h
 
 module _ (answers : Answers) (origin : Origin) (S : HallState) (H : History) (facts : PlanFacts S.plan) (s v : ℕ) (t : Timestamp) (runs : Running answers origin S H)
-    (first : 1 ≤ origin.first) (ordered : AreStates origin.states) (asked : has asked_cmp (record { shard = s; vertex = v; time = t }) S.asked ≡ true) (free : IsFree S (stamp_at v t)) where
-  abbrev it : Asked
+    (first : 1 ≤ origin.first) (ordered : AreStates origin.states) (asked : has notification_cmp (record { shard = s; vertex = v; time = t }) S.asked ≡ true) (free : IsFree S (stamp_at v t)) where
+  abbrev it : Notification
   it = record { shard = s; vertex = v; time = t }
 
   abbrev kind : Kind
@@ -155,13 +160,13 @@ module _ (answers : Answers) (origin : Origin) (S : HallState) (H : History) (fa
   abbrev known : AreAnswered answers origin S H
   known = runs.answered
 
-  is : IsTime origin S.next S.plan v t × (is_grouping (kind_of S.plan v) ≡ true) × (has asked_cmp it H.notified ≡ false)
+  is : IsTime origin S.next S.plan v t × (is_grouping (kind_of S.plan v) ≡ true) × (has notification_cmp it H.notified ≡ false)
   is = asked_is answers origin S H runs it asked
 
-  abbrev ready : Coming → Bool
+  abbrev ready : Message → Bool
   ready = has_answer S.plan S.workers H.notified
 
-  abbrev ready_now : Coming → Bool
+  abbrev ready_now : Message → Bool
   ready_now = has_answer S.plan S.workers (it ∷ H.notified)
 
   abbrev shard_items : List Arrival
@@ -246,29 +251,29 @@ module _ (answers : Answers) (origin : Origin) (S : HallState) (H : History) (fa
   abbrev new : List Stamped
   new = stamped v t sends
 
-  balance : join coming_cmp after.messages (bag_of coming_cmp H.arrived) ≡ bag_of coming_cmp (posts S.plan (new ++ H.sent))
+  balance : join message_cmp after.messages (bag_of message_cmp H.arrived) ≡ bag_of message_cmp (posts S.plan (new ++ H.sent))
   balance =
-      join-assoc coming_cmp coming_total coming_apart (posts S.plan new) S.messages (bag_of coming_cmp H.arrived) ∙ ap (join coming_cmp (posts S.plan new)) told.balance
-      ∙ sym (bag_of-append coming_cmp coming_total coming_apart (posts S.plan new) (posts S.plan H.sent)) ∙ ap (bag_of coming_cmp) (sym (flat_map-append (posted S.plan) new H.sent))
+      join-assoc message_cmp message_total message_apart (posts S.plan new) S.messages (bag_of message_cmp H.arrived) ∙ ap (join message_cmp (posts S.plan new)) told.balance
+      ∙ sym (bag_of-append message_cmp message_total message_apart (posts S.plan new) (posts S.plan H.sent)) ∙ ap (bag_of message_cmp) (sym (flat_map-append (posted S.plan) new H.sent))
 
-  abbrev none : Coming → Bool
+  abbrev none : Message → Bool
   none = λ c. not (ready c)
 
-  abbrev none_now : Coming → Bool
+  abbrev none_now : Message → Bool
   none_now = λ c. not (ready_now c)
 
   fewer_none : filter (λ c. not (is_for S it c)) (filter none H.arrived) ≡ filter none_now H.arrived
   fewer_none = filter_filter (λ c. not (is_for S it c)) none H.arrived ∙ filter_alike (λ c. none c && not (is_for S it c)) none_now H.arrived (all_everywhere (λ c. (none c && not (is_for S it c)) ≡ none_now c)
-      (λ c. ap (λ b. none c && not b) (eq_swap it (asked_of S.workers c)) ∙ still_none (is_grouping (kind_of S.plan c.vertex)) (is_eq (asked_cmp (asked_of S.workers c) it)) (has asked_cmp (asked_of S.workers c) H.notified)) H.arrived)
+      (λ c. ap (λ b. none c && not b) (eq_swap it (asked_of S.workers c)) ∙ still_none (is_grouping (kind_of S.plan c.vertex)) (is_eq (notification_cmp (asked_of S.workers c) it)) (has notification_cmp (asked_of S.workers c) H.notified)) H.arrived)
 
-  buffered : after.buffered ≡ bag_of coming_cmp (filter none_now H.arrived)
-  buffered = ap (filter (λ c. not (is_for S it c))) told.buffered ∙ filter-bag_of coming_cmp coming_total coming_apart (λ c. not (is_for S it c)) (filter none H.arrived) ∙ ap (bag_of coming_cmp) fewer_none
+  buffered : after.buffered ≡ bag_of message_cmp (filter none_now H.arrived)
+  buffered = ap (filter (λ c. not (is_for S it c))) told.buffered ∙ filter-bag_of message_cmp message_total message_apart (λ c. not (is_for S it c)) (filter none H.arrived) ∙ ap (bag_of message_cmp) fewer_none
 
-  asked_after : (b : Asked) → has asked_cmp b after.asked ≡ has asked_cmp b (map (asked_of S.workers) (filter none_now H.arrived))
+  asked_after : (b : Notification) → has notification_cmp b after.asked ≡ has notification_cmp b (map (asked_of S.workers) (filter none_now H.arrived))
   asked_after b =
-      let p : Asked → Bool = λ b. not (is_eq (asked_cmp it b)) in
+      let p : Notification → Bool = λ b. not (is_eq (notification_cmp it b)) in
       has_passing p b S.asked ∙ ap (λ c. p b && c) (told.asked b) ∙ sym (has_passing p b (map (asked_of S.workers) (filter none H.arrived)))
-      ∙ ap (has asked_cmp b) (filter_map p (asked_of S.workers) (filter none H.arrived) ∙ ap (map (asked_of S.workers)) fewer_none)
+      ∙ ap (has notification_cmp b) (filter_map p (asked_of S.workers) (filter none H.arrived) ∙ ap (map (asked_of S.workers)) fewer_none)
 
   left_after : after.left ≡ filter (λ k. nat_lt S.base k.epoch) history.left
   left_after =
@@ -303,11 +308,11 @@ module _ (answers : Answers) (origin : Origin) (S : HallState) (H : History) (fa
       with_notice true h e f = f
       with_notice false h e f = cc
 
-      by : (c : Coming) → ready c ≡ true → (d : Bool) → is_there w u c.vertex c.time ≡ d → is_there w u c.vertex c.time ≡ false
+      by : (c : Message) → ready c ≡ true → (d : Bool) → is_there w u c.vertex c.time ≡ d → is_there w u c.vertex c.time ≡ false
       by c r false f = f
       by c r true f =
           let p = there_is w c.vertex u c.time f in
-          let h = with_notice (is_grouping (kind_of S.plan c.vertex)) (has asked_cmp (asked_of S.workers c) H.notified) (ap (λ n. is_grouping (kind_of S.plan n)) (p.0 ∙ e) ∙ is.1) r in
+          let h = with_notice (is_grouping (kind_of S.plan c.vertex)) (has notification_cmp (asked_of S.workers c) H.notified) (ap (λ n. is_grouping (kind_of S.plan n)) (p.0 ∙ e) ∙ is.1) r in
           absurd (settled_here u a b l (subst (λ x. IsFree S (stamp_at v x)) p.1 (subst (λ n. IsFree S (stamp_at n c.time)) (p.0 ∙ e) (all_has (λ a. IsFree S (stamp_of_asked a)) (asked_of S.workers c) H.notified runs.settled h))))
 
   abbrev States : ℕ → Timestamp → Type 0
@@ -452,7 +457,7 @@ module _ (answers : Answers) (origin : Origin) (S : HallState) (H : History) (fa
   notified_answered : AreAnswered answers origin after history
   notified_answered = record {
     sent_times = all_app (λ (x : Stamped). IsTime origin S.next S.plan x.vertex x.time) new H.sent new_times known.sent_times;
-    message_times = all_join coming_cmp coming_total coming_apart (λ (c : Coming). IsTime origin S.next S.plan c.vertex c.time) (posts S.plan new) S.messages (posts_times S.plan facts origin S.next new new_times) known.message_times;
+    message_times = all_join message_cmp message_total message_apart (λ (c : Message). IsTime origin S.next S.plan c.vertex c.time) (posts S.plan new) S.messages (posts_times S.plan facts origin S.next new new_times) known.message_times;
     arrived_times = known.arrived_times;
     sent = sent_now;
     left = left_now;
@@ -466,11 +471,12 @@ module _ (answers : Answers) (origin : Origin) (S : HallState) (H : History) (fa
   active_after P post h =
       let all = from_active S P h in
       let here = all_has (λ a. P (stamp_of_asked a)) it S.asked all.1 asked in
-      to_active after P
-      (all_join coming_cmp coming_total coming_apart (λ c. P (stamp_of_message S.plan c)) (posts S.plan new) S.messages
-      (all_posts_of S.plan (λ e. IsFound S.plan e × LeadsAway S.plan e) (all_both (IsFound S.plan) (LeadsAway S.plan) (edges S.plan) facts.found facts.away) (λ c. P (stamp_of_message S.plan c)) v t (λ e later r f s w. post e later r f s w here) sends) all.0,
-          all_weaken (λ a. P (stamp_of_asked a) × (not (is_eq (asked_cmp it a)) ≡ true)) (λ a. P (stamp_of_asked a)) (λ a k. k.0) (filter (λ b. not (is_eq (asked_cmp it b))) S.asked) (all_filter (λ a. P (stamp_of_asked a)) (λ b. not (is_eq (asked_cmp it b))) S.asked all.1),
-          all.2)
+      to_active after P (
+        all_join message_cmp message_total message_apart (λ c. P (stamp_of_message S.plan c)) (posts S.plan new) S.messages
+            (all_posts_of S.plan (λ e. IsFound S.plan e × LeadsAway S.plan e) (all_both (IsFound S.plan) (LeadsAway S.plan) (edges S.plan) facts.found facts.away) (λ c. P (stamp_of_message S.plan c)) v t (λ e later r f s w. post e later r f s w here) sends) all.0,
+        all_weaken (λ a. P (stamp_of_asked a) × (not (is_eq (notification_cmp it a)) ≡ true)) (λ a. P (stamp_of_asked a)) (λ a k. k.0) (filter (λ b. not (is_eq (notification_cmp it b))) S.asked) (all_filter (λ a. P (stamp_of_asked a)) (λ b. not (is_eq (notification_cmp it b))) S.asked all.1),
+        all.2,
+      )
 
   sent_same : (o : Option Kind) → is_grouping (kind_or o) ≡ true → sent_by o t ≡ t
   sent_same None e = refl
@@ -492,8 +498,8 @@ module _ (answers : Answers) (origin : Origin) (S : HallState) (H : History) (fa
           → Could S.plan (record { time = later; place = places.Edge (edge_at S.plan e.reader e.port) }) (stamp_at w u) → (b : Bool) → is_there w u v t ≡ b → ⊥
       by e later ks source when was k false n =
           was (λ same. let vertex_same : v ≡ w = vertex_of v w (ap (λ (q : Stamp). q.place) same) in
-              let time_same : t ≡ u = ap (λ (q : Stamp). q.time) same in
-              let no : true ≡ false = sym (there_itself v t) ∙ (λ i. is_there (vertex_same i) (time_same i) v t) ∙ n in cc)
+          let time_same : t ≡ u = ap (λ (q : Stamp). q.time) same in
+          let no : true ≡ false = sym (there_itself v t) ∙ (λ i. is_there (vertex_same i) (time_same i) v t) ∙ n in cc)
           (subst (λ x. Could S.plan (stamp_at x t) (stamp_at w u)) source (could_from_vertex S.plan e later t ks.0 when (stamp_at w u) k))
         where
           vertex_of : (x y : ℕ) → places.Vertex x ≡ places.Vertex y → x ≡ y
@@ -508,14 +514,14 @@ module _ (answers : Answers) (origin : Origin) (S : HallState) (H : History) (fa
           (subst (λ x. Could S.plan (record { time = later; place = places.Edge (edge_at S.plan e.reader e.port) }) (stamp_at w x)) (sym p.1) k)))
 
   -- what has no answer was not notified
-  is_new : has asked_cmp it H.notified ≡ false
-  is_new = all_has (λ a. has asked_cmp a H.notified ≡ false) it (map (asked_of S.workers) (filter waiting_still H.arrived))
-      (all_map (λ a. has asked_cmp a H.notified ≡ false) (asked_of S.workers) (filter waiting_still H.arrived)
-        (all_weaken (λ c. Unit {0} × (waiting_still c ≡ true)) (λ c. has asked_cmp (asked_of S.workers c) H.notified ≡ false) (λ c h. by (is_grouping (kind_of S.plan c.vertex)) (has asked_cmp (asked_of S.workers c) H.notified) h.1) (filter waiting_still H.arrived)
-          (all_filter (λ c. Unit {0}) waiting_still H.arrived (all_everywhere (λ c. Unit {0}) (λ c. tt) H.arrived))))
+  is_new : has notification_cmp it H.notified ≡ false
+  is_new = all_has (λ a. has notification_cmp a H.notified ≡ false) it (map (asked_of S.workers) (filter waiting_still H.arrived))
+      (all_map (λ a. has notification_cmp a H.notified ≡ false) (asked_of S.workers) (filter waiting_still H.arrived)
+      (all_weaken (λ c. Unit {0} × (waiting_still c ≡ true)) (λ c. has notification_cmp (asked_of S.workers c) H.notified ≡ false) (λ c h. by (is_grouping (kind_of S.plan c.vertex)) (has notification_cmp (asked_of S.workers c) H.notified) h.1) (filter waiting_still H.arrived)
+      (all_filter (λ c. Unit {0}) waiting_still H.arrived (all_everywhere (λ c. Unit {0}) (λ c. tt) H.arrived))))
       (sym (runs.told.asked it) ∙ asked)
     where
-      waiting_still : Coming → Bool
+      waiting_still : Message → Bool
       waiting_still c = not (has_answer S.plan S.workers H.notified c)
 
       by : (b c : Bool) → not (not b || c) ≡ true → c ≡ false
@@ -527,8 +533,8 @@ module _ (answers : Answers) (origin : Origin) (S : HallState) (H : History) (fa
   notified_runs = record {
     told = notified_told;
     answered = notified_answered;
-    on_edges = all_join coming_cmp coming_total coming_apart (IsOnEdge S.plan) (posts S.plan new) S.messages (all_posts S.plan facts (IsOnEdge S.plan) v t (λ e later r f s w. (e, f, refl)) sends) runs.on_edges;
-    messages_bag = join-IsBag coming_cmp coming_total coming_apart (posts S.plan new) S.messages runs.messages_bag;
+    on_edges = all_join message_cmp message_total message_apart (IsOnEdge S.plan) (posts S.plan new) S.messages (all_posts S.plan facts (IsOnEdge S.plan) v t (λ e later r f s w. (e, f, refl)) sends) runs.on_edges;
+    messages_bag = join-IsBag message_cmp message_total message_apart (posts S.plan new) S.messages runs.messages_bag;
     later = active_after (λ p. (S.base < p.time.epoch) × (S.collected < p.time.epoch))
         (λ e later r f s when was. subst (λ n. (S.base < n) × (S.collected < n)) (sym (ap (λ (x : Timestamp). x.epoch) when ∙ sent_by-epoch (kind_at S.plan e.source) t)) was) runs.later;
     settled = (stays_free v t free, all_weaken (λ a. IsFree S (stamp_of_asked a)) (λ a. IsFree after (stamp_of_asked a)) (λ a f. stays_free a.vertex a.time f) H.notified runs.settled);

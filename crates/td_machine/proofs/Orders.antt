@@ -10,16 +10,16 @@ use Rattle.std.specs.Cmp.Lexicographic.{options_total}
 use Rattle.std.proofs.lemmas.Cmp.{int_cmp_total, tied_itself}
 use Rattle.std.proofs.lemmas.Bool.{eqb-true}
 use Rattle.std.specs.FinMap.{IsAntisymmetric, nat_cmp-IsAntisymmetric, int_cmp-IsAntisymmetric}
-use Rattle.td_stamp.specs.OrderLaws.{both_tie, rec_total, rec_apart, output_total, output_apart}
+use Rattle.td_stamp.specs.ProvedOrders.{both_tie, rec_total, rec_apart, output_total, output_apart}
 use Rattle.td_stamp.specs.Time.{Timestamp, time_cmp}
 use Rattle.td_stamp.proofs.TimeLaws.{time_total, time_apart}
-use Rattle.td_machine.specs.State.{coming_cmp, stamped_cmp, asked_cmp, output_at_cmp, state_cmp, left_cmp, same_time, is_there}
+use Rattle.td_machine.specs.State.{message_cmp, stamped_cmp, notification_cmp, output_at_cmp, state_cmp, left_cmp, same_time, is_there}
 
-pub coming_total : IsTotalOrder coming_cmp
-coming_total = then_total (on_total (λ c. c.vertex) nat_cmp_total) (then_total (on_total (λ c. c.port) nat_cmp_total) (then_total (on_total (λ c. c.time) time_total) (on_total (λ c. c.rec) rec_total)))
+pub message_total : IsTotalOrder message_cmp
+message_total = then_total (on_total (λ c. c.vertex) nat_cmp_total) (then_total (on_total (λ c. c.port) nat_cmp_total) (then_total (on_total (λ c. c.time) time_total) (on_total (λ c. c.rec) rec_total)))
 
-pub coming_apart : IsAntisymmetric coming_cmp
-coming_apart x y e =
+pub message_apart : IsAntisymmetric message_cmp
+message_apart x y e =
     let a = both_tie _ _ e in let b = both_tie _ _ a.1 in let c = both_tie _ _ b.1 in
     λ i. record { vertex = nat_cmp-IsAntisymmetric x.vertex y.vertex a.0 i; port = nat_cmp-IsAntisymmetric x.port y.port b.0 i; time = time_apart x.time y.time c.0 i; rec = rec_apart x.rec y.rec c.1 i }
 
@@ -31,11 +31,11 @@ stamped_apart x y e =
     let a = both_tie _ _ e in let c = both_tie _ _ a.1 in
     λ i. record { vertex = nat_cmp-IsAntisymmetric x.vertex y.vertex a.0 i; time = time_apart x.time y.time c.0 i; rec = rec_apart x.rec y.rec c.1 i }
 
-pub asked_total : IsTotalOrder asked_cmp
-asked_total = then_total (on_total (λ c. c.vertex) nat_cmp_total) (then_total (on_total (λ c. c.time) time_total) (on_total (λ c. c.shard) nat_cmp_total))
+pub notification_total : IsTotalOrder notification_cmp
+notification_total = then_total (on_total (λ c. c.vertex) nat_cmp_total) (then_total (on_total (λ c. c.time) time_total) (on_total (λ c. c.shard) nat_cmp_total))
 
-pub asked_apart : IsAntisymmetric asked_cmp
-asked_apart x y e =
+pub notification_apart : IsAntisymmetric notification_cmp
+notification_apart x y e =
     let a = both_tie _ _ e in let c = both_tie _ _ a.1 in
     λ i. record { vertex = nat_cmp-IsAntisymmetric x.vertex y.vertex a.0 i; time = time_apart x.time y.time c.0 i; shard = nat_cmp-IsAntisymmetric x.shard y.shard c.1 i }
 

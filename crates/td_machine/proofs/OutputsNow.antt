@@ -12,7 +12,7 @@ use Rattle.std.specs.Cmp.{nat_cmp_total}
 use Rattle.td_stamp.specs.declared.values.Rec.{Rec}
 use Rattle.td_stamp.specs.declared.values.Output.{Output as Out}
 use Rattle.td_stamp.specs.Orders.{rec_cmp, output_cmp}
-use Rattle.td_stamp.specs.OrderLaws.{rec_total, rec_apart, output_total, output_apart}
+use Rattle.td_stamp.specs.ProvedOrders.{rec_total, rec_apart, output_total, output_apart}
 use Rattle.td_stamp.specs.Time.{Timestamp}
 use Rattle.td_stamp.specs.Bag.{bag_insert, join, bag_of}
 use Rattle.td_stamp.specs.Groups.{rec_of}
@@ -27,7 +27,9 @@ use Rattle.td_calls.specs.Answers.{Answers}
 use Rattle.td_batch.specs.Meaning.{answer, outputs_at, outputs_in}
 use Rattle.td_batch.specs.Flow.{AreBelow}
 use Rattle.td_reach.specs.declared.stamp.Stamp.{Stamp}
-use Rattle.td_machine.specs.State.{HallState, Coming, OutputAt, output_at_cmp, is_there, same_time, arrival}
+use Rattle.td_machine.specs.declared.records.Message.{Message}
+use Rattle.td_machine.specs.declared.records.OutputAt.{OutputAt}
+use Rattle.td_machine.specs.State.{HallState, output_at_cmp, is_there, same_time, arrival}
 use Rattle.td_machine.specs.Active.{kind_of, active}
 use Rattle.td_machine.specs.Steps.{comes_out, outputs_at as hall_outputs}
 use Rattle.td_machine.specs.History.{Origin, History, Running, IsTime, has_answer, epoch_from, came_at}
@@ -171,21 +173,21 @@ module _ (answers : Answers) (origin : Origin) (S : HallState) (H : History) (fa
   abbrev bag : ℕ → List Rec
   bag v = flow_of S.plan H.sent e v []
 
-  abbrev out_if : ℕ → Coming → List Out
+  abbrev out_if : ℕ → Message → List Out
   out_if v c = if is_there v now c.vertex c.time then record { vertex = v; rec = c.rec } ∷ [] else []
 
   -- what came to an output
-  listed : (v : ℕ) (cs : List Coming) → map (λ (r : Rec). let o : Out = record { vertex = v; rec = r } in o) (map rec_of (came_at cs v now)) ≡ flat_map (out_if v) cs
+  listed : (v : ℕ) (cs : List Message) → map (λ (r : Rec). let o : Out = record { vertex = v; rec = r } in o) (map rec_of (came_at cs v now)) ≡ flat_map (out_if v) cs
   listed v [] = refl
   listed v (c ∷ cs) = by (is_there v now c.vertex c.time) refl (listed v cs)
     where
       by : (b : Bool) → is_there v now c.vertex c.time ≡ b → map (λ (r : Rec). let o : Out = record { vertex = v; rec = r } in o) (map rec_of (came_at cs v now)) ≡ flat_map (out_if v) cs
           → map (λ (r : Rec). let o : Out = record { vertex = v; rec = r } in o) (map rec_of (came_at (c ∷ cs) v now)) ≡ flat_map (out_if v) (c ∷ cs)
       by true f rest =
-          ap (λ l. map (λ (r : Rec). let o : Out = record { vertex = v; rec = r } in o) (map rec_of (map arrival l))) (filter_yes (λ (c : Coming). is_there v now c.vertex c.time) c cs f) ∙ ap (λ l. record { vertex = v; rec = c.rec } ∷ l) rest
+          ap (λ l. map (λ (r : Rec). let o : Out = record { vertex = v; rec = r } in o) (map rec_of (map arrival l))) (filter_yes (λ (c : Message). is_there v now c.vertex c.time) c cs f) ∙ ap (λ l. record { vertex = v; rec = c.rec } ∷ l) rest
           ∙ ap (λ b. (let l : List Out = if b then record { vertex = v; rec = c.rec } ∷ [] else [] in l) ++ flat_map (out_if v) cs) (sym f)
       by false f rest =
-          ap (λ l. map (λ (r : Rec). let o : Out = record { vertex = v; rec = r } in o) (map rec_of (map arrival l))) (filter_no (λ (c : Coming). is_there v now c.vertex c.time) c cs f) ∙ rest
+          ap (λ l. map (λ (r : Rec). let o : Out = record { vertex = v; rec = r } in o) (map rec_of (map arrival l))) (filter_no (λ (c : Message). is_there v now c.vertex c.time) c cs f) ∙ rest
           ∙ ap (λ b. (let l : List Out = if b then record { vertex = v; rec = c.rec } ∷ [] else [] in l) ++ flat_map (out_if v) cs) (sym f)
 
   at_vertex : (v : Vertex) → IsLaid S.plan [] v → v.kind ≡ Output → bag_of output_cmp (map (λ (r : Rec). let o : Out = record { vertex = v.number; rec = r } in o) (bag v.number)) ≡ bag_of output_cmp (flat_map (out_if v.number) H.arrived)
@@ -224,14 +226,14 @@ module _ (answers : Answers) (origin : Origin) (S : HallState) (H : History) (fa
       by Leave k h = h
 
   -- by what came
-  abbrev of_record : Coming → List Out
+  abbrev of_record : Message → List Out
   of_record c = map out_at (filter (λ o. o.epoch == e) (comes_out (kind_of S.plan c.vertex) c))
 
   module _ (numbered : IsNumbered 0 (tree_of S.plan)) (laid : AreLaid S.plan [] (tree_of S.plan)) where
     abbrev outs : List ℕ
     outs = outs_of (tree_of S.plan)
 
-    none_there : (c : Coming) → same_time c.time now ≡ false → (vs : List ℕ) → flat_map (λ v. out_if v c) vs ≡ []
+    none_there : (c : Message) → same_time c.time now ≡ false → (vs : List ℕ) → flat_map (λ v. out_if v c) vs ≡ []
     none_there c f [] = refl
     none_there c f (v ∷ vs) = (λ i. (let l : List Out = if (no i) then record { vertex = v; rec = c.rec } ∷ [] else [] in l) ++ none_there c f vs i)
       where
@@ -242,7 +244,7 @@ module _ (answers : Answers) (origin : Origin) (S : HallState) (H : History) (fa
         no : is_there v now c.vertex c.time ≡ false
         no = ap (λ b. (c.vertex == v) && b) f ∙ and_no (c.vertex == v)
 
-    some_there : (c : Coming) → same_time c.time now ≡ true → (vs : List ℕ) → flat_map (λ v. out_if v c) vs ≡ flat_map (λ v. at_output c.vertex v c.rec) vs
+    some_there : (c : Message) → same_time c.time now ≡ true → (vs : List ℕ) → flat_map (λ v. out_if v c) vs ≡ flat_map (λ v. at_output c.vertex v c.rec) vs
     some_there c f [] = refl
     some_there c f (v ∷ vs) = (λ i. (let l : List Out = if (yes i) then record { vertex = v; rec = c.rec } ∷ [] else [] in l) ++ some_there c f vs i)
       where
@@ -253,11 +255,11 @@ module _ (answers : Answers) (origin : Origin) (S : HallState) (H : History) (fa
         yes : is_there v now c.vertex c.time ≡ (c.vertex == v)
         yes = ap (λ b. (c.vertex == v) && b) f ∙ and_yes (c.vertex == v)
 
-    other_kind : (c : Coming) → ((kind_of S.plan c.vertex ≡ Output) → ⊥) → (b : Bool) → same_time c.time now ≡ b → flat_map (λ v. out_if v c) outs ≡ []
+    other_kind : (c : Message) → ((kind_of S.plan c.vertex ≡ Output) → ⊥) → (b : Bool) → same_time c.time now ≡ b → flat_map (λ v. out_if v c) outs ≡ []
     other_kind c n true f = some_there c f outs ∙ not_an_output S.plan facts c.vertex c.rec (tree_of S.plan) laid n
     other_kind c n false f = none_there c f outs
 
-    an_output : (c : Coming) → kind_of S.plan c.vertex ≡ Output → IsTime origin S.next S.plan c.vertex c.time → (b : Bool) → (c.time.epoch == e) ≡ b
+    an_output : (c : Message) → kind_of S.plan c.vertex ≡ Output → IsTime origin S.next S.plan c.vertex c.time → (b : Bool) → (c.time.epoch == e) ≡ b
         → flat_map (λ v. out_if v c) outs ≡ map out_at (filter (λ o. o.epoch == e) (comes_out Output c))
     an_output c k h true f =
         let fact = facts.outputs c.vertex k in
@@ -269,7 +271,7 @@ module _ (answers : Answers) (origin : Origin) (S : HallState) (H : History) (fa
         none_there c (never_same c.time now (λ p. let q : c.time.epoch ≡ e = ap (λ (t : Timestamp). t.epoch) p in let no : true ≡ false = sym (eqb-same e) ∙ ap (λ x. x == e) (sym q) ∙ f in cc)) outs
         ∙ sym (ap (map out_at) (filter_no (λ (o : OutputAt). o.epoch == e) (record { epoch = c.time.epoch; output = record { vertex = c.vertex; rec = c.rec } }) [] f))
 
-    each_record : (c : Coming) → IsTime origin S.next S.plan c.vertex c.time → (k : Kind) → kind_of S.plan c.vertex ≡ k → flat_map (λ v. out_if v c) outs ≡ map out_at (filter (λ o. o.epoch == e) (comes_out k c))
+    each_record : (c : Message) → IsTime origin S.next S.plan c.vertex c.time → (k : Kind) → kind_of S.plan c.vertex ≡ k → flat_map (λ v. out_if v c) outs ≡ map out_at (filter (λ o. o.epoch == e) (comes_out k c))
     each_record c h Output k = an_output c k h (c.time.epoch == e) refl
     each_record c h Input k = other_kind c (λ p. let no : Input ≡ Output = sym k ∙ p in cc) (same_time c.time now) refl
     each_record c h (Map code) k = other_kind c (λ p. let no : Map code ≡ Output = sym k ∙ p in cc) (same_time c.time now) refl
@@ -280,7 +282,7 @@ module _ (answers : Answers) (origin : Origin) (S : HallState) (H : History) (fa
     each_record c h Feedback k = other_kind c (λ p. let no : Feedback ≡ Output = sym k ∙ p in cc) (same_time c.time now) refl
     each_record c h Leave k = other_kind c (λ p. let no : Leave ≡ Output = sym k ∙ p in cc) (same_time c.time now) refl
 
-    by_records : (cs : List Coming) → AllByRecursion (λ (c : Coming). IsTime origin S.next S.plan c.vertex c.time) cs → flat_map (λ c. flat_map (λ v. out_if v c) outs) cs ≡ flat_map of_record cs
+    by_records : (cs : List Message) → AllByRecursion (λ (c : Message). IsTime origin S.next S.plan c.vertex c.time) cs → flat_map (λ c. flat_map (λ v. out_if v c) outs) cs ≡ flat_map of_record cs
     by_records [] h = refl
     by_records (c ∷ cs) h = λ i. each_record c h.0 (kind_of S.plan c.vertex) refl i ++ by_records cs h.1 i
 

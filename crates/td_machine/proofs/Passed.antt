@@ -9,7 +9,7 @@ use Rattle.std.specs.Ordering.{is_eq}
 use Rattle.td_stamp.specs.declared.values.Rec.{Rec}
 use Rattle.td_stamp.specs.declared.values.Arrival.{Arrival}
 use Rattle.td_stamp.specs.Orders.{rec_cmp, arrival_cmp}
-use Rattle.td_stamp.specs.OrderLaws.{rec_total, rec_apart, arrival_total, arrival_apart}
+use Rattle.td_stamp.specs.ProvedOrders.{rec_total, rec_apart, arrival_total, arrival_apart}
 use Rattle.td_stamp.specs.Time.{Timestamp, enter, leave, again}
 use Rattle.td_stamp.specs.Bag.{join, bag_of, has}
 use Rattle.td_stamp.specs.Groups.{arrival_of}
@@ -24,12 +24,15 @@ use Rattle.td_calls.specs.Callbacks.{arrivals}
 use Rattle.td_batch.specs.Meaning.{EpochInput, answer}
 use Rattle.td_batch.specs.Flow.{Flow}
 use Rattle.td_reach.specs.declared.stamp.Stamp.{Stamp}
-use Rattle.td_machine.specs.State.{HallState, Coming, Stamped, Asked, coming_cmp, asked_cmp, is_there, same_time, arrival, asked_of}
+use Rattle.td_machine.specs.declared.records.Message.{Message}
+use Rattle.td_machine.specs.declared.records.Stamped.{Stamped}
+use Rattle.td_machine.specs.declared.records.Notification.{Notification}
+use Rattle.td_machine.specs.State.{HallState, message_cmp, notification_cmp, is_there, same_time, arrival, asked_of}
 use Rattle.td_machine.specs.Active.{kind_of, bound_of, active}
 use Rattle.td_machine.specs.Steps.{posts, posted, on_edge, edges_from, sending_times, again_below}
 use Rattle.td_machine.specs.History.{Origin, History, Running, IsTime, has_answer, epoch_from, sent_at, came_at}
 use Rattle.td_machine.specs.Flows.{at_time, sent_to, flow_of, edge_to}
-use Rattle.td_machine.proofs.Orders.{coming_total, coming_apart, asked_total, there_is}
+use Rattle.td_machine.proofs.Orders.{message_total, message_apart, notification_total, there_is}
 use Rattle.td_machine.proofs.Lists.{filter_yes, filter_no, filter_none, filter_filter, filter_alike, filter_map, filter_app, filter-join, filter-bag_of, all_weaken, all_everywhere}
 use Rattle.td_machine.proofs.Delivered.{all_has, from_active}
 use Rattle.td_machine.proofs.Exchanges.{mapped_bag, mapped_alike, parts_alike, exchanged, answer_alike}
@@ -96,7 +99,7 @@ module _ (plan : List Line) (v : ℕ) (sources : List ℕ) (into : filter (λ e.
   abbrev ports : List (ℕ × ℕ)
   ports = enumerate_from 0 sources
 
-  abbrev there : Coming → Bool
+  abbrev there : Message → Bool
   there = λ c. is_there v t c.vertex c.time
 
   abbrev from_port : List Timestamp → ℕ × ℕ → List Arrival
@@ -179,27 +182,28 @@ module _ (plan : List Line) (sent : List Stamped) (v : ℕ) (sources : List ℕ)
 
 -- OF A PASSED EPOCH
 module _ (answers : Answers) (origin : Origin) (S : HallState) (H : History) (runs : Running answers origin S H) (e : ℕ) (passed : AllByRecursion (λ (p : Stamp). e < p.time.epoch) (active S)) where
-  abbrev ready : Coming → Bool
+  abbrev ready : Message → Bool
   ready = has_answer S.plan S.workers H.notified
 
-  abbrev none : Coming → Bool
+  abbrev none : Message → Bool
   none = λ c. not (ready c)
 
   -- nothing waits
-  self : (Q : Asked → Type 0) (cs : List Coming) → ((a : Asked) → has asked_cmp a (map (asked_of S.workers) cs) ≡ true → Q a) → AllByRecursion (λ c. Q (asked_of S.workers c)) cs
+  self : (Q : Notification → Type 0) (cs : List Message) → ((a : Notification) → has notification_cmp a (map (asked_of S.workers) cs) ≡ true → Q a) → AllByRecursion (λ c. Q (asked_of S.workers c)) cs
   self Q [] h = tt
-  self Q (c ∷ cs) h =
-      (h (asked_of S.workers c) (ap (λ o. is_eq o || has asked_cmp (asked_of S.workers c) (map (asked_of S.workers) cs)) (tied_itself asked_total (asked_of S.workers c))),
-          self Q cs (λ a k. h a (ap (λ b. is_eq (asked_cmp a (asked_of S.workers c)) || b) k ∙ or_yes (is_eq (asked_cmp a (asked_of S.workers c))))))
+  self Q (c ∷ cs) h = (
+    h (asked_of S.workers c) (ap (λ o. is_eq o || has notification_cmp (asked_of S.workers c) (map (asked_of S.workers) cs)) (tied_itself notification_total (asked_of S.workers c))),
+    self Q cs (λ a k. h a (ap (λ b. is_eq (notification_cmp a (asked_of S.workers c)) || b) k ∙ or_yes (is_eq (notification_cmp a (asked_of S.workers c))))),
+  )
     where
       or_yes : (b : Bool) → (b || true) ≡ true
       or_yes true = refl
       or_yes false = refl
 
-  waiting_later : AllByRecursion (λ (c : Coming). e < c.time.epoch) (filter none H.arrived)
+  waiting_later : AllByRecursion (λ (c : Message). e < c.time.epoch) (filter none H.arrived)
   waiting_later = self (λ a. e < a.time.epoch) (filter none H.arrived) (λ a k. all_has (λ a. e < a.time.epoch) a S.asked (from_active S (λ p. e < p.time.epoch) passed).1 (runs.told.asked a ∙ k))
 
-  from_filter : (P : Coming → Type 0) (p : Coming → Bool) (cs : List Coming) → AllByRecursion P (filter p cs) → AllByRecursion (λ c. p c ≡ true → P c) cs
+  from_filter : (P : Message → Type 0) (p : Message → Bool) (cs : List Message) → AllByRecursion P (filter p cs) → AllByRecursion (λ c. p c ≡ true → P c) cs
   from_filter P p [] h = tt
   from_filter P p (c ∷ cs) h = by (p c) refl (from_filter P p cs)
     where
@@ -209,10 +213,10 @@ module _ (answers : Answers) (origin : Origin) (S : HallState) (H : History) (ru
 
   pub all_ready : (v : ℕ) (t : Timestamp) → t.epoch ≡ e → came_at (filter ready H.arrived) v t ≡ came_at H.arrived v t
   all_ready v t same =
-      let there : Coming → Bool = λ c. is_there v t c.vertex c.time in
+      let there : Message → Bool = λ c. is_there v t c.vertex c.time in
       ap (map arrival) (filter_filter there ready H.arrived ∙ filter_alike (λ c. ready c && there c) there H.arrived (all_weaken (λ c. none c ≡ true → e < c.time.epoch) (λ c. (ready c && there c) ≡ there c) (λ c k. by c k (ready c) refl (there c) refl) H.arrived (from_filter (λ c. e < c.time.epoch) none H.arrived waiting_later)))
     where
-      by : (c : Coming) → (none c ≡ true → e < c.time.epoch) → (b : Bool) → ready c ≡ b → (d : Bool) → is_there v t c.vertex c.time ≡ d → (ready c && is_there v t c.vertex c.time) ≡ is_there v t c.vertex c.time
+      by : (c : Message) → (none c ≡ true → e < c.time.epoch) → (b : Bool) → ready c ≡ b → (d : Bool) → is_there v t c.vertex c.time ≡ d → (ready c && is_there v t c.vertex c.time) ≡ is_there v t c.vertex c.time
       by c k true f d g = ap (λ b. b && is_there v t c.vertex c.time) f
       by c k false f false g = ap (λ b. ready c && b) g ∙ and_no (ready c) ∙ sym g
       by c k false f true g =
@@ -223,17 +227,17 @@ module _ (answers : Answers) (origin : Origin) (S : HallState) (H : History) (ru
   -- nothing is on its way
   pub came_is_posted : (v : ℕ) (t : Timestamp) → t.epoch ≡ e → bag_of arrival_cmp (came_at H.arrived v t) ≡ bag_of arrival_cmp (came_at (posts S.plan H.sent) v t)
   came_is_posted v t same =
-      let there : Coming → Bool = λ c. is_there v t c.vertex c.time in
-      let A : List Coming = H.arrived in
-      let P : List Coming = posts S.plan H.sent in
-      let empty : filter there S.messages ≡ [] = filter_none there S.messages (all_weaken (λ (c : Coming). e < c.time.epoch) (λ c. there c ≡ false) (λ c late. by c late (there c) refl) S.messages (from_active S (λ p. e < p.time.epoch) passed).0) in
-      let bags : bag_of coming_cmp (filter there A) ≡ bag_of coming_cmp (filter there P) =
-      sym (filter-join coming_cmp coming_total coming_apart there S.messages (bag_of coming_cmp A) (bag_of-IsBag coming_cmp coming_total coming_apart A)
-      ∙ (λ i. join coming_cmp (empty i) (filter-bag_of coming_cmp coming_total coming_apart there A i)))
-      ∙ ap (filter there) runs.told.balance ∙ filter-bag_of coming_cmp coming_total coming_apart there P in
-      mapped_alike coming_cmp coming_total coming_apart arrival_cmp arrival_total arrival_apart arrival (filter there A) (filter there P) bags
+      let there : Message → Bool = λ c. is_there v t c.vertex c.time in
+      let A : List Message = H.arrived in
+      let P : List Message = posts S.plan H.sent in
+      let empty : filter there S.messages ≡ [] = filter_none there S.messages (all_weaken (λ (c : Message). e < c.time.epoch) (λ c. there c ≡ false) (λ c late. by c late (there c) refl) S.messages (from_active S (λ p. e < p.time.epoch) passed).0) in
+      let bags : bag_of message_cmp (filter there A) ≡ bag_of message_cmp (filter there P) =
+      sym (filter-join message_cmp message_total message_apart there S.messages (bag_of message_cmp A) (bag_of-IsBag message_cmp message_total message_apart A)
+      ∙ (λ i. join message_cmp (empty i) (filter-bag_of message_cmp message_total message_apart there A i)))
+      ∙ ap (filter there) runs.told.balance ∙ filter-bag_of message_cmp message_total message_apart there P in
+      mapped_alike message_cmp message_total message_apart arrival_cmp arrival_total arrival_apart arrival (filter there A) (filter there P) bags
     where
-      by : (c : Coming) → e < c.time.epoch → (b : Bool) → is_there v t c.vertex c.time ≡ b → is_there v t c.vertex c.time ≡ false
+      by : (c : Message) → e < c.time.epoch → (b : Bool) → is_there v t c.vertex c.time ≡ b → is_there v t c.vertex c.time ≡ false
       by c late false f = f
       by c late true f = let here : c.time.epoch ≡ t.epoch = ap (λ (u : Timestamp). u.epoch) (there_is v c.vertex t c.time f).1 in absurd (omega (arith, late, here, same))
 

@@ -13,8 +13,9 @@ use Rattle.td_plan.specs.Blocks.{edge_at, kind_at}
 use Rattle.td_reach.specs.declared.stamp.Place.{Place}
 use Rattle.td_reach.specs.declared.stamp.Place.TheVariants as places
 use Rattle.td_reach.specs.declared.stamp.Stamp.{Stamp}
-use Rattle.td_reach.specs.Paths.{Could, IsPath, EndsAt, adjust, over, sent_at, sent_by}
-use Rattle.td_machine.specs.State.{Coming}
+use Rattle.td_plan.specs.Times.{sent_at, sent_by}
+use Rattle.td_reach.specs.Paths.{Could, IsPath, EndsAt, adjust, over}
+use Rattle.td_machine.specs.declared.records.Message.{Message}
 use Rattle.td_machine.specs.Active.{kind_or, kind_of, bound_of, stamp_of_message, stamp_at}
 use Rattle.td_machine.specs.Steps.{sending_times, again_below}
 use Rattle.td_machine.specs.History.{IsOnEdge}
@@ -56,7 +57,7 @@ edge_not_vertex n v t u e = let p : places.Edge n ≡ places.Vertex v = ap (λ (
 
 module _ (plan : List Line) where
   -- a message could result in the notification of what it comes to
-  pub could_arrive : (c : Coming) → IsOnEdge plan c → Could plan (stamp_of_message plan c) (stamp_at c.vertex c.time)
+  pub could_arrive : (c : Message) → IsOnEdge plan c → Could plan (stamp_of_message plan c) (stamp_at c.vertex c.time)
   could_arrive c on = record { first = c.vertex; path = []; begins = on; is_path = tt; ends = inr (c.vertex, on, refl); in_time = IsAtMost-refl c.time }
 
   -- a path over an edge, and the path from there
@@ -75,7 +76,7 @@ module _ (plan : List Line) where
     could_from_vertex = record { first = e.source; path = number ∷ k.path; begins = refl; is_path = goes; ends = k.ends; in_time = turned }
 
     -- from a message that comes there
-    pub could_from_message : (c : Coming) → IsOnEdge plan c → e.source ≡ c.vertex → c.time ≡ t → Could plan (stamp_of_message plan c) q
+    pub could_from_message : (c : Message) → IsOnEdge plan c → e.source ≡ c.vertex → c.time ≡ t → Could plan (stamp_of_message plan c) q
     could_from_message c on s same = record {
       first = c.vertex;
       path = number ∷ k.path;
@@ -86,12 +87,12 @@ module _ (plan : List Line) where
     }
 
   -- what a notification could result in, so could a message that comes there
-  moved : (c : Coming) → IsOnEdge plan c → (path : List ℕ) (place : Place) → EndsAt plan (places.Vertex c.vertex) path place → (v : ℕ) → place ≡ places.Vertex v → EndsAt plan (places.Edge (edge_at plan c.vertex c.port)) path place
+  moved : (c : Message) → IsOnEdge plan c → (path : List ℕ) (place : Place) → EndsAt plan (places.Vertex c.vertex) path place → (v : ℕ) → place ≡ places.Vertex v → EndsAt plan (places.Edge (edge_at plan c.vertex c.port)) path place
   moved c on (e ∷ path) place ends v p = ends
   moved c on [] place (inl same) v p = inr (c.vertex, on, sym same)
   moved c on [] place (inr r) v p = inr (r.0, (on.0, on.1, on.2 ∙ r.1), r.2)
 
-  pub could_through : (c : Coming) → IsOnEdge plan c → (v : ℕ) (t : Timestamp) → Could plan (stamp_at c.vertex c.time) (stamp_at v t) → Could plan (stamp_of_message plan c) (stamp_at v t)
+  pub could_through : (c : Message) → IsOnEdge plan c → (v : ℕ) (t : Timestamp) → Could plan (stamp_at c.vertex c.time) (stamp_at v t) → Could plan (stamp_of_message plan c) (stamp_at v t)
   could_through c on v t k = record {
     first = k.first;
     path = k.path;

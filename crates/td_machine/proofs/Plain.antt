@@ -9,7 +9,8 @@ use Rattle.td_stamp.specs.Bag.{bag_insert, bag_of}
 use Rattle.td_batch.specs.Flow.{numbers_from}
 use Rattle.td_reach.specs.declared.stamp.Stamp.{Stamp}
 use Rattle.td_calls.specs.Answers.{Answers}
-use Rattle.td_machine.specs.State.{HallState, Task, Content, OutputAt, task_cmp, output_at_cmp, shard_of_key, is_out}
+use Rattle.td_machine.specs.declared.records.OutputAt.{OutputAt}
+use Rattle.td_machine.specs.State.{HallState, Task, Content, task_cmp, output_at_cmp, shard_of_key, is_out}
 use Rattle.td_machine.specs.State.Content.{messages, notification}
 use Rattle.td_machine.specs.Active.{kind_of, active, IsFree, stamp_of_asked, has_passed}
 use Rattle.td_machine.specs.Steps.{MayTake, IsContent, with_task, collected_to, to_collect, comes_out}
@@ -66,7 +67,8 @@ module _ (answers : Answers) (origin : Origin) (S : HallState) (H : History) whe
         running = record {
           told = record { balance = told.balance; buffered = told.buffered; asked = told.asked; seen = told.seen; outputs = told.outputs; left_bag = told.left_bag; left = told.left; base_states = told.base_states };
           answered = record { sent_times = answered.sent_times; message_times = answered.message_times; arrived_times = answered.arrived_times; sent = answered.sent; left = answered.left; folds_left = answered.folds_left };
-          on_edges = inv.running.on_edges; messages_bag = inv.running.messages_bag;
+          on_edges = inv.running.on_edges;
+          messages_bag = inv.running.messages_bag;
           later = inv.running.later;
           settled = inv.running.settled;
           notified_times = inv.running.notified_times;
@@ -97,7 +99,8 @@ module _ (answers : Answers) (origin : Origin) (S : HallState) (H : History) whe
         running = record {
           told = record { balance = told.balance; buffered = told.buffered; asked = told.asked; seen = told.seen; outputs = told.outputs; left_bag = told.left_bag; left = told.left; base_states = told.base_states };
           answered = record { sent_times = answered.sent_times; message_times = answered.message_times; arrived_times = answered.arrived_times; sent = answered.sent; left = answered.left; folds_left = answered.folds_left };
-          on_edges = inv.running.on_edges; messages_bag = inv.running.messages_bag;
+          on_edges = inv.running.on_edges;
+          messages_bag = inv.running.messages_bag;
           later = fewer _ inv.running.later;
           settled = all_weaken (λ a. IsFree S (stamp_of_asked a)) (λ a. IsFree after (stamp_of_asked a)) (λ a f. fewer _ f) H.notified inv.running.settled;
           notified_times = inv.running.notified_times;
@@ -171,9 +174,10 @@ module _ (answers : Answers) (origin : Origin) (S : HallState) (H : History) whe
       by : Counted (has_passed S) (S.collected + 1) (S.next - (S.collected + 1)) (length (to_collect S)) → (S.collected + length (to_collect S) < S.next) × AllByRecursion (λ (p : Stamp). S.collected + length (to_collect S) < p.time.epoch) (active S)
       by (l, inl z) =
           (omega (arith, l, stands.collected.1), all_weaken (λ (p : Stamp). (S.base < p.time.epoch) × (S.collected < p.time.epoch)) (λ p. S.collected + length (to_collect S) < p.time.epoch) (λ p k. omega (arith, z, k.1)) (active S) later)
-      by (l, inr q) =
-          (omega (arith, l, stands.collected.1),
-              all_weaken (λ (p : Stamp). S.collected + 1 + length (to_collect S) - 1 < p.time.epoch) (λ p. S.collected + length (to_collect S) < p.time.epoch) (λ p k. omega (arith, k)) (active S) (passed_all answers origin S H (S.collected + 1 + length (to_collect S) - 1) q))
+      by (l, inr q) = (
+        omega (arith, l, stands.collected.1),
+        all_weaken (λ (p : Stamp). S.collected + 1 + length (to_collect S) - 1 < p.time.epoch) (λ p. S.collected + length (to_collect S) < p.time.epoch) (λ p k. omega (arith, k)) (active S) (passed_all answers origin S H (S.collected + 1 + length (to_collect S) - 1) q),
+      )
 
   pub newer : (c d e : ℕ) → c ≤ d → (nat_lt c e && nat_lt d e) ≡ nat_lt d e
   newer c d e l = by (nat_lt d e) refl
@@ -202,13 +206,19 @@ module _ (answers : Answers) (origin : Origin) (S : HallState) (H : History) whe
         stands = record { plan = inv.stands.plan; workers = inv.stands.workers; next = inv.stands.next; first = inv.stands.first; states = inv.stands.states; base = inv.stands.base; collected = (omega (arith, inv.stands.collected.0), done.0); batches = inv.stands.batches };
         running = record {
           told = record {
-            balance = told.balance; buffered = told.buffered; asked = told.asked; seen = told.seen;
+            balance = told.balance;
+            buffered = told.buffered;
+            asked = told.asked;
+            seen = told.seen;
             outputs = ap (filter is_newer) told.outputs ∙ filter-bag_of output_at_cmp output_at_total output_at_apart is_newer (filter is_new all) ∙ ap (bag_of output_at_cmp) (filter_filter is_newer is_new all
                 ∙ filter_alike (λ o. is_new o && is_newer o) is_newer all (all_everywhere (λ o. (is_new o && is_newer o) ≡ is_newer o) (λ o. newer S.collected (S.collected + length (to_collect S)) o.epoch (omega arith)) all));
-            left_bag = told.left_bag; left = told.left; base_states = told.base_states;
+            left_bag = told.left_bag;
+            left = told.left;
+            base_states = told.base_states;
           };
           answered = record { sent_times = answered.sent_times; message_times = answered.message_times; arrived_times = answered.arrived_times; sent = answered.sent; left = answered.left; folds_left = answered.folds_left };
-          on_edges = inv.running.on_edges; messages_bag = inv.running.messages_bag;
+          on_edges = inv.running.on_edges;
+          messages_bag = inv.running.messages_bag;
           later = all_both _ _ (active S) (all_weaken (λ (p : Stamp). (S.base < p.time.epoch) × (S.collected < p.time.epoch)) (λ p. S.base < p.time.epoch) (λ p k. k.0) (active S) inv.running.later) done.1;
           settled = inv.running.settled;
           notified_times = inv.running.notified_times;

@@ -12,7 +12,8 @@ use Rattle.td_plan.specs.Faults.{IsPlan}
 use Rattle.td_batch.specs.Flow.{numbers_from}
 use Rattle.td_reach.specs.declared.stamp.Stamp.{Stamp}
 use Rattle.td_calls.specs.Answers.{Answers}
-use Rattle.td_machine.specs.State.{HallState, Coming, Task, Content, KeyItems, shard_of_key, states_at}
+use Rattle.td_machine.specs.declared.records.Message.{Message}
+use Rattle.td_machine.specs.State.{HallState, Task, Content, KeyItems, shard_of_key, states_at}
 use Rattle.td_machine.specs.State.Content.{messages, notification}
 use Rattle.td_machine.specs.Active.{kind_of, active, stamp_of_input, inputs_of, has_passed, unpassed}
 use Rattle.td_machine.specs.Steps.{Event, Answer, Step, Plays, Takes, Gives, opened, release_by, ends, collect_step, cut_by, cut_at_by, cut_to, with_task, accepts, coming, delivered, effect, is_given, all_delivered, notified, asked_at, to_notify}
@@ -52,7 +53,12 @@ given_runs answers origin S H task runs =
     record {
       told = record { balance = told.balance; buffered = told.buffered; asked = told.asked; seen = told.seen; outputs = told.outputs; left_bag = told.left_bag; left = told.left; base_states = told.base_states };
       answered = record { sent_times = answered.sent_times; message_times = answered.message_times; arrived_times = answered.arrived_times; sent = answered.sent; left = answered.left; folds_left = answered.folds_left };
-      on_edges = runs.on_edges; messages_bag = runs.messages_bag; later = runs.later; settled = runs.settled; notified_times = runs.notified_times; notified_once = runs.notified_once;
+      on_edges = runs.on_edges;
+      messages_bag = runs.messages_bag;
+      later = runs.later;
+      settled = runs.settled;
+      notified_times = runs.notified_times;
+      notified_once = runs.notified_once;
     }
 
 given_stands : (origin : Origin) (S : HallState) (task : Task) → Stands origin S → Stands origin (is_given S task)
@@ -79,15 +85,19 @@ module _ (answers : Answers) (origin : Origin) (S : HallState) (H : History) (fa
   others = all_weaken (λ other. Known other × (is_other other ≡ true)) (OutBeside S task.shard) (λ other k. ((λ e. let no : false ≡ true = sym (ap not (ap (λ n. n == task.shard) e ∙ eqb-same task.shard)) ∙ k.1 in cc), k.0.0, k.0.1, k.0.2)) (filter is_other S.out) (all_filter Known is_other S.out inv.tasks.stand)
 
   finish : (X : HallState) (n m : ℕ) (r : RunsOn answers origin X (filter is_other S.out) task.shard) → X.out ≡ S.out → Gained n m H r.0.0 → (H' : History) × Invariant answers origin (is_given X task) H' × Gained n m H H'
-  finish X n m r e more = (r.0.0, record {
-        stands = given_stands origin X task r.1;
-        running = given_runs answers origin X r.0.0 task r.0.1;
-        tasks = record {
-          stand = subst (λ l. AllByRecursion (λ other. (other.kind ≡ kind_of X.plan other.vertex) × AllByRecursion (λ r. shard_of_key X.workers r.key ≡ other.shard) (recs_in other.content) × StandsOut (is_given X task) other other.content) (filter is_other l)) (sym e)
-              (all_weaken (OutBeside X task.shard) (λ other. (other.kind ≡ kind_of X.plan other.vertex) × AllByRecursion (λ r. shard_of_key X.workers r.key ≡ other.shard) (recs_in other.content) × StandsOut (is_given X task) other other.content) (λ other k. (k.1, k.2, still_given X task other other.content k.3)) (filter is_other S.out) r.2);
-          once = subst (λ l. OneAShard (filter is_other l)) (sym e) (fewer_shards is_other S.out inv.tasks.once);
-        };
-      }, more)
+  finish X n m r e more = (
+    r.0.0,
+    record {
+      stands = given_stands origin X task r.1;
+      running = given_runs answers origin X r.0.0 task r.0.1;
+      tasks = record {
+        stand = subst (λ l. AllByRecursion (λ other. (other.kind ≡ kind_of X.plan other.vertex) × AllByRecursion (λ r. shard_of_key X.workers r.key ≡ other.shard) (recs_in other.content) × StandsOut (is_given X task) other other.content) (filter is_other l)) (sym e)
+            (all_weaken (OutBeside X task.shard) (λ other. (other.kind ≡ kind_of X.plan other.vertex) × AllByRecursion (λ r. shard_of_key X.workers r.key ≡ other.shard) (recs_in other.content) × StandsOut (is_given X task) other other.content) (λ other k. (k.1, k.2, still_given X task other other.content k.3)) (filter is_other S.out) r.2);
+        once = subst (λ l. OneAShard (filter is_other l)) (sym e) (fewer_shards is_other S.out inv.tasks.once);
+      };
+    },
+    more,
+  )
 
   give_content : (content : Content) → StandsOut S task content → AllByRecursion (λ r. shard_of_key S.workers r.key ≡ task.shard) (recs_in content) → (H' : History) × Invariant answers origin (is_given (effect answers S task content) task) H' × Gained (records_in content) (notes_in content) H H'
   give_content (messages port recs) h mine =
@@ -99,9 +109,11 @@ module _ (answers : Answers) (origin : Origin) (S : HallState) (H : History) (fa
       λ i. notified answers S (asked_at S task.shard task.vertex task.time) (sym it_stands.0 i) (sym h.2 i) in
       let stands : Stands origin (notified answers S (asked_at S task.shard task.vertex task.time) (kind_of S.plan task.vertex) (to_notify S task.shard task.vertex task.time)) =
       subst (λ k. Stands origin (notified answers S (asked_at S task.shard task.vertex task.time) k (to_notify S task.shard task.vertex task.time))) it_stands.0 (stands_notified answers origin S task (to_notify S task.shard task.vertex task.time) inv.stands) in
-      subst P same (finish (notified answers S (asked_at S task.shard task.vertex task.time) (kind_of S.plan task.vertex) (to_notify S task.shard task.vertex task.time)) 0 1
-      ((also_notified answers S H (asked_at S task.shard task.vertex task.time) (to_notify S task.shard task.vertex task.time), notified_runs answers origin S H facts task.shard task.vertex task.time inv.running inv.stands.first inv.stands.states h.0 h.1), stands,
-          others_stand_now answers origin S H facts task.shard task.vertex task.time inv.running inv.stands.first inv.stands.states h.0 h.1 (filter is_other S.out) others) refl (omega arith, omega arith))
+      subst P same (finish (notified answers S (asked_at S task.shard task.vertex task.time) (kind_of S.plan task.vertex) (to_notify S task.shard task.vertex task.time)) 0 1 (
+        (also_notified answers S H (asked_at S task.shard task.vertex task.time) (to_notify S task.shard task.vertex task.time), notified_runs answers origin S H facts task.shard task.vertex task.time inv.running inv.stands.first inv.stands.states h.0 h.1),
+        stands,
+        others_stand_now answers origin S H facts task.shard task.vertex task.time inv.running inv.stands.first inv.stands.states h.0 h.1 (filter is_other S.out) others,
+      ) refl (omega arith, omega arith))
 
   pub given_keeps : (H' : History) × Invariant answers origin (is_given (effect answers S task task.content) task) H' × Gained (records_in task.content) (notes_in task.content) H H'
   given_keeps = give_content task.content it_stands.2 it_stands.1
@@ -166,7 +178,7 @@ module _ (answers : Answers) (origin : Origin) (S : HallState) (H : History) (fa
   gives_goes : (task : Task) (answer : Answer) (after : HallState) → Gives answers S task answer after → Goes answers origin S H (give task) answer after
   gives_goes task _ _ (gives out) = let r = given_keeps answers origin S H facts inv task out in stays (give task) has_given refl (is_given (effect answers S task task.content) task) (same_plan task.content) r.0 r.2 r.1
     where
-      each_plan : (kind : Kind) (cs : List Coming) (X : HallState) → (all_delivered answers kind X cs).plan ≡ X.plan
+      each_plan : (kind : Kind) (cs : List Message) (X : HallState) → (all_delivered answers kind X cs).plan ≡ X.plan
       each_plan kind [] X = refl
       each_plan kind (c ∷ cs) X = each_plan kind cs (delivered answers X kind c)
 
@@ -207,9 +219,11 @@ pub opened_holds : (answers : Answers) (plan : List Line) (states : StateList) (
 opened_holds answers plan states first workers lawful facts ordered l m = record {
   stands = record { plan = lawful; workers = m; next = omega arith; first = l; states = ordered; base = (omega (arith, l), omega (arith, l)); collected = (omega (arith, l), omega (arith, l)); batches = none (first - 1 + 1 - first) };
   running = record {
-    told = record { balance = refl; buffered = refl; asked = λ a. refl; seen = λ x. refl; outputs = refl; left_bag = refl; left = refl; base_states = refl };
+    told = record { balance = refl; buffered = refl; asked = λ a. refl; seen = λ x l. refl; outputs = refl; left_bag = refl; left = refl; base_states = refl };
     answered = record {
-      sent_times = tt; message_times = tt; arrived_times = tt;
+      sent_times = tt;
+      message_times = tt;
+      arrived_times = tt;
       sent = λ v t h. absurd (omega (arith, h.0, h.1));
       left = λ v code e k a b. absurd (omega (arith, a, b));
       folds_left = tt;

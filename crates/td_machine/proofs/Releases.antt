@@ -24,14 +24,18 @@ use Rattle.td_batch.specs.Flow.{AreBelow}
 use Rattle.td_reach.specs.declared.stamp.Stamp.{Stamp}
 use Rattle.td_reach.specs.Paths.{Could}
 use Rattle.td_calls.specs.Answers.{Answers}
-use Rattle.td_machine.specs.State.{HallState, Coming, Stamped, StateLeft, Asked, Task, Content, coming_cmp, asked_cmp, shard_of_key, is_there, arrival, asked_of}
+use Rattle.td_machine.specs.declared.records.Message.{Message}
+use Rattle.td_machine.specs.declared.records.Stamped.{Stamped}
+use Rattle.td_machine.specs.declared.records.StateLeft.{StateLeft}
+use Rattle.td_machine.specs.declared.records.Notification.{Notification}
+use Rattle.td_machine.specs.State.{HallState, Task, Content, message_cmp, notification_cmp, shard_of_key, is_there, arrival, asked_of}
 use Rattle.td_machine.specs.State.Content.{messages, notification}
 use Rattle.td_machine.specs.Active.{kind_of, inputs_of, active, IsFree, stamp_at, stamp_of_message, stamp_of_asked, stamp_of_input, stamps_of_inputs}
 use Rattle.td_machine.specs.Steps.{posts, posted, entered, with_batch, accepts, coming}
 use Rattle.td_machine.specs.History.{Origin, History, IsTold, AreAnswered, Running, StandsOut, Invariant, IsTime, IsOnEdge, is_grouping, has_answer, epoch_from, sent_at, came_at, is_left_at, left_by, recs_in}
 use Rattle.td_machine.specs.PlanFacts.{PlanFacts}
 use Rattle.td_machine.specs.Examples.{could-epoch}
-use Rattle.td_machine.proofs.Orders.{coming_total, coming_apart, there_is}
+use Rattle.td_machine.proofs.Orders.{message_total, message_apart, there_is}
 use Rattle.td_machine.proofs.Lists.{all_app, all_map, all_flat, all_weaken, all_everywhere, all_join, all_filter, all_both, filter_yes, filter_no, filter_none}
 use Rattle.td_machine.proofs.Callings.{answer_nothing}
 use Rattle.td_machine.proofs.Times.{posts_times, posted_epochs, sent_app}
@@ -44,13 +48,13 @@ no_answer_is true false e = (refl, refl)
 no_answer_is false h e = cc
 
 -- what is asked for is of a time that was released, at a group or a fold, and was not notified
-pub asked_is : (answers : Answers) (origin : Origin) (S : HallState) (H : History) → Running answers origin S H → (a : Asked) → has asked_cmp a S.asked ≡ true
-    → IsTime origin S.next S.plan a.vertex a.time × (is_grouping (kind_of S.plan a.vertex) ≡ true) × (has asked_cmp a H.notified ≡ false)
+pub asked_is : (answers : Answers) (origin : Origin) (S : HallState) (H : History) → Running answers origin S H → (a : Notification) → has notification_cmp a S.asked ≡ true
+    → IsTime origin S.next S.plan a.vertex a.time × (is_grouping (kind_of S.plan a.vertex) ≡ true) × (has notification_cmp a H.notified ≡ false)
 asked_is answers origin S H runs a h =
-    let P : Asked → Type 0 = λ a. IsTime origin S.next S.plan a.vertex a.time × (is_grouping (kind_of S.plan a.vertex) ≡ true) × (has asked_cmp a H.notified ≡ false) in
-    let no : Coming → Bool = λ c. not (has_answer S.plan S.workers H.notified c) in
+    let P : Notification → Type 0 = λ a. IsTime origin S.next S.plan a.vertex a.time × (is_grouping (kind_of S.plan a.vertex) ≡ true) × (has notification_cmp a H.notified ≡ false) in
+    let no : Message → Bool = λ c. not (has_answer S.plan S.workers H.notified c) in
     all_has P a (map (asked_of S.workers) (filter no H.arrived)) (all_map P (asked_of S.workers) (filter no H.arrived) (all_weaken (λ c. IsTime origin S.next S.plan c.vertex c.time × (no c ≡ true)) (λ c. P (asked_of S.workers c))
-    (λ c k. let n = no_answer_is (is_grouping (kind_of S.plan c.vertex)) (has asked_cmp (asked_of S.workers c) H.notified) k.1 in (k.0, n.0, n.1)) (filter no H.arrived) (all_filter (λ c. IsTime origin S.next S.plan c.vertex c.time) no H.arrived runs.answered.arrived_times))) (sym (runs.told.asked a) ∙ h)
+    (λ c k. let n = no_answer_is (is_grouping (kind_of S.plan c.vertex)) (has notification_cmp (asked_of S.workers c) H.notified) k.1 in (k.0, n.0, n.1)) (filter no H.arrived) (all_filter (λ c. IsTime origin S.next S.plan c.vertex c.time) no H.arrived runs.answered.arrived_times))) (sym (runs.told.asked a) ∙ h)
 
 pub get_before : {X : Type 0} (xs ys : List X) (i : ℕ) (d : X) → i < length xs → get_or (xs ++ ys) i d ≡ get_or xs i d
 get_before [] ys i d h = absurd (omega (arith, h))
@@ -117,7 +121,7 @@ module _ (answers : Answers) (origin : Origin) (S : HallState) (H : History) (fa
   abbrev known : AreAnswered answers origin S H
   known = inv.running.answered
 
-  abbrev ready : Coming → Bool
+  abbrev ready : Message → Bool
   ready = has_answer S.plan S.workers H.notified
 
   abbrev Released : ℕ → Timestamp → Type 0
@@ -141,10 +145,10 @@ module _ (answers : Answers) (origin : Origin) (S : HallState) (H : History) (fa
   new_times = all_map (λ (x : Stamped). ReleasedNow x.vertex x.time) (entered S.next) batch (all_weaken (λ (e : Entry). kind_of S.plan e.input ≡ Input) (λ e. ReleasedNow e.input (record { epoch = S.next; turns = [] }))
       (λ e k. (first_next, omega arith, subst (λ l. AreBelow [] (bounds l)) (sym (facts.inputs e.input k)) tt)) batch are_inputs)
 
-  balance : join coming_cmp after.messages (bag_of coming_cmp H.arrived) ≡ bag_of coming_cmp (posts S.plan (new ++ H.sent))
+  balance : join message_cmp after.messages (bag_of message_cmp H.arrived) ≡ bag_of message_cmp (posts S.plan (new ++ H.sent))
   balance =
-      join-assoc coming_cmp coming_total coming_apart (posts S.plan new) S.messages (bag_of coming_cmp H.arrived) ∙ ap (join coming_cmp (posts S.plan new)) told.balance
-      ∙ sym (bag_of-append coming_cmp coming_total coming_apart (posts S.plan new) (posts S.plan H.sent)) ∙ ap (bag_of coming_cmp) (sym (flat_map-append (posted S.plan) new H.sent))
+      join-assoc message_cmp message_total message_apart (posts S.plan new) S.messages (bag_of message_cmp H.arrived) ∙ ap (join message_cmp (posts S.plan new)) told.balance
+      ∙ sym (bag_of-append message_cmp message_total message_apart (posts S.plan new) (posts S.plan H.sent)) ∙ ap (bag_of message_cmp) (sym (flat_map-append (posted S.plan) new H.sent))
 
   -- of an epoch released before
   same_epoch : (e : ℕ) → origin.first ≤ e → e < S.next → epoch_from answers origin_after H.left e ≡ epoch_from answers origin H.left e
@@ -160,8 +164,8 @@ module _ (answers : Answers) (origin : Origin) (S : HallState) (H : History) (fa
       (λ x h. not_there v x.vertex t x.time (λ s. omega (arith, l, s, h.1))) H.sent known.sent_times))
 
   came_old : (v : ℕ) (t : Timestamp) → t.epoch ≡ S.next → came_at (filter ready H.arrived) v t ≡ []
-  came_old v t l = ap (map arrival) (filter_none (λ (c : Coming). is_there v t c.vertex c.time) (filter ready H.arrived) (all_weaken (λ (c : Coming). Released c.vertex c.time × (ready c ≡ true)) (λ (c : Coming). is_there v t c.vertex c.time ≡ false)
-      (λ c h. not_there v c.vertex t c.time (λ s. omega (arith, l, s, h.0.1))) (filter ready H.arrived) (all_filter (λ (c : Coming). Released c.vertex c.time) ready H.arrived known.arrived_times)))
+  came_old v t l = ap (map arrival) (filter_none (λ (c : Message). is_there v t c.vertex c.time) (filter ready H.arrived) (all_weaken (λ (c : Message). Released c.vertex c.time × (ready c ≡ true)) (λ (c : Message). is_there v t c.vertex c.time ≡ false)
+      (λ c h. not_there v c.vertex t c.time (λ s. omega (arith, l, s, h.0.1))) (filter ready H.arrived) (all_filter (λ (c : Message). Released c.vertex c.time) ready H.arrived known.arrived_times)))
 
   -- what inputs send
   sent_input : (v : ℕ) (t : Timestamp) → t ≡ record { epoch = S.next; turns = [] } → (es : List Entry) → sent_at (map (entered S.next) es) v t ≡ records_for v es
@@ -234,16 +238,19 @@ module _ (answers : Answers) (origin : Origin) (S : HallState) (H : History) (fa
           ∙ ap (λ l. map (left_by (epoch_from answers origin_after H.left e) code e v) (groups l)) (sym (came_old v (record { epoch = e; turns = [] }) s))
 
   -- WHAT NOTHING HELD BACK, of an epoch released before
-  active_after : (P : Stamp → Type 0) → ((c : Coming) → c.time.epoch ≡ S.next → P (stamp_of_message S.plan c)) → ((v : ℕ) → P (stamp_of_input (S.next + 1) v)) → AllByRecursion P (active S) → AllByRecursion P (active after)
+  active_after : (P : Stamp → Type 0) → ((c : Message) → c.time.epoch ≡ S.next → P (stamp_of_message S.plan c)) → ((v : ℕ) → P (stamp_of_input (S.next + 1) v)) → AllByRecursion P (active S) → AllByRecursion P (active after)
   active_after P post ask h =
       let was = from_active S P h in
-      to_active after P
-      (all_join coming_cmp coming_total coming_apart (λ c. P (stamp_of_message S.plan c)) (posts S.plan new) S.messages
-      (all_weaken (λ (c : Coming). c.time.epoch ≡ S.next) (λ c. P (stamp_of_message S.plan c)) post (posts S.plan new) new_epochs) was.0, was.1, by S.closed)
+      to_active after P (
+        all_join message_cmp message_total message_apart (λ c. P (stamp_of_message S.plan c)) (posts S.plan new) S.messages
+            (all_weaken (λ (c : Message). c.time.epoch ≡ S.next) (λ c. P (stamp_of_message S.plan c)) post (posts S.plan new) new_epochs) was.0,
+        was.1,
+        by S.closed,
+      )
     where
-      new_epochs : AllByRecursion (λ (c : Coming). c.time.epoch ≡ S.next) (posts S.plan new)
-      new_epochs = all_flat (λ (c : Coming). c.time.epoch ≡ S.next) (posted S.plan) new (all_map (λ (x : Stamped). AllByRecursion (λ (c : Coming). c.time.epoch ≡ S.next) (posted S.plan x)) (entered S.next) batch
-          (all_everywhere (λ (e : Entry). AllByRecursion (λ (c : Coming). c.time.epoch ≡ S.next) (posted S.plan (entered S.next e))) (λ e. posted_epochs S.plan (entered S.next e)) batch))
+      new_epochs : AllByRecursion (λ (c : Message). c.time.epoch ≡ S.next) (posts S.plan new)
+      new_epochs = all_flat (λ (c : Message). c.time.epoch ≡ S.next) (posted S.plan) new (all_map (λ (x : Stamped). AllByRecursion (λ (c : Message). c.time.epoch ≡ S.next) (posted S.plan x)) (entered S.next) batch
+          (all_everywhere (λ (e : Entry). AllByRecursion (λ (c : Message). c.time.epoch ≡ S.next) (posted S.plan (entered S.next e))) (λ e. posted_epochs S.plan (entered S.next e)) batch))
 
       by : (closed : Bool) → AllByRecursion P (stamps_of_inputs S.plan (S.next + 1) closed)
       by true = tt
@@ -255,13 +262,18 @@ module _ (answers : Answers) (origin : Origin) (S : HallState) (H : History) (fa
 
   still_out : (task : Task) (content : Content) → StandsOut S task content → StandsOut after task content
   still_out task (messages port recs) h =
-      (join coming_cmp (posts S.plan new) h.0, ap (join coming_cmp (posts S.plan new)) h.1 ∙ join-swap coming_cmp coming_total coming_apart (posts S.plan new) (coming task.vertex port task.time recs) h.0)
+      (join message_cmp (posts S.plan new) h.0, ap (join message_cmp (posts S.plan new)) h.1 ∙ join-swap message_cmp message_total message_apart (posts S.plan new) (coming task.vertex port task.time recs) h.0)
   still_out task (notification items) h = (h.0, stays_free task.vertex task.time (asked_is answers origin S H runs (record { shard = task.shard; vertex = task.vertex; time = task.time }) h.0).0.1 h.1, h.2)
 
   pub released_keeps : Invariant answers origin_after (with_batch S batch) also_released
   released_keeps = record {
     stands = record {
-      plan = inv.stands.plan; workers = inv.stands.workers; first = inv.stands.first; states = inv.stands.states; collected = (inv.stands.collected.0, omega (arith, inv.stands.collected.1)); base = (inv.stands.base.0, omega (arith, inv.stands.base.1));
+      plan = inv.stands.plan;
+      workers = inv.stands.workers;
+      first = inv.stands.first;
+      states = inv.stands.states;
+      collected = (inv.stands.collected.0, omega (arith, inv.stands.collected.1));
+      base = (inv.stands.base.0, omega (arith, inv.stands.base.1));
       next = let n = length_push origin.batches batch in omega (arith, n, inv.stands.next);
       batches = ap (λ l. l ++ batch ∷ []) inv.stands.batches ∙ sym (drop_before (S.base + 1 - origin.first) origin.batches (batch ∷ []) (omega (arith, inv.stands.base.1, inv.stands.next)));
     };
@@ -269,21 +281,21 @@ module _ (answers : Answers) (origin : Origin) (S : HallState) (H : History) (fa
       told = record { balance = balance; buffered = told.buffered; asked = told.asked; seen = told.seen; outputs = told.outputs; left_bag = told.left_bag; left = told.left; base_states = told.base_states };
       answered = record {
         sent_times = all_app (λ (x : Stamped). ReleasedNow x.vertex x.time) new H.sent new_times (all_weaken (λ (x : Stamped). Released x.vertex x.time) (λ (x : Stamped). ReleasedNow x.vertex x.time) (λ x h. wider x.vertex x.time h) H.sent known.sent_times);
-        message_times = all_join coming_cmp coming_total coming_apart (λ (c : Coming). ReleasedNow c.vertex c.time) (posts S.plan new) S.messages (posts_times S.plan facts origin_after (S.next + 1) new new_times)
-            (all_weaken (λ (c : Coming). Released c.vertex c.time) (λ (c : Coming). ReleasedNow c.vertex c.time) (λ c h. wider c.vertex c.time h) S.messages known.message_times);
-        arrived_times = all_weaken (λ (c : Coming). Released c.vertex c.time) (λ (c : Coming). ReleasedNow c.vertex c.time) (λ c h. wider c.vertex c.time h) H.arrived known.arrived_times;
+        message_times = all_join message_cmp message_total message_apart (λ (c : Message). ReleasedNow c.vertex c.time) (posts S.plan new) S.messages (posts_times S.plan facts origin_after (S.next + 1) new new_times)
+            (all_weaken (λ (c : Message). Released c.vertex c.time) (λ (c : Message). ReleasedNow c.vertex c.time) (λ c h. wider c.vertex c.time h) S.messages known.message_times);
+        arrived_times = all_weaken (λ (c : Message). Released c.vertex c.time) (λ (c : Message). ReleasedNow c.vertex c.time) (λ c h. wider c.vertex c.time h) H.arrived known.arrived_times;
         sent = sent;
         left = left;
         folds_left = all_weaken (λ (k : StateLeft). (is_fold (kind_of S.plan k.vertex) ≡ true) × (origin.first ≤ k.epoch) × (k.epoch < S.next)) (λ (k : StateLeft). (is_fold (kind_of S.plan k.vertex) ≡ true) × (origin.first ≤ k.epoch) × (k.epoch < S.next + 1)) (λ k h. (h.0, h.1, omega (arith, h.2))) H.left known.folds_left;
       };
-      on_edges = all_join coming_cmp coming_total coming_apart (IsOnEdge S.plan) (posts S.plan new) S.messages
+      on_edges = all_join message_cmp message_total message_apart (IsOnEdge S.plan) (posts S.plan new) S.messages
           (all_flat (IsOnEdge S.plan) (posted S.plan) new (all_map (λ (x : Stamped). AllByRecursion (IsOnEdge S.plan) (posted S.plan x)) (entered S.next) batch (all_everywhere (λ (e : Entry). AllByRecursion (IsOnEdge S.plan) (posted S.plan (entered S.next e)))
           (λ e. posted_one S.plan facts (IsOnEdge S.plan) e.input (record { epoch = S.next; turns = [] }) (λ edge later r found s w. (edge, found, refl)) e.rec) batch))) runs.on_edges;
-      messages_bag = join-IsBag coming_cmp coming_total coming_apart (posts S.plan new) S.messages runs.messages_bag;
+      messages_bag = join-IsBag message_cmp message_total message_apart (posts S.plan new) S.messages runs.messages_bag;
       later = active_after (λ (p : Stamp). (S.base < p.time.epoch) × (S.collected < p.time.epoch)) (λ c e. (omega (arith, e, inv.stands.base.1), omega (arith, e, inv.stands.collected.1))) (λ v. (omega (arith, inv.stands.base.1), omega (arith, inv.stands.collected.1))) runs.later;
-      settled = all_weaken (λ (a : Asked). IsFree S (stamp_of_asked a) × Released a.vertex a.time) (λ (a : Asked). IsFree after (stamp_of_asked a)) (λ a h. stays_free a.vertex a.time h.1.1 h.0) H.notified
-          (all_both (λ (a : Asked). IsFree S (stamp_of_asked a)) (λ (a : Asked). Released a.vertex a.time) H.notified runs.settled runs.notified_times);
-      notified_times = all_weaken (λ (a : Asked). Released a.vertex a.time) (λ (a : Asked). ReleasedNow a.vertex a.time) (λ a h. wider a.vertex a.time h) H.notified runs.notified_times;
+      settled = all_weaken (λ (a : Notification). IsFree S (stamp_of_asked a) × Released a.vertex a.time) (λ (a : Notification). IsFree after (stamp_of_asked a)) (λ a h. stays_free a.vertex a.time h.1.1 h.0) H.notified
+          (all_both (λ (a : Notification). IsFree S (stamp_of_asked a)) (λ (a : Notification). Released a.vertex a.time) H.notified runs.settled runs.notified_times);
+      notified_times = all_weaken (λ (a : Notification). Released a.vertex a.time) (λ (a : Notification). ReleasedNow a.vertex a.time) (λ a h. wider a.vertex a.time h) H.notified runs.notified_times;
       notified_once = inv.running.notified_once;
     };
     tasks = record {

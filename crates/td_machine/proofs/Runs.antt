@@ -12,7 +12,8 @@ use Rattle.td_calls.specs.Answers.{Answers}
 use Rattle.td_batch.specs.Meaning.{EpochResult, epoch_result, result_of, run, states_after}
 use Rattle.td_batch.proofs.Runs.{states-append}
 use Rattle.td_batch.proofs.Meanings.{epoch_is_solution}
-use Rattle.td_machine.specs.State.{HallState, StateLeft, with_left, states_at}
+use Rattle.td_machine.specs.declared.records.StateLeft.{StateLeft}
+use Rattle.td_machine.specs.State.{HallState, with_left, states_at}
 use Rattle.td_machine.specs.Active.{kind_of, has_passed}
 use Rattle.td_plan.specs.Faults.{is_fold}
 use Rattle.td_machine.specs.History.{Origin, History, Running, Invariant, epoch_from}

@@ -8,7 +8,7 @@ use Rattle.std.proofs.lemmas.Cmp.{tied_itself}
 use Rattle.std.specs.Ordering.{is_eq}
 use Rattle.td_stamp.specs.declared.values.Rec.{Rec}
 use Rattle.td_stamp.specs.Orders.{rec_cmp}
-use Rattle.td_stamp.specs.OrderLaws.{rec_total, rec_apart}
+use Rattle.td_stamp.specs.ProvedOrders.{rec_total, rec_apart}
 use Rattle.td_stamp.specs.Time.{Timestamp, time_cmp, enter, leave, again, outer_turns, innermost}
 use Rattle.td_stamp.specs.Bag.{join, bag_of}
 use Rattle.td_stamp.specs.Groups.{arrival_of}
@@ -25,7 +25,8 @@ use Rattle.td_calls.specs.Callbacks.{arrivals}
 use Rattle.td_batch.specs.Meaning.{EpochInput, answer}
 use Rattle.td_batch.specs.Flow.{Flow, read_at, answer_at, numbers_from, leave_at, AreBelow, Equation, Solves}
 use Rattle.td_reach.specs.declared.stamp.Stamp.{Stamp}
-use Rattle.td_machine.specs.State.{HallState, Stamped, same_time, is_there}
+use Rattle.td_machine.specs.declared.records.Stamped.{Stamped}
+use Rattle.td_machine.specs.State.{HallState, same_time, is_there}
 use Rattle.td_machine.specs.Active.{kind_of, bound_of, active}
 use Rattle.td_machine.specs.Steps.{sending_times, again_below}
 use Rattle.td_machine.specs.History.{Origin, History, Running, IsTime, epoch_from, sent_at}

@@ -17,7 +17,8 @@ use Rattle.td_stamp.specs.Groups.{groups, items_of}
 use Rattle.td_stamp.proofs.Bags.{join-swap, join-assoc, bag_of-append, set_insert_past, set_insert_less, set_insert_equal, set_has_less, set_has_equal, set_has_past, set_has-set_of}
 use Rattle.td_stamp.proofs.Sets.{all_set_of}
 use Rattle.td_stamp.proofs.Parts.{groups-middle}
-use Rattle.td_machine.specs.State.{Coming, coming_cmp, arrival}
+use Rattle.td_machine.specs.declared.records.Message.{Message}
+use Rattle.td_machine.specs.State.{message_cmp, arrival}
 use Rattle.td_machine.proofs.Lists.{filter_yes, filter_no, filter_map, all_weaken, all_filter, all_everywhere}
 
 has_filter : (p : ℕ → Bool) (x : ℕ) (xs : List ℕ) → p x ≡ true → has nat_cmp x (filter p xs) ≡ has nat_cmp x xs
@@ -127,23 +128,23 @@ module _ {Y : Type 0} (cmp : Y → Y → Ordering) (total : IsTotalOrder cmp) (s
         ∙ sym (λ i. join cmp (by_key_filtered p arrived i) (by_key_filtered q arrived i))
 
 -- the groups of what came do not depend on the order in which it is kept
-groups_put : (before : List Arrival) (c : Coming) (zs : List Coming) → groups (before ++ map arrival (bag_insert coming_cmp c zs)) ≡ groups (before ++ arrival c ∷ map arrival zs)
+groups_put : (before : List Arrival) (c : Message) (zs : List Message) → groups (before ++ map arrival (bag_insert message_cmp c zs)) ≡ groups (before ++ arrival c ∷ map arrival zs)
 groups_put before c [] = refl
-groups_put before c (y ∷ ys) = by (coming_cmp c y) (groups_put (before ++ arrival y ∷ []) c ys)
+groups_put before c (y ∷ ys) = by (message_cmp c y) (groups_put (before ++ arrival y ∷ []) c ys)
   where
-    by : (s : Ordering) → groups ((before ++ arrival y ∷ []) ++ map arrival (bag_insert coming_cmp c ys)) ≡ groups ((before ++ arrival y ∷ []) ++ arrival c ∷ map arrival ys)
-        → groups (before ++ map arrival (elim s [ Greater ↦ y ∷ bag_insert coming_cmp c ys | _ ↦ c ∷ y ∷ ys ])) ≡ groups (before ++ arrival c ∷ arrival y ∷ map arrival ys)
+    by : (s : Ordering) → groups ((before ++ arrival y ∷ []) ++ map arrival (bag_insert message_cmp c ys)) ≡ groups ((before ++ arrival y ∷ []) ++ arrival c ∷ map arrival ys)
+        → groups (before ++ map arrival (elim s [ Greater ↦ y ∷ bag_insert message_cmp c ys | _ ↦ c ∷ y ∷ ys ])) ≡ groups (before ++ arrival c ∷ arrival y ∷ map arrival ys)
     by Less h = refl
     by Equal h = refl
     by Greater h =
-        ap groups (sym (append_assoc before (arrival y ∷ []) (map arrival (bag_insert coming_cmp c ys)))) ∙ h ∙ groups-middle (before ++ arrival y ∷ []) (arrival c) (map arrival ys)
+        ap groups (sym (append_assoc before (arrival y ∷ []) (map arrival (bag_insert message_cmp c ys)))) ∙ h ∙ groups-middle (before ++ arrival y ∷ []) (arrival c) (map arrival ys)
         ∙ ap (λ l. groups (arrival c ∷ l)) (append_assoc before (arrival y ∷ []) (map arrival ys)) ∙ sym (groups-middle before (arrival c) (arrival y ∷ map arrival ys))
 
-groups_bag : (before : List Arrival) (cs : List Coming) → groups (before ++ map arrival (bag_of coming_cmp cs)) ≡ groups (before ++ map arrival cs)
+groups_bag : (before : List Arrival) (cs : List Message) → groups (before ++ map arrival (bag_of message_cmp cs)) ≡ groups (before ++ map arrival cs)
 groups_bag before [] = refl
 groups_bag before (c ∷ cs) =
-    groups_put before c (bag_of coming_cmp cs) ∙ ap groups (sym (append_assoc before (arrival c ∷ []) (map arrival (bag_of coming_cmp cs)))) ∙ groups_bag (before ++ arrival c ∷ []) cs
+    groups_put before c (bag_of message_cmp cs) ∙ ap groups (sym (append_assoc before (arrival c ∷ []) (map arrival (bag_of message_cmp cs)))) ∙ groups_bag (before ++ arrival c ∷ []) cs
     ∙ ap groups (append_assoc before (arrival c ∷ []) (map arrival cs))
 
-pub groups_of_came : (cs : List Coming) → groups (map arrival (bag_of coming_cmp cs)) ≡ groups (map arrival cs)
+pub groups_of_came : (cs : List Message) → groups (map arrival (bag_of message_cmp cs)) ≡ groups (map arrival cs)
 groups_of_came cs = groups_bag [] cs

@@ -13,14 +13,15 @@ use Rattle.std.specs.FinMap.{IsAntisymmetric}
 use Rattle.td_stamp.proofs.Bags.{turned_back}
 use Rattle.td_stamp.specs.declared.values.State.{State}
 use Rattle.td_stamp.specs.Orders.{state_key_cmp}
-use Rattle.td_stamp.specs.OrderLaws.{state_key_total, both_tie}
+use Rattle.td_stamp.specs.ProvedOrders.{state_key_total, both_tie}
 use Rattle.td_stamp.specs.Bag.{bag_insert, join}
 use Rattle.std.specs.List.Sorted.{IsStrictlySortedBy}
 use Rattle.td_stamp.specs.States.{StateList, state_of, AreStates}
 use Rattle.td_batch.specs.Meaning.{with_kept}
 use Rattle.std.specs.Ordering.{nat_cmp}
 use Rattle.std.specs.FinMap.{nat_cmp-IsAntisymmetric}
-use Rattle.td_machine.specs.State.{StateLeft, left_cmp, with_left}
+use Rattle.td_machine.specs.declared.records.StateLeft.{StateLeft}
+use Rattle.td_machine.specs.State.{left_cmp, with_left}
 use Rattle.td_machine.proofs.Lists.{all_weaken, from_map}
 
 module _ {K X : Type 0} (cmp : K → K → Ordering) (total : IsTotalOrder cmp) (same : IsAntisymmetric cmp) where

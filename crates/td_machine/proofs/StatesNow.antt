@@ -27,7 +27,8 @@ use Rattle.td_calls.specs.Answers.{Answers}
 use Rattle.td_calls.specs.Callbacks.{arrivals, on_notification}
 use Rattle.td_batch.specs.Meaning.{EpochInput, with_kept, states_by, states_in}
 use Rattle.td_reach.specs.declared.stamp.Stamp.{Stamp}
-use Rattle.td_machine.specs.State.{HallState, StateLeft, left_cmp, state_cmp, with_left}
+use Rattle.td_machine.specs.declared.records.StateLeft.{StateLeft}
+use Rattle.td_machine.specs.State.{HallState, left_cmp, state_cmp, with_left}
 use Rattle.td_machine.specs.Active.{kind_of, active}
 use Rattle.td_machine.specs.History.{Origin, History, Running, epoch_from, came_at, is_left_at, left_by}
 use Rattle.td_machine.specs.Flows.{flow_of, IsLaid, AreLaid, read_bounds}

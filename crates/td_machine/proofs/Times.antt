@@ -10,7 +10,9 @@ use Rattle.td_plan.specs.declared.vertex.Edge.{Edge}
 use Rattle.td_plan.specs.Lines.{Line}
 use Rattle.td_plan.specs.Blocks.{edges}
 use Rattle.std.specs.Prelude.{nat_lt, suc, if◌then◌else◌}
-use Rattle.td_machine.specs.State.{Coming, Stamped, is_there, arrival}
+use Rattle.td_machine.specs.declared.records.Message.{Message}
+use Rattle.td_machine.specs.declared.records.Stamped.{Stamped}
+use Rattle.td_machine.specs.State.{is_there, arrival}
 use Rattle.td_machine.specs.Active.{kind_of, bound_of}
 use Rattle.td_machine.specs.Steps.{posts, posted, stamped, edges_from, on_edge, sending_times, again_below}
 use Rattle.td_machine.specs.History.{Origin, IsTime, sent_at, came_at}
@@ -39,15 +41,16 @@ sending_epoch (Fold code) bound t = (refl, tt)
 sending_epoch Output bound t = (refl, tt)
 
 -- WHAT HOLDS OF ALL POSTS: of each edge out of a vertex and each time at which it sends
-module _ (plan : List Line) (P : Coming → Type 0) (x : Stamped) where
+module _ (plan : List Line) (P : Message → Type 0) (x : Stamped) where
   abbrev times : List Timestamp
   times = sending_times (kind_of plan x.vertex) (bound_of plan x.vertex) x.time
 
   by_time : (ts : List Timestamp) → AllByRecursion (λ (e : Edge). AllByRecursion (λ later. P (on_edge later x.rec e)) ts) (edges_from plan x.vertex) → AllByRecursion (λ later. AllByRecursion P (map (on_edge later x.rec) (edges_from plan x.vertex))) ts
   by_time [] h = tt
-  by_time (t ∷ ts) h =
-      (all_map P (on_edge t x.rec) (edges_from plan x.vertex) (all_weaken (λ (e : Edge). AllByRecursion (λ later. P (on_edge later x.rec e)) (t ∷ ts)) (λ e. P (on_edge t x.rec e)) (λ e k. k.0) (edges_from plan x.vertex) h),
-          by_time ts (all_weaken (λ (e : Edge). AllByRecursion (λ later. P (on_edge later x.rec e)) (t ∷ ts)) (λ e. AllByRecursion (λ later. P (on_edge later x.rec e)) ts) (λ e k. k.1) (edges_from plan x.vertex) h))
+  by_time (t ∷ ts) h = (
+    all_map P (on_edge t x.rec) (edges_from plan x.vertex) (all_weaken (λ (e : Edge). AllByRecursion (λ later. P (on_edge later x.rec e)) (t ∷ ts)) (λ e. P (on_edge t x.rec e)) (λ e k. k.0) (edges_from plan x.vertex) h),
+    by_time ts (all_weaken (λ (e : Edge). AllByRecursion (λ later. P (on_edge later x.rec e)) (t ∷ ts)) (λ e. AllByRecursion (λ later. P (on_edge later x.rec e)) ts) (λ e k. k.1) (edges_from plan x.vertex) h),
+  )
 
   pub all_posted : AllByRecursion (λ (e : Edge). e.source ≡ x.vertex → AllByRecursion (λ later. P (on_edge later x.rec e)) (sending_times (kind_of plan x.vertex) (bound_of plan x.vertex) x.time)) (edges plan)
       → AllByRecursion P (posted plan x)
@@ -57,7 +60,7 @@ module _ (plan : List Line) (P : Coming → Type 0) (x : Stamped) where
       (λ e k. k.0 (eqb-true e.source x.vertex k.1)) (edges_from plan x.vertex) (all_filter Q (λ e. e.source == x.vertex) (edges plan) h)))
 
 module _ (plan : List Line) (facts : PlanFacts plan) (origin : Origin) (next : ℕ) where
-  abbrev Placed : Coming → Type 0
+  abbrev Placed : Message → Type 0
   Placed c = IsTime origin next plan c.vertex c.time
 
   pub posted_times : (x : Stamped) → IsTime origin next plan x.vertex x.time → AllByRecursion (λ c. IsTime origin next plan c.vertex c.time) (posted plan x)
@@ -94,8 +97,8 @@ sent_elsewhere v w t u [] e = refl
 sent_elsewhere v w t u (r ∷ rs) e = ap (map (λ x. x.rec)) (filter_no (λ x. is_there v t x.vertex x.time) (record { vertex = w; time = u; rec = r }) (stamped w u rs) e) ∙ sent_elsewhere v w t u rs e
 
 -- what came to a vertex at a time, with one more
-pub came_here : (v : ℕ) (t : Timestamp) (c : Coming) (cs : List Coming) → is_there v t c.vertex c.time ≡ true → came_at (c ∷ cs) v t ≡ arrival c ∷ came_at cs v t
+pub came_here : (v : ℕ) (t : Timestamp) (c : Message) (cs : List Message) → is_there v t c.vertex c.time ≡ true → came_at (c ∷ cs) v t ≡ arrival c ∷ came_at cs v t
 came_here v t c cs e = ap (map arrival) (filter_yes (λ c. is_there v t c.vertex c.time) c cs e)
 
-pub came_elsewhere : (v : ℕ) (t : Timestamp) (c : Coming) (cs : List Coming) → is_there v t c.vertex c.time ≡ false → came_at (c ∷ cs) v t ≡ came_at cs v t
+pub came_elsewhere : (v : ℕ) (t : Timestamp) (c : Message) (cs : List Message) → is_there v t c.vertex c.time ≡ false → came_at (c ∷ cs) v t ≡ came_at cs v t
 came_elsewhere v t c cs e = ap (map arrival) (filter_no (λ c. is_there v t c.vertex c.time) c cs e)

@@ -19,11 +19,15 @@ use Rattle.td_plan.specs.declared.vertex.Kind.{Kind}
 use Rattle.td_plan.specs.declared.vertex.Kind.TheVariants.{Input, Map, Distinct, Group, Fold, Enter, Feedback, Leave, Output}
 use Rattle.td_calls.specs.Answers.{Answers}
 use Rattle.td_calls.specs.Callbacks.{Added, on_arrival}
-use Rattle.td_machine.specs.State.{HallState, Coming, Stamped, Asked, OutputAt, coming_cmp, stamped_cmp, asked_cmp, output_at_cmp, is_there, arrival, asked_of, local_at}
+use Rattle.td_machine.specs.declared.records.Message.{Message}
+use Rattle.td_machine.specs.declared.records.Stamped.{Stamped}
+use Rattle.td_machine.specs.declared.records.Notification.{Notification}
+use Rattle.td_machine.specs.declared.records.OutputAt.{OutputAt}
+use Rattle.td_machine.specs.State.{HallState, message_cmp, stamped_cmp, notification_cmp, output_at_cmp, is_there, arrival, asked_of, local_at}
 use Rattle.td_machine.specs.Active.{kind_of}
 use Rattle.td_machine.specs.Steps.{posts, posted, stamped, comes_out, with_asked, waiting, called, delivered}
 use Rattle.td_machine.specs.History.{Origin, History, IsTold, is_grouping, is_distinct, stamped_of, has_answer, also_delivered}
-use Rattle.td_machine.proofs.Orders.{coming_total, coming_apart, stamped_total, stamped_apart, asked_total, asked_apart, output_at_total, output_at_apart, there_is, there_itself}
+use Rattle.td_machine.proofs.Orders.{message_total, message_apart, stamped_total, stamped_apart, notification_total, notification_apart, output_at_total, output_at_apart, there_is, there_itself}
 use Rattle.td_machine.proofs.Lists.{filter_yes, filter_no, filter_app, has-set_insert}
 use Rattle.td_machine.proofs.Callings.{where_true, buffers, sees, sees_none}
 
@@ -72,7 +76,7 @@ distinct_is Feedback e = cc
 distinct_is Leave e = cc
 distinct_is Output e = cc
 
-recent_out : (collected : ℕ) (kind : Kind) (c : Coming) → collected < c.time.epoch → filter (λ o. nat_lt collected o.epoch) (comes_out kind c) ≡ comes_out kind c
+recent_out : (collected : ℕ) (kind : Kind) (c : Message) → collected < c.time.epoch → filter (λ o. nat_lt collected o.epoch) (comes_out kind c) ≡ comes_out kind c
 recent_out collected Input c h = refl
 recent_out collected (Map code) c h = refl
 recent_out collected Distinct c h = refl
@@ -83,12 +87,12 @@ recent_out collected Feedback c h = refl
 recent_out collected Leave c h = refl
 recent_out collected Output c h = filter_yes (λ o. nat_lt collected o.epoch) (record { epoch = c.time.epoch; output = record { vertex = c.vertex; rec = c.rec } }) [] (lt-ltb collected c.time.epoch h)
 
-pub removed : (c : Coming) (messages rest : List Coming) → messages ≡ bag_insert coming_cmp c rest → bag_remove coming_cmp c messages ≡ rest
-removed c messages rest here = ap (bag_remove coming_cmp c) here ∙ bag_remove-bag_insert coming_cmp coming_total coming_apart c rest
+pub removed : (c : Message) (messages rest : List Message) → messages ≡ bag_insert message_cmp c rest → bag_remove message_cmp c messages ≡ rest
+removed c messages rest here = ap (bag_remove message_cmp c) here ∙ bag_remove-bag_insert message_cmp message_total message_apart c rest
 
-module _ (answers : Answers) (origin : Origin) (S : HallState) (H : History) (c : Coming) (rest : List Coming)
-    (here : S.messages ≡ bag_insert coming_cmp c rest) (told : IsTold origin S H)
-    (waits : is_grouping (kind_of S.plan c.vertex) ≡ true → has asked_cmp (asked_of S.workers c) H.notified ≡ false) (recent : S.collected < c.time.epoch) where
+module _ (answers : Answers) (origin : Origin) (S : HallState) (H : History) (c : Message) (rest : List Message)
+    (here : S.messages ≡ bag_insert message_cmp c rest) (told : IsTold origin S H)
+    (waits : is_grouping (kind_of S.plan c.vertex) ≡ true → has notification_cmp (asked_of S.workers c) H.notified ≡ false) (recent : S.collected < c.time.epoch) where
   abbrev kind : Kind
   kind = kind_of S.plan c.vertex
 
@@ -98,66 +102,66 @@ module _ (answers : Answers) (origin : Origin) (S : HallState) (H : History) (c 
   abbrev after : HallState
   after = delivered answers S kind c
 
-  abbrev no_answer : Coming → Bool
+  abbrev no_answer : Message → Bool
   no_answer = λ c. not (has_answer S.plan S.workers H.notified c)
 
   abbrev new : List Stamped
   new = stamped c.vertex c.time added.sent
 
-  balance : join coming_cmp after.messages (bag_of coming_cmp (c ∷ H.arrived)) ≡ bag_of coming_cmp (posts S.plan (new ++ H.sent))
+  balance : join message_cmp after.messages (bag_of message_cmp (c ∷ H.arrived)) ≡ bag_of message_cmp (posts S.plan (new ++ H.sent))
   balance =
-      let B = bag_of coming_cmp H.arrived in
-      join-assoc coming_cmp coming_total coming_apart (posts S.plan new) (bag_remove coming_cmp c S.messages) (bag_insert coming_cmp c B)
-      ∙ ap (join coming_cmp (posts S.plan new)) (ap (λ l. join coming_cmp l (bag_insert coming_cmp c B)) (removed c S.messages rest here)
-      ∙ join-bag_insert coming_cmp coming_total coming_apart rest c B ∙ sym (bag_insert-join coming_cmp coming_total coming_apart c rest B) ∙ ap (λ l. join coming_cmp l B) (sym here) ∙ told.balance)
-      ∙ sym (bag_of-append coming_cmp coming_total coming_apart (posts S.plan new) (posts S.plan H.sent)) ∙ ap (bag_of coming_cmp) (sym (flat_map-append (posted S.plan) new H.sent))
+      let B = bag_of message_cmp H.arrived in
+      join-assoc message_cmp message_total message_apart (posts S.plan new) (bag_remove message_cmp c S.messages) (bag_insert message_cmp c B)
+      ∙ ap (join message_cmp (posts S.plan new)) (ap (λ l. join message_cmp l (bag_insert message_cmp c B)) (removed c S.messages rest here)
+      ∙ join-bag_insert message_cmp message_total message_apart rest c B ∙ sym (bag_insert-join message_cmp message_total message_apart c rest B) ∙ ap (λ l. join message_cmp l B) (sym here) ∙ told.balance)
+      ∙ sym (bag_of-append message_cmp message_total message_apart (posts S.plan new) (posts S.plan H.sent)) ∙ ap (bag_of message_cmp) (sym (flat_map-append (posted S.plan) new H.sent))
 
   unanswered : is_grouping kind ≡ true → no_answer c ≡ true
   unanswered e = λ i. not (not (e i) || waits e i)
 
   answered : is_grouping kind ≡ false → no_answer c ≡ false
-  answered e = λ i. not (not (e i) || has asked_cmp (asked_of S.workers c) H.notified)
+  answered e = λ i. not (not (e i) || has notification_cmp (asked_of S.workers c) H.notified)
 
   kept_of : (b : Bool) → is_grouping kind ≡ b → added.buffered ≡ where_true b (arrival c)
   kept_of b e = buffers answers kind (local_at S c.vertex c.time) (arrival c) ∙ ap (λ b. where_true b (arrival c)) e
 
-  buffered : (b : Bool) → is_grouping kind ≡ b → after.buffered ≡ bag_of coming_cmp (filter no_answer (c ∷ H.arrived))
+  buffered : (b : Bool) → is_grouping kind ≡ b → after.buffered ≡ bag_of message_cmp (filter no_answer (c ∷ H.arrived))
   buffered true e =
-      ap (λ l. join coming_cmp (map (waiting c.vertex c.time) l) S.buffered) (kept_of true e) ∙ ap (bag_insert coming_cmp c) told.buffered
-      ∙ ap (bag_of coming_cmp) (sym (filter_yes no_answer c H.arrived (unanswered e)))
+      ap (λ l. join message_cmp (map (waiting c.vertex c.time) l) S.buffered) (kept_of true e) ∙ ap (bag_insert message_cmp c) told.buffered
+      ∙ ap (bag_of message_cmp) (sym (filter_yes no_answer c H.arrived (unanswered e)))
   buffered false e =
-      ap (λ l. join coming_cmp (map (waiting c.vertex c.time) l) S.buffered) (kept_of false e) ∙ told.buffered
-      ∙ ap (bag_of coming_cmp) (sym (filter_no no_answer c H.arrived (answered e)))
+      ap (λ l. join message_cmp (map (waiting c.vertex c.time) l) S.buffered) (kept_of false e) ∙ told.buffered
+      ∙ ap (bag_of message_cmp) (sym (filter_no no_answer c H.arrived (answered e)))
 
-  asked : (b : Bool) → is_grouping kind ≡ b → (a : Asked) → has asked_cmp a after.asked ≡ has asked_cmp a (map (asked_of S.workers) (filter no_answer (c ∷ H.arrived)))
+  asked : (b : Bool) → is_grouping kind ≡ b → (a : Notification) → has notification_cmp a after.asked ≡ has notification_cmp a (map (asked_of S.workers) (filter no_answer (c ∷ H.arrived)))
   asked true e a =
-      ap (λ l. has asked_cmp a (with_asked (map (λ a. asked_of S.workers (waiting c.vertex c.time a)) l) S.asked)) (kept_of true e)
-      ∙ has-set_insert asked_cmp asked_total asked_apart a (asked_of S.workers c) S.asked ∙ ap (λ b. is_eq (asked_cmp a (asked_of S.workers c)) || b) (told.asked a)
-      ∙ ap (λ l. has asked_cmp a (map (asked_of S.workers) l)) (sym (filter_yes no_answer c H.arrived (unanswered e)))
+      ap (λ l. has notification_cmp a (with_asked (map (λ a. asked_of S.workers (waiting c.vertex c.time a)) l) S.asked)) (kept_of true e)
+      ∙ has-set_insert notification_cmp notification_total notification_apart a (asked_of S.workers c) S.asked ∙ ap (λ b. is_eq (notification_cmp a (asked_of S.workers c)) || b) (told.asked a)
+      ∙ ap (λ l. has notification_cmp a (map (asked_of S.workers) l)) (sym (filter_yes no_answer c H.arrived (unanswered e)))
   asked false e a =
-      ap (λ l. has asked_cmp a (with_asked (map (λ a. asked_of S.workers (waiting c.vertex c.time a)) l) S.asked)) (kept_of false e) ∙ told.asked a
-      ∙ ap (λ l. has asked_cmp a (map (asked_of S.workers) l)) (sym (filter_no no_answer c H.arrived (answered e)))
+      ap (λ l. has notification_cmp a (with_asked (map (λ a. asked_of S.workers (waiting c.vertex c.time a)) l) S.asked)) (kept_of false e) ∙ told.asked a
+      ∙ ap (λ l. has notification_cmp a (map (asked_of S.workers) l)) (sym (filter_no no_answer c H.arrived (answered e)))
 
-  abbrev is_once : Coming → Bool
+  abbrev is_once : Message → Bool
   is_once = λ c. is_distinct (kind_of S.plan c.vertex)
 
   seen_new : (b : Bool) → has rec_cmp c.rec (local_at S c.vertex c.time).seen ≡ b → (x : Stamped) → has stamped_cmp x (join stamped_cmp (stamped c.vertex c.time (where_true (not b) c.rec)) S.seen) ≡ (is_eq (stamped_cmp x (stamped_of c)) || has stamped_cmp x S.seen)
   seen_new true e x = absorbed stamped_cmp stamped_apart (stamped_of c) S.seen (sym (seen_there c.vertex c.time c.rec S.seen) ∙ e) x
   seen_new false e x = has-bag_insert stamped_cmp stamped_total stamped_apart x (stamped_of c) S.seen
 
-  seen : (b : Bool) → is_distinct kind ≡ b → (x : Stamped) → has stamped_cmp x after.seen ≡ has stamped_cmp x (map stamped_of (filter is_once (c ∷ H.arrived)))
-  seen true e x =
+  seen : (b : Bool) → is_distinct kind ≡ b → (x : Stamped) → S.base < x.time.epoch → has stamped_cmp x after.seen ≡ has stamped_cmp x (map stamped_of (filter is_once (c ∷ H.arrived)))
+  seen true e x l =
       ap (λ l. has stamped_cmp x (join stamped_cmp (stamped c.vertex c.time l) S.seen)) (ap (λ k. (on_arrival answers k (local_at S c.vertex c.time) (arrival c)).seen) (distinct_is kind e) ∙ sees answers (local_at S c.vertex c.time) (arrival c))
-      ∙ seen_new (has rec_cmp c.rec (local_at S c.vertex c.time).seen) refl x ∙ ap (λ b. is_eq (stamped_cmp x (stamped_of c)) || b) (told.seen x)
+      ∙ seen_new (has rec_cmp c.rec (local_at S c.vertex c.time).seen) refl x ∙ ap (λ b. is_eq (stamped_cmp x (stamped_of c)) || b) (told.seen x l)
       ∙ ap (λ l. has stamped_cmp x (map stamped_of l)) (sym (filter_yes is_once c H.arrived e))
-  seen false e x =
-      ap (λ l. has stamped_cmp x (join stamped_cmp (stamped c.vertex c.time l) S.seen)) (sees_none answers kind (local_at S c.vertex c.time) (arrival c) e) ∙ told.seen x
+  seen false e x l =
+      ap (λ l. has stamped_cmp x (join stamped_cmp (stamped c.vertex c.time l) S.seen)) (sees_none answers kind (local_at S c.vertex c.time) (arrival c) e) ∙ told.seen x l
       ∙ ap (λ l. has stamped_cmp x (map stamped_of l)) (sym (filter_no is_once c H.arrived e))
 
   abbrev is_new : OutputAt → Bool
   is_new = λ o. nat_lt S.collected o.epoch
 
-  abbrev out_of : Coming → List OutputAt
+  abbrev out_of : Message → List OutputAt
   out_of = λ c. comes_out (kind_of S.plan c.vertex) c
 
   outputs : after.outputs ≡ bag_of output_at_cmp (filter is_new (flat_map out_of (c ∷ H.arrived)))

@@ -10,7 +10,9 @@ use Rattle.td_batch.specs.Flow.{numbers_from}
 use Rattle.td_reach.specs.declared.stamp.Place.TheVariants as places
 use Rattle.td_reach.specs.declared.stamp.Stamp.{Stamp}
 use Rattle.td_reach.specs.Frontier as frontier
-use Rattle.td_machine.specs.State.{HallState, Coming, Asked}
+use Rattle.td_machine.specs.declared.records.Message.{Message}
+use Rattle.td_machine.specs.declared.records.Notification.{Notification}
+use Rattle.td_machine.specs.State.{HallState}
 
 -- Of a vertex by number; a number that has none is taken for an input with no source
 abbrev pub kind_or : Option Kind → Kind
@@ -26,13 +28,13 @@ bound_of plan v = unwrap_or (bound_at plan v) 0
 abbrev pub inputs_of : List Line → List ℕ
 inputs_of plan = map (λ p. p.vertex.number) (filter (λ p. is_input p.vertex.kind) (vertices plan))
 
-abbrev pub stamp_of_message : List Line → Coming → Stamp
+abbrev pub stamp_of_message : List Line → Message → Stamp
 stamp_of_message plan c = record { time = c.time; place = places.Edge (edge_at plan c.vertex c.port) }
 
 abbrev pub stamp_at : ℕ → Timestamp → Stamp
 stamp_at v t = record { time = t; place = places.Vertex v }
 
-abbrev pub stamp_of_asked : Asked → Stamp
+abbrev pub stamp_of_asked : Notification → Stamp
 stamp_of_asked a = stamp_at a.vertex a.time
 
 -- an input may still be given records of an epoch not before the next

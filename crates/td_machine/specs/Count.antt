@@ -21,26 +21,37 @@ use Rattle.td_machine.specs.Examples.{at_epoch, one_batch, message_task, taken_b
 -- COUNT, one record
 abbrev s0 : HallState
 s0 = opened count_plan [] 1 1
+
 abbrev s1 : HallState
 s1 = (release_step s0 (one_batch (pos 1))).1
+
 abbrev t1 : Task
 t1 = message_task 1 1 (Group 20) (at_epoch 1) (pos 1)
+
 abbrev s2 : HallState
 s2 = taken_by s1 t1
+
 abbrev s3 : HallState
 s3 = given_by s2 t1
+
 abbrev t2 : Task
 t2 = record { shard = 0; number = 2; vertex = 1; kind = Group 20; time = at_epoch 1; content = notification (record { key = 7; items = record { port = 0; val = pos 1 } ∷ []; state = None } ∷ []) }
+
 abbrev s4 : HallState
 s4 = taken_by s3 t2
+
 abbrev s5 : HallState
 s5 = given_by s4 t2
+
 abbrev t3 : Task
 t3 = message_task 3 2 Output (at_epoch 1) (pos 1)
+
 abbrev s6 : HallState
 s6 = taken_by s5 t3
+
 abbrev s7 : HallState
 s7 = given_by s6 t3
+
 abbrev s8 : HallState
 s8 = (collect_step s7).1
 
@@ -67,15 +78,35 @@ third_take : Takes s5 0 (has_taken (Some t3)) s6
 third_take = takes refl t3 (record { shard = refl; number = refl; kind = refl; content = (omega arith, omega arith, (refl, tt), ([], refl)) }) (omega arith)
 
 pub count_play : Plays stock s0 count_events count_answers s8
-count_play =
-    (s1, (refl, refl),
-        (s2, first_take,
-            (s3, gives (0, omega arith, refl),
-                (s4, second_take,
-                    (s5, gives (0, omega arith, refl),
-                        (s6, third_take,
-                            (s7, gives (0, omega arith, refl),
-                                (s8, refl, refl))))))))
+count_play = (
+  s1,
+  (refl, refl),
+  (
+    s2,
+    first_take,
+    (
+      s3,
+      gives (0, omega arith, refl),
+      (
+        s4,
+        second_take,
+        (
+          s5,
+          gives (0, omega arith, refl),
+          (
+            s6,
+            third_take,
+            (
+              s7,
+              gives (0, omega arith, refl),
+              (s8, refl, refl),
+            ),
+          ),
+        ),
+      ),
+    ),
+  ),
+)
 
 -- what was collected is the batch meaning
 pub count_collected : (collect_step s7).0 ≡ has_collected (record { epoch = 1; recs = out 2 7 (pos 1) ∷ [] } ∷ [])
@@ -83,4 +114,3 @@ count_collected = refl
 
 pub count_batch : (run stock (tree_of count_plan) [] (one_batch (pos 1) ∷ [])).outs ≡ (out 2 7 (pos 1) ∷ []) ∷ []
 count_batch = refl
-

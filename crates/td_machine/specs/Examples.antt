@@ -9,7 +9,8 @@ use Rattle.td_plan.specs.declared.vertex.Edge.{Edge}
 use Rattle.td_plan.specs.Lines.{Line}
 use Rattle.td_plan.specs.Blocks.{edges, kind_at}
 use Rattle.td_reach.specs.declared.stamp.Stamp.{Stamp}
-use Rattle.td_reach.specs.Paths.{Could, adjust, over, sent_at, sent_by}
+use Rattle.td_plan.specs.Times.{sent_at, sent_by}
+use Rattle.td_reach.specs.Paths.{Could, adjust, over}
 use Rattle.td_calls.specs.Stock.{stock}
 use Rattle.td_batch.specs.Examples.{entry}
 use Rattle.td_machine.specs.State.{HallState, Task}

@@ -13,7 +13,8 @@ use Rattle.td_plan.specs.Blocks.{edges, bounds, reading_loops_at}
 use Rattle.td_plan.specs.Tree.{Nodes}
 use Rattle.td_plan.specs.Tree.Nodes.{done, node, block}
 use Rattle.td_batch.specs.Flow.{Flow}
-use Rattle.td_machine.specs.State.{Stamped, same_time}
+use Rattle.td_machine.specs.declared.records.Stamped.{Stamped}
+use Rattle.td_machine.specs.State.{same_time}
 use Rattle.td_machine.specs.Active.{kind_of, bound_of}
 use Rattle.td_machine.specs.Steps.{sending_times}
 

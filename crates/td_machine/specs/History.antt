@@ -23,7 +23,11 @@ use Rattle.td_calls.specs.Callbacks.{on_notification}
 use Rattle.td_batch.specs.Meaning.{EpochInput, answer}
 use Rattle.td_batch.specs.Flow.{AreBelow}
 use Rattle.td_reach.specs.declared.stamp.Stamp.{Stamp}
-use Rattle.td_machine.specs.State.{HallState, Coming, Stamped, Asked, StateLeft, Content, Task, KeyItems, coming_cmp, stamped_cmp, asked_cmp, left_cmp, output_at_cmp, shard_of_key, is_there, arrival, asked_of, with_left}
+use Rattle.td_machine.specs.declared.records.Message.{Message}
+use Rattle.td_machine.specs.declared.records.Stamped.{Stamped}
+use Rattle.td_machine.specs.declared.records.Notification.{Notification}
+use Rattle.td_machine.specs.declared.records.StateLeft.{StateLeft}
+use Rattle.td_machine.specs.State.{HallState, Content, Task, KeyItems, message_cmp, stamped_cmp, notification_cmp, left_cmp, output_at_cmp, shard_of_key, is_there, arrival, asked_of, with_left}
 use Rattle.td_machine.specs.State.Content.{messages, notification}
 use Rattle.td_machine.specs.Active.{kind_of, stamp_of_asked, stamp_at, active, IsFree}
 use Rattle.td_machine.specs.Steps.{posts, stamped, called, coming, comes_out, notified_sends, leaves, is_asked, to_notify}
@@ -37,9 +41,9 @@ pub record Origin : Type 0 where
 -- What happened: the records that were answered, what was sent in answer to each time, and the notifications that were
 -- given, the newest first; and all that folds left, as a bag
 pub record History : Type 0 where
-  pub arrived : List Coming
+  pub arrived : List Message
   pub sent : List Stamped
-  pub notified : List Asked
+  pub notified : List Notification
   pub left : List StateLeft
 
 abbrev pub no_history : History
@@ -59,19 +63,19 @@ abbrev pub is_distinct : Kind → Bool
 is_distinct Distinct = true
 is_distinct _ = false
 
-abbrev pub stamped_of : Coming → Stamped
+abbrev pub stamped_of : Message → Stamped
 stamped_of c = record { vertex = c.vertex; time = c.time; rec = c.rec }
 
 -- what is in a list of a vertex and a time
 abbrev pub sent_at : List Stamped → ℕ → Timestamp → List Rec
 sent_at sent v t = map (λ x. x.rec) (filter (λ x. is_there v t x.vertex x.time) sent)
 
-abbrev pub came_at : List Coming → ℕ → Timestamp → List Arrival
+abbrev pub came_at : List Message → ℕ → Timestamp → List Arrival
 came_at cs v t = map arrival (filter (λ c. is_there v t c.vertex c.time) cs)
 
 -- a record that came to a vertex has its answer: at once, or with the notification of its shard
-abbrev pub has_answer : List Line → ℕ → List Asked → Coming → Bool
-has_answer plan workers notified c = not (is_grouping (kind_of plan c.vertex)) || has asked_cmp (asked_of workers c) notified
+abbrev pub has_answer : List Line → ℕ → List Notification → Message → Bool
+has_answer plan workers notified c = not (is_grouping (kind_of plan c.vertex)) || has notification_cmp (asked_of workers c) notified
 
 -- what a fold leaves for a group of items
 abbrev pub left_by : EpochInput → ℕ → ℕ → ℕ → ℕ × List Item → StateLeft
@@ -93,11 +97,11 @@ epoch_from answers origin left e = record {
 }
 
 -- the history with a record that is answered
-abbrev pub also_delivered : Answers → HallState → History → Coming → History
+abbrev pub also_delivered : Answers → HallState → History → Message → History
 also_delivered answers S H c = record H { arrived = c ∷ H.arrived; sent = stamped c.vertex c.time (called answers S (kind_of S.plan c.vertex) c).sent ++ H.sent }
 
 -- the history with a notification that is given
-abbrev pub also_notified : Answers → HallState → History → Asked → List KeyItems → History
+abbrev pub also_notified : Answers → HallState → History → Notification → List KeyItems → History
 also_notified answers S H a items = record H {
   sent = stamped a.vertex a.time (notified_sends answers (kind_of S.plan a.vertex) items) ++ H.sent;
   notified = a ∷ H.notified;
@@ -107,12 +111,12 @@ also_notified answers S H a items = record H {
 -- THE LISTS of a state are told by the history
 pub record IsTold (origin : Origin) (S : HallState) (H : History) : Type 0 where
   -- each message that was sent is on its edge, or was answered
-  pub balance : join coming_cmp S.messages (bag_of coming_cmp H.arrived) ≡ bag_of coming_cmp (posts S.plan H.sent)
+  pub balance : join message_cmp S.messages (bag_of message_cmp H.arrived) ≡ bag_of message_cmp (posts S.plan H.sent)
   -- what waits is what has no answer, and there is a notification asked for it
-  pub buffered : S.buffered ≡ bag_of coming_cmp (filter (λ c. not (has_answer S.plan S.workers H.notified c)) H.arrived)
-  pub asked : (a : Asked) → has asked_cmp a S.asked ≡ has asked_cmp a (map (asked_of S.workers) (filter (λ c. not (has_answer S.plan S.workers H.notified c)) H.arrived))
-  -- what a distinct has seen is what came to it
-  pub seen : (x : Stamped) → has stamped_cmp x S.seen ≡ has stamped_cmp x (map stamped_of (filter (λ c. is_distinct (kind_of S.plan c.vertex)) H.arrived))
+  pub buffered : S.buffered ≡ bag_of message_cmp (filter (λ c. not (has_answer S.plan S.workers H.notified c)) H.arrived)
+  pub asked : (a : Notification) → has notification_cmp a S.asked ≡ has notification_cmp a (map (asked_of S.workers) (filter (λ c. not (has_answer S.plan S.workers H.notified c)) H.arrived))
+  -- what a distinct has seen, of epochs after the base, is what came to it
+  pub seen : (x : Stamped) → S.base < x.time.epoch → has stamped_cmp x S.seen ≡ has stamped_cmp x (map stamped_of (filter (λ c. is_distinct (kind_of S.plan c.vertex)) H.arrived))
   pub outputs : S.outputs ≡ bag_of output_at_cmp (filter (λ o. nat_lt S.collected o.epoch) (flat_map (λ c. comes_out (kind_of S.plan c.vertex) c) H.arrived))
   pub left_bag : IsBag left_cmp H.left
   pub left : S.left ≡ filter (λ k. nat_lt S.base k.epoch) H.left
@@ -135,24 +139,24 @@ recs_in (notification items) = []
 
 -- what a task that is out took up is still there, and nothing holds its notification back
 abbrev pub StandsOut : HallState → Task → Content → Type 0
-StandsOut S task (messages port recs) = (rest : List Coming) × (S.messages ≡ join coming_cmp (coming task.vertex port task.time recs) rest)
+StandsOut S task (messages port recs) = (rest : List Message) × (S.messages ≡ join message_cmp (coming task.vertex port task.time recs) rest)
 StandsOut S task (notification items) = (is_asked S task.shard task.vertex task.time ≡ true) × IsFree S (stamp_at task.vertex task.time) × (items ≡ to_notify S task.shard task.vertex task.time)
 
 -- a message is on the edge of its number
-abbrev pub IsOnEdge : List Line → Coming → Type 0
+abbrev pub IsOnEdge : List Line → Message → Type 0
 IsOnEdge plan c = (e : Edge) × (slice_get (edges plan) (edge_at plan c.vertex c.port) ≡ Some e) × (e.reader ≡ c.vertex)
 
 -- none stands twice
-abbrev pub AreOnce : List Asked → Type 0
+abbrev pub AreOnce : List Notification → Type 0
 AreOnce [] = Unit {0}
-AreOnce (a ∷ more) = (has asked_cmp a more ≡ false) × AreOnce more
+AreOnce (a ∷ more) = (has notification_cmp a more ≡ false) × AreOnce more
 
 -- THE INVARIANT, but for the tasks that are out
 pub record Running (answers : Answers) (origin : Origin) (S : HallState) (H : History) : Type 0 where
   pub told : IsTold origin S H
   pub answered : AreAnswered answers origin S H
   pub on_edges : AllByRecursion (IsOnEdge S.plan) S.messages
-  pub messages_bag : IsBag coming_cmp S.messages
+  pub messages_bag : IsBag message_cmp S.messages
   -- collected epochs and those of the base have passed
   pub later : AllByRecursion (λ (p : Stamp). (S.base < p.time.epoch) × (S.collected < p.time.epoch)) (active S)
   -- nothing comes any more where a notification was given

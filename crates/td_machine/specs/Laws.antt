@@ -6,7 +6,7 @@ use Rattle.td_stamp.specs.States.{StateList, AreStates}
 use Rattle.td_plan.specs.Lines.{Line}
 use Rattle.td_plan.specs.Faults.{IsPlan}
 use Rattle.td_calls.specs.Answers.{Answers}
-use Rattle.td_machine.specs.State.{HallState, states_at, asked_cmp, asked_of}
+use Rattle.td_machine.specs.State.{HallState, states_at, notification_cmp, asked_of}
 use Rattle.td_machine.specs.Steps.{Event, Answer, Step, Plays, opened, outputs_at, posts}
 use Rattle.td_machine.specs.Steps.Event.{taking}
 use Rattle.td_machine.specs.Steps.Answer.{has_taken}
@@ -31,9 +31,9 @@ PassedIsBatch answers = (plan : List Line) (states : StateList) (first workers :
     → IsPlan plan → AreStates states → 1 ≤ first → 1 ≤ workers
     → Plays answers (opened plan states first workers) events replies S
     → (H : History) × Invariant answers (record { states = states; first = first; batches = batches_of events replies }) S H
-        × ((e : ℕ) → first ≤ e → e < S.next → has_passed S e ≡ true
-            → let epoch = epoch_from answers (record { states = states; first = first; batches = batches_of events replies }) H.left e in
-              epoch_result epoch (tree_of plan) ≡ result_of epoch (tree_of plan) (λ v. flow_of plan H.sent e v []))
+    × ((e : ℕ) → first ≤ e → e < S.next → has_passed S e ≡ true
+    → let epoch = epoch_from answers (record { states = states; first = first; batches = batches_of events replies }) H.left e in
+    epoch_result epoch (tree_of plan) ≡ result_of epoch (tree_of plan) (λ v. flow_of plan H.sent e v []))
 
 -- THE STATES at a passed epoch since the base, which a cut answers, are those of the batch meaning's run
 abbrev pub StatesAreBatch : Answers → Type 0
@@ -59,6 +59,6 @@ ExactWork answers = (plan : List Line) (states : StateList) (first workers : ℕ
     → Plays answers (opened plan states first workers) events replies S
     → ((s : ℕ) → s < S.workers → Step answers S (taking s) (has_taken None) S)
     → (H : History) × Invariant answers (record { states = states; first = first; batches = batches_of events replies }) S H
-        × (records_of events replies ≡ length (posts plan H.sent))
-        × (notes_of events replies ≡ length H.notified)
-        × AllByRecursion (λ c. is_grouping (kind_of plan c.vertex) ≡ true → has asked_cmp (asked_of S.workers c) H.notified ≡ true) H.arrived
+    × (records_of events replies ≡ length (posts plan H.sent))
+    × (notes_of events replies ≡ length H.notified)
+    × AllByRecursion (λ c. is_grouping (kind_of plan c.vertex) ≡ true → has notification_cmp (asked_of S.workers c) H.notified ≡ true) H.arrived

@@ -93,8 +93,8 @@ Confluence answers = (plan : List Line) (states : StateList) (first workers : �
     → IsPlan plan → AreStates states → 1 ≤ first → 1 ≤ workers
     → Plays answers (opened plan states first workers) events replies S
     → let batches = batches_of events replies in
-      (flat_map outs_by replies ≡ numbered first (take (S.collected + 1 - first) (run answers (tree_of plan) states batches).outs))
-      × CutsAre answers plan states first batches replies
+    (flat_map outs_by replies ≡ numbered first (take (S.collected + 1 - first) (run answers (tree_of plan) states batches).outs))
+    × CutsAre answers plan states first batches replies
 
 -- NEVER STUCK: where no task is out and no shard has a candidate, every released epoch has passed
 abbrev pub NeverStuck : Answers → Type 0

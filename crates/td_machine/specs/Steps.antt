@@ -19,7 +19,12 @@ use Rattle.td_plan.specs.Lines.{Line}
 use Rattle.td_plan.specs.Blocks.{edges}
 use Rattle.td_calls.specs.Answers.{Answers}
 use Rattle.td_calls.specs.Callbacks.{Added, on_arrival, on_notification}
-use Rattle.td_machine.specs.State.{HallState, Coming, Stamped, Asked, StateLeft, OutputAt, KeyItems, Content, Task, coming_cmp, stamped_cmp, asked_cmp, left_cmp, output_at_cmp, task_cmp, shard_of_key, is_out, arrival, asked_of, local_at, states_at}
+use Rattle.td_machine.specs.declared.records.Message.{Message}
+use Rattle.td_machine.specs.declared.records.Stamped.{Stamped}
+use Rattle.td_machine.specs.declared.records.Notification.{Notification}
+use Rattle.td_machine.specs.declared.records.StateLeft.{StateLeft}
+use Rattle.td_machine.specs.declared.records.OutputAt.{OutputAt}
+use Rattle.td_machine.specs.State.{HallState, KeyItems, Content, Task, message_cmp, stamped_cmp, notification_cmp, left_cmp, output_at_cmp, task_cmp, shard_of_key, is_out, arrival, asked_of, local_at, states_at}
 use Rattle.td_machine.specs.State.Content.{messages, notification}
 use Rattle.td_machine.specs.Active.{kind_of, bound_of, inputs_of, stamp_at, has_passed, released_after, unpassed, Frontier}
 
@@ -73,13 +78,13 @@ abbrev pub edges_from : List Line → ℕ → List Edge
 edges_from plan u = filter (λ e. e.source == u) (edges plan)
 
 -- the messages of a record that a vertex sends in answer to a time: one on each edge out of it
-abbrev pub on_edge : Timestamp → Rec → Edge → Coming
+abbrev pub on_edge : Timestamp → Rec → Edge → Message
 on_edge t r e = record { vertex = e.reader; port = e.port; time = t; rec = r }
 
-abbrev pub posted : List Line → Stamped → List Coming
+abbrev pub posted : List Line → Stamped → List Message
 posted plan x = flat_map (λ later. map (on_edge later x.rec) (edges_from plan x.vertex)) (sending_times (kind_of plan x.vertex) (bound_of plan x.vertex) x.time)
 
-abbrev pub posts : List Line → List Stamped → List Coming
+abbrev pub posts : List Line → List Stamped → List Message
 posts plan xs = flat_map (posted plan) xs
 
 -- records that a vertex sends in answer to a time
@@ -91,21 +96,35 @@ abbrev pub entered : ℕ → Entry → Stamped
 entered e entry = record { vertex = entry.input; time = record { epoch = e; turns = [] }; rec = entry.rec }
 
 -- records that come to a port at a time
-abbrev pub coming : ℕ → ℕ → Timestamp → List Rec → List Coming
+abbrev pub coming : ℕ → ℕ → Timestamp → List Rec → List Message
 coming v port t recs = map (λ r. record { vertex = v; port = port; time = t; rec = r }) recs
 
 -- A hall that is opened: nothing is released yet
 abbrev pub opened : List Line → StateList → ℕ → ℕ → HallState
 opened plan states first workers = record {
-  plan = plan; workers = workers; base = first - 1; base_states = states; batches = []; next = first; closed = false;
-  messages = []; buffered = []; seen = []; left = []; asked = []; out = []; outputs = [];
-  collected = first - 1; taken = 0; given = 0;
+  plan = plan;
+  workers = workers;
+  base = first - 1;
+  base_states = states;
+  batches = [];
+  next = first;
+  closed = false;
+  messages = [];
+  buffered = [];
+  seen = [];
+  left = [];
+  asked = [];
+  out = [];
+  outputs = [];
+  collected = first - 1;
+  taken = 0;
+  given = 0;
 }
 
 module _ (S : HallState) where
   -- release
   abbrev pub with_batch : List Entry → HallState
-  with_batch batch = record S { batches = S.batches ++ batch ∷ []; next = S.next + 1; messages = join coming_cmp (posts S.plan (map (entered S.next) batch)) S.messages }
+  with_batch batch = record S { batches = S.batches ++ batch ∷ []; next = S.next + 1; messages = join message_cmp (posts S.plan (map (entered S.next) batch)) S.messages }
 
   abbrev pub release_by : Bool → Bool → List Entry → Answer × HallState
   release_by true at_end batch = (refused no_inputs, S)
@@ -145,14 +164,14 @@ module _ (S : HallState) where
   close_step = (has_closed, record S { closed = true })
 
   -- take: what a task of a shard may hold
-  abbrev pub asked_at : ℕ → ℕ → Timestamp → Asked
+  abbrev pub asked_at : ℕ → ℕ → Timestamp → Notification
   asked_at s v t = record { shard = s; vertex = v; time = t }
 
   abbrev pub is_asked : ℕ → ℕ → Timestamp → Bool
-  is_asked s v t = has asked_cmp (asked_at s v t) S.asked
+  is_asked s v t = has notification_cmp (asked_at s v t) S.asked
 
-  abbrev pub is_for : Asked → Coming → Bool
-  is_for a c = is_eq (asked_cmp a (asked_of S.workers c))
+  abbrev pub is_for : Notification → Message → Bool
+  is_for a c = is_eq (notification_cmp a (asked_of S.workers c))
 
   -- the items that wait for a notification, by key, with the states kept before its epoch
   abbrev pub with_state_of : ℕ → Timestamp → ℕ × List Item → KeyItems
@@ -163,7 +182,7 @@ module _ (S : HallState) where
 
   abbrev pub IsContent : ℕ → ℕ → Timestamp → Content → Type 0
   IsContent s v t (messages port recs) = (0 < length recs) × (length recs ≤ task_size) × AllByRecursion (λ r. shard_of_key S.workers r.key ≡ s) recs
-      × ((rest : List Coming) × (S.messages ≡ join coming_cmp (coming v port t recs) rest))
+      × ((rest : List Message) × (S.messages ≡ join message_cmp (coming v port t recs) rest))
   IsContent s v t (notification items) = (is_asked s v t ≡ true) × Frontier S (stamp_at v t) × (items ≡ to_notify s v t)
 
   -- a task that may be taken at a shard
@@ -183,17 +202,17 @@ module _ (S : HallState) where
     takes : is_out S s ≡ false → (task : Task) → MayTake s task → S.taken < ends → Takes s (has_taken (Some task)) (with_task task)
 
 -- give: what a record that comes to an output leaves there
-abbrev pub comes_out : Kind → Coming → List OutputAt
+abbrev pub comes_out : Kind → Message → List OutputAt
 comes_out output c = record { epoch = c.time.epoch; output = record { vertex = c.vertex; rec = c.rec } } ∷ []
 comes_out _ c = []
 
 -- a set with some more elements
-abbrev pub with_asked : List Asked → List Asked → List Asked
+abbrev pub with_asked : List Notification → List Notification → List Notification
 with_asked [] ys = ys
-with_asked (x ∷ xs) ys = set_insert asked_cmp x (with_asked xs ys)
+with_asked (x ∷ xs) ys = set_insert notification_cmp x (with_asked xs ys)
 
 -- an arrival that a vertex keeps, as an item that waits
-abbrev pub waiting : ℕ → Timestamp → Arrival → Coming
+abbrev pub waiting : ℕ → Timestamp → Arrival → Message
 waiting v t a = record { vertex = v; port = a.item.port; time = t; rec = rec_of a }
 
 -- what a fold leaves for the keys of a notification
@@ -207,33 +226,33 @@ notified_sends answers kind items = flat_map (λ g. (on_notification answers kin
 
 module _ (answers : Answers) (S : HallState) where
   -- what the callback of a record does
-  abbrev pub called : Kind → Coming → Added
+  abbrev pub called : Kind → Message → Added
   called kind c = on_arrival answers kind (local_at S c.vertex c.time) (arrival c)
 
   -- the state after one message was answered
-  abbrev pub delivered_by : Added → Kind → Coming → HallState
+  abbrev pub delivered_by : Added → Kind → Message → HallState
   delivered_by added kind c = record S {
-    messages = join coming_cmp (posts S.plan (stamped c.vertex c.time added.sent)) (bag_remove coming_cmp c S.messages);
-    buffered = join coming_cmp (map (waiting c.vertex c.time) added.buffered) S.buffered;
+    messages = join message_cmp (posts S.plan (stamped c.vertex c.time added.sent)) (bag_remove message_cmp c S.messages);
+    buffered = join message_cmp (map (waiting c.vertex c.time) added.buffered) S.buffered;
     seen = join stamped_cmp (stamped c.vertex c.time added.seen) S.seen;
     asked = with_asked (map (λ a. asked_of S.workers (waiting c.vertex c.time a)) added.buffered) S.asked;
     outputs = join output_at_cmp (comes_out kind c) S.outputs;
   }
 
-  abbrev pub delivered : Kind → Coming → HallState
+  abbrev pub delivered : Kind → Message → HallState
   delivered kind c = delivered_by (called kind c) kind c
 
   -- the state after a notification was answered
-  abbrev pub notified : Asked → Kind → List KeyItems → HallState
+  abbrev pub notified : Notification → Kind → List KeyItems → HallState
   notified a kind items = record S {
-    messages = join coming_cmp (posts S.plan (stamped a.vertex a.time (notified_sends answers kind items))) S.messages;
+    messages = join message_cmp (posts S.plan (stamped a.vertex a.time (notified_sends answers kind items))) S.messages;
     buffered = filter (λ c. not (is_for S a c)) S.buffered;
-    asked = filter (λ b. not (is_eq (asked_cmp a b))) S.asked;
+    asked = filter (λ b. not (is_eq (notification_cmp a b))) S.asked;
     left = join left_cmp (leaves answers kind a.time.epoch a.vertex items) S.left;
   }
 
 -- a task's effect: its records one after another, or its notification
-abbrev pub all_delivered : Answers → Kind → HallState → List Coming → HallState
+abbrev pub all_delivered : Answers → Kind → HallState → List Message → HallState
 all_delivered answers kind S [] = S
 all_delivered answers kind S (c ∷ cs) = all_delivered answers kind (delivered answers S kind c) cs
 

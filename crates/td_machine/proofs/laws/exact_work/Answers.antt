@@ -3,7 +3,7 @@ use Rattle.std.specs.Prelude.{None, true}
 use Rattle.std.specs.List.{AllByRecursion}
 use Rattle.td_stamp.specs.Bag.{has}
 use Rattle.td_plan.specs.Faults.{IsPlan}
-use Rattle.td_machine.specs.State.{Task, asked_cmp, asked_of}
+use Rattle.td_machine.specs.State.{Task, notification_cmp, asked_of}
 use Rattle.td_machine.specs.Active.{kind_of}
 use Rattle.td_machine.specs.History.{Origin, no_history, is_grouping}
 use Rattle.td_machine.specs.Steps.{MayTake, opened, posts}
@@ -24,6 +24,10 @@ returns g c plan states first workers events replies S lawful ordered l m p none
     let came = each_came answers origin S r.0 (subst IsPlan (sym r.2) lawful) r.1 idle in
     let known = each_notified answers origin S r.0 (subst IsPlan (sym r.2) lawful) r.1 idle in
     let records : length r.0.arrived ≡ records_of events replies + 0 = r.3.0 in
-    let notes : length r.0.notified ≡ notes_of events replies + 0 = r.3.1 in
-    (r.0, r.1, (let n : records_of events replies ≡ length r.0.arrived = omega (arith, records) in n) ∙ came ∙ ap (λ q. length (posts q r.0.sent)) r.2, omega (arith, notes),
-      subst (λ q. AllByRecursion (λ x. is_grouping (kind_of q x.vertex) ≡ true → has asked_cmp (asked_of S.workers x) r.0.notified ≡ true) r.0.arrived) r.2 known)
+    let notes : length r.0.notified ≡ notes_of events replies + 0 = r.3.1 in (
+      r.0,
+      r.1,
+      (let n : records_of events replies ≡ length r.0.arrived = omega (arith, records) in n) ∙ came ∙ ap (λ q. length (posts q r.0.sent)) r.2,
+      omega (arith, notes),
+      subst (λ q. AllByRecursion (λ x. is_grouping (kind_of q x.vertex) ≡ true → has notification_cmp (asked_of S.workers x) r.0.notified ≡ true) r.0.arrived) r.2 known,
+    )

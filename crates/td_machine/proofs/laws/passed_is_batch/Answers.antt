@@ -20,8 +20,11 @@ returns g c plan states first workers events replies S lawful ordered l m p =
     let laid = plan_laid plan lawful in
     let answers = g.L.Law.answers in
     let r = plays_go answers events replies (origin_at states first) (opened plan states first workers) no_history S facts (opened_holds answers plan states first workers lawful facts ordered l m) p in
-    let origin : Origin = record { states = states; first = first; batches = batches_of events replies } in
-    (r.0, r.1, λ e low high passed.
-        let epoch : EpochInput = epoch_from answers origin r.0.left e in
-        let solves : Solves epoch (flow_of S.plan r.0.sent e) [] (tree_of plan) = passed_solves answers origin S r.0 r.1.running e low high (passed_all answers origin S r.0 e passed) (tree_of plan) [] (subst (λ q. AreLaid q [] (tree_of plan)) (sym r.2) laid) in
-        epoch_is_solution epoch (tree_of plan) (flow_of plan r.0.sent e) (tree_placed plan lawful) (subst (λ q. Solves epoch (flow_of q r.0.sent e) [] (tree_of plan)) r.2 solves))
+    let origin : Origin = record { states = states; first = first; batches = batches_of events replies } in (
+      r.0,
+      r.1,
+      λ e low high passed.
+          let epoch : EpochInput = epoch_from answers origin r.0.left e in
+          let solves : Solves epoch (flow_of S.plan r.0.sent e) [] (tree_of plan) = passed_solves answers origin S r.0 r.1.running e low high (passed_all answers origin S r.0 e passed) (tree_of plan) [] (subst (λ q. AreLaid q [] (tree_of plan)) (sym r.2) laid) in
+          epoch_is_solution epoch (tree_of plan) (flow_of plan r.0.sent e) (tree_placed plan lawful) (subst (λ q. Solves epoch (flow_of q r.0.sent e) [] (tree_of plan)) r.2 solves),
+    )
