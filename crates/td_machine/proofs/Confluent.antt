@@ -185,7 +185,7 @@ module _ (answers : Answers) (plan : List Line) (states : StateList) (first : �
       let g = step_goes answers (record { states = states; first = first; batches = batches }) S H facts_S inv event answer p.0 p.1 in
       let now : Origin = record { states = states; first = first; batches = batches ++ batch_by event answer } in
       let origin_same : g.origin_then ≡ now = λ i. record { states = g.states_same i; first = g.first_same i; batches = g.batches_more i } in
-      let rest = play_says events replies (batches ++ batch_by event answer) p.0 g.history_then after (g.plan_same ∙ same) facts numbered laid placed (subst (λ o. Invariant answers o p.0 g.history_then) origin_same g.holds) p.2 in
+      let rest = play_says events replies (batches ++ batch_by event answer) p.0 g.history_then after (g.same_hall.0 ∙ same) facts numbered laid placed (subst (λ o. Invariant answers o p.0 g.history_then) origin_same g.holds) p.2 in
       let assoc : (batches ++ batch_by event answer) ++ batches_of events replies ≡ batches ++ more = append_assoc batches (batch_by event answer) (batches_of events replies) in
       let a : ℕ = p.0.collected - S.collected in
       let b : ℕ = after.collected - p.0.collected in

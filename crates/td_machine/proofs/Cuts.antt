@@ -141,6 +141,7 @@ module _ (answers : Answers) (origin : Origin) (S : HallState) (H : History) (e 
           settled = inv.running.settled;
           notified_times = inv.running.notified_times;
           notified_once = inv.running.notified_once;
+          notified_asked = inv.running.notified_asked;
         };
         tasks = record {
           stand = all_weaken (λ task. (task.kind ≡ kind_of S.plan task.vertex) × AllByRecursion (λ r. shard_of_key S.workers r.key ≡ task.shard) (recs_in task.content) × StandsOut S task task.content)

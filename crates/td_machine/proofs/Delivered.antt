@@ -24,11 +24,12 @@ use Rattle.td_machine.specs.declared.records.Notification.{Notification}
 use Rattle.td_machine.specs.State.{HallState, message_cmp, notification_cmp, asked_of}
 use Rattle.td_machine.specs.Active.{kind_of, bound_of, active, IsFree, stamp_of_message, stamp_of_asked, stamp_at, stamps_of_inputs}
 use Rattle.td_machine.specs.Steps.{posts, posted, stamped, on_edge, sending_times, with_asked, waiting, called, delivered}
-use Rattle.td_machine.specs.History.{Origin, History, Running, IsOnEdge, also_delivered}
+use Rattle.td_machine.specs.History.{Origin, History, Running, IsOnEdge, asking, also_delivered}
 use Rattle.td_machine.specs.PlanFacts.{PlanFacts, IsFound}
 use Rattle.td_machine.specs.Examples.{sent_by-epoch}
 use Rattle.td_machine.proofs.Orders.{message_total, message_apart, notification_total, notification_apart}
 use Rattle.td_machine.proofs.Lists.{all_app, from_app, all_map, from_map, all_flat, all_weaken, all_everywhere, all_join, from_insert}
+use Rattle.td_machine.proofs.Asking.{asking_more}
 use Rattle.td_machine.proofs.Told.{removed, delivered_told}
 use Rattle.td_machine.proofs.Answered.{delivered_answered}
 use Rattle.td_machine.proofs.Times.{all_posted}
@@ -150,4 +151,6 @@ module _ (answers : Answers) (origin : Origin) (S : HallState) (H : History) (fa
     settled = all_weaken (λ a. IsFree S (stamp_of_asked a)) (λ a. IsFree after (stamp_of_asked a)) (λ a free. stays_free a.vertex a.time free) H.notified runs.settled;
     notified_times = runs.notified_times;
     notified_once = runs.notified_once;
+    notified_asked = all_weaken (λ a. has notification_cmp a (asking S.plan S.workers H.arrived) ≡ true) (λ a. has notification_cmp a (asking S.plan S.workers (c ∷ H.arrived)) ≡ true)
+        (λ a h. asking_more S.plan S.workers a c H.arrived h) H.notified runs.notified_asked;
   }

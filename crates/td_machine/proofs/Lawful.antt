@@ -1,7 +1,7 @@
 -- The facts that are wanted of a plan, of each plan without faults.
 use Rattle.std.proofs.Common.{◌≡◌, ℕ, zero, suc, ◌+◌, ◌<◌, Bool, true, false, ◌==◌, List, [], ◌∷◌, length, map, filter, refl, ap, sym, ◌∙◌, subst, arith}
 use Rattle.std.specs.Prelude.{Option, None, Some, drop, take, not, ◌&&◌, ◌||◌, nat_lt, unwrap_or, if◌then◌else◌}
-use Rattle.std.specs.List.{AllByRecursion, slice_get, list_any}
+use Rattle.std.specs.List.{AllByRecursion, slice_get, list_any, enumerate_from}
 use Rattle.std.proofs.lemmas.Bool.{eqb-true}
 use Rattle.std.proofs.lemmas.Bool.Decides.{nat_tests}
 use Rattle.std.proofs.lemmas.Option.{slice_get_within, slice_get-get_or}
@@ -11,7 +11,7 @@ use Rattle.td_plan.specs.declared.vertex.Kind.TheVariants.{Input, Map, Distinct,
 use Rattle.td_plan.specs.declared.vertex.Edge.{Edge}
 use Rattle.td_plan.specs.declared.vertex.Loop.{Loop}
 use Rattle.td_plan.specs.Lines.{Line}
-use Rattle.td_plan.specs.Blocks.{PlacedVertex, vertices, edges, edge_count, bounds, firsts, reading_loops, read_loops, reading_loops_at, read_loops_at}
+use Rattle.td_plan.specs.Blocks.{PlacedVertex, vertices, edges, edges_to, edge_count, bounds, firsts, reading_loops, read_loops, reading_loops_at, read_loops_at}
 use Rattle.td_plan.specs.Faults.{IsPlan, is_input, is_in_loop, is_of_loops, is_of_outermost, is_fold}
 use Rattle.td_plan.specs.Tree.{Nodes, tree_of, placed_in, size}
 use Rattle.td_plan.specs.Tree.Nodes.{done, node, block}
@@ -22,8 +22,8 @@ use Rattle.td_reach.proofs.Graph.{Joins, reads, read_where_read, has_reader}
 use Rattle.td_machine.specs.Active.{kind_of, kind_or, bound_of, inputs_of}
 use Rattle.td_machine.specs.Steps.{sending_times, again_below}
 use Rattle.td_machine.specs.Flows.{IsLaid, AreLaid, read_bounds, innermost_bound}
-use Rattle.td_machine.specs.PlanFacts.{PlanFacts, InTurn, IsFound, LeadsOn, LeadsAway}
-use Rattle.td_machine.proofs.Lists.{filter_yes, filter_no, all_weaken, from_app}
+use Rattle.td_machine.specs.PlanFacts.{PlanFacts, IsFound, LeadsOn, LeadsAway, AreReadThere}
+use Rattle.td_machine.proofs.Lists.{filter_yes, filter_no, all_weaken, all_both, from_app, from_map, from_flat}
 use Rattle.td_machine.proofs.Around.{IsFine, plan_fine, AreAlike, plan_alike}
 use Rattle.td_machine.proofs.Away.{leads_away}
 use Rattle.td_machine.proofs.Edges.{at_readers, leading_to, number_at}
@@ -143,9 +143,14 @@ module _ (plan : List Line) (lawful : IsPlan plan) where
   found = all_weaken (λ e. (d : ℕ) × (e.reader ≡ 0 + d) × (slice_get (edges plan) (edge_count (take d (vertices plan)) + e.port) ≡ Some e)) (IsFound plan)
       (λ e h. let n : h.0 ≡ e.reader = (let r = h.1 in omega (arith, r)) in subst (λ d. slice_get (edges plan) (edge_count (take d (vertices plan)) + e.port) ≡ Some e) n h.2) (edges plan) (at_readers 0 (vertices plan) order)
 
-  -- ON
-  leads_on : (i : ℕ) (e : Edge) → slice_get (edges plan) i ≡ Some e → LeadsOn plan e
-  leads_on i e at t turn = by (slice_get (vertices plan) e.source) refl (slice_get (vertices plan) e.reader) refl
+  -- AN EDGE'S SOURCE is read in the loops in which its reader reads
+  record Source (e : Edge) : Type 0 where
+    placed : PlacedVertex
+    at : slice_get (vertices plan) e.source ≡ Some placed
+    read : read_loops placed.vertex.kind placed.loops ≡ Some (reading_loops_at plan e.reader)
+
+  source_of : (i : ℕ) (e : Edge) → slice_get (edges plan) i ≡ Some e → Source e
+  source_of i e at = by (slice_get (vertices plan) e.source) refl (slice_get (vertices plan) e.reader) refl
     where
       joins : Joins plan e.source e.reader
       joins = (e, (i, at), refl, refl)
@@ -159,23 +164,45 @@ module _ (plan : List Line) (lawful : IsPlan plan) where
       same : reads plan e.reader ≡ firsts there
       same = (read_where_read plan lawful e.source e.reader joins).same
 
-      by : (o : Option PlacedVertex) → slice_get (vertices plan) e.source ≡ o → (r : Option PlacedVertex) → slice_get (vertices plan) e.reader ≡ r
-          → AllByRecursion (InTurn plan e.reader) (sending_times (kind_of plan e.source) (bound_of plan e.source) t)
+      by : (o : Option PlacedVertex) → slice_get (vertices plan) e.source ≡ o → (r : Option PlacedVertex) → slice_get (vertices plan) e.reader ≡ r → Source e
       by None at_u r at_w = absurd (let none : None ≡ Some there = sym (ap (λ (x : Option PlacedVertex). elim x [ None ↦ None | Some p ↦ read_loops p.vertex.kind p.loops ]) at_u) ∙ is in cc)
       by (Some p) at_u None at_w = absurd (let few = has_reader plan lawful e.source e.reader joins in let none = slice_get-get_or (vertices plan) e.reader p few in cc)
       by (Some p) at_u (Some q) at_w =
           let read_p : read_loops p.vertex.kind p.loops ≡ Some there = sym (ap (λ (x : Option PlacedVertex). elim x [ None ↦ None | Some p ↦ read_loops p.vertex.kind p.loops ]) at_u) ∙ is in
           let reads_q : reading_loops_at plan e.reader ≡ reading_loops q.vertex.kind q.loops = ap (λ (x : Option PlacedVertex). elim x [ None ↦ [] | Some p ↦ reading_loops p.vertex.kind p.loops ]) at_w in
-          let reads_p : reading_loops_at plan e.source ≡ reading_loops p.vertex.kind p.loops = ap (λ (x : Option PlacedVertex). elim x [ None ↦ [] | Some p ↦ reading_loops p.vertex.kind p.loops ]) at_u in
-          let kind_p : kind_of plan e.source ≡ p.vertex.kind = ap (λ (o : Option PlacedVertex). kind_or (elim o [ None ↦ None | Some q ↦ Some q.vertex.kind ])) at_u in
-          let bound_p : bound_of plan e.source ≡ unwrap_or (slice_get (bounds p.loops) 0) 0 = ap (λ (o : Option PlacedVertex). unwrap_or (slice_get (bounds (elim o [ None ↦ [] | Some q ↦ q.loops ])) 0) 0) at_u in
           let home : reading_loops_at plan e.reader ≡ there =
           reads_q ∙ same_block p.vertex.kind q.vertex.kind p.loops q.loops there (plan_alike plan e.source e.reader p q at_u at_w) read_p (ap firsts (sym reads_q) ∙ same) in
-          let f = fine e.source p at_u in
-          let sent = sent_in_turn p.vertex.kind p.loops there t f.around f.turns read_p (subst (λ ls. AreBelow t.turns (bounds ls)) reads_p turn) in
-          subst (λ ls. AllByRecursion (λ (later : Timestamp). AreBelow later.turns (bounds ls)) (sending_times (kind_of plan e.source) (bound_of plan e.source) t)) (sym home)
-          (subst (λ b. AllByRecursion (λ (later : Timestamp). AreBelow later.turns (bounds there)) (sending_times (kind_of plan e.source) b t)) (sym bound_p)
-          (subst (λ k. AllByRecursion (λ (later : Timestamp). AreBelow later.turns (bounds there)) (sending_times k (unwrap_or (slice_get (bounds p.loops) 0) 0) t)) (sym kind_p) sent))
+          record { placed = p; at = at_u; read = read_p ∙ ap Some (sym home) }
+
+  -- ON
+  leads_on : (i : ℕ) (e : Edge) → slice_get (edges plan) i ≡ Some e → LeadsOn plan e
+  leads_on i e at t turn =
+      let s : Source e = source_of i e at in
+      let p : PlacedVertex = s.placed in
+      let there : List Loop = reading_loops_at plan e.reader in
+      let reads_p : reading_loops_at plan e.source ≡ reading_loops p.vertex.kind p.loops = ap (λ (x : Option PlacedVertex). elim x [ None ↦ [] | Some p ↦ reading_loops p.vertex.kind p.loops ]) s.at in
+      let kind_p : kind_of plan e.source ≡ p.vertex.kind = ap (λ (o : Option PlacedVertex). kind_or (elim o [ None ↦ None | Some q ↦ Some q.vertex.kind ])) s.at in
+      let bound_p : bound_of plan e.source ≡ unwrap_or (slice_get (bounds p.loops) 0) 0 = ap (λ (o : Option PlacedVertex). unwrap_or (slice_get (bounds (elim o [ None ↦ [] | Some q ↦ q.loops ])) 0) 0) s.at in
+      let f = fine e.source p s.at in
+      let sent = sent_in_turn p.vertex.kind p.loops there t f.around f.turns s.read (subst (λ ls. AreBelow t.turns (bounds ls)) reads_p turn) in
+      subst (λ b. AllByRecursion (λ (later : Timestamp). AreBelow later.turns (bounds there)) (sending_times (kind_of plan e.source) b t)) (sym bound_p)
+      (subst (λ k. AllByRecursion (λ (later : Timestamp). AreBelow later.turns (bounds there)) (sending_times k (unwrap_or (slice_get (bounds p.loops) 0) 0) t)) (sym kind_p) sent)
+
+  -- READ, by each vertex of the plan
+  reads_own : AllByRecursion (λ p. reading_loops_at plan p.vertex.number ≡ reading_loops p.vertex.kind p.loops) (vertices plan)
+  reads_own = all_at (λ p. reading_loops_at plan p.vertex.number ≡ reading_loops p.vertex.kind p.loops) (vertices plan)
+      (λ n p at. ap (λ (o : Option PlacedVertex). elim o [ None ↦ [] | Some q ↦ reading_loops q.vertex.kind q.loops ]) (ap (slice_get (vertices plan)) (own_number n p at) ∙ at))
+
+  read_there : AllByRecursion (AreReadThere plan) (vertices plan)
+  read_there =
+      let Read : Edge → Type 0 = λ e. read_loops_at plan e.source ≡ Some (reading_loops_at plan e.reader) in
+      let Own : PlacedVertex → Type 0 = λ p. reading_loops_at plan p.vertex.number ≡ reading_loops p.vertex.kind p.loops in
+      let all : AllByRecursion Read (edges plan) = all_at Read (edges plan)
+      (λ i e at. let s : Source e = source_of i e at in ap (λ (x : Option PlacedVertex). elim x [ None ↦ None | Some p ↦ read_loops p.vertex.kind p.loops ]) s.at ∙ s.read) in
+      all_weaken (λ p. AllByRecursion Read (edges_to p) × Own p) (AreReadThere plan)
+      (λ p h. all_weaken (λ (s : ℕ × ℕ). read_loops_at plan s.1 ≡ Some (reading_loops_at plan p.vertex.number)) (λ s. read_loops_at plan s.1 ≡ Some (reading_loops p.vertex.kind p.loops)) (λ s k. k ∙ ap Some h.1) (enumerate_from 0 p.vertex.sources)
+      (from_map Read (λ (s : ℕ × ℕ). let e : Edge = record { source = s.1; reader = p.vertex.number; port = s.0 } in e) (enumerate_from 0 p.vertex.sources) h.0)) (vertices plan)
+      (all_both (λ p. AllByRecursion Read (edges_to p)) Own (vertices plan) (from_flat Read edges_to (vertices plan) all) reads_own)
 
   -- WHERE KINDS STAND
   kind_here : (v : ℕ) (p : PlacedVertex) → slice_get (vertices plan) v ≡ Some p → kind_of plan v ≡ p.vertex.kind
@@ -260,6 +287,7 @@ module _ (plan : List Line) (lawful : IsPlan plan) where
   plan_facts = record {
     found = found;
     on = all_at (LeadsOn plan) (edges plan) leads_on;
+    read = read_there;
     away = all_weaken (IsFound plan) (LeadsAway plan) (leads_away plan lawful) (edges plan) found;
     inputs = inputs;
     folds = λ v code k. (folds v code k).0;

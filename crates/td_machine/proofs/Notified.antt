@@ -50,7 +50,7 @@ use Rattle.td_machine.specs.declared.records.StateLeft.{StateLeft}
 use Rattle.td_machine.specs.State.{HallState, KeyItems, message_cmp, notification_cmp, left_cmp, state_cmp, is_there, arrival, asked_of, with_left, states_at}
 use Rattle.td_machine.specs.Active.{kind_or, kind_of, active, IsFree, stamp_at, stamp_of_asked, stamp_of_message}
 use Rattle.td_machine.specs.Steps.{posts, posted, stamped, notified, notified_sends, leaves, to_notify, with_state_of, is_for, on_edge}
-use Rattle.td_machine.specs.History.{Origin, History, IsTold, AreAnswered, Running, IsTime, IsOnEdge, is_grouping, has_answer, also_notified, epoch_from, sent_at, came_at, is_left_at, left_by}
+use Rattle.td_machine.specs.History.{Origin, History, IsTold, AreAnswered, Running, IsTime, IsOnEdge, is_grouping, has_answer, asking, also_notified, epoch_from, sent_at, came_at, is_left_at, left_by}
 use Rattle.td_machine.specs.PlanFacts.{PlanFacts, IsFound, LeadsAway, InTurn}
 use Rattle.td_machine.proofs.Orders.{message_total, message_apart, notification_apart, left_total, left_apart, there_is, there_itself}
 use Rattle.td_machine.proofs.Lists.{filter_yes, filter_no, filter_all, filter_none, filter_filter, filter_alike, filter_map, filter-bag_of, filter-join, all_app, all_map, all_everywhere, all_weaken, all_join, all_filter, all_both}
@@ -160,7 +160,7 @@ module _ (answers : Answers) (origin : Origin) (S : HallState) (H : History) (fa
   abbrev known : AreAnswered answers origin S H
   known = runs.answered
 
-  is : IsTime origin S.next S.plan v t × (is_grouping (kind_of S.plan v) ≡ true) × (has notification_cmp it H.notified ≡ false)
+  is : IsTime origin S.next S.plan v t × (is_grouping (kind_of S.plan v) ≡ true) × (has notification_cmp it H.notified ≡ false) × (has notification_cmp it (asking S.plan S.workers H.arrived) ≡ true)
   is = asked_is answers origin S H runs it asked
 
   abbrev ready : Message → Bool
@@ -513,22 +513,6 @@ module _ (answers : Answers) (origin : Origin) (S : HallState) (H : History) (fa
           (subst (λ x. Could S.plan (record { time = later; place = places.Edge (edge_at S.plan e.reader e.port) }) (stamp_at x t)) (sym (source ∙ p.0))
           (subst (λ x. Could S.plan (record { time = later; place = places.Edge (edge_at S.plan e.reader e.port) }) (stamp_at w x)) (sym p.1) k)))
 
-  -- what has no answer was not notified
-  is_new : has notification_cmp it H.notified ≡ false
-  is_new = all_has (λ a. has notification_cmp a H.notified ≡ false) it (map (asked_of S.workers) (filter waiting_still H.arrived))
-      (all_map (λ a. has notification_cmp a H.notified ≡ false) (asked_of S.workers) (filter waiting_still H.arrived)
-      (all_weaken (λ c. Unit {0} × (waiting_still c ≡ true)) (λ c. has notification_cmp (asked_of S.workers c) H.notified ≡ false) (λ c h. by (is_grouping (kind_of S.plan c.vertex)) (has notification_cmp (asked_of S.workers c) H.notified) h.1) (filter waiting_still H.arrived)
-      (all_filter (λ c. Unit {0}) waiting_still H.arrived (all_everywhere (λ c. Unit {0}) (λ c. tt) H.arrived))))
-      (sym (runs.told.asked it) ∙ asked)
-    where
-      waiting_still : Message → Bool
-      waiting_still c = not (has_answer S.plan S.workers H.notified c)
-
-      by : (b c : Bool) → not (not b || c) ≡ true → c ≡ false
-      by true true e = absurd (cc)
-      by true false e = refl
-      by false c e = absurd (cc)
-
   pub notified_runs : Running answers origin (notified answers S it (kind_of S.plan v) (to_notify S s v t)) (also_notified answers S H it (to_notify S s v t))
   notified_runs = record {
     told = notified_told;
@@ -539,5 +523,6 @@ module _ (answers : Answers) (origin : Origin) (S : HallState) (H : History) (fa
         (λ e later r f s when was. subst (λ n. (S.base < n) × (S.collected < n)) (sym (ap (λ (x : Timestamp). x.epoch) when ∙ sent_by-epoch (kind_at S.plan e.source) t)) was) runs.later;
     settled = (stays_free v t free, all_weaken (λ a. IsFree S (stamp_of_asked a)) (λ a. IsFree after (stamp_of_asked a)) (λ a f. stays_free a.vertex a.time f) H.notified runs.settled);
     notified_times = (is.0, runs.notified_times);
-    notified_once = (is_new, runs.notified_once);
+    notified_once = (is.2, runs.notified_once);
+    notified_asked = (is.3, runs.notified_asked);
   }

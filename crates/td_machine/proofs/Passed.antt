@@ -1,11 +1,9 @@
 -- Of a passed epoch: all that was sent came and has its answer. So what each vertex sent solves the flat equations.
-use Rattle.std.proofs.Common.{◌≡◌, ℕ, ◌+◌, ◌<◌, ◌⊎◌, inl, inr, List, [], ◌∷◌, ◌++◌, map, flat_map, filter, not, refl, ap, sym, ◌∙◌, subst, Bool, true, false, ◌||◌, ◌&&◌, arith, suc, ◌==◌, if◌then◌else◌}
+use Rattle.std.proofs.Common.{◌≡◌, ℕ, ◌+◌, ◌<◌, ◌⊎◌, inl, inr, List, [], ◌∷◌, ◌++◌, map, flat_map, filter, not, refl, ap, sym, ◌∙◌, Bool, true, false, ◌&&◌, arith, suc, ◌==◌, if◌then◌else◌}
 use Rattle.std.specs.Prelude.{nat_lt}
 use Rattle.std.specs.List.{AllByRecursion, enumerate_from}
 use Rattle.std.proofs.lemmas.List.{append-nil}
 use Rattle.std.proofs.lemmas.List.Folds.{flat_map-map}
-use Rattle.std.proofs.lemmas.Cmp.{tied_itself}
-use Rattle.std.specs.Ordering.{is_eq}
 use Rattle.td_stamp.specs.declared.values.Rec.{Rec}
 use Rattle.td_stamp.specs.declared.values.Arrival.{Arrival}
 use Rattle.td_stamp.specs.Orders.{rec_cmp, arrival_cmp}
@@ -26,14 +24,14 @@ use Rattle.td_batch.specs.Flow.{Flow}
 use Rattle.td_reach.specs.declared.stamp.Stamp.{Stamp}
 use Rattle.td_machine.specs.declared.records.Message.{Message}
 use Rattle.td_machine.specs.declared.records.Stamped.{Stamped}
-use Rattle.td_machine.specs.declared.records.Notification.{Notification}
 use Rattle.td_machine.specs.State.{HallState, message_cmp, notification_cmp, is_there, same_time, arrival, asked_of}
 use Rattle.td_machine.specs.Active.{kind_of, bound_of, active}
 use Rattle.td_machine.specs.Steps.{posts, posted, on_edge, edges_from, sending_times, again_below}
 use Rattle.td_machine.specs.History.{Origin, History, Running, IsTime, has_answer, epoch_from, sent_at, came_at}
 use Rattle.td_machine.specs.Flows.{at_time, sent_to, flow_of, edge_to}
-use Rattle.td_machine.proofs.Orders.{message_total, message_apart, notification_total, there_is}
-use Rattle.td_machine.proofs.Lists.{filter_yes, filter_no, filter_none, filter_filter, filter_alike, filter_map, filter_app, filter-join, filter-bag_of, all_weaken, all_everywhere}
+use Rattle.td_machine.proofs.Orders.{message_total, message_apart, there_is}
+use Rattle.td_machine.proofs.Lists.{filter_yes, filter_no, filter_none, filter_filter, filter_alike, filter_map, filter_app, filter-join, filter-bag_of, all_weaken, all_everywhere, from_filter}
+use Rattle.td_machine.proofs.Asking.{each_asked}
 use Rattle.td_machine.proofs.Delivered.{all_has, from_active}
 use Rattle.td_machine.proofs.Exchanges.{mapped_bag, mapped_alike, parts_alike, exchanged, answer_alike}
 
@@ -188,33 +186,15 @@ module _ (answers : Answers) (origin : Origin) (S : HallState) (H : History) (ru
   abbrev none : Message → Bool
   none = λ c. not (ready c)
 
-  -- nothing waits
-  self : (Q : Notification → Type 0) (cs : List Message) → ((a : Notification) → has notification_cmp a (map (asked_of S.workers) cs) ≡ true → Q a) → AllByRecursion (λ c. Q (asked_of S.workers c)) cs
-  self Q [] h = tt
-  self Q (c ∷ cs) h = (
-    h (asked_of S.workers c) (ap (λ o. is_eq o || has notification_cmp (asked_of S.workers c) (map (asked_of S.workers) cs)) (tied_itself notification_total (asked_of S.workers c))),
-    self Q cs (λ a k. h a (ap (λ b. is_eq (notification_cmp a (asked_of S.workers c)) || b) k ∙ or_yes (is_eq (notification_cmp a (asked_of S.workers c))))),
-  )
-    where
-      or_yes : (b : Bool) → (b || true) ≡ true
-      or_yes true = refl
-      or_yes false = refl
-
-  waiting_later : AllByRecursion (λ (c : Message). e < c.time.epoch) (filter none H.arrived)
-  waiting_later = self (λ a. e < a.time.epoch) (filter none H.arrived) (λ a k. all_has (λ a. e < a.time.epoch) a S.asked (from_active S (λ p. e < p.time.epoch) passed).1 (runs.told.asked a ∙ k))
-
-  from_filter : (P : Message → Type 0) (p : Message → Bool) (cs : List Message) → AllByRecursion P (filter p cs) → AllByRecursion (λ c. p c ≡ true → P c) cs
-  from_filter P p [] h = tt
-  from_filter P p (c ∷ cs) h = by (p c) refl (from_filter P p cs)
-    where
-      by : (b : Bool) → p c ≡ b → (AllByRecursion P (filter p cs) → AllByRecursion (λ c. p c ≡ true → P c) cs) → AllByRecursion (λ c. p c ≡ true → P c) (c ∷ cs)
-      by true f rest = let k = subst (AllByRecursion P) (filter_yes p c cs f) h in ((λ q. k.0), rest k.1)
-      by false f rest = ((λ q. let no : true ≡ false = sym q ∙ f in cc), rest (subst (AllByRecursion P) (filter_no p c cs f) h))
+  -- nothing of this epoch waits
+  pub waiting_later : AllByRecursion (λ (c : Message). none c ≡ true → e < c.time.epoch) H.arrived
+  waiting_later = from_filter (λ (c : Message). e < c.time.epoch) none H.arrived (all_weaken (λ c. has notification_cmp (asked_of S.workers c) (map (asked_of S.workers) (filter none H.arrived)) ≡ true) (λ (c : Message). e < c.time.epoch)
+      (λ c h. all_has (λ a. e < a.time.epoch) (asked_of S.workers c) S.asked (from_active S (λ p. e < p.time.epoch) passed).1 (runs.told.asked (asked_of S.workers c) ∙ h)) (filter none H.arrived) (each_asked S.workers (filter none H.arrived)))
 
   pub all_ready : (v : ℕ) (t : Timestamp) → t.epoch ≡ e → came_at (filter ready H.arrived) v t ≡ came_at H.arrived v t
   all_ready v t same =
       let there : Message → Bool = λ c. is_there v t c.vertex c.time in
-      ap (map arrival) (filter_filter there ready H.arrived ∙ filter_alike (λ c. ready c && there c) there H.arrived (all_weaken (λ c. none c ≡ true → e < c.time.epoch) (λ c. (ready c && there c) ≡ there c) (λ c k. by c k (ready c) refl (there c) refl) H.arrived (from_filter (λ c. e < c.time.epoch) none H.arrived waiting_later)))
+      ap (map arrival) (filter_filter there ready H.arrived ∙ filter_alike (λ c. ready c && there c) there H.arrived (all_weaken (λ c. none c ≡ true → e < c.time.epoch) (λ c. (ready c && there c) ≡ there c) (λ c k. by c k (ready c) refl (there c) refl) H.arrived waiting_later))
     where
       by : (c : Message) → (none c ≡ true → e < c.time.epoch) → (b : Bool) → ready c ≡ b → (d : Bool) → is_there v t c.vertex c.time ≡ d → (ready c && is_there v t c.vertex c.time) ≡ is_there v t c.vertex c.time
       by c k true f d g = ap (λ b. b && is_there v t c.vertex c.time) f

@@ -73,6 +73,7 @@ module _ (answers : Answers) (origin : Origin) (S : HallState) (H : History) whe
           settled = inv.running.settled;
           notified_times = inv.running.notified_times;
           notified_once = inv.running.notified_once;
+          notified_asked = inv.running.notified_asked;
         };
         tasks = record {
           stand = all_task (λ task. (task.kind ≡ kind_of S.plan task.vertex) × AllByRecursion (λ r. shard_of_key S.workers r.key ≡ task.shard) (recs_in task.content) × StandsOut S task task.content) task S.out
@@ -105,6 +106,7 @@ module _ (answers : Answers) (origin : Origin) (S : HallState) (H : History) whe
           settled = all_weaken (λ a. IsFree S (stamp_of_asked a)) (λ a. IsFree after (stamp_of_asked a)) (λ a f. fewer _ f) H.notified inv.running.settled;
           notified_times = inv.running.notified_times;
           notified_once = inv.running.notified_once;
+          notified_asked = inv.running.notified_asked;
         };
         tasks = record {
           stand = all_weaken (λ task. (task.kind ≡ kind_of S.plan task.vertex) × AllByRecursion (λ r. shard_of_key S.workers r.key ≡ task.shard) (recs_in task.content) × StandsOut S task task.content)
@@ -223,6 +225,7 @@ module _ (answers : Answers) (origin : Origin) (S : HallState) (H : History) whe
           settled = inv.running.settled;
           notified_times = inv.running.notified_times;
           notified_once = inv.running.notified_once;
+          notified_asked = inv.running.notified_asked;
         };
         tasks = record {
           stand = all_weaken (λ task. (task.kind ≡ kind_of S.plan task.vertex) × AllByRecursion (λ r. shard_of_key S.workers r.key ≡ task.shard) (recs_in task.content) × StandsOut S task task.content)

@@ -22,7 +22,8 @@ use Rattle.td_machine.specs.Steps.Answer.{refused, has_taken, has_given, has_cut
 use Rattle.td_machine.specs.Steps.Event.{release, taking, give, collect, cut, cut_at, close}
 use Rattle.td_machine.specs.Steps.Takes.{is_busy, has_none, is_spent, takes}
 use Rattle.td_machine.specs.Steps.Gives.{gives, is_stranger}
-use Rattle.td_machine.specs.Sound.{batch_by, batches_of, records_in, notes_in, records_by, notes_by, records_of, notes_of}
+use Rattle.td_machine.specs.Sound.{batch_by, batches_of}
+use Rattle.td_machine.specs.Tally.{records_in, notes_in, tally_by, tally}
 use Rattle.td_machine.specs.History.{Origin, History, no_history, Running, Stands, OneAShard, StandsOut, Invariant, recs_in, also_notified, Gained}
 use Rattle.td_machine.specs.PlanFacts.{PlanFacts}
 use Rattle.td_machine.proofs.Lists.{all_weaken, all_filter, all_map, all_everywhere, filter_yes, filter_no}
@@ -59,6 +60,7 @@ given_runs answers origin S H task runs =
       settled = runs.settled;
       notified_times = runs.notified_times;
       notified_once = runs.notified_once;
+      notified_asked = runs.notified_asked;
     }
 
 given_stands : (origin : Origin) (S : HallState) (task : Task) → Stands origin S → Stands origin (is_given S task)
@@ -118,6 +120,10 @@ module _ (answers : Answers) (origin : Origin) (S : HallState) (H : History) (fa
   pub given_keeps : (H' : History) × Invariant answers origin (is_given (effect answers S task task.content) task) H' × Gained (records_in task.content) (notes_in task.content) H H'
   given_keeps = give_content task.content it_stands.2 it_stands.1
 
+-- the plan and the number of shards stay
+abbrev pub SameHall : HallState → HallState → Type 0
+SameHall S after = (after.plan ≡ S.plan) × (after.workers ≡ S.workers)
+
 -- STEPS
 pub record Goes (answers : Answers) (origin : Origin) (S : HallState) (H : History) (event : Event) (answer : Answer) (after : HallState) : Type 0 where
   pub origin_then : Origin
@@ -125,18 +131,18 @@ pub record Goes (answers : Answers) (origin : Origin) (S : HallState) (H : Histo
   pub states_same : origin_then.states ≡ origin.states
   pub first_same : origin_then.first ≡ origin.first
   pub batches_more : origin_then.batches ≡ origin.batches ++ batch_by event answer
-  pub plan_same : after.plan ≡ S.plan
+  pub same_hall : SameHall S after
   pub holds : Invariant answers origin_then after history_then
-  pub gained : Gained (records_by event answer) (notes_by event answer) H history_then
+  pub gained : Gained (tally_by records_in event answer) (tally_by notes_in event answer) H history_then
 
 module _ (answers : Answers) (origin : Origin) (S : HallState) (H : History) (facts : PlanFacts S.plan) (inv : Invariant answers origin S H) where
-  stays : (event : Event) (answer : Answer) → batch_by event answer ≡ [] → (after : HallState) → after.plan ≡ S.plan → (H' : History) → Gained (records_by event answer) (notes_by event answer) H H' → Invariant answers origin after H' → Goes answers origin S H event answer after
-  stays event answer none after p H' more h = record { origin_then = origin; history_then = H'; states_same = refl; first_same = refl; batches_more = sym (ap (λ l. origin.batches ++ l) none ∙ append-nil origin.batches); plan_same = p; holds = h; gained = more }
+  stays : (event : Event) (answer : Answer) → batch_by event answer ≡ [] → (after : HallState) → SameHall S after → (H' : History) → Gained (tally_by records_in event answer) (tally_by notes_in event answer) H H' → Invariant answers origin after H' → Goes answers origin S H event answer after
+  stays event answer none after p H' more h = record { origin_then = origin; history_then = H'; states_same = refl; first_same = refl; batches_more = sym (ap (λ l. origin.batches ++ l) none ∙ append-nil origin.batches); same_hall = p; holds = h; gained = more }
 
   releases : (batch : List Entry) → accepts S.plan batch ≡ true → (b c : Bool) → (let r : Answer × HallState = release_by S b c batch in Goes answers origin S H (release batch) r.0 r.1)
-  releases batch a true c = stays (release batch) (refused no_inputs) refl S refl H (omega arith, omega arith) inv
-  releases batch a false true = stays (release batch) (refused no_epochs) refl S refl H (omega arith, omega arith) inv
-  releases batch a false false = record { origin_then = origin_after answers origin S H facts batch a inv; history_then = also_released answers origin S H facts batch a inv; states_same = refl; first_same = refl; batches_more = refl; plan_same = refl; holds = released_keeps answers origin S H facts batch a inv; gained = (omega arith, omega arith) }
+  releases batch a true c = stays (release batch) (refused no_inputs) refl S (refl, refl) H (omega arith, omega arith) inv
+  releases batch a false true = stays (release batch) (refused no_epochs) refl S (refl, refl) H (omega arith, omega arith) inv
+  releases batch a false false = record { origin_then = origin_after answers origin S H facts batch a inv; history_then = also_released answers origin S H facts batch a inv; states_same = refl; first_same = refl; batches_more = refl; same_hall = (refl, refl); holds = released_keeps answers origin S H facts batch a inv; gained = (omega arith, omega arith) }
 
   -- the released epochs have passed where none is found that has not
   all_passed : (k n : ℕ) → find (λ e. not (has_passed S e)) (numbers_from k n) ≡ None → (e : ℕ) → k ≤ e → e < k + n → has_passed S e ≡ true
@@ -162,54 +168,54 @@ module _ (answers : Answers) (origin : Origin) (S : HallState) (H : History) (fa
       by false f = let same : S.base ≡ S.next - 1 = omega (arith, ltb-false S.base (S.next - 1) f, inv.stands.base.1) in ap (has_passed S) (sym same) ∙ base_passed
 
   cuts : (o : Option ℕ) → unpassed S ≡ o → (let r : Answer × HallState = cut_by S o (S.next - 1) in Goes answers origin S H cut r.0 r.1)
-  cuts (Some e) h = stays cut (refused (not_passed e)) refl S refl H (omega arith, omega arith) inv
-  cuts None h = stays cut (has_cut (S.next - 1) (states_at S (S.next - 1))) refl (cut_to S (S.next - 1)) refl H (omega arith, omega arith) (cut_keeps answers origin S H (S.next - 1) (omega (arith, inv.stands.base.1)) (omega (arith, inv.stands.base.1)) (last_passed h) inv)
+  cuts (Some e) h = stays cut (refused (not_passed e)) refl S (refl, refl) H (omega arith, omega arith) inv
+  cuts None h = stays cut (has_cut (S.next - 1) (states_at S (S.next - 1))) refl (cut_to S (S.next - 1)) (refl, refl) H (omega arith, omega arith) (cut_keeps answers origin S H (S.next - 1) (omega (arith, inv.stands.base.1)) (omega (arith, inv.stands.base.1)) (last_passed h) inv)
 
   cuts_at : (e : ℕ) → S.base ≤ e → e < S.next → (b : Bool) → has_passed S e ≡ b → (let r : Answer × HallState = cut_at_by S b e in Goes answers origin S H (cut_at e) r.0 r.1)
-  cuts_at e l m true h = stays (cut_at e) (has_cut e (states_at S e)) refl (cut_to S e) refl H (omega arith, omega arith) (cut_keeps answers origin S H e l m h inv)
-  cuts_at e l m false h = stays (cut_at e) _ refl S refl H (omega arith, omega arith) inv
+  cuts_at e l m true h = stays (cut_at e) (has_cut e (states_at S e)) refl (cut_to S e) (refl, refl) H (omega arith, omega arith) (cut_keeps answers origin S H e l m h inv)
+  cuts_at e l m false h = stays (cut_at e) _ refl S (refl, refl) H (omega arith, omega arith) inv
 
   takes_goes : (s : ℕ) (answer : Answer) (after : HallState) → Takes S s answer after → Goes answers origin S H (taking s) answer after
-  takes_goes s _ _ (is_busy e) = stays (taking s) (refused busy) refl S refl H (omega arith, omega arith) inv
-  takes_goes s _ _ (has_none e n) = stays (taking s) (has_taken None) refl S refl H (omega arith, omega arith) inv
-  takes_goes s _ _ (is_spent e task may l) = stays (taking s) (refused spent) refl S refl H (omega arith, omega arith) inv
-  takes_goes s _ _ (takes e task may l) = stays (taking s) (has_taken (Some task)) refl (with_task S task) refl H (omega arith, omega arith) (taken_keeps answers origin S H s task e may inv)
+  takes_goes s _ _ (is_busy e) = stays (taking s) (refused busy) refl S (refl, refl) H (omega arith, omega arith) inv
+  takes_goes s _ _ (has_none e n) = stays (taking s) (has_taken None) refl S (refl, refl) H (omega arith, omega arith) inv
+  takes_goes s _ _ (is_spent e task may l) = stays (taking s) (refused spent) refl S (refl, refl) H (omega arith, omega arith) inv
+  takes_goes s _ _ (takes e task may l) = stays (taking s) (has_taken (Some task)) refl (with_task S task) (refl, refl) H (omega arith, omega arith) (taken_keeps answers origin S H s task e may inv)
 
   gives_goes : (task : Task) (answer : Answer) (after : HallState) → Gives answers S task answer after → Goes answers origin S H (give task) answer after
-  gives_goes task _ _ (gives out) = let r = given_keeps answers origin S H facts inv task out in stays (give task) has_given refl (is_given (effect answers S task task.content) task) (same_plan task.content) r.0 r.2 r.1
+  gives_goes task _ _ (gives out) = let r = given_keeps answers origin S H facts inv task out in stays (give task) has_given refl (is_given (effect answers S task task.content) task) (same task.content) r.0 r.2 r.1
     where
-      each_plan : (kind : Kind) (cs : List Message) (X : HallState) → (all_delivered answers kind X cs).plan ≡ X.plan
-      each_plan kind [] X = refl
-      each_plan kind (c ∷ cs) X = each_plan kind cs (delivered answers X kind c)
+      each : (kind : Kind) (cs : List Message) (X : HallState) → SameHall X (all_delivered answers kind X cs)
+      each kind [] X = (refl, refl)
+      each kind (c ∷ cs) X = each kind cs (delivered answers X kind c)
 
-      same_plan : (content : Content) → (effect answers S task content).plan ≡ S.plan
-      same_plan (messages port recs) = each_plan task.kind (coming task.vertex port task.time recs) S
-      same_plan (notification items) = refl
-  gives_goes task _ _ (is_stranger n) = stays (give task) (refused stranger) refl S refl H (omega arith, omega arith) inv
+      same : (content : Content) → SameHall S (effect answers S task content)
+      same (messages port recs) = each task.kind (coming task.vertex port task.time recs) S
+      same (notification items) = (refl, refl)
+  gives_goes task _ _ (is_stranger n) = stays (give task) (refused stranger) refl S (refl, refl) H (omega arith, omega arith) inv
 
   -- EVERY STEP keeps the invariant
   pub step_goes : (event : Event) (answer : Answer) (after : HallState) → Step answers S event answer after → Goes answers origin S H event answer after
   step_goes (release batch) answer after h = subst (λ (p : Answer × HallState). Goes answers origin S H (release batch) p.0 p.1) h.1 (releases batch h.0 S.closed (S.next == ends))
   step_goes (taking s) answer after h = takes_goes s answer after h
   step_goes (give task) answer after h = gives_goes task answer after h
-  step_goes collect answer after h = subst (λ (p : Answer × HallState). Goes answers origin S H collect p.0 p.1) h (stays collect (collect_step S).0 refl (collect_step S).1 refl H (omega arith, omega arith) (collected_keeps answers origin S H inv))
+  step_goes collect answer after h = subst (λ (p : Answer × HallState). Goes answers origin S H collect p.0 p.1) h (stays collect (collect_step S).0 refl (collect_step S).1 (refl, refl) H (omega arith, omega arith) (collected_keeps answers origin S H inv))
   step_goes cut answer after h = subst (λ (p : Answer × HallState). Goes answers origin S H cut p.0 p.1) h (cuts (unpassed S) refl)
   step_goes (cut_at e) answer after h = subst (λ (p : Answer × HallState). Goes answers origin S H (cut_at e) p.0 p.1) h.2 (cuts_at e h.0 h.1 (has_passed S e) refl)
-  step_goes close answer after h = subst (λ (p : Answer × HallState). Goes answers origin S H close p.0 p.1) h (stays close has_closed refl (record S { closed = true }) refl H (omega arith, omega arith) (closed_keeps answers origin S H inv))
+  step_goes close answer after h = subst (λ (p : Answer × HallState). Goes answers origin S H close p.0 p.1) h (stays close has_closed refl (record S { closed = true }) (refl, refl) H (omega arith, omega arith) (closed_keeps answers origin S H inv))
 
 -- so does each play: what it released is added to the origin
 pub plays_go : (answers : Answers) (events : List Event) (replies : List Answer) (origin : Origin) (S : HallState) (H : History) (after : HallState) → PlanFacts S.plan → Invariant answers origin S H → Plays answers S events replies after
-    → (H' : History) × Invariant answers (record origin { batches = origin.batches ++ batches_of events replies }) after H' × (after.plan ≡ S.plan) × Gained (records_of events replies) (notes_of events replies) H H'
+    → (H' : History) × Invariant answers (record origin { batches = origin.batches ++ batches_of events replies }) after H' × SameHall S after × Gained (tally records_in events replies) (tally notes_in events replies) H H'
 plays_go answers [] [] origin S H after facts inv p =
-    (H, subst (λ X. Invariant answers (record origin { batches = origin.batches ++ [] }) X H) (sym p) (subst (λ l. Invariant answers (record origin { batches = l }) S H) (sym (append-nil origin.batches)) inv), ap (λ (X : HallState). X.plan) p, (omega arith, omega arith))
+    (H, subst (λ X. Invariant answers (record origin { batches = origin.batches ++ [] }) X H) (sym p) (subst (λ l. Invariant answers (record origin { batches = l }) S H) (sym (append-nil origin.batches)) inv), (ap (λ (X : HallState). X.plan) p, ap (λ (X : HallState). X.workers) p), (omega arith, omega arith))
 plays_go answers [] (answer ∷ replies) origin S H after facts inv p = absurd p
 plays_go answers (event ∷ events) [] origin S H after facts inv p = absurd p
 plays_go answers (event ∷ events) (answer ∷ replies) origin S H after facts inv p =
     let g = step_goes answers origin S H facts inv event answer p.0 p.1 in
     let now : Origin = record origin { batches = origin.batches ++ batch_by event answer } in
     let same : g.origin_then ≡ now = λ i. record { states = g.states_same i; first = g.first_same i; batches = g.batches_more i } in
-    let r = plays_go answers events replies now p.0 g.history_then after (subst PlanFacts (sym g.plan_same) facts) (subst (λ o. Invariant answers o p.0 g.history_then) same g.holds) p.2 in
-    (r.0, subst (λ l. Invariant answers (record origin { batches = l }) after r.0) (append_assoc origin.batches (batch_by event answer) (batches_of events replies)) r.1, r.2 ∙ g.plan_same, (let a = g.gained.0 in let b = r.3.0 in omega (arith, a, b), let a = g.gained.1 in let b = r.3.1 in omega (arith, a, b)))
+    let r = plays_go answers events replies now p.0 g.history_then after (subst PlanFacts (sym g.same_hall.0) facts) (subst (λ o. Invariant answers o p.0 g.history_then) same g.holds) p.2 in
+    (r.0, subst (λ l. Invariant answers (record origin { batches = l }) after r.0) (append_assoc origin.batches (batch_by event answer) (batches_of events replies)) r.1, (r.2.0 ∙ g.same_hall.0, r.2.1 ∙ g.same_hall.1), (let a = g.gained.0 in let b = r.3.0 in omega (arith, a, b), let a = g.gained.1 in let b = r.3.1 in omega (arith, a, b)))
 
 -- THE OPENING
 abbrev pub origin_at : StateList → ℕ → Origin
@@ -234,6 +240,7 @@ opened_holds answers plan states first workers lawful facts ordered l m = record
     settled = tt;
     notified_times = tt;
     notified_once = tt;
+    notified_asked = tt;
   };
   tasks = record { stand = tt; once = tt };
 }
@@ -241,3 +248,14 @@ opened_holds answers plan states first workers lawful facts ordered l m = record
     none : (n : ℕ) → [] ≡ drop n (let l : List (List Entry) = [] in l)
     none zero = refl
     none (suc n) = refl
+
+-- EACH PLAY FROM THE OPENING has a history, in which as much happened as it gave
+pub play_has : (answers : Answers) (plan : List Line) (states : StateList) (first workers : ℕ) (events : List Event) (replies : List Answer) (S : HallState)
+    → IsPlan plan → PlanFacts plan → AreStates states → 1 ≤ first → 1 ≤ workers → Plays answers (opened plan states first workers) events replies S
+    → (H : History) × Invariant answers (record { states = states; first = first; batches = batches_of events replies }) S H × (S.plan ≡ plan) × (S.workers ≡ workers)
+    × (length H.arrived ≡ tally records_in events replies) × (length H.notified ≡ tally notes_in events replies)
+play_has answers plan states first workers events replies S lawful facts ordered l m p =
+    let r = plays_go answers events replies (origin_at states first) (opened plan states first workers) no_history S facts (opened_holds answers plan states first workers lawful facts ordered l m) p in
+    let records : length r.0.arrived ≡ tally records_in events replies + 0 = r.3.0 in
+    let notes : length r.0.notified ≡ tally notes_in events replies + 0 = r.3.1 in
+    (r.0, r.1, r.2.0, r.2.1, omega (arith, records), omega (arith, notes))

@@ -32,11 +32,12 @@ use Rattle.td_machine.specs.State.{HallState, Task, Content, message_cmp, notifi
 use Rattle.td_machine.specs.State.Content.{messages, notification}
 use Rattle.td_machine.specs.Active.{kind_of, inputs_of, active, IsFree, stamp_at, stamp_of_message, stamp_of_asked, stamp_of_input, stamps_of_inputs}
 use Rattle.td_machine.specs.Steps.{posts, posted, entered, with_batch, accepts, coming}
-use Rattle.td_machine.specs.History.{Origin, History, IsTold, AreAnswered, Running, StandsOut, Invariant, IsTime, IsOnEdge, is_grouping, has_answer, epoch_from, sent_at, came_at, is_left_at, left_by, recs_in}
+use Rattle.td_machine.specs.History.{Origin, History, IsTold, AreAnswered, Running, StandsOut, Invariant, IsTime, IsOnEdge, is_grouping, has_answer, asking, epoch_from, sent_at, came_at, is_left_at, left_by, recs_in}
 use Rattle.td_machine.specs.PlanFacts.{PlanFacts}
 use Rattle.td_machine.specs.Examples.{could-epoch}
 use Rattle.td_machine.proofs.Orders.{message_total, message_apart, there_is}
 use Rattle.td_machine.proofs.Lists.{all_app, all_map, all_flat, all_weaken, all_everywhere, all_join, all_filter, all_both, filter_yes, filter_no, filter_none}
+use Rattle.td_machine.proofs.Asking.{all_asking}
 use Rattle.td_machine.proofs.Callings.{answer_nothing}
 use Rattle.td_machine.proofs.Times.{posts_times, posted_epochs, sent_app}
 use Rattle.td_machine.proofs.Delivered.{all_has, from_active, to_active, posted_one}
@@ -47,14 +48,17 @@ no_answer_is true true e = cc
 no_answer_is true false e = (refl, refl)
 no_answer_is false h e = cc
 
--- what is asked for is of a time that was released, at a group or a fold, and was not notified
+-- what is asked for is of a time that was released, at a group or a fold, was not notified, and a record asks for it
 pub asked_is : (answers : Answers) (origin : Origin) (S : HallState) (H : History) → Running answers origin S H → (a : Notification) → has notification_cmp a S.asked ≡ true
-    → IsTime origin S.next S.plan a.vertex a.time × (is_grouping (kind_of S.plan a.vertex) ≡ true) × (has notification_cmp a H.notified ≡ false)
+    → IsTime origin S.next S.plan a.vertex a.time × (is_grouping (kind_of S.plan a.vertex) ≡ true) × (has notification_cmp a H.notified ≡ false) × (has notification_cmp a (asking S.plan S.workers H.arrived) ≡ true)
 asked_is answers origin S H runs a h =
-    let P : Notification → Type 0 = λ a. IsTime origin S.next S.plan a.vertex a.time × (is_grouping (kind_of S.plan a.vertex) ≡ true) × (has notification_cmp a H.notified ≡ false) in
+    let P : Notification → Type 0 = λ a. IsTime origin S.next S.plan a.vertex a.time × (is_grouping (kind_of S.plan a.vertex) ≡ true) × (has notification_cmp a H.notified ≡ false) × (has notification_cmp a (asking S.plan S.workers H.arrived) ≡ true) in
     let no : Message → Bool = λ c. not (has_answer S.plan S.workers H.notified c) in
-    all_has P a (map (asked_of S.workers) (filter no H.arrived)) (all_map P (asked_of S.workers) (filter no H.arrived) (all_weaken (λ c. IsTime origin S.next S.plan c.vertex c.time × (no c ≡ true)) (λ c. P (asked_of S.workers c))
-    (λ c k. let n = no_answer_is (is_grouping (kind_of S.plan c.vertex)) (has notification_cmp (asked_of S.workers c) H.notified) k.1 in (k.0, n.0, n.1)) (filter no H.arrived) (all_filter (λ c. IsTime origin S.next S.plan c.vertex c.time) no H.arrived runs.answered.arrived_times))) (sym (runs.told.asked a) ∙ h)
+    let Timed : Message → Type 0 = λ c. IsTime origin S.next S.plan c.vertex c.time in
+    let Asks : Message → Type 0 = λ c. is_grouping (kind_of S.plan c.vertex) ≡ true → has notification_cmp (asked_of S.workers c) (asking S.plan S.workers H.arrived) ≡ true in
+    let known : AllByRecursion (λ c. Timed c × Asks c) H.arrived = all_both Timed Asks H.arrived runs.answered.arrived_times (all_asking S.plan S.workers H.arrived) in
+    all_has P a (map (asked_of S.workers) (filter no H.arrived)) (all_map P (asked_of S.workers) (filter no H.arrived) (all_weaken (λ c. (Timed c × Asks c) × (no c ≡ true)) (λ c. P (asked_of S.workers c))
+    (λ c k. let n = no_answer_is (is_grouping (kind_of S.plan c.vertex)) (has notification_cmp (asked_of S.workers c) H.notified) k.1 in (k.0.0, n.0, n.1, k.0.1 n.0)) (filter no H.arrived) (all_filter (λ c. Timed c × Asks c) no H.arrived known))) (sym (runs.told.asked a) ∙ h)
 
 pub get_before : {X : Type 0} (xs ys : List X) (i : ℕ) (d : X) → i < length xs → get_or (xs ++ ys) i d ≡ get_or xs i d
 get_before [] ys i d h = absurd (omega (arith, h))
@@ -297,6 +301,7 @@ module _ (answers : Answers) (origin : Origin) (S : HallState) (H : History) (fa
           (all_both (λ (a : Notification). IsFree S (stamp_of_asked a)) (λ (a : Notification). Released a.vertex a.time) H.notified runs.settled runs.notified_times);
       notified_times = all_weaken (λ (a : Notification). Released a.vertex a.time) (λ (a : Notification). ReleasedNow a.vertex a.time) (λ a h. wider a.vertex a.time h) H.notified runs.notified_times;
       notified_once = inv.running.notified_once;
+      notified_asked = inv.running.notified_asked;
     };
     tasks = record {
       stand = all_weaken (λ task. (task.kind ≡ kind_of S.plan task.vertex) × AllByRecursion (λ r. shard_of_key S.workers r.key ≡ task.shard) (recs_in task.content) × StandsOut S task task.content)

@@ -5,12 +5,10 @@ use Rattle.std.specs.List.{AllByRecursion, slice_get}
 use Rattle.std.specs.Ordering.{is_eq}
 use Rattle.std.proofs.Math.Nat.{mod-lt}
 use Rattle.std.proofs.lemmas.List.{length-map}
-use Rattle.td_stamp.specs.Bag.{bag_of, join, has}
-use Rattle.td_stamp.proofs.Bags.{length-bag_insert}
+use Rattle.td_stamp.specs.Bag.{bag_of, has}
 use Rattle.std.proofs.lemmas.Cmp.{tied_itself}
 use Rattle.td_plan.specs.Lines.{Line}
 use Rattle.td_plan.specs.Blocks.{bounds, reading_loops_at}
-use Rattle.td_plan.specs.Faults.{IsPlan}
 use Rattle.td_calls.specs.Answers.{Answers}
 use Rattle.td_reach.specs.declared.stamp.Stamp.{Stamp}
 use Rattle.td_reach.specs.Paths.{Could, IsOf}
@@ -22,12 +20,12 @@ use Rattle.td_machine.specs.declared.records.Notification.{Notification}
 use Rattle.td_machine.specs.State.{HallState, Task, notification_cmp, message_cmp, asked_of, shard_of_key}
 use Rattle.td_machine.specs.State.Content.{messages, notification}
 use Rattle.td_machine.specs.Active.{kind_of, inputs_of, active, has_passed, IsFree, stamp_of_message, stamp_of_asked, stamp_of_input, stamps_of_inputs}
-use Rattle.td_machine.specs.Steps.{Answer, MayTake, Takes, to_notify, posts}
+use Rattle.td_machine.specs.Steps.{Answer, MayTake, Takes, to_notify}
 use Rattle.td_machine.specs.Steps.Answer.{has_taken}
 use Rattle.td_machine.specs.Steps.Takes.{is_busy, has_none, is_spent, takes}
 use Rattle.td_machine.specs.History.{Origin, History, Invariant, IsTime, is_grouping, has_answer}
 use Rattle.td_machine.proofs.Orders.{notification_total}
-use Rattle.td_machine.proofs.Lists.{filter_yes, filter_no, all_app, all_map, all_everywhere, all_weaken, all_filter}
+use Rattle.td_machine.proofs.Lists.{all_app, all_map, all_everywhere, all_weaken, all_filter}
 use Rattle.td_machine.proofs.Delivered.{all_has, to_active}
 use Rattle.td_machine.proofs.Plain.{passed_from}
 use Rattle.td_machine.proofs.Away.{as_many, grouping_within}
@@ -80,11 +78,7 @@ waits_for : (b c : Bool) → not (not b || c) ≡ true → b ≡ true
 waits_for true c e = refl
 waits_for false c e = absurd (cc)
 
-length-bag_of : (cs : List Message) → length (bag_of message_cmp cs) ≡ length cs
-length-bag_of [] = refl
-length-bag_of (c ∷ cs) = length-bag_insert message_cmp c (bag_of message_cmp cs) ∙ ap suc (length-bag_of cs)
-
-module _ (answers : Answers) (origin : Origin) (S : HallState) (H : History) (lawful : IsPlan S.plan) (inv : Invariant answers origin S H) (idle : (s : ℕ) → s < S.workers → (task : Task) → MayTake S s task → ⊥) where
+module _ (answers : Answers) (origin : Origin) (S : HallState) (H : History) (inv : Invariant answers origin S H) (idle : (s : ℕ) → s < S.workers → (task : Task) → MayTake S s task → ⊥) where
   own_shard : (key : ℕ) → shard_of_key S.workers key < S.workers
   own_shard key = mod-lt key inv.stands.workers
 
@@ -135,7 +129,7 @@ module _ (answers : Answers) (origin : Origin) (S : HallState) (H : History) (la
           of_plan i p at = let r = from_mapped S.asked i p at in subst (IsOf S.plan) r.is (good r.of (has_at S.asked i r.of r.at)).0
 
           least : (p : Stamp) × IsLeast S.plan all p
-          least = least_of (record { transitive = AreNotLater-trans; antisymmetric = AreNotLater-antisymmetric; compared = counters_cmp-ranks; tested = λ t u e. (time_le-IsAtMost t u e, IsAtMost-time_le t u e); times_transitive = IsAtMost-trans; times_antisymmetric = IsAtMost-antisymmetric }) S.plan lawful all (let n = length-map S.asked stamp_of_asked in omega (arith, some, n)) of_plan
+          least = least_of (record { transitive = AreNotLater-trans; antisymmetric = AreNotLater-antisymmetric; compared = counters_cmp-ranks; tested = λ t u e. (time_le-IsAtMost t u e, IsAtMost-time_le t u e); times_transitive = IsAtMost-trans; times_antisymmetric = IsAtMost-antisymmetric }) S.plan inv.stands.plan all (let n = length-map S.asked stamp_of_asked in omega (arith, some, n)) of_plan
 
           l : IsLeast S.plan all least.0
           l = least.1
@@ -177,36 +171,3 @@ module _ (answers : Answers) (origin : Origin) (S : HallState) (H : History) (la
         subst (AllByRecursion (λ a. P (stamp_of_asked a))) (sym none_asked) tt,
         all_weaken (λ (p : Stamp). p.time.epoch ≡ S.next) P (λ p n. omega (arith, n, h)) (stamps_of_inputs S.plan S.next S.closed) (inputs_next S.plan S.next S.closed),
       ))
-
-  -- EXACT WORK: each message that was sent was answered
-  pub each_came : length H.arrived ≡ length (posts S.plan H.sent)
-  each_came =
-      sym (length-bag_of H.arrived) ∙ ap length (ap (λ ms. join message_cmp ms (bag_of message_cmp H.arrived)) (sym no_messages) ∙ inv.running.told.balance) ∙ length-bag_of (posts S.plan H.sent)
-
-  none_passes : (p : Message → Bool) (cs : List Message) → filter p cs ≡ [] → AllByRecursion (λ c. p c ≡ false) cs
-  none_passes p [] h = tt
-  none_passes p (c ∷ cs) h = by (p c) refl (none_passes p cs)
-    where
-      by : (b : Bool) → p c ≡ b → (filter p cs ≡ [] → AllByRecursion (λ x. p x ≡ false) cs) → AllByRecursion (λ x. p x ≡ false) (c ∷ cs)
-      by true e rest = let some : c ∷ filter p cs ≡ [] = sym (filter_yes p c cs e) ∙ h in absurd (cc)
-      by false e rest = (e, rest (sym (filter_no p c cs e) ∙ h))
-
-  none_waits : filter waits H.arrived ≡ []
-  none_waits = by (filter waits H.arrived) refl
-    where
-      by : (cs : List Message) → filter waits H.arrived ≡ cs → filter waits H.arrived ≡ []
-      by [] e = e
-      by (c ∷ cs) e = absurd (
-          let a : Notification = asked_of S.workers c in
-          let there : has notification_cmp a (map (asked_of S.workers) (c ∷ cs)) ≡ true = ap (λ b. b || has notification_cmp a (map (asked_of S.workers) cs)) (asked_itself a) in
-          let no : false ≡ true = ap (has notification_cmp a) (sym none_asked) ∙ inv.running.told.asked a ∙ ap (λ l. has notification_cmp a (map (asked_of S.workers) l)) e ∙ there in cc)
-
-  -- and each notification was given that is asked for
-  pub each_notified : AllByRecursion (λ c. is_grouping (kind_of S.plan c.vertex) ≡ true → has notification_cmp (asked_of S.workers c) H.notified ≡ true) H.arrived
-  each_notified = all_weaken (λ c. waits c ≡ false) (λ c. is_grouping (kind_of S.plan c.vertex) ≡ true → has notification_cmp (asked_of S.workers c) H.notified ≡ true)
-      (λ c e g. by (is_grouping (kind_of S.plan c.vertex)) (has notification_cmp (asked_of S.workers c) H.notified) e g) H.arrived (none_passes waits H.arrived none_waits)
-    where
-      by : (b c : Bool) → not (not b || c) ≡ false → b ≡ true → c ≡ true
-      by true true e g = refl
-      by true false e g = absurd (cc)
-      by false c e g = absurd (cc)

@@ -77,6 +77,10 @@ came_at cs v t = map arrival (filter (λ c. is_there v t c.vertex c.time) cs)
 abbrev pub has_answer : List Line → ℕ → List Notification → Message → Bool
 has_answer plan workers notified c = not (is_grouping (kind_of plan c.vertex)) || has notification_cmp (asked_of workers c) notified
 
+-- the notifications for which records ask: those that come to groups and folds
+abbrev pub asking : List Line → ℕ → List Message → List Notification
+asking plan workers cs = map (asked_of workers) (filter (λ c. is_grouping (kind_of plan c.vertex)) cs)
+
 -- what a fold leaves for a group of items
 abbrev pub left_by : EpochInput → ℕ → ℕ → ℕ → ℕ × List Item → StateLeft
 left_by epoch code e v g = record { epoch = e; vertex = v; key = g.0; state = (on_notification epoch.answers (Fold code) g.0 (state_of epoch.states v g.0) g.1).0 }
@@ -164,6 +168,8 @@ pub record Running (answers : Answers) (origin : Origin) (S : HallState) (H : Hi
   pub notified_times : AllByRecursion (λ a. IsTime origin S.next S.plan a.vertex a.time) H.notified
   -- no notification is given twice
   pub notified_once : AreOnce H.notified
+  -- and each was asked for by a record that came
+  pub notified_asked : AllByRecursion (λ a. has notification_cmp a (asking S.plan S.workers H.arrived) ≡ true) H.notified
 
 -- where a hall stands in the history of its epochs
 pub record Stands (origin : Origin) (S : HallState) : Type 0 where

@@ -1,21 +1,17 @@
 -- The laws over plays that are proved.
-use Rattle.std.specs.Prelude.{◌≡◌, ℕ, ◌+◌, ◌-◌, ◌≤◌, ◌<◌, true, List, [], get_or, length, None}
-use Rattle.std.specs.List.{AllByRecursion}
-use Rattle.td_stamp.specs.Bag.{has}
+use Rattle.std.specs.Prelude.{◌≡◌, ℕ, ◌+◌, ◌-◌, ◌≤◌, ◌<◌, true, List, [], get_or}
 use Rattle.td_stamp.specs.States.{StateList, AreStates}
 use Rattle.td_plan.specs.Lines.{Line}
 use Rattle.td_plan.specs.Faults.{IsPlan}
 use Rattle.td_calls.specs.Answers.{Answers}
-use Rattle.td_machine.specs.State.{HallState, states_at, notification_cmp, asked_of}
-use Rattle.td_machine.specs.Steps.{Event, Answer, Step, Plays, opened, outputs_at, posts}
-use Rattle.td_machine.specs.Steps.Event.{taking}
-use Rattle.td_machine.specs.Steps.Answer.{has_taken}
-use Rattle.td_machine.specs.Sound.{batches_of, records_of, notes_of}
+use Rattle.td_machine.specs.State.{HallState, states_at}
+use Rattle.td_machine.specs.Steps.{Event, Answer, Plays, opened, outputs_at}
+use Rattle.td_machine.specs.Sound.{batches_of}
 use Rattle.td_machine.specs.History.{History, Invariant}
 use Rattle.td_plan.specs.Tree.{tree_of}
 use Rattle.td_batch.specs.Meaning.{epoch_result, result_of, run, states_after}
-use Rattle.td_machine.specs.Active.{kind_of, has_passed}
-use Rattle.td_machine.specs.History.{epoch_from, is_grouping}
+use Rattle.td_machine.specs.Active.{has_passed}
+use Rattle.td_machine.specs.History.{epoch_from}
 use Rattle.td_machine.specs.Flows.{flow_of}
 
 -- EVERY PLAY HAS A HISTORY: whatever order the takes and gives fall in, with any number of shards
@@ -50,15 +46,3 @@ OutputsAreBatch answers = (plan : List Line) (states : StateList) (first workers
     → Plays answers (opened plan states first workers) events replies S
     → (e : ℕ) → S.collected < e → e < S.next → has_passed S e ≡ true
     → outputs_at S e ≡ get_or (run answers (tree_of plan) states (batches_of events replies)).outs (e - first) []
-
--- EXACT WORK: where no shard has a task, a play has given each record that was sent once on each edge out of its vertex, at
--- each time at which it sends, and each notification that was asked once
-abbrev pub ExactWork : Answers → Type 0
-ExactWork answers = (plan : List Line) (states : StateList) (first workers : ℕ) (events : List Event) (replies : List Answer) (S : HallState)
-    → IsPlan plan → AreStates states → 1 ≤ first → 1 ≤ workers
-    → Plays answers (opened plan states first workers) events replies S
-    → ((s : ℕ) → s < S.workers → Step answers S (taking s) (has_taken None) S)
-    → (H : History) × Invariant answers (record { states = states; first = first; batches = batches_of events replies }) S H
-    × (records_of events replies ≡ length (posts plan H.sent))
-    × (notes_of events replies ≡ length H.notified)
-    × AllByRecursion (λ c. is_grouping (kind_of plan c.vertex) ≡ true → has notification_cmp (asked_of S.workers c) H.notified ≡ true) H.arrived

@@ -1,12 +1,12 @@
 -- What holds of each plan without faults (law `plan_facts`): where its edges stand, which times they lead to, and that none leads back.
 use Rattle.std.specs.Prelude.{◌≡◌, ℕ, ◌==◌, ◌<◌, true, List, [], Some, slice_get}
-use Rattle.std.specs.List.{AllByRecursion, list_any}
+use Rattle.std.specs.List.{AllByRecursion, list_any, enumerate_from}
 use Rattle.td_stamp.specs.Time.{Timestamp}
 use Rattle.td_plan.specs.declared.vertex.Kind.TheVariants.{Input, Fold, Output}
 use Rattle.td_plan.specs.declared.vertex.Edge.{Edge}
 use Rattle.td_plan.specs.Lines.{Line}
 use Rattle.td_plan.specs.Tree.{size, tree_of}
-use Rattle.td_plan.specs.Blocks.{bounds, reading_loops_at, edges, edge_at}
+use Rattle.td_plan.specs.Blocks.{PlacedVertex, vertices, bounds, reading_loops, reading_loops_at, read_loops_at, edges, edge_at}
 use Rattle.td_batch.specs.Flow.{AreBelow}
 use Rattle.td_reach.specs.declared.stamp.Place.TheVariants as places
 use Rattle.td_reach.specs.Paths.{Could}
@@ -30,9 +30,14 @@ LeadsOn plan e = (t : Timestamp) → InTurn plan e.source t → AllByRecursion (
 abbrev pub LeadsAway : List Line → Edge → Type 0
 LeadsAway plan e = (t : Timestamp) → InTurn plan e.source t → is_grouping (kind_of plan e.source) ≡ true → Could plan (record { time = t; place = places.Edge (edge_at plan e.reader e.port) }) (stamp_at e.source t) → ⊥
 
+-- each source of a vertex, by port, is read in the loops in which the vertex reads
+abbrev pub AreReadThere : List Line → PlacedVertex → Type 0
+AreReadThere plan p = AllByRecursion (λ s. read_loops_at plan s.1 ≡ Some (reading_loops p.vertex.kind p.loops)) (enumerate_from 0 p.vertex.sources)
+
 pub record PlanFacts (plan : List Line) : Type 0 where
   pub found : AllByRecursion (IsFound plan) (edges plan)
   pub on : AllByRecursion (LeadsOn plan) (edges plan)
+  pub read : AllByRecursion (AreReadThere plan) (vertices plan)
   pub away : AllByRecursion (LeadsAway plan) (edges plan)
   -- inputs and folds stand outside loops (a number without a vertex counts as an input), and a batch names inputs
   pub inputs : (v : ℕ) → kind_of plan v ≡ Input → reading_loops_at plan v ≡ []

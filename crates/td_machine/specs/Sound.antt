@@ -1,5 +1,5 @@
 -- What a state has right by itself, and the laws over plays.
-use Rattle.std.specs.Prelude.{◌≡◌, ℕ, ◌+◌, ◌-◌, ◌<◌, ◌≤◌, true, List, [], ◌∷◌, ◌++◌, flat_map, take, get_or, length, None}
+use Rattle.std.specs.Prelude.{◌≡◌, ℕ, ◌+◌, ◌-◌, ◌<◌, ◌≤◌, true, List, [], ◌∷◌, ◌++◌, flat_map, take, get_or, None}
 use Rattle.td_stamp.specs.declared.values.Entry.{Entry}
 use Rattle.td_stamp.specs.declared.epoch_out.EpochOut.{EpochOut}
 use Rattle.td_stamp.specs.States.{StateList, AreStates}
@@ -8,12 +8,11 @@ use Rattle.td_plan.specs.Tree.{tree_of}
 use Rattle.td_plan.specs.Faults.{IsPlan}
 use Rattle.td_calls.specs.Answers.{Answers}
 use Rattle.td_batch.specs.Meaning.{run, RunResult, states_after, numbered}
-use Rattle.td_machine.specs.State.{HallState, Content, states_at}
-use Rattle.td_machine.specs.State.Content.{messages, notification}
+use Rattle.td_machine.specs.State.{HallState, states_at}
 use Rattle.td_machine.specs.Active.{has_passed}
 use Rattle.td_machine.specs.Steps.{Event, Answer, Step, Plays, opened, outputs_at}
-use Rattle.td_machine.specs.Steps.Event.{release, taking, give}
-use Rattle.td_machine.specs.Steps.Answer.{has_released, has_taken, has_given, has_collected, has_cut}
+use Rattle.td_machine.specs.Steps.Event.{release, taking}
+use Rattle.td_machine.specs.Steps.Answer.{has_released, has_taken, has_collected, has_cut}
 
 module _ (answers : Answers) where
   -- the batch meaning of what was released since the base
@@ -50,33 +49,6 @@ abbrev pub outs_by : Answer → List EpochOut
 outs_by (has_collected outs) = outs
 outs_by _ = []
 
--- how many records, and how many notifications, a play gave: what a drain counts
-abbrev pub records_in : Content → ℕ
-records_in (messages port recs) = length recs
-records_in (notification items) = 0
-
-abbrev pub notes_in : Content → ℕ
-notes_in (messages port recs) = 0
-notes_in (notification items) = 1
-
-abbrev pub records_by : Event → Answer → ℕ
-records_by (give task) has_given = records_in task.content
-records_by _ _ = 0
-
-abbrev pub notes_by : Event → Answer → ℕ
-notes_by (give task) has_given = notes_in task.content
-notes_by _ _ = 0
-
-abbrev pub records_of : List Event → List Answer → ℕ
-records_of [] answers = 0
-records_of (event ∷ events) [] = 0
-records_of (event ∷ events) (answer ∷ more) = records_by event answer + records_of events more
-
-abbrev pub notes_of : List Event → List Answer → ℕ
-notes_of [] answers = 0
-notes_of (event ∷ events) [] = 0
-notes_of (event ∷ events) (answer ∷ more) = notes_by event answer + notes_of events more
-
 -- each cut that was answered has the states of the batch meaning at its epoch
 abbrev pub CutIs : Answers → List Line → StateList → ℕ → List (List Entry) → Answer → Type 0
 CutIs answers plan states first batches (has_cut e at) = at ≡ states_after answers (tree_of plan) states batches (e + 1 - first)
@@ -96,11 +68,10 @@ Confluence answers = (plan : List Line) (states : StateList) (first workers : �
     (flat_map outs_by replies ≡ numbered first (take (S.collected + 1 - first) (run answers (tree_of plan) states batches).outs))
     × CutsAre answers plan states first batches replies
 
--- NEVER STUCK: where no task is out and no shard has a candidate, every released epoch has passed
+-- NEVER STUCK: where each shard answers that it has no task, every released epoch has passed
 abbrev pub NeverStuck : Answers → Type 0
 NeverStuck answers = (plan : List Line) (states : StateList) (first workers : ℕ) (events : List Event) (replies : List Answer) (S : HallState)
     → IsPlan plan → AreStates states → 1 ≤ first → 1 ≤ workers
     → Plays answers (opened plan states first workers) events replies S
-    → S.out ≡ []
-    → ((s : ℕ) → s < S.workers → Step answers S (taking s) (has_taken None) S)
-    → (e : ℕ) → first ≤ e → e < S.next → has_passed S e ≡ true
+    → ((s : ℕ) → s < workers → Step answers S (taking s) (has_taken None) S)
+    → (e : ℕ) → e < S.next → has_passed S e ≡ true

@@ -1,5 +1,6 @@
 //! Laws of the definitions. Each is the contract of a function that does nothing.
-ghost use Rattle.td_machine.specs.Laws.{HasHistory, PassedIsBatch, StatesAreBatch, OutputsAreBatch, ExactWork};
+ghost use Rattle.td_machine.specs.Laws.{HasHistory, PassedIsBatch, StatesAreBatch, OutputsAreBatch};
+ghost use Rattle.td_machine.specs.Exact.{ExactWork, ExactWorkDrained};
 ghost use Rattle.td_machine.specs.Sound.{Confluence, EachIsSound, NeverStuck};
 ghost use Rattle.td_machine.specs.PlanFacts.{PlanFacts};
 ghost use Rattle.td_machine.specs.Flows.{AreLaid};
@@ -50,13 +51,21 @@ pub fn each_is_sound<L: Law>()
     ensures { EachIsSound L.answers }
 {}
 
-/// Never stuck: where no shard has a task that may be taken, every released epoch has passed.
+/// Never stuck: where no task is out and no shard has one that may be taken, every released epoch has passed.
 pub fn never_stuck<L: Law>()
     ensures { NeverStuck L.answers }
 {}
 
-/// Exact work: where no shard has a task that may be taken, a play has given each record that was sent once on each edge, and
-/// each notification that was asked once.
+/// Exact work: where every released epoch has passed, a play has given as many records and notifications as the batch meaning
+/// of what it released has, with any number of shards, in whatever order the takes and gives fell.
 pub fn exact_work<L: Law>()
     ensures { ExactWork L.answers }
 {}
+
+/// And so it has where no task is out and no shard has one that may be taken.
+pub fn exact_work_drained<L: Law>()
+    ensures { ExactWorkDrained L.answers }
+{
+    never_stuck::<L>();
+    exact_work::<L>();
+}

@@ -8,7 +8,7 @@ use Rattle.td_batch.specs.Flow.{numbers_from}
 use Rattle.td_machine.specs.History.{no_history}
 use Rattle.td_machine.specs.Steps.{opened}
 use Rattle.td_machine.specs.Sound.{batches_of}
-use Rattle.td_machine.proofs.Played.{plays_go, opened_holds, origin_at}
+use Rattle.td_machine.proofs.Played.{play_has, opened_holds}
 use Rattle.td_machine.proofs.Confluent.{play_says, numbered_by_epoch, length_outs}
 use Rattle.td_machine.proofs.Lawful.{plan_facts, plan_laid}
 use Rattle.td_machine.proofs.laws.confluence.Goals as goal
@@ -19,7 +19,7 @@ returns g c plan states first workers events replies S lawful ordered l m p =
     let laid = plan_laid plan lawful in
     let answers = g.L.Law.answers in
     let holds = opened_holds answers plan states first workers lawful facts ordered l m in
-    let r = plays_go answers events replies (origin_at states first) (opened plan states first workers) no_history S facts holds p in
+    let r = play_has answers plan states first workers events replies S lawful facts ordered l m p in
     let says = play_says answers plan states first events replies [] (opened plan states first workers) no_history S refl facts (tree_numbered plan lawful) laid (tree_placed plan lawful) holds p in
     let outs = (run answers (tree_of plan) states (batches_of events replies)).outs in
     let n : ℕ = S.collected + 1 - first in

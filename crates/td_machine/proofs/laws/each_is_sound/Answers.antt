@@ -3,12 +3,11 @@ use Rattle.td_plan.proofs.Placed.{tree_placed}
 use Rattle.td_plan.proofs.Trees.{tree_numbered}
 use Rattle.td_plan.specs.Tree.{tree_of, IsNumbered}
 use Rattle.td_plan.specs.Placed.{IsPlacedTree}
-use Rattle.td_machine.specs.History.{Origin, no_history}
+use Rattle.td_machine.specs.History.{Origin}
 use Rattle.td_machine.specs.Flows.{AreLaid}
 use Rattle.td_machine.specs.PlanFacts.{PlanFacts}
-use Rattle.td_machine.specs.Steps.{opened}
 use Rattle.td_machine.specs.Sound.{batches_of}
-use Rattle.td_machine.proofs.Played.{plays_go, opened_holds, origin_at}
+use Rattle.td_machine.proofs.Played.{play_has}
 use Rattle.td_machine.proofs.Base.{is_sound}
 use Rattle.td_machine.proofs.Lawful.{plan_facts, plan_laid}
 use Rattle.td_machine.proofs.laws.each_is_sound.Goals as goal
@@ -18,7 +17,7 @@ returns g c plan states first workers events replies S lawful ordered l m p =
     let answers = g.L.Law.answers in
     let facts = plan_facts plan lawful in
     let laid = plan_laid plan lawful in
-    let r = plays_go answers events replies (origin_at states first) (opened plan states first workers) no_history S facts (opened_holds answers plan states first workers lawful facts ordered l m) p in
+    let r = play_has answers plan states first workers events replies S lawful facts ordered l m p in
     let origin : Origin = record { states = states; first = first; batches = batches_of events replies } in
     is_sound answers origin S r.0 (subst PlanFacts (sym r.2) facts) (subst (λ q. IsNumbered 0 (tree_of q)) (sym r.2) (tree_numbered plan lawful)) (subst (λ q. AreLaid q [] (tree_of q)) (sym r.2) laid)
     (subst (λ q. IsPlacedTree (tree_of q)) (sym r.2) (tree_placed plan lawful)) r.1

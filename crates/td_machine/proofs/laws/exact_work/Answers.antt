@@ -1,33 +1,32 @@
-use Rattle.std.proofs.Common.{◌≡◌, ◌+◌, ◌<◌, ℕ, [], length, refl, subst, sym, ap, ◌∙◌, arith}
-use Rattle.std.specs.Prelude.{None, true}
-use Rattle.std.specs.List.{AllByRecursion}
-use Rattle.td_stamp.specs.Bag.{has}
-use Rattle.td_plan.specs.Faults.{IsPlan}
-use Rattle.td_machine.specs.State.{Task, notification_cmp, asked_of}
-use Rattle.td_machine.specs.Active.{kind_of}
-use Rattle.td_machine.specs.History.{Origin, no_history, is_grouping}
-use Rattle.td_machine.specs.Steps.{MayTake, opened, posts}
-use Rattle.td_machine.specs.Steps.Answer.{has_taken}
-use Rattle.td_machine.specs.Sound.{batches_of, records_of, notes_of}
-use Rattle.td_machine.proofs.Played.{plays_go, opened_holds, origin_at}
-use Rattle.td_machine.proofs.Stuck.{none_may, each_came, each_notified}
-use Rattle.td_machine.proofs.Lawful.{plan_facts}
+use Rattle.std.proofs.Common.{◌≡◌, [], ap, sym, subst, ◌∙◌}
+use Rattle.td_plan.proofs.Placed.{tree_placed}
+use Rattle.td_plan.proofs.Trees.{tree_numbered, tree_vertices}
+use Rattle.td_plan.specs.Blocks.{vertices}
+use Rattle.td_plan.specs.Tree.{tree_of, placed_in, IsNumbered}
+use Rattle.td_plan.specs.Placed.{IsPlacedTree}
+use Rattle.td_machine.specs.Flows.{AreLaid}
+use Rattle.td_machine.specs.History.{Origin}
+use Rattle.td_machine.specs.PlanFacts.{PlanFacts}
+use Rattle.td_machine.specs.Sound.{batches_of}
+use Rattle.td_machine.specs.Work.{Records, Notes}
+use Rattle.td_machine.proofs.Lawful.{plan_facts, plan_laid}
+use Rattle.td_machine.proofs.NotesGiven.{notes_are}
+use Rattle.td_machine.proofs.Played.{play_has}
+use Rattle.td_machine.proofs.RecordsGiven.{records_are}
 use Rattle.td_machine.proofs.laws.exact_work.Goals as goal
 
 pub returns : goal.returns
-returns g c plan states first workers events replies S lawful ordered l m p none_taken =
+returns g c plan states first workers events replies S lawful ordered l m p passed =
     let answers = g.L.Law.answers in
-    let facts = plan_facts plan lawful in
-    let r = plays_go answers events replies (origin_at states first) (opened plan states first workers) no_history S facts (opened_holds answers plan states first workers lawful facts ordered l m) p in
+    let r = play_has answers plan states first workers events replies S lawful (plan_facts plan lawful) ordered l m p in
     let origin : Origin = record { states = states; first = first; batches = batches_of events replies } in
-    let idle : (s : ℕ) → s < S.workers → (task : Task) → MayTake S s task → ⊥ = λ s here task may. none_may S s (has_taken None) S (none_taken s here) refl task may in
-    let came = each_came answers origin S r.0 (subst IsPlan (sym r.2) lawful) r.1 idle in
-    let known = each_notified answers origin S r.0 (subst IsPlan (sym r.2) lawful) r.1 idle in
-    let records : length r.0.arrived ≡ records_of events replies + 0 = r.3.0 in
-    let notes : length r.0.notified ≡ notes_of events replies + 0 = r.3.1 in (
-      r.0,
-      r.1,
-      (let n : records_of events replies ≡ length r.0.arrived = omega (arith, records) in n) ∙ came ∙ ap (λ q. length (posts q r.0.sent)) r.2,
-      omega (arith, notes),
-      subst (λ q. AllByRecursion (λ x. is_grouping (kind_of q x.vertex) ≡ true → has notification_cmp (asked_of S.workers x) r.0.notified ≡ true) r.0.arrived) r.2 known,
-    )
+    let back = sym r.2 in
+    let facts : PlanFacts S.plan = subst PlanFacts back (plan_facts plan lawful) in
+    let numbered : IsNumbered 0 (tree_of S.plan) = subst (λ q. IsNumbered 0 (tree_of q)) back (tree_numbered plan lawful) in
+    let laid : AreLaid S.plan [] (tree_of S.plan) = subst (λ q. AreLaid q [] (tree_of q)) back (plan_laid plan lawful) in
+    let placed : IsPlacedTree (tree_of S.plan) = subst (λ q. IsPlacedTree (tree_of q)) back (tree_placed plan lawful) in
+    let all : placed_in [] 0 (tree_of S.plan) ≡ vertices S.plan = subst (λ q. placed_in [] 0 (tree_of q) ≡ vertices q) back (tree_vertices plan lawful) in
+    record {
+      records = sym r.4 ∙ records_are answers origin S r.0 facts numbered laid placed all r.1 passed ∙ ap (λ q. Records answers q states (batches_of events replies)) r.2;
+      notes = sym r.5 ∙ notes_are answers origin S r.0 facts numbered laid placed all r.1 passed ∙ (λ i. Notes (r.3 i) answers (r.2 i) states (batches_of events replies));
+    }

@@ -4,11 +4,10 @@ use Rattle.td_plan.specs.Tree.{tree_of}
 use Rattle.td_batch.proofs.Meanings.{epoch_is_solution}
 use Rattle.td_batch.specs.Meaning.{EpochInput}
 use Rattle.td_batch.specs.Flow.{Solves}
-use Rattle.td_machine.specs.History.{Origin, no_history, epoch_from}
+use Rattle.td_machine.specs.History.{Origin, epoch_from}
 use Rattle.td_machine.specs.Flows.{flow_of, AreLaid}
-use Rattle.td_machine.specs.Steps.{opened}
 use Rattle.td_machine.specs.Sound.{batches_of}
-use Rattle.td_machine.proofs.Played.{plays_go, opened_holds, origin_at}
+use Rattle.td_machine.proofs.Played.{play_has}
 use Rattle.td_machine.proofs.Plain.{passed_all}
 use Rattle.td_machine.proofs.Solved.{passed_solves}
 use Rattle.td_machine.proofs.Lawful.{plan_facts, plan_laid}
@@ -19,7 +18,7 @@ returns g c plan states first workers events replies S lawful ordered l m p =
     let facts = plan_facts plan lawful in
     let laid = plan_laid plan lawful in
     let answers = g.L.Law.answers in
-    let r = plays_go answers events replies (origin_at states first) (opened plan states first workers) no_history S facts (opened_holds answers plan states first workers lawful facts ordered l m) p in
+    let r = play_has answers plan states first workers events replies S lawful facts ordered l m p in
     let origin : Origin = record { states = states; first = first; batches = batches_of events replies } in (
       r.0,
       r.1,
