@@ -1,5 +1,6 @@
 -- The outputs and states of passed epochs are those of the batch meaning's run from the base.
 use Rattle.std.proofs.Common.{◌≡◌, ℕ, ◌+◌, ◌-◌, ◌<◌, ◌≤◌, List, [], ◌∷◌, length, drop, get_or, ap, sym, ◌∙◌, true, arith, suc, zero}
+use Rattle.std.proofs.lemmas.List.{length-drop}
 use Rattle.td_stamp.specs.declared.values.Entry.{Entry}
 use Rattle.td_stamp.specs.States.{StateList}
 use Rattle.td_plan.specs.Tree.{Nodes, tree_of, IsNumbered}
@@ -59,6 +60,7 @@ module _ (answers : Answers) (origin : Origin) (S : HallState) (H : History) (fa
 
   pub is_sound : Sound answers S
   is_sound = record {
+    released = let n = ap length inv.stands.batches ∙ length-drop before origin.batches in omega (arith, n, few, inv.stands.base.0, inv.stands.next);
     outputs = λ e past new high p.
         let m : ℕ = e - S.base - 1 in
         let at : e - origin.first ≡ before + m = omega (arith, past, inv.stands.base.0) in

@@ -19,7 +19,7 @@ use Rattle.td_machine.specs.State.{HallState, Task, Content, states_at}
 use Rattle.td_machine.specs.State.Content.{messages, notification}
 use Rattle.td_machine.specs.Active.{has_passed, unpassed}
 use Rattle.td_machine.specs.Steps.{Event, Answer, Step, Plays, Takes, Gives, to_collect, outputs_at, release_by, with_batch, with_task, all_delivered, delivered, effect, coming, is_given, cut_by, cut_at_by, cut_to, collect_step, ends}
-use Rattle.td_machine.specs.Steps.Refusal.{stranger, busy, not_passed, no_inputs, no_epochs, spent}
+use Rattle.td_machine.specs.Steps.Refusal.{stranger, busy, not_passed, inputs_closed, out_of_epochs, spent}
 use Rattle.td_machine.specs.Steps.Answer.{refused, has_released, has_taken, has_given, has_cut, has_closed}
 use Rattle.td_machine.specs.Steps.Event.{release, taking, give, collect, cut, cut_at, close}
 use Rattle.td_machine.specs.Steps.Takes.{is_busy, has_none, is_spent, takes}
@@ -114,8 +114,8 @@ module _ (answers : Answers) (plan : List Line) (states : StateList) (first : �
     all = batches ++ more
 
     releases_say : (b c : Bool) (batch : List Entry) → (let r : Answer × HallState = release_by S b c batch in Says all S r.0 r.1)
-    releases_say true c batch = silent all S (refused no_inputs) S refl refl tt
-    releases_say false true batch = silent all S (refused no_epochs) S refl refl tt
+    releases_say true c batch = silent all S (refused inputs_closed) S refl refl tt
+    releases_say false true batch = silent all S (refused out_of_epochs) S refl refl tt
     releases_say false false batch = silent all S (has_released S.next) (with_batch S batch) refl refl tt
 
     takes_say : (s : ℕ) (answer : Answer) (after : HallState) → Takes S s answer after → Says all S answer after

@@ -11,7 +11,8 @@ use Rattle.std.proofs.lemmas.Cmp.{ranked}
 use Rattle.td_stamp.specs.States.{StateList, state_of}
 use Rattle.td_stamp.specs.Bag.{has}
 use Rattle.td_stamp.specs.Groups.{groups}
-use Rattle.td_stamp.proofs.Rising.{Rises, Rises-from_IsBag}
+use Rattle.td_stamp.specs.Rises.{Rises}
+use Rattle.td_stamp.proofs.Rising.{Rises-from_IsBag}
 use Rattle.td_reach.specs.declared.stamp.Stamp.{Stamp}
 use Rattle.td_batch.specs.Meaning.{with_kept}
 use Rattle.td_calls.specs.Answers.{Answers}

@@ -1,8 +1,7 @@
 -- The facts that are wanted of a plan, of each plan without faults.
-use Rattle.std.proofs.Common.{◌≡◌, ℕ, zero, suc, ◌+◌, ◌<◌, Bool, true, false, ◌==◌, List, [], ◌∷◌, length, map, filter, refl, ap, sym, ◌∙◌, subst, arith}
-use Rattle.std.specs.Prelude.{Option, None, Some, drop, take, not, ◌&&◌, ◌||◌, nat_lt, unwrap_or, if◌then◌else◌}
-use Rattle.std.specs.List.{AllByRecursion, slice_get, list_any, enumerate_from}
-use Rattle.std.proofs.lemmas.Bool.{eqb-true}
+use Rattle.std.proofs.Common.{◌≡◌, ℕ, zero, suc, ◌+◌, ◌<◌, Bool, true, false, ◌==◌, List, [], ◌∷◌, length, filter, refl, ap, sym, ◌∙◌, subst, arith}
+use Rattle.std.specs.Prelude.{Option, None, Some, drop, take, not, ◌&&◌, nat_lt, unwrap_or, if◌then◌else◌}
+use Rattle.std.specs.List.{AllByRecursion, slice_get, enumerate_from}
 use Rattle.std.proofs.lemmas.Bool.Decides.{nat_tests}
 use Rattle.std.proofs.lemmas.Option.{slice_get_within, slice_get-get_or}
 use Rattle.td_stamp.specs.Time.{Timestamp, again, raised, outer_turns}
@@ -12,6 +11,7 @@ use Rattle.td_plan.specs.declared.vertex.Edge.{Edge}
 use Rattle.td_plan.specs.declared.vertex.Loop.{Loop}
 use Rattle.td_plan.specs.Lines.{Line}
 use Rattle.td_plan.specs.Blocks.{PlacedVertex, vertices, edges, edges_to, edge_count, bounds, firsts, reading_loops, read_loops, reading_loops_at, read_loops_at}
+use Rattle.td_plan.specs.Inputs.{is_input_of}
 use Rattle.td_plan.specs.Faults.{IsPlan, is_input, is_in_loop, is_of_loops, is_of_outermost, is_fold}
 use Rattle.td_plan.specs.Tree.{Nodes, tree_of, placed_in, size}
 use Rattle.td_plan.specs.Tree.Nodes.{done, node, block}
@@ -19,11 +19,11 @@ use Rattle.td_plan.proofs.ReadOn.{InOrder, placed_order}
 use Rattle.td_plan.proofs.Trees.{length-placed, tree_numbered, tree_vertices}
 use Rattle.td_batch.specs.Flow.{AreBelow}
 use Rattle.td_reach.proofs.Graph.{Joins, reads, read_where_read, has_reader}
-use Rattle.td_machine.specs.Active.{kind_of, kind_or, bound_of, inputs_of}
+use Rattle.td_machine.specs.Active.{kind_of, kind_or, bound_of}
 use Rattle.td_machine.specs.Steps.{sending_times, again_below}
 use Rattle.td_machine.specs.Flows.{IsLaid, AreLaid, read_bounds, innermost_bound}
 use Rattle.td_machine.specs.PlanFacts.{PlanFacts, IsFound, LeadsOn, LeadsAway, AreReadThere}
-use Rattle.td_machine.proofs.Lists.{filter_yes, filter_no, all_weaken, all_both, from_app, from_map, from_flat}
+use Rattle.td_machine.proofs.Lists.{all_weaken, all_both, from_app, from_map, from_flat}
 use Rattle.td_machine.proofs.Around.{IsFine, plan_fine, AreAlike, plan_alike}
 use Rattle.td_machine.proofs.Away.{leads_away}
 use Rattle.td_machine.proofs.Edges.{at_readers, leading_to, number_at}
@@ -242,30 +242,6 @@ module _ (plan : List Line) (lawful : IsPlan plan) where
       )
 
   -- a batch names inputs
-  input_among : (ps : List PlacedVertex) (k v : ℕ) → InOrder k ps → list_any (λ w. w == v) (map (λ (p : PlacedVertex). p.vertex.number) (filter (λ (p : PlacedVertex). is_input p.vertex.kind) ps)) ≡ true
-      → (d : ℕ) × (p : PlacedVertex) × (v ≡ k + d) × (slice_get ps d ≡ Some p) × (is_input p.vertex.kind ≡ true)
-  input_among [] k v o h = absurd (cc)
-  input_among (p ∷ ps) k v o h = by (is_input p.vertex.kind) refl (input_among ps (k + 1) v o.2)
-    where
-      numbers : List PlacedVertex → List ℕ
-      numbers qs = map (λ (q : PlacedVertex). q.vertex.number) qs
-
-      Found : List PlacedVertex → ℕ → Type 0
-      Found qs k = (d : ℕ) × (q : PlacedVertex) × (v ≡ k + d) × (slice_get qs d ≡ Some q) × (is_input q.vertex.kind ≡ true)
-
-      later : Found ps (k + 1) → Found (p ∷ ps) k
-      later f = (suc f.0, f.1, (let r = f.2 in omega (arith, r)), f.3, f.4)
-
-      by : (b : Bool) → is_input p.vertex.kind ≡ b → (list_any (λ w. w == v) (numbers (filter (λ (q : PlacedVertex). is_input q.vertex.kind) ps)) ≡ true → Found ps (k + 1)) → Found (p ∷ ps) k
-      by false e more = later (more (ap (λ l. list_any (λ w. w == v) (numbers l)) (sym (filter_no (λ (q : PlacedVertex). is_input q.vertex.kind) p ps e)) ∙ h))
-      by true e more =
-          let here : list_any (λ w. w == v) (numbers (p ∷ filter (λ (q : PlacedVertex). is_input q.vertex.kind) ps)) ≡ true = ap (λ l. list_any (λ w. w == v) (numbers l)) (sym (filter_yes (λ (q : PlacedVertex). is_input q.vertex.kind) p ps e)) ∙ h in
-          by_test (p.vertex.number == v) refl here
-        where
-          by_test : (b : Bool) → (p.vertex.number == v) ≡ b → list_any (λ w. w == v) (numbers (p ∷ filter (λ (q : PlacedVertex). is_input q.vertex.kind) ps)) ≡ true → Found (p ∷ ps) k
-          by_test true t here = (0, p, (let n = o.0 in let m = eqb-true p.vertex.number v t in omega (arith, n, m)), refl, e)
-          by_test false t here = later (more (ap (λ b. b || list_any (λ w. w == v) (numbers (filter (λ (q : PlacedVertex). is_input q.vertex.kind) ps))) (sym t) ∙ here))
-
   input_kind : (kind : Kind) → is_input kind ≡ true → kind ≡ Input
   input_kind Input e = refl
   input_kind (Map code) e = absurd (cc)
@@ -277,11 +253,12 @@ module _ (plan : List Line) (lawful : IsPlan plan) where
   input_kind Leave e = absurd (cc)
   input_kind Output e = absurd (cc)
 
-  accepted : (v : ℕ) → list_any (λ w. w == v) (inputs_of plan) ≡ true → kind_of plan v ≡ Input
-  accepted v h =
-      let r = input_among (vertices plan) 0 v order h in
-      let n : v ≡ r.0 = (let e = r.2 in omega (arith, e)) in
-      kind_here v r.1 (ap (slice_get (vertices plan)) n ∙ r.3) ∙ input_kind r.1.vertex.kind r.4
+  accepted : (v : ℕ) → is_input_of plan v ≡ true → kind_of plan v ≡ Input
+  accepted v h = by (slice_get (vertices plan) v) refl
+    where
+      by : (o : Option PlacedVertex) → slice_get (vertices plan) v ≡ o → kind_of plan v ≡ Input
+      by None at = kind_none v at
+      by (Some p) at = kind_here v p at ∙ input_kind p.vertex.kind (sym (ap (λ (x : Option PlacedVertex). elim x [ None ↦ false | Some q ↦ is_input q.vertex.kind ]) at) ∙ h)
 
   pub plan_facts : PlanFacts plan
   plan_facts = record {

@@ -25,7 +25,8 @@ use Rattle.td_stamp.specs.Groups.{groups, items_of}
 use Rattle.td_stamp.specs.States.{StateList, state_of, AreStates}
 use Rattle.td_stamp.proofs.Bags.{join-assoc, join-bag_of, bag_of-append, join-IsBag}
 use Rattle.td_stamp.proofs.Sets.{set_of-IsStrictlySortedBy}
-use Rattle.td_stamp.proofs.Rising.{Rises, IsBag-from_Rises, Rises-from_IsBag}
+use Rattle.td_stamp.specs.Rises.{Rises}
+use Rattle.td_stamp.proofs.Rising.{IsBag-from_Rises, Rises-from_IsBag}
 use Rattle.td_plan.specs.declared.vertex.Kind.{Kind}
 use Rattle.td_plan.specs.declared.vertex.Kind.TheVariants.{Input, Map, Distinct, Group, Fold, Enter, Feedback, Leave, Output}
 use Rattle.td_plan.specs.declared.vertex.Edge.{Edge}

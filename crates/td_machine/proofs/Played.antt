@@ -17,7 +17,7 @@ use Rattle.td_machine.specs.State.{HallState, Task, Content, KeyItems, shard_of_
 use Rattle.td_machine.specs.State.Content.{messages, notification}
 use Rattle.td_machine.specs.Active.{kind_of, active, stamp_of_input, inputs_of, has_passed, unpassed}
 use Rattle.td_machine.specs.Steps.{Event, Answer, Step, Plays, Takes, Gives, opened, release_by, ends, collect_step, cut_by, cut_at_by, cut_to, with_task, accepts, coming, delivered, effect, is_given, all_delivered, notified, asked_at, to_notify}
-use Rattle.td_machine.specs.Steps.Refusal.{stranger, busy, not_passed, no_inputs, no_epochs, spent}
+use Rattle.td_machine.specs.Steps.Refusal.{stranger, busy, not_passed, inputs_closed, out_of_epochs, spent}
 use Rattle.td_machine.specs.Steps.Answer.{refused, has_taken, has_given, has_cut, has_closed}
 use Rattle.td_machine.specs.Steps.Event.{release, taking, give, collect, cut, cut_at, close}
 use Rattle.td_machine.specs.Steps.Takes.{is_busy, has_none, is_spent, takes}
@@ -140,8 +140,8 @@ module _ (answers : Answers) (origin : Origin) (S : HallState) (H : History) (fa
   stays event answer none after p H' more h = record { origin_then = origin; history_then = H'; states_same = refl; first_same = refl; batches_more = sym (ap (λ l. origin.batches ++ l) none ∙ append-nil origin.batches); same_hall = p; holds = h; gained = more }
 
   releases : (batch : List Entry) → accepts S.plan batch ≡ true → (b c : Bool) → (let r : Answer × HallState = release_by S b c batch in Goes answers origin S H (release batch) r.0 r.1)
-  releases batch a true c = stays (release batch) (refused no_inputs) refl S (refl, refl) H (omega arith, omega arith) inv
-  releases batch a false true = stays (release batch) (refused no_epochs) refl S (refl, refl) H (omega arith, omega arith) inv
+  releases batch a true c = stays (release batch) (refused inputs_closed) refl S (refl, refl) H (omega arith, omega arith) inv
+  releases batch a false true = stays (release batch) (refused out_of_epochs) refl S (refl, refl) H (omega arith, omega arith) inv
   releases batch a false false = record { origin_then = origin_after answers origin S H facts batch a inv; history_then = also_released answers origin S H facts batch a inv; states_same = refl; first_same = refl; batches_more = refl; same_hall = (refl, refl); holds = released_keeps answers origin S H facts batch a inv; gained = (omega arith, omega arith) }
 
   -- the released epochs have passed where none is found that has not

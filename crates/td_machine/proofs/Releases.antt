@@ -6,7 +6,7 @@ use Rattle.std.proofs.lemmas.Bool.{ltb-true, ltb-false, eqb-true}
 use Rattle.std.proofs.lemmas.Cmp.{tied_itself}
 use Rattle.std.proofs.lemmas.List.{append-nil}
 use Rattle.td_stamp.proofs.TimeLaws.{time_total}
-use Rattle.std.specs.List.{AllByRecursion, list_any}
+use Rattle.std.specs.List.{AllByRecursion}
 use Rattle.std.proofs.lemmas.Grind.{flat_map-append}
 use Rattle.td_stamp.specs.declared.values.Entry.{Entry}
 use Rattle.td_stamp.specs.Orders.{rec_cmp}
@@ -15,6 +15,7 @@ use Rattle.td_stamp.specs.Bag.{join, bag_of, has}
 use Rattle.td_stamp.specs.Batch.{records_for}
 use Rattle.td_stamp.specs.Groups.{groups}
 use Rattle.td_stamp.proofs.Bags.{join-assoc, join-swap, join-IsBag, bag_of-append}
+use Rattle.td_plan.specs.Inputs.{is_input_of}
 use Rattle.td_plan.specs.declared.vertex.Kind.{Kind}
 use Rattle.td_plan.specs.declared.vertex.Kind.TheVariants.{Input, Map, Distinct, Group, Fold, Enter, Feedback, Leave, Output}
 use Rattle.td_plan.specs.Blocks.{bounds, reading_loops_at}
@@ -139,8 +140,8 @@ module _ (answers : Answers) (origin : Origin) (S : HallState) (H : History) (fa
 
   -- the entries name inputs
   are_inputs : AllByRecursion (λ (e : Entry). kind_of S.plan e.input ≡ Input) batch
-  are_inputs = all_weaken (λ (e : Entry). list_any (λ v. v == e.input) (inputs_of S.plan) ≡ true) (λ e. kind_of S.plan e.input ≡ Input) (λ e h. facts.accepted e.input h) batch
-      (all_true answers origin S H (λ (e : Entry). list_any (λ v. v == e.input) (inputs_of S.plan)) batch accepted)
+  are_inputs = all_weaken (λ (e : Entry). is_input_of S.plan e.input ≡ true) (λ e. kind_of S.plan e.input ≡ Input) (λ e h. facts.accepted e.input h) batch
+      (all_true answers origin S H (λ (e : Entry). is_input_of S.plan e.input) batch accepted)
 
   first_next : origin.first ≤ S.next
   first_next = omega (arith, inv.stands.next)

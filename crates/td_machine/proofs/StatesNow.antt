@@ -15,7 +15,8 @@ use Rattle.td_stamp.specs.Time.{Timestamp}
 use Rattle.td_stamp.specs.Groups.{groups}
 use Rattle.td_stamp.specs.States.{StateList, state_of}
 use Rattle.td_stamp.proofs.Parts.{groups-of_bag}
-use Rattle.td_stamp.proofs.Rising.{Rises, Rises-from_IsBag}
+use Rattle.td_stamp.specs.Rises.{Rises}
+use Rattle.td_stamp.proofs.Rising.{Rises-from_IsBag}
 use Rattle.td_plan.specs.declared.vertex.Kind.{Kind}
 use Rattle.td_plan.specs.declared.vertex.Kind.TheVariants.{Input, Map, Distinct, Group, Fold, Enter, Feedback, Leave, Output}
 use Rattle.td_plan.specs.Lines.{Vertex}

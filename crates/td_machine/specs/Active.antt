@@ -14,7 +14,7 @@ use Rattle.td_machine.specs.declared.records.Message.{Message}
 use Rattle.td_machine.specs.declared.records.Notification.{Notification}
 use Rattle.td_machine.specs.State.{HallState}
 
--- Of a vertex by number; a number that has none is taken for an input with no source
+-- the kind of a vertex; a number that has none is taken for an input
 abbrev pub kind_or : Option Kind → Kind
 kind_or None = Input
 kind_or (Some k) = k
@@ -22,12 +22,15 @@ kind_or (Some k) = k
 abbrev pub kind_of : List Line → ℕ → Kind
 kind_of plan v = kind_or (kind_at plan v)
 
+-- the bound of the loop in which a vertex stands
 abbrev pub bound_of : List Line → ℕ → ℕ
 bound_of plan v = unwrap_or (bound_at plan v) 0
 
+-- the numbers of the inputs
 abbrev pub inputs_of : List Line → List ℕ
 inputs_of plan = map (λ p. p.vertex.number) (filter (λ p. is_input p.vertex.kind) (vertices plan))
 
+-- the pointstamps of a message, of a vertex and time, and of a notification
 abbrev pub stamp_of_message : List Line → Message → Stamp
 stamp_of_message plan c = record { time = c.time; place = places.Edge (edge_at plan c.vertex c.port) }
 
@@ -37,16 +40,17 @@ stamp_at v t = record { time = t; place = places.Vertex v }
 abbrev pub stamp_of_asked : Notification → Stamp
 stamp_of_asked a = stamp_at a.vertex a.time
 
--- an input may still be given records of an epoch not before the next
+-- that of an input, which may still be given records of the next epoch and of later ones
 abbrev pub stamp_of_input : ℕ → ℕ → Stamp
 stamp_of_input next v = stamp_at v (record { epoch = next; turns = [] })
 
+-- inputs that are closed have none
 abbrev pub stamps_of_inputs : List Line → ℕ → Bool → List Stamp
 stamps_of_inputs plan next true = []
 stamps_of_inputs plan next false = map (stamp_of_input next) (inputs_of plan)
 
 module _ (S : HallState) where
-  -- the bag of active pointstamps: a stamp stands in it as often as it occurs
+  -- ACTIVE: the bag of active pointstamps, in which each stands as often as it occurs. Those of tasks that are out are among them
   abbrev pub active : List Stamp
   active = map (stamp_of_message S.plan) S.messages ++ (map stamp_of_asked S.asked ++ stamps_of_inputs S.plan S.next S.closed)
 

@@ -13,6 +13,7 @@ use Rattle.td_plan.specs.Times.{sent_at, sent_by}
 use Rattle.td_reach.specs.Paths.{Could, adjust, over}
 use Rattle.td_calls.specs.Stock.{stock}
 use Rattle.td_batch.specs.Examples.{entry}
+use Rattle.td_machine.specs.declared.records.Message.{Message}
 use Rattle.td_machine.specs.State.{HallState, Task}
 use Rattle.td_machine.specs.State.Content.{messages}
 use Rattle.td_machine.specs.Steps.{with_task, effect, is_given}
@@ -22,6 +23,10 @@ at_epoch e = record { epoch = e; turns = [] }
 
 abbrev pub one_batch : ℤ → List Entry
 one_batch val = entry 0 7 val ∷ []
+
+-- a message to port 0 of a vertex
+abbrev pub message_at : ℕ → Timestamp → ℤ → Message
+message_at v t val = record { vertex = v; port = 0; time = t; rec = record { key = 7; val = val } }
 
 -- a task of one message, of the only shard
 abbrev pub message_task : ℕ → ℕ → Kind → Timestamp → ℤ → Task

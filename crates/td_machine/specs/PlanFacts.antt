@@ -1,16 +1,17 @@
 -- What holds of each plan without faults (law `plan_facts`): where its edges stand, which times they lead to, and that none leads back.
-use Rattle.std.specs.Prelude.{◌≡◌, ℕ, ◌==◌, ◌<◌, true, List, [], Some, slice_get}
-use Rattle.std.specs.List.{AllByRecursion, list_any, enumerate_from}
+use Rattle.std.specs.Prelude.{◌≡◌, ℕ, ◌<◌, true, List, [], Some, slice_get}
+use Rattle.std.specs.List.{AllByRecursion, enumerate_from}
 use Rattle.td_stamp.specs.Time.{Timestamp}
 use Rattle.td_plan.specs.declared.vertex.Kind.TheVariants.{Input, Fold, Output}
 use Rattle.td_plan.specs.declared.vertex.Edge.{Edge}
 use Rattle.td_plan.specs.Lines.{Line}
+use Rattle.td_plan.specs.Inputs.{is_input_of}
 use Rattle.td_plan.specs.Tree.{size, tree_of}
 use Rattle.td_plan.specs.Blocks.{PlacedVertex, vertices, bounds, reading_loops, reading_loops_at, read_loops_at, edges, edge_at}
 use Rattle.td_batch.specs.Flow.{AreBelow}
 use Rattle.td_reach.specs.declared.stamp.Place.TheVariants as places
 use Rattle.td_reach.specs.Paths.{Could}
-use Rattle.td_machine.specs.Active.{kind_of, bound_of, inputs_of, stamp_at}
+use Rattle.td_machine.specs.Active.{kind_of, bound_of, stamp_at}
 use Rattle.td_machine.specs.Steps.{sending_times}
 use Rattle.td_machine.specs.History.{is_grouping}
 
@@ -44,4 +45,4 @@ pub record PlanFacts (plan : List Line) : Type 0 where
   pub folds : (v code : ℕ) → kind_of plan v ≡ Fold code → reading_loops_at plan v ≡ []
   pub outputs : (v : ℕ) → kind_of plan v ≡ Output → (reading_loops_at plan v ≡ []) × (v < size (tree_of plan))
   pub few : (v code : ℕ) → kind_of plan v ≡ Fold code → v < size (tree_of plan)
-  pub accepted : (v : ℕ) → list_any (λ w. w == v) (inputs_of plan) ≡ true → kind_of plan v ≡ Input
+  pub accepted : (v : ℕ) → is_input_of plan v ≡ true → kind_of plan v ≡ Input

@@ -1,5 +1,5 @@
 -- What a state has right by itself, and the laws over plays.
-use Rattle.std.specs.Prelude.{◌≡◌, ℕ, ◌+◌, ◌-◌, ◌<◌, ◌≤◌, true, List, [], ◌∷◌, ◌++◌, flat_map, take, get_or, None}
+use Rattle.std.specs.Prelude.{◌≡◌, ℕ, ◌+◌, ◌-◌, ◌<◌, ◌≤◌, true, List, [], ◌∷◌, ◌++◌, flat_map, take, get_or, length, None}
 use Rattle.td_stamp.specs.declared.values.Entry.{Entry}
 use Rattle.td_stamp.specs.declared.epoch_out.EpochOut.{EpochOut}
 use Rattle.td_stamp.specs.States.{StateList, AreStates}
@@ -23,8 +23,10 @@ module _ (answers : Answers) where
   abbrev pub run_states : HallState → ℕ → StateList
   run_states S e = states_after answers (tree_of S.plan) S.base_states S.batches (e - S.base)
 
-  -- SOUND: the outputs of passed epochs that were not collected, and the states at passed epochs, are those of the batch meaning
+  -- SOUND: the batches are those of the epochs from the base to the next; and the outputs of passed epochs that were not collected,
+  -- and the states at passed epochs, are those of the batch meaning
   pub record Sound (S : HallState) : Type 0 where
+    pub released : S.base + 1 + length S.batches ≡ S.next
     pub outputs : (e : ℕ) → S.base < e → S.collected < e → e < S.next → has_passed S e ≡ true → outputs_at S e ≡ get_or (run_of S).outs (e - S.base - 1) []
     pub states : (e : ℕ) → S.base ≤ e → e < S.next → has_passed S e ≡ true → states_at S e ≡ run_states S e
 

@@ -1,6 +1,6 @@
--- What each call of a hall does: its answer, and the state after it.
+-- What each call of a hall does: its answer, and the state after it (Naiad, sections 2.2 and 2.3). Each is one atomic step.
 use Rattle.std.specs.Prelude.{◌≡◌, ℕ, suc, ◌+◌, ◌-◌, ◌^◌, ◌==◌, ◌<◌, ◌≤◌, nat_lt, Bool, true, false, not, List, [], ◌∷◌, ◌++◌, map, filter, flat_map, drop, length, Option, Some, None, unwrap_or, Contains, if◌then◌else◌}
-use Rattle.std.specs.List.{AllByRecursion, list_any, list_all}
+use Rattle.std.specs.List.{AllByRecursion, list_all}
 use Rattle.std.specs.Ordering.{is_eq}
 use Rattle.td_stamp.specs.declared.values.Rec.{Rec}
 use Rattle.td_stamp.specs.declared.values.Entry.{Entry}
@@ -17,6 +17,7 @@ use Rattle.td_plan.specs.declared.vertex.Kind.TheVariants.{Fold, Enter, Feedback
 use Rattle.td_plan.specs.declared.vertex.Edge.{Edge}
 use Rattle.td_plan.specs.Lines.{Line}
 use Rattle.td_plan.specs.Blocks.{edges}
+use Rattle.td_plan.specs.Inputs.{is_input_of}
 use Rattle.td_calls.specs.Answers.{Answers}
 use Rattle.td_calls.specs.Callbacks.{Added, on_arrival, on_notification}
 use Rattle.td_machine.specs.declared.records.Message.{Message}
@@ -26,16 +27,22 @@ use Rattle.td_machine.specs.declared.records.StateLeft.{StateLeft}
 use Rattle.td_machine.specs.declared.records.OutputAt.{OutputAt}
 use Rattle.td_machine.specs.State.{HallState, KeyItems, Content, Task, message_cmp, stamped_cmp, notification_cmp, left_cmp, output_at_cmp, task_cmp, shard_of_key, is_out, arrival, asked_of, local_at, states_at}
 use Rattle.td_machine.specs.State.Content.{messages, notification}
-use Rattle.td_machine.specs.Active.{kind_of, bound_of, inputs_of, stamp_at, has_passed, released_after, unpassed, Frontier}
+use Rattle.td_machine.specs.Active.{kind_of, bound_of, stamp_at, has_passed, released_after, unpassed, Frontier}
 
+-- Why a call is refused; the state is then as it was
 pub data Refusal : Type 0 where
+  -- the task that is given is not the one that is out at its shard
   stranger : Refusal
+  -- a task is out at the shard
   busy : Refusal
+  -- this is the least released epoch that has not passed
   not_passed : ℕ → Refusal
-  no_inputs : Refusal
-  no_epochs : Refusal
+  inputs_closed : Refusal
+  -- all numbers of epochs, or of tasks, are used
+  out_of_epochs : Refusal
   spent : Refusal
 
+-- What is called
 pub data Event : Type 0 where
   release : List Entry → Event
   taking : ℕ → Event
@@ -45,6 +52,7 @@ pub data Event : Type 0 where
   cut_at : ℕ → Event
   close : Event
 
+-- What a call answers
 pub data Answer : Type 0 where
   refused : Refusal → Answer
   has_released : ℕ → Answer
@@ -62,7 +70,8 @@ ends = 2 ^ 63
 abbrev pub task_size : ℕ
 task_size = 64
 
--- the times at which a vertex sends what it was given at a time: one, or none at a feedback in the last turn of its loop
+-- THE TIMES at which a vertex sends what it was given at a time (Naiad, section 2.1): one, or none at a feedback in the last turn
+-- of its loop
 abbrev pub again_below : ℕ → Timestamp → List ℕ → List Timestamp
 again_below bound t [] = []
 again_below bound t (k ∷ outer) = if nat_lt (suc k) bound then again t ∷ [] else []
@@ -122,19 +131,19 @@ opened plan states first workers = record {
 }
 
 module _ (S : HallState) where
-  -- release
+  -- RELEASE: each entry's record is on every edge out of its input
   abbrev pub with_batch : List Entry → HallState
   with_batch batch = record S { batches = S.batches ++ batch ∷ []; next = S.next + 1; messages = join message_cmp (posts S.plan (map (entered S.next) batch)) S.messages }
 
   abbrev pub release_by : Bool → Bool → List Entry → Answer × HallState
-  release_by true at_end batch = (refused no_inputs, S)
-  release_by false true batch = (refused no_epochs, S)
+  release_by true at_end batch = (refused inputs_closed, S)
+  release_by false true batch = (refused out_of_epochs, S)
   release_by false false batch = (has_released S.next, with_batch batch)
 
   abbrev pub release_step : List Entry → Answer × HallState
   release_step batch = release_by S.closed (S.next == ends) batch
 
-  -- collect
+  -- COLLECT: the outputs of the epochs that have passed since the last collect
   abbrev pub outputs_at : ℕ → List Output
   outputs_at e = map (λ o. o.output) (filter (λ o. o.epoch == e) S.outputs)
 
@@ -147,23 +156,26 @@ module _ (S : HallState) where
   abbrev pub collect_step : Answer × HallState
   collect_step = (has_collected (map (λ e. record { epoch = e; recs = outputs_at e }) to_collect), collected_to (S.collected + length to_collect))
 
-  -- cut
+  -- CUT: the states after an epoch become the base, and what belongs to epochs up to it is let go: batches, what folds left and what
+  -- distincts have seen (Naiad, section 3.4, Checkpoint)
   abbrev pub cut_to : ℕ → HallState
   cut_to e = record S { base = e; base_states = states_at S e; batches = drop (e - S.base) S.batches; left = filter (λ k. nat_lt e k.epoch) S.left; seen = filter (λ x. nat_lt e x.time.epoch) S.seen }
 
+  -- at the last released epoch, where all have passed
   abbrev pub cut_by : Option ℕ → ℕ → Answer × HallState
   cut_by (Some e) last = (refused (not_passed e), S)
   cut_by None last = (has_cut last (states_at S last), cut_to last)
 
+  -- at any released epoch that has passed
   abbrev pub cut_at_by : Bool → ℕ → Answer × HallState
   cut_at_by true e = (has_cut e (states_at S e), cut_to e)
   cut_at_by false e = (refused (not_passed (unwrap_or (unpassed S) e)), S)
 
-  -- close
+  -- CLOSE: the inputs are active no more
   abbrev pub close_step : Answer × HallState
   close_step = (has_closed, record S { closed = true })
 
-  -- take: what a task of a shard may hold
+  -- TAKE: a message with others of its edge and time and shard, or a notification that is in the frontier
   abbrev pub asked_at : ℕ → ℕ → Timestamp → Notification
   asked_at s v t = record { shard = s; vertex = v; time = t }
 
@@ -201,7 +213,7 @@ module _ (S : HallState) where
     is_spent : is_out S s ≡ false → (task : Task) → MayTake s task → S.taken ≡ ends → Takes s (refused spent) S
     takes : is_out S s ≡ false → (task : Task) → MayTake s task → S.taken < ends → Takes s (has_taken (Some task)) (with_task task)
 
--- give: what a record that comes to an output leaves there
+-- GIVE: what a record that comes to an output leaves there
 abbrev pub comes_out : Kind → Message → List OutputAt
 comes_out output c = record { epoch = c.time.epoch; output = record { vertex = c.vertex; rec = c.rec } } ∷ []
 comes_out _ c = []
@@ -269,9 +281,9 @@ pub data Gives (answers : Answers) (S : HallState) (task : Task) : Answer → Ha
 
 -- every entry names an input
 abbrev pub accepts : List Line → List Entry → Bool
-accepts plan batch = list_all (λ e. list_any (λ v. v == e.input) (inputs_of plan)) batch
+accepts plan batch = list_all (λ e. is_input_of plan e.input) batch
 
--- A step: of a release and of a cut at an epoch, with the condition on which it may be called
+-- A STEP of a hall; a release and a cut at an epoch have a condition on which they may be called
 module _ (answers : Answers) where
   abbrev pub Step : HallState → Event → Answer → HallState → Type 0
   Step S (release batch) answer after = (accepts S.plan batch ≡ true) × (release_step S batch ≡ (answer, after))
@@ -282,6 +294,7 @@ module _ (answers : Answers) where
   Step S (cut_at e) answer after = (S.base ≤ e) × (e < S.next) × (cut_at_by S (has_passed S e) e ≡ (answer, after))
   Step S close answer after = close_step S ≡ (answer, after)
 
+  -- PLAYS: one step after another, in whatever order takes and gives fall
   abbrev pub Plays : HallState → List Event → List Answer → HallState → Type 0
   Plays S [] [] after = after ≡ S
   Plays S [] (answer ∷ more) after = ⊥

@@ -15,9 +15,10 @@ use Rattle.td_stamp.specs.declared.values.Entry.{Entry}
 use Rattle.td_stamp.specs.Orders.{rec_cmp, entry_cmp}
 use Rattle.td_stamp.specs.ProvedOrders.{rec_total, rec_apart, entry_total, entry_apart}
 use Rattle.td_stamp.specs.Bag.{IsBag}
+use Rattle.td_stamp.specs.Rises.{IsBelowAll, Rises}
 use Rattle.td_stamp.specs.Batch.{records_for}
 use Rattle.td_stamp.proofs.Sorted.{IsSorted-bag_of}
-use Rattle.td_stamp.proofs.Rising.{IsBelowAll, Rises, IsBag-from_Rises, Rises-from_IsBag}
+use Rattle.td_stamp.proofs.Rising.{IsBag-from_Rises, Rises-from_IsBag}
 
 -- an entry that is not above others has a record that is not above theirs, where the inputs are the same
 records_below : (input : ℕ) (e : Entry) (es : List Entry) → e.input ≡ input → IsBelowAll entry_cmp e es → IsBelowAll rec_cmp e.rec (records_for input es)

@@ -1,3 +1,4 @@
+pub mod AnyOrder
 pub mod Bags
 pub mod Batches
 pub mod Counts

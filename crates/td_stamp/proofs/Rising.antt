@@ -10,17 +10,8 @@ use Rattle.std.specs.List.{AllByRecursion}
 use Rattle.std.specs.List.Sorted.{IsStrictlySortedBy}
 use Rattle.std.specs.Map.{keys_of}
 use Rattle.td_stamp.specs.Bag.{bag_insert, bag_of, IsBag, members}
+use Rattle.td_stamp.specs.Rises.{IsBelowAll, Rises}
 use Rattle.td_stamp.proofs.Bags.{insert_past, insert_before_less, insert_before_equal, turned_back}
-
-module _ {X : Type 0} (cmp : X → X → Ordering) where
-  -- x is above none of these
-  abbrev pub IsBelowAll : X → List X → Type 0
-  IsBelowAll x ys = AllByRecursion (λ y. is_gt (cmp x y) ≡ false) ys
-
-  -- no element is above a later one
-  abbrev pub Rises : List X → Type 0
-  Rises [] = Unit {0}
-  Rises (x ∷ xs) = IsBelowAll x xs × Rises xs
 
 -- what holds of each element of two lists holds of each of both
 pub all_append : {X : Type 0} (P : X → Type 0) (xs ys : List X) → AllByRecursion P xs → AllByRecursion P ys → AllByRecursion P (xs ++ ys)

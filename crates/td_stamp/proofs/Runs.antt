@@ -14,10 +14,11 @@ use Rattle.td_stamp.specs.declared.values.Arrival.{Arrival}
 use Rattle.td_stamp.specs.Orders.{item_cmp, arrival_cmp}
 use Rattle.td_stamp.specs.ProvedOrders.{item_total, item_apart, arrival_total, arrival_apart}
 use Rattle.td_stamp.specs.Bag.{bag_of, set_of, set_insert, IsBag}
+use Rattle.td_stamp.specs.Rises.{IsBelowAll, Rises}
 use Rattle.td_stamp.specs.Groups.{groups, items_of, with_first, runs}
 use Rattle.td_stamp.specs.Steps.{last_key, with_last_item}
 use Rattle.td_stamp.proofs.Bags.{set_insert_less, set_insert_equal}
-use Rattle.td_stamp.proofs.Rising.{IsBelowAll, Rises, insert_front, below_bag_of, all_weaker, Rises-from_IsBag}
+use Rattle.td_stamp.proofs.Rising.{insert_front, below_bag_of, all_weaker, Rises-from_IsBag}
 use Rattle.td_stamp.proofs.Sets.{all_set_of, all_from_set_of, set_of-IsStrictlySortedBy}
 
 -- ---- one more arrival at the end

@@ -12,8 +12,9 @@ use Rattle.std.proofs.lemmas.Bool.{cases_eq}
 use Rattle.std.proofs.lemmas.List.Edits.{swap_is}
 use Rattle.std.proofs.lemmas.List.Sorted.{IsPermutation-keeps, IsPermutation-refl, IsPermutation-sym, IsPermutation-trans, IsPermutation-cons, IsPermutation-middle}
 use Rattle.td_stamp.specs.Bag.{bag_insert, bag_of, join, IsBag}
+use Rattle.td_stamp.specs.Rises.{Rises}
 use Rattle.td_stamp.proofs.Bags.{insert_past, insert_before_less, insert_before_equal, join-middle, join_comm, bag_insert_cancel, bag_of-append, bag_of-push}
-use Rattle.td_stamp.proofs.Rising.{Rises, Rises-bag_of, IsBag-from_Rises, Rises-from_IsBag, below_through}
+use Rattle.td_stamp.proofs.Rising.{Rises-bag_of, IsBag-from_Rises, Rises-from_IsBag, below_through}
 
 module _ {X : Type 0} (cmp : X → X → Ordering) (total : IsTotalOrder cmp) (same : IsAntisymmetric cmp) where
   -- all elements but that at i

@@ -1,8 +1,10 @@
 pub mod Orders
 pub mod Bag
+pub mod BagLaws
 pub mod Groups
 pub mod Batch
 pub mod Time
+pub mod Rises
 pub mod States
 pub mod ProvedOrders
 pub mod Steps

@@ -5,6 +5,7 @@ ghost use Rattle.std.specs.List.Sorted.{IsPermutation, IsSorted};
 ghost use Rattle.std.specs.Cmp.{IsTotalOrder};
 ghost use Rattle.std.specs.Ordering.{is_le, MatchOrdering};
 ghost use Rattle.std.specs.FinMap.{IsAntisymmetric};
+ghost use Rattle.std.specs.declared.cmp.Ordering.{Ordering};
 ghost use Rattle.td_stamp.specs.declared.values.Rec.{Rec as AnyRec};
 ghost use Rattle.td_stamp.specs.declared.values.Item.{Item as AnyItem};
 ghost use Rattle.td_stamp.specs.declared.values.Arrival.{Arrival as AnyArrival};
@@ -12,6 +13,7 @@ ghost use Rattle.td_stamp.specs.declared.values.Entry.{Entry as AnyEntry};
 ghost use Rattle.td_stamp.specs.declared.values.Output.{Output as AnyOutput};
 ghost use Rattle.td_stamp.specs.Orders.{rec_cmp, item_cmp, arrival_cmp, entry_cmp, output_cmp, state_key_cmp};
 ghost use Rattle.td_stamp.specs.Bag.{bag_insert, bag_remove, bag_of, join, set_insert, set_of, set_has, has, IsBag};
+ghost use Rattle.td_stamp.specs.BagLaws.{BagLaws, SetLaws};
 ghost use Rattle.td_stamp.specs.Groups.{groups, runs};
 ghost use Rattle.td_stamp.specs.Time.{Timestamp, depth, enter, leave, rounds, counters_cmp, time_le, time_cmp, AreEarlier, AreNotLater, IsAtMost};
 
@@ -79,6 +81,23 @@ pub fn sets<T: Member>()
     ensures any_place { (xs ys : List T) (x : T) → set_of T.cmp (xs ++ x ∷ ys) ≡ set_insert T.cmp x (set_of T.cmp (xs ++ ys)) }
     ensures inserts_swap { (x y : T) (zs : List T) → set_insert T.cmp x (set_insert T.cmp y zs) ≡ set_insert T.cmp y (set_insert T.cmp x zs) }
     ensures found { (x : T) (xs : List T) → set_has T.cmp x (set_of T.cmp xs) ≡ has T.cmp x xs }
+{}
+
+/// Bags over any total order in which only equal members tie, also of values that no code has.
+pub fn bags_by_any_order<T>()
+    ensures { (cmp : T → T → Ordering) → IsTotalOrder cmp → IsAntisymmetric cmp → BagLaws cmp }
+{}
+
+/// Sets over such an order.
+pub fn sets_by_any_order<T>()
+    ensures { (cmp : T → T → Ordering) → IsTotalOrder cmp → IsAntisymmetric cmp → SetLaws cmp }
+{}
+
+/// What the members of a bag over such an order give, put together.
+pub fn parts_by_any_order<T, U>()
+    ensures { (cmp : T → T → Ordering) → IsTotalOrder cmp → IsAntisymmetric cmp → (part_cmp : U → U → Ordering) → IsTotalOrder part_cmp
+        → IsAntisymmetric part_cmp → (parts : T → List U) (x : T) (ys : List T)
+        → bag_of part_cmp (flat_map parts (bag_insert cmp x ys)) ≡ join part_cmp (parts x) (bag_of part_cmp (flat_map parts ys)) }
 {}
 
 /// Groups do not depend on the order in which records arrive.
