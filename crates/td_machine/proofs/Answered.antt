@@ -12,14 +12,14 @@ use Rattle.td_plan.specs.declared.vertex.Kind.{Kind}
 use Rattle.td_plan.specs.declared.vertex.Kind.TheVariants.{Distinct, Fold}
 use Rattle.td_plan.specs.Lines.{Line}
 use Rattle.td_calls.specs.Answers.{Answers}
-use Rattle.td_calls.specs.Callbacks.{Added}
+use Rattle.td_calls.specs.Callbacks.{Added, is_notified}
 use Rattle.td_batch.specs.Meaning.{answer}
 use Rattle.td_machine.specs.declared.records.Message.{Message}
 use Rattle.td_machine.specs.declared.records.Stamped.{Stamped}
 use Rattle.td_machine.specs.State.{HallState, message_cmp, notification_cmp, is_there, arrival, asked_of, local_at}
 use Rattle.td_machine.specs.Active.{kind_of}
 use Rattle.td_machine.specs.Steps.{posts, stamped, called, delivered}
-use Rattle.td_machine.specs.History.{Origin, History, IsTold, AreAnswered, IsTime, is_grouping, is_distinct, stamped_of, has_answer, also_delivered, epoch_from, sent_at, came_at, left_by}
+use Rattle.td_machine.specs.History.{Origin, History, IsTold, AreAnswered, IsTime, is_distinct, stamped_of, has_answer, also_delivered, epoch_from, sent_at, came_at, left_by}
 use Rattle.td_machine.specs.PlanFacts.{PlanFacts}
 use Rattle.td_machine.proofs.Orders.{message_total, message_apart, there_is}
 use Rattle.td_machine.proofs.Lists.{filter_yes, filter_no, all_app, all_map, all_everywhere, all_join, from_insert}
@@ -30,11 +30,11 @@ use Rattle.td_machine.proofs.Times.{posts_times, sent_app, sent_here, sent_elsew
 is_distinct_of : (kind : Kind) → kind ≡ Distinct → is_distinct kind ≡ true
 is_distinct_of kind e = ap is_distinct e
 
-not_grouping : (kind : Kind) → is_distinct kind ≡ true → is_grouping kind ≡ false
-not_grouping kind e = ap is_grouping (distinct_is kind e)
+not_grouping : (kind : Kind) → is_distinct kind ≡ true → is_notified kind ≡ false
+not_grouping kind e = ap is_notified (distinct_is kind e)
 
 -- what came to a distinct at a time is all that came to it
-module _ (plan : List Line) (ready : Message → Bool) (always : (c : Message) → is_grouping (kind_of plan c.vertex) ≡ false → ready c ≡ true) (v : ℕ) (t : Timestamp) (k : kind_of plan v ≡ Distinct) where
+module _ (plan : List Line) (ready : Message → Bool) (always : (c : Message) → is_notified (kind_of plan c.vertex) ≡ false → ready c ≡ true) (v : ℕ) (t : Timestamp) (k : kind_of plan v ≡ Distinct) where
   abbrev once : Message → Bool
   once = λ c. is_distinct (kind_of plan c.vertex)
 
@@ -73,7 +73,7 @@ module _ (plan : List Line) (ready : Message → Bool) (always : (c : Message) �
 
 module _ (answers : Answers) (origin : Origin) (S : HallState) (H : History) (facts : PlanFacts S.plan) (c : Message) (rest : List Message)
     (here : S.messages ≡ bag_insert message_cmp c rest) (told : IsTold origin S H) (known : AreAnswered answers origin S H)
-    (waits : is_grouping (kind_of S.plan c.vertex) ≡ true → has notification_cmp (asked_of S.workers c) H.notified ≡ false) (after_base : S.base < c.time.epoch) where
+    (waits : is_notified (kind_of S.plan c.vertex) ≡ true → has notification_cmp (asked_of S.workers c) H.notified ≡ false) (after_base : S.base < c.time.epoch) where
   abbrev kind : Kind
   kind = kind_of S.plan c.vertex
 
@@ -103,10 +103,10 @@ module _ (answers : Answers) (origin : Origin) (S : HallState) (H : History) (fa
       all_join message_cmp message_total message_apart Placed (posts S.plan new) _ (posts_times S.plan facts origin S.next new new_times)
       (subst (AllByRecursion Placed) (sym (removed c S.messages rest here)) placed.1)
 
-  answered : is_grouping kind ≡ false → ready c ≡ true
+  answered : is_notified kind ≡ false → ready c ≡ true
   answered e = λ i. not (e i) || has notification_cmp (asked_of S.workers c) H.notified
 
-  unanswered : is_grouping kind ≡ true → ready c ≡ false
+  unanswered : is_notified kind ≡ true → ready c ≡ false
   unanswered e = λ i. not (e i) || waits e i
 
   -- elsewhere nothing more is answered
@@ -114,10 +114,10 @@ module _ (answers : Answers) (origin : Origin) (S : HallState) (H : History) (fa
   came_other v t e true g = ap (λ l. came_at l v t) (filter_yes ready c H.arrived g) ∙ came_elsewhere v t c (filter ready H.arrived) e
   came_other v t e false g = ap (λ l. came_at l v t) (filter_no ready c H.arrived g)
 
-  came_same : is_grouping kind ≡ true → (v : ℕ) (t : Timestamp) → came_at (filter ready (c ∷ H.arrived)) v t ≡ came_at (filter ready H.arrived) v t
+  came_same : is_notified kind ≡ true → (v : ℕ) (t : Timestamp) → came_at (filter ready (c ∷ H.arrived)) v t ≡ came_at (filter ready H.arrived) v t
   came_same e v t = ap (λ l. came_at l v t) (filter_no ready c H.arrived (unanswered e))
 
-  came_more : is_grouping kind ≡ false → (v : ℕ) (t : Timestamp) → is_there v t c.vertex c.time ≡ true → came_at (filter ready (c ∷ H.arrived)) v t ≡ arrival c ∷ came_at (filter ready H.arrived) v t
+  came_more : is_notified kind ≡ false → (v : ℕ) (t : Timestamp) → is_there v t c.vertex c.time ≡ true → came_at (filter ready (c ∷ H.arrived)) v t ≡ arrival c ∷ came_at (filter ready H.arrived) v t
   came_more e v t here = ap (λ l. came_at l v t) (filter_yes ready c H.arrived (answered e)) ∙ came_here v t c (filter ready H.arrived) here
 
   abbrev answer_at : ℕ → Timestamp → List Message → List Rec
@@ -132,7 +132,7 @@ module _ (answers : Answers) (origin : Origin) (S : HallState) (H : History) (fa
       seen_there c.vertex c.time c.rec S.seen ∙ told.seen (stamped_of c) after_base ∙ sym (seen_there c.vertex c.time c.rec (map stamped_of (filter (λ c. is_distinct (kind_of S.plan c.vertex)) H.arrived)))
       ∙ ap (has rec_cmp c.rec) (came_distinct S.plan ready (λ c e. λ i. not (e i) || has notification_cmp (asked_of S.workers c) H.notified) c.vertex c.time k H.arrived)
 
-  sent_here_by : (b : Bool) → is_grouping kind ≡ b → IsTime origin S.next S.plan c.vertex c.time → (here : is_there c.vertex c.time c.vertex c.time ≡ true) → bag_of rec_cmp (sent_at (new ++ H.sent) c.vertex c.time) ≡ answer_at c.vertex c.time (c ∷ H.arrived)
+  sent_here_by : (b : Bool) → is_notified kind ≡ b → IsTime origin S.next S.plan c.vertex c.time → (here : is_there c.vertex c.time c.vertex c.time ≡ true) → bag_of rec_cmp (sent_at (new ++ H.sent) c.vertex c.time) ≡ answer_at c.vertex c.time (c ∷ H.arrived)
   sent_here_by true e p h =
       sent_new c.vertex c.time ∙ ap (λ l. join rec_cmp l (bag_of rec_cmp (sent_at H.sent c.vertex c.time))) (sent_here c.vertex c.time added.sent ∙ groups_send_later answers kind (local_at S c.vertex c.time) (arrival c) e)
       ∙ known.sent c.vertex c.time p ∙ ap (answer (epoch_from answers origin H.left c.time.epoch) c.vertex kind) (sym (came_same e c.vertex c.time))
@@ -146,14 +146,14 @@ module _ (answers : Answers) (origin : Origin) (S : HallState) (H : History) (fa
   sent_by v t true e p =
       let s = there_is v c.vertex t c.time e in
       let P : ℕ → Timestamp → Type 0 = λ v t. IsTime origin S.next S.plan v t → is_there v t c.vertex c.time ≡ true → bag_of rec_cmp (sent_at (new ++ H.sent) v t) ≡ answer_at v t (c ∷ H.arrived) in
-      subst (λ w. P w t) s.0 (subst (λ u. P c.vertex u) s.1 (sent_here_by (is_grouping kind) refl)) p e
+      subst (λ w. P w t) s.0 (subst (λ u. P c.vertex u) s.1 (sent_here_by (is_notified kind) refl)) p e
   sent_by v t false e p =
       sent_new v t ∙ ap (λ l. join rec_cmp l (bag_of rec_cmp (sent_at H.sent v t))) (sent_elsewhere v c.vertex t c.time added.sent e)
       ∙ known.sent v t p ∙ ap (answer (epoch_from answers origin H.left t.epoch) v (kind_of S.plan v)) (sym (came_other v t e (ready c) refl))
 
   -- at a fold nothing more is answered
   came_fold : (v code : ℕ) (t : Timestamp) → kind_of S.plan v ≡ Fold code → (b : Bool) → is_there v t c.vertex c.time ≡ b → came_at (filter ready (c ∷ H.arrived)) v t ≡ came_at (filter ready H.arrived) v t
-  came_fold v code t k true e = came_same (ap (λ w. is_grouping (kind_of S.plan w)) (there_is v c.vertex t c.time e).0 ∙ ap is_grouping k) v t
+  came_fold v code t k true e = came_same (ap (λ w. is_notified (kind_of S.plan w)) (there_is v c.vertex t c.time e).0 ∙ ap is_notified k) v t
   came_fold v code t k false e = came_other v t e (ready c) refl
 
   pub delivered_answered : AreAnswered answers origin (delivered answers S (kind_of S.plan c.vertex) c) (also_delivered answers S H c)

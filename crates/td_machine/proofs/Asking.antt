@@ -5,11 +5,12 @@ use Rattle.std.specs.Ordering.{is_eq}
 use Rattle.std.proofs.lemmas.Cmp.{tied_itself}
 use Rattle.td_stamp.specs.Bag.{has}
 use Rattle.td_plan.specs.Lines.{Line}
+use Rattle.td_calls.specs.Callbacks.{is_notified}
 use Rattle.td_machine.specs.declared.records.Message.{Message}
 use Rattle.td_machine.specs.declared.records.Notification.{Notification}
 use Rattle.td_machine.specs.State.{notification_cmp, asked_of}
 use Rattle.td_machine.specs.Active.{kind_of}
-use Rattle.td_machine.specs.History.{is_grouping, asking}
+use Rattle.td_machine.specs.History.{asking}
 use Rattle.td_machine.proofs.Orders.{notification_total}
 use Rattle.td_machine.proofs.Lists.{filter_yes, filter_no, all_weaken, from_filter}
 
@@ -32,9 +33,9 @@ each_asked workers (c ∷ cs) = (
 
 module _ (plan : List Line) (workers : ℕ) where
   abbrev groups_here : Message → Bool
-  groups_here c = is_grouping (kind_of plan c.vertex)
+  groups_here c = is_notified (kind_of plan c.vertex)
 
-  pub all_asking : (cs : List Message) → AllByRecursion (λ c. is_grouping (kind_of plan c.vertex) ≡ true → has notification_cmp (asked_of workers c) (asking plan workers cs) ≡ true) cs
+  pub all_asking : (cs : List Message) → AllByRecursion (λ c. is_notified (kind_of plan c.vertex) ≡ true → has notification_cmp (asked_of workers c) (asking plan workers cs) ≡ true) cs
   all_asking cs = from_filter (λ c. has notification_cmp (asked_of workers c) (asking plan workers cs) ≡ true) groups_here cs (each_asked workers (filter groups_here cs))
 
   pub asking_more : (a : Notification) (c : Message) (cs : List Message) → has notification_cmp a (asking plan workers cs) ≡ true → has notification_cmp a (asking plan workers (c ∷ cs)) ≡ true

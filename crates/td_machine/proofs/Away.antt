@@ -11,13 +11,13 @@ use Rattle.td_plan.specs.declared.vertex.Edge.{Edge}
 use Rattle.td_plan.specs.Lines.{Line}
 use Rattle.td_plan.specs.Blocks.{PlacedVertex, vertices, edges, edge_at, kind_at, bounds, reading_loops_at}
 use Rattle.td_plan.specs.Faults.{IsPlan}
+use Rattle.td_calls.specs.Callbacks.{is_notified}
 use Rattle.td_batch.specs.Flow.{AreBelow}
 use Rattle.td_plan.specs.Times.{sent_at, sent_by}
 use Rattle.td_reach.specs.Paths.{Could, IsOf, IsPath, adjust, over}
 use Rattle.td_stamp.proofs.TimeLaws.{AreNotLater-trans, AreNotLater-antisymmetric, counters_cmp-ranks, time_le-IsAtMost, IsAtMost-time_le, IsAtMost-trans, IsAtMost-antisymmetric}
 use Rattle.td_reach.proofs.Orders.{never_back}
 use Rattle.td_machine.specs.Active.{kind_of, kind_or, stamp_at}
-use Rattle.td_machine.specs.History.{is_grouping}
 use Rattle.td_machine.specs.PlanFacts.{IsFound, LeadsAway}
 
 pub as_many : (cs bs : List ℕ) → AreBelow cs bs → length cs ≡ length bs
@@ -27,7 +27,7 @@ as_many (c ∷ cs) [] h = absurd h
 as_many (c ∷ cs) (b ∷ bs) h = ap suc (as_many cs bs h.1)
 
 -- it sends at the time that it is given
-keeps_time : (kind : Kind) (t : Timestamp) → is_grouping kind ≡ true → sent_at kind t ≡ t
+keeps_time : (kind : Kind) (t : Timestamp) → is_notified kind ≡ true → sent_at kind t ≡ t
 keeps_time (Group code) t g = refl
 keeps_time (Fold code) t g = refl
 keeps_time Input t g = absurd (cc)
@@ -40,14 +40,14 @@ keeps_time Output t g = absurd (cc)
 
 module _ (plan : List Line) where
   -- a number that has no vertex is none of a group
-  pub grouping_within : (v : ℕ) → is_grouping (kind_of plan v) ≡ true → v < length (vertices plan)
+  pub grouping_within : (v : ℕ) → is_notified (kind_of plan v) ≡ true → v < length (vertices plan)
   grouping_within v g = by (slice_get (vertices plan) v) refl
     where
       by : (o : Option PlacedVertex) → slice_get (vertices plan) v ≡ o → v < length (vertices plan)
-      by None e = absurd (let none : is_grouping (kind_of plan v) ≡ false = ap (λ (x : Option PlacedVertex). is_grouping (kind_or (elim x [ None ↦ None | Some p ↦ Some p.vertex.kind ]))) e in cc)
+      by None e = absurd (let none : is_notified (kind_of plan v) ≡ false = ap (λ (x : Option PlacedVertex). is_notified (kind_or (elim x [ None ↦ None | Some p ↦ Some p.vertex.kind ]))) e in cc)
       by (Some p) e = slice_get_within (vertices plan) v p e
 
-  sent_same : (o : Option Kind) (t : Timestamp) → is_grouping (kind_or o) ≡ true → sent_by o t ≡ t
+  sent_same : (o : Option Kind) (t : Timestamp) → is_notified (kind_or o) ≡ true → sent_by o t ≡ t
   sent_same None t g = refl
   sent_same (Some kind) t g = keeps_time kind t g
 

@@ -11,10 +11,10 @@ use Rattle.td_plan.specs.declared.vertex.Edge.{Edge}
 use Rattle.td_plan.specs.Lines.{Line}
 use Rattle.td_plan.specs.Blocks.{PlacedVertex, vertices, edges_to, bounds, reading_loops, read_loops_at}
 use Rattle.td_plan.specs.Tree.{tree_of, placed_in}
+use Rattle.td_calls.specs.Callbacks.{is_notified}
 use Rattle.td_batch.specs.Meaning.{EpochInput}
 use Rattle.td_batch.specs.Flow.{Flow}
 use Rattle.td_batch.specs.BagAt.{bag_at}
-use Rattle.td_machine.specs.History.{is_grouping}
 use Rattle.td_machine.specs.PlanFacts.{AreReadThere}
 use Rattle.td_machine.specs.Work.{turns_of, turns_read, edge_records, comes_to, shards_of, vertex_notes, epoch_records, epoch_notes}
 use Rattle.td_machine.proofs.Lists.{all_weaken}
@@ -23,7 +23,7 @@ use Rattle.td_machine.proofs.Sums.{sum_map, sum_flat, sum_alike, sum_everywhere,
 
 -- the notifications of a place
 abbrev pub notes_at : ℕ → Flow → Place → ℕ
-notes_at workers flow p = if is_grouping p.0.kind then length (shards_of workers (comes_at flow p)) else 0
+notes_at workers flow p = if is_notified p.0.kind then length (shards_of workers (comes_at flow p)) else 0
 
 -- what comes, by ports
 arrivals_long : (f : ℕ → List Rec) (n : ℕ) (ss : List ℕ) → length (flat_map (λ (b : ℕ × List Rec). map (arrival_of b.0) b.1) (enumerate_from n (map f ss))) ≡ sum_by (λ (s : ℕ × ℕ). length (f s.1)) (enumerate_from n ss)
@@ -41,9 +41,9 @@ module _ (plan : List Line) (all : placed_in [] 0 (tree_of plan) ≡ vertices pl
   pub notes_by_places : (workers : ℕ) → sum_by (notes_at workers flow) (places [] (tree_of plan)) ≡ epoch_notes workers plan epoch
   notes_by_places workers =
       places_sum (notes_at workers flow) (tree_of plan) [] 0 ∙ ap (sum_by (over_turns (notes_at workers flow))) all
-      ∙ sum_everywhere (over_turns (notes_at workers flow)) (λ p. if is_grouping p.vertex.kind then vertex_notes workers flow p else 0) (vertices plan)
-      (λ p. sym (sum_if (is_grouping p.vertex.kind) (λ counters. length (shards_of workers (comes_to flow p.vertex counters))) (turns_of (bounds (reading_loops p.vertex.kind p.loops)))))
-      ∙ sym (sum_filter (λ p. is_grouping p.vertex.kind) (vertex_notes workers flow) (vertices plan))
+      ∙ sum_everywhere (over_turns (notes_at workers flow)) (λ p. if is_notified p.vertex.kind then vertex_notes workers flow p else 0) (vertices plan)
+      (λ p. sym (sum_if (is_notified p.vertex.kind) (λ counters. length (shards_of workers (comes_to flow p.vertex counters))) (turns_of (bounds (reading_loops p.vertex.kind p.loops)))))
+      ∙ sym (sum_filter (λ p. is_notified p.vertex.kind) (vertex_notes workers flow) (vertices plan))
 
   -- RECORDS
   abbrev edge_to_it : PlacedVertex → ℕ × ℕ → Edge

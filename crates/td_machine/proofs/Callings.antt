@@ -10,9 +10,9 @@ use Rattle.td_stamp.proofs.Bags.{bag_of-append, set_has-set_of}
 use Rattle.td_plan.specs.declared.vertex.Kind.{Kind}
 use Rattle.td_plan.specs.declared.vertex.Kind.TheVariants.{Input, Map, Distinct, Group, Fold, Enter, Feedback, Leave, Output}
 use Rattle.td_calls.specs.Answers.{Answers}
-use Rattle.td_calls.specs.Callbacks.{Kept, Added, only_sent, on_arrival}
+use Rattle.td_calls.specs.Callbacks.{Kept, Added, only_sent, on_arrival, is_notified}
 use Rattle.td_batch.specs.Meaning.{EpochInput, answer}
-use Rattle.td_machine.specs.History.{is_grouping, is_distinct}
+use Rattle.td_machine.specs.History.{is_distinct}
 use Rattle.td_machine.proofs.Lists.{filter_all, all_everywhere, set_insert-there, set_insert-new}
 
 -- one, where a test says so
@@ -29,7 +29,7 @@ once_seen : (b : Bool) (r : Rec) → (let a : Added = if b then only_sent [] els
 once_seen true r = refl
 once_seen false r = refl
 
-pub buffers : (answers : Answers) (kind : Kind) (kept : Kept) (a : Arrival) → (on_arrival answers kind kept a).buffered ≡ where_true (is_grouping kind) a
+pub buffers : (answers : Answers) (kind : Kind) (kept : Kept) (a : Arrival) → (on_arrival answers kind kept a).buffered ≡ where_true (is_notified kind) a
 buffers answers Input kept a = refl
 buffers answers (Map code) kept a = refl
 buffers answers Distinct kept a = once_buffered (has rec_cmp (rec_of a) kept.seen) (rec_of a)
@@ -54,7 +54,7 @@ sees_none answers Feedback kept a e = refl
 sees_none answers Leave kept a e = refl
 sees_none answers Output kept a e = refl
 
-pub groups_send_later : (answers : Answers) (kind : Kind) (kept : Kept) (a : Arrival) → is_grouping kind ≡ true → (on_arrival answers kind kept a).sent ≡ []
+pub groups_send_later : (answers : Answers) (kind : Kind) (kept : Kept) (a : Arrival) → is_notified kind ≡ true → (on_arrival answers kind kept a).sent ≡ []
 groups_send_later answers Input kept a e = refl
 groups_send_later answers (Map code) kept a e = cc
 groups_send_later answers Distinct kept a e = cc
@@ -74,7 +74,7 @@ distinct_step r rs true e = set_insert-there rec_cmp rec_total rec_apart r (set_
 distinct_step r rs false e = set_insert-new rec_cmp rec_total rec_apart r (set_of rec_cmp rs) (set_has-set_of rec_cmp rec_total rec_apart r rs ∙ e)
 
 -- A RECORD THAT COMES adds what its callback sends to what was sent
-pub answer_step : (epoch : EpochInput) (v : ℕ) (kind : Kind) (kept : Kept) (a : Arrival) (arrived : List Arrival) → is_grouping kind ≡ false → (kind ≡ Distinct → has rec_cmp (rec_of a) kept.seen ≡ has rec_cmp (rec_of a) (map rec_of arrived))
+pub answer_step : (epoch : EpochInput) (v : ℕ) (kind : Kind) (kept : Kept) (a : Arrival) (arrived : List Arrival) → is_notified kind ≡ false → (kind ≡ Distinct → has rec_cmp (rec_of a) kept.seen ≡ has rec_cmp (rec_of a) (map rec_of arrived))
     → answer epoch v kind (a ∷ arrived) ≡ join rec_cmp (on_arrival epoch.answers kind kept a).sent (answer epoch v kind arrived)
 answer_step epoch v Input kept a arrived e d = refl
 answer_step epoch v (Map code) kept a arrived e d = bag_of-append rec_cmp rec_total rec_apart (epoch.answers.emit code a.item.port (rec_of a)) (flat_map (λ a. epoch.answers.emit code a.item.port (rec_of a)) arrived)

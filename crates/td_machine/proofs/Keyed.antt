@@ -11,11 +11,12 @@ use Rattle.td_stamp.specs.Time.{Timestamp}
 use Rattle.td_stamp.specs.Bag.{join, bag_of, has}
 use Rattle.td_stamp.specs.Groups.{groups}
 use Rattle.td_plan.specs.Lines.{Line}
+use Rattle.td_calls.specs.Callbacks.{is_notified}
 use Rattle.td_machine.specs.declared.records.Message.{Message}
 use Rattle.td_machine.specs.declared.records.Notification.{Notification}
 use Rattle.td_machine.specs.State.{message_cmp, notification_cmp, is_there, arrival, asked_of, shard_of_key}
 use Rattle.td_machine.specs.Active.{kind_of}
-use Rattle.td_machine.specs.History.{is_grouping, has_answer, came_at}
+use Rattle.td_machine.specs.History.{has_answer, came_at}
 use Rattle.td_machine.proofs.Orders.{message_total, message_apart, notification_total, notification_apart, there_is, there_itself, tied}
 use Rattle.td_machine.proofs.Lists.{filter_filter, filter_alike, filter_map, filter-bag_of, all_everywhere}
 use Rattle.td_machine.proofs.Splits.{groups_split, groups_of_came}
@@ -59,7 +60,7 @@ came_keyed v t p q same cs =
     swap true b = sym (and_yes b)
     swap false b = sym (and_no b)
 
-module _ (plan : List Line) (workers : ℕ) (notified : List Notification) (s v : ℕ) (t : Timestamp) (groups_here : is_grouping (kind_of plan v) ≡ true) (new : has notification_cmp (record { shard = s; vertex = v; time = t }) notified ≡ false) where
+module _ (plan : List Line) (workers : ℕ) (notified : List Notification) (s v : ℕ) (t : Timestamp) (groups_here : is_notified (kind_of plan v) ≡ true) (new : has notification_cmp (record { shard = s; vertex = v; time = t }) notified ≡ false) where
   abbrev pub it : Notification
   it = record { shard = s; vertex = v; time = t }
 
@@ -85,12 +86,12 @@ module _ (plan : List Line) (workers : ℕ) (notified : List Notification) (s v 
   ready_key : (c : Message) → is_there v t c.vertex c.time ≡ true → ready c ≡ was c.rec.key
   ready_key c e =
       let w = there_is v c.vertex t c.time e in
-      (λ i. not (is_grouping (kind_of plan (w.0 i))) || has notification_cmp (record { shard = shard_of_key workers c.rec.key; vertex = w.0 i; time = w.1 i }) notified) ∙ ap (λ b. not b || was c.rec.key) groups_here
+      (λ i. not (is_notified (kind_of plan (w.0 i))) || has notification_cmp (record { shard = shard_of_key workers c.rec.key; vertex = w.0 i; time = w.1 i }) notified) ∙ ap (λ b. not b || was c.rec.key) groups_here
 
   ready_now_key : (c : Message) → is_there v t c.vertex c.time ≡ true → ready_now c ≡ (is_now c.rec.key || was c.rec.key)
   ready_now_key c e =
       let w = there_is v c.vertex t c.time e in
-      (λ i. not (is_grouping (kind_of plan (w.0 i))) || has notification_cmp (record { shard = shard_of_key workers c.rec.key; vertex = w.0 i; time = w.1 i }) (it ∷ notified)) ∙ ap (λ b. not b || has notification_cmp (for_key c.rec.key) (it ∷ notified)) groups_here
+      (λ i. not (is_notified (kind_of plan (w.0 i))) || has notification_cmp (record { shard = shard_of_key workers c.rec.key; vertex = w.0 i; time = w.1 i }) (it ∷ notified)) ∙ ap (λ b. not b || has notification_cmp (for_key c.rec.key) (it ∷ notified)) groups_here
 
   -- elsewhere it is as it was
   pub came_other : (w : ℕ) (u : Timestamp) → is_there w u v t ≡ false → (cs : List Message) → came_at (filter ready_now cs) w u ≡ came_at (filter ready cs) w u
@@ -104,7 +105,7 @@ module _ (plan : List Line) (workers : ℕ) (notified : List Notification) (s v 
           let no : true ≡ false = sym e ∙ (λ i. is_there w u (p i).vertex (p i).time) ∙ n in cc
 
       same : (c : Message) → is_there w u c.vertex c.time ≡ true → ready_now c ≡ ready c
-      same c e = ap (λ b. not (is_grouping (kind_of plan c.vertex)) || (b || has notification_cmp (asked_of workers c) notified)) (by c e (notification_cmp (asked_of workers c) it) refl)
+      same c e = ap (λ b. not (is_notified (kind_of plan c.vertex)) || (b || has notification_cmp (asked_of workers c) notified)) (by c e (notification_cmp (asked_of workers c) it) refl)
 
   module _ (cs : List Message) where
     abbrev pub all : List Arrival

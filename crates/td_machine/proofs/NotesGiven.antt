@@ -17,6 +17,7 @@ use Rattle.td_plan.specs.Blocks.{vertices}
 use Rattle.td_plan.specs.Tree.{Nodes, size, tree_of, placed_in, IsNumbered}
 use Rattle.td_plan.specs.Placed.{IsPlacedTree}
 use Rattle.td_calls.specs.Answers.{Answers}
+use Rattle.td_calls.specs.Callbacks.{is_notified}
 use Rattle.td_batch.specs.Meaning.{EpochInput}
 use Rattle.td_batch.specs.Flow.{numbers_from}
 use Rattle.td_batch.specs.BagAt.{bag_at}
@@ -24,7 +25,7 @@ use Rattle.td_machine.specs.declared.records.Message.{Message}
 use Rattle.td_machine.specs.declared.records.Notification.{Notification}
 use Rattle.td_machine.specs.State.{HallState, notification_cmp, is_there, arrival, asked_of, shard_of_key}
 use Rattle.td_machine.specs.Active.{kind_of, has_passed}
-use Rattle.td_machine.specs.History.{Origin, History, Invariant, IsTime, AreOnce, has_answer, is_grouping, asking, epoch_from, came_at}
+use Rattle.td_machine.specs.History.{Origin, History, Invariant, IsTime, AreOnce, has_answer, asking, epoch_from, came_at}
 use Rattle.td_machine.specs.PlanFacts.{PlanFacts}
 use Rattle.td_machine.specs.Flows.{AreLaid}
 use Rattle.td_machine.specs.Work.{shards_of, epoch_notes, Notes}
@@ -102,17 +103,17 @@ module _ (workers : ℕ) where
       later d h false e = ap (list_any (in_shard (shard_of_key workers d.rec.key))) (came_elsewhere d.vertex d.time c cs e) ∙ h
 
   -- what is known of each notification that was asked, by the records that ask
-  pub all_known : (plan : List Line) (Q : Notification → Type 0) (cs : List Message) → AllByRecursion (λ c. is_grouping (kind_of plan c.vertex) ≡ true → Q (asked_of workers c)) cs → (a : Notification) → has notification_cmp a (asking plan workers cs) ≡ true → Q a
+  pub all_known : (plan : List Line) (Q : Notification → Type 0) (cs : List Message) → AllByRecursion (λ c. is_notified (kind_of plan c.vertex) ≡ true → Q (asked_of workers c)) cs → (a : Notification) → has notification_cmp a (asking plan workers cs) ≡ true → Q a
   all_known plan Q cs h a asked =
-      let groups_here : Message → Bool = λ c. is_grouping (kind_of plan c.vertex) in
+      let groups_here : Message → Bool = λ c. is_notified (kind_of plan c.vertex) in
       all_has Q a (asking plan workers cs) (all_map Q (asked_of workers) (filter groups_here cs) (all_weaken (λ c. (groups_here c ≡ true → Q (asked_of workers c)) × (groups_here c ≡ true)) (λ c. Q (asked_of workers c)) (λ c k. k.0 k.1) (filter groups_here cs)
       (all_filter (λ c. groups_here c ≡ true → Q (asked_of workers c)) groups_here cs h))) asked
 
   pub asked_came : (plan : List Line) (cs : List Message) (a : Notification) → has notification_cmp a (asking plan workers cs) ≡ true → CameThere cs a
-  asked_came plan cs a asked = all_known plan (CameThere cs) cs (all_weaken (λ c. CameThere cs (asked_of workers c)) (λ c. is_grouping (kind_of plan c.vertex) ≡ true → CameThere cs (asked_of workers c)) (λ c h g. h) cs (came_there cs)) a asked
+  asked_came plan cs a asked = all_known plan (CameThere cs) cs (all_weaken (λ c. CameThere cs (asked_of workers c)) (λ c. is_notified (kind_of plan c.vertex) ≡ true → CameThere cs (asked_of workers c)) (λ c h g. h) cs (came_there cs)) a asked
 
 -- where nothing waits of a time, a shard was notified at which a record came
-module _ (plan : List Line) (workers s v : ℕ) (t : Timestamp) (groups_it : is_grouping (kind_of plan v) ≡ true) (notified : List Notification) where
+module _ (plan : List Line) (workers s v : ℕ) (t : Timestamp) (groups_it : is_notified (kind_of plan v) ≡ true) (notified : List Notification) where
   abbrev it : Notification
   it = record { shard = s; vertex = v; time = t }
 
@@ -120,7 +121,7 @@ module _ (plan : List Line) (workers s v : ℕ) (t : Timestamp) (groups_it : is_
   abbrev NotWaiting : Message → Type 0
   NotWaiting c = not (has_answer plan workers notified c) ≡ true → t.epoch < c.time.epoch
 
-  answered_now : (c : Message) → NotWaiting c → t.epoch ≡ c.time.epoch → (b d : Bool) → is_grouping (kind_of plan c.vertex) ≡ b → has notification_cmp (asked_of workers c) notified ≡ d → b ≡ true → has notification_cmp (asked_of workers c) notified ≡ true
+  answered_now : (c : Message) → NotWaiting c → t.epoch ≡ c.time.epoch → (b d : Bool) → is_notified (kind_of plan c.vertex) ≡ b → has notification_cmp (asked_of workers c) notified ≡ d → b ≡ true → has notification_cmp (asked_of workers c) notified ≡ true
   answered_now c h same b true e f g = f
   answered_now c h same false false e f g = absurd (cc)
   answered_now c h same true false e f g =
@@ -140,7 +141,7 @@ module _ (plan : List Line) (workers s v : ℕ) (t : Timestamp) (groups_it : is_
       here p q false f k rest = rest k
       here p q true f k rest =
           let same : asked_of workers c ≡ it = λ i. record { shard = eqb-true (shard_of_key workers c.rec.key) s f i; vertex = p i; time = q i } in
-          ap (λ a. has notification_cmp a notified) (sym same) ∙ answered_now c h.0 (sym (ap (λ (u : Timestamp). u.epoch) q)) (is_grouping (kind_of plan c.vertex)) (has notification_cmp (asked_of workers c) notified) refl refl (ap (λ n. is_grouping (kind_of plan n)) p ∙ groups_it)
+          ap (λ a. has notification_cmp a notified) (sym same) ∙ answered_now c h.0 (sym (ap (λ (u : Timestamp). u.epoch) q)) (is_notified (kind_of plan c.vertex)) (has notification_cmp (asked_of workers c) notified) refl refl (ap (λ n. is_notified (kind_of plan n)) p ∙ groups_it)
 
       by : (b : Bool) → is_there v t c.vertex c.time ≡ b → (Any cs → has notification_cmp it notified ≡ true) → has notification_cmp it notified ≡ true
       by true f rest =
@@ -164,11 +165,11 @@ module _ (answers : Answers) (origin : Origin) (S : HallState) (H : History) (fa
   by_key k a = is_place S.plan k.0 a.vertex a.time k.1
 
   abbrev Known : Notification → Type 0
-  Known a = (a.vertex < size nodes) × (a.shard < S.workers) × (is_grouping (kind_of S.plan a.vertex) ≡ true)
+  Known a = (a.vertex < size nodes) × (a.shard < S.workers) × (is_notified (kind_of S.plan a.vertex) ≡ true)
 
   known : AllByRecursion Known H.notified
   known = all_weaken (λ a. has notification_cmp a (asking S.plan S.workers H.arrived) ≡ true) Known
-      (λ a h. all_known S.workers S.plan Known H.arrived (all_weaken (λ (c : Message). c.vertex < size nodes) (λ c. is_grouping (kind_of S.plan c.vertex) ≡ true → Known (asked_of S.workers c)) (λ c l g. (l, (let w = inv.stands.workers in omega (arith, w)), g)) H.arrived (arrived_small answers origin S H facts numbered laid placed all inv passed)) a h)
+      (λ a h. all_known S.workers S.plan Known H.arrived (all_weaken (λ (c : Message). c.vertex < size nodes) (λ c. is_notified (kind_of S.plan c.vertex) ≡ true → Known (asked_of S.workers c)) (λ c l g. (l, (let w = inv.stands.workers in omega (arith, w)), g)) H.arrived (arrived_small answers origin S H facts numbered laid placed all inv passed)) a h)
       H.notified inv.running.notified_asked
 
   by_keys_all : length H.notified ≡ sum_by (λ e. sum_by (λ p. count (by_key (e, p)) H.notified) spots) released
@@ -201,7 +202,7 @@ module _ (answers : Answers) (origin : Origin) (S : HallState) (H : History) (fa
     same_any : (s : ℕ) → list_any (λ a. shard_of_key S.workers a.key == s) (came_at H.arrived v t) ≡ arrives s
     same_any s = sym (any_bag (λ a. shard_of_key S.workers a.key == s) (came_at H.arrived v t)) ∙ ap (list_any (λ a. shard_of_key S.workers a.key == s)) bags ∙ any_bag (λ a. shard_of_key S.workers a.key == s) comes
 
-    given_where : is_grouping (kind_of S.plan v) ≡ true → (s : ℕ) → has notification_cmp (record { shard = s; vertex = v; time = t }) H.notified ≡ arrives s
+    given_where : is_notified (kind_of S.plan v) ≡ true → (s : ℕ) → has notification_cmp (record { shard = s; vertex = v; time = t }) H.notified ≡ arrives s
     given_where g s = by (has notification_cmp (record { shard = s; vertex = v; time = t }) H.notified) refl (arrives s) refl
       where
         by : (b : Bool) → has notification_cmp (record { shard = s; vertex = v; time = t }) H.notified ≡ b → (d : Bool) → arrives s ≡ d → has notification_cmp (record { shard = s; vertex = v; time = t }) H.notified ≡ arrives s
@@ -218,7 +219,7 @@ module _ (answers : Answers) (origin : Origin) (S : HallState) (H : History) (fa
     and_parts true b h = (refl, h)
     and_parts false b h = absurd (cc)
 
-    by_shard : is_grouping (kind_of S.plan v) ≡ true → (s : ℕ) → count (λ (a : Notification). a.shard == s) (filter there H.notified) ≡ one_if (arrives s)
+    by_shard : is_notified (kind_of S.plan v) ≡ true → (s : ℕ) → count (λ (a : Notification). a.shard == s) (filter there H.notified) ≡ one_if (arrives s)
     by_shard g s =
         ap length (filter_filter (λ (a : Notification). a.shard == s) there H.notified)
         ∙ once_count (λ a. there a && (a.shard == s)) (record { shard = s; vertex = v; time = t }) (λ i. there_itself v t i && eqb-same s i)
@@ -243,21 +244,21 @@ module _ (answers : Answers) (origin : Origin) (S : HallState) (H : History) (fa
         by true f rest = subst (AllByRecursion Known) (sym (filter_yes there x xs f)) (h.0, rest)
         by false f rest = subst (AllByRecursion Known) (sym (filter_no there x xs f)) rest
 
-    grouped : is_grouping (kind_of S.plan v) ≡ true → count there H.notified ≡ length (shards_of S.workers comes)
+    grouped : is_notified (kind_of S.plan v) ≡ true → count there H.notified ≡ length (shards_of S.workers comes)
     grouped g =
         by_keys (λ s (a : Notification). a.shard == s) (numbers_from 0 S.workers) (filter there H.notified) (all_weaken Known (λ a. count (λ s. a.shard == s) (numbers_from 0 S.workers) ≡ 1) (λ a k. shard_once a.shard k.1) (filter there H.notified) (from_filter H.notified known))
         ∙ sum_alike (λ s. count (λ (a : Notification). a.shard == s) (filter there H.notified)) (λ s. one_if (arrives s)) (numbers_from 0 S.workers) (all_everywhere (λ s. count (λ (a : Notification). a.shard == s) (filter there H.notified) ≡ one_if (arrives s)) (by_shard g) (numbers_from 0 S.workers))
         ∙ sym (count_sum arrives (numbers_from 0 S.workers))
 
-    other_kind : is_grouping (kind_of S.plan v) ≡ false → count there H.notified ≡ 0
-    other_kind g = ap length (filter_none there H.notified (all_weaken Known (λ a. there a ≡ false) (λ a k. not_true (there a) (λ h. absurd (let w = there_is v a.vertex t a.time h in let no : true ≡ false = sym k.2 ∙ ap (λ n. is_grouping (kind_of S.plan n)) w.0 ∙ g in cc))) H.notified known))
+    other_kind : is_notified (kind_of S.plan v) ≡ false → count there H.notified ≡ 0
+    other_kind g = ap length (filter_none there H.notified (all_weaken Known (λ a. there a ≡ false) (λ a k. not_true (there a) (λ h. absurd (let w = there_is v a.vertex t a.time h in let no : true ≡ false = sym k.2 ∙ ap (λ n. is_notified (kind_of S.plan n)) w.0 ∙ g in cc))) H.notified known))
 
     pub notes_here : count there H.notified ≡ notes_at S.workers (bag_at (epoch_from answers origin H.left e) nodes) p
-    notes_here = by (is_grouping p.0.kind) refl
+    notes_here = by (is_notified p.0.kind) refl
       where
-        by : (b : Bool) → is_grouping p.0.kind ≡ b → count there H.notified ≡ (if is_grouping p.0.kind then length (shards_of S.workers comes) else 0)
-        by true g = grouped (ap is_grouping kind ∙ g) ∙ ap (λ (b : Bool). if b then length (shards_of S.workers comes) else 0) (sym g)
-        by false g = other_kind (ap is_grouping kind ∙ g) ∙ ap (λ (b : Bool). if b then length (shards_of S.workers comes) else 0) (sym g)
+        by : (b : Bool) → is_notified p.0.kind ≡ b → count there H.notified ≡ (if is_notified p.0.kind then length (shards_of S.workers comes) else 0)
+        by true g = grouped (ap is_notified kind ∙ g) ∙ ap (λ (b : Bool). if b then length (shards_of S.workers comes) else 0) (sym g)
+        by false g = other_kind (ap is_notified kind ∙ g) ∙ ap (λ (b : Bool). if b then length (shards_of S.workers comes) else 0) (sym g)
 
   abbrev epoch_at : ℕ → EpochInput
   epoch_at e = epoch_from answers origin H.left e

@@ -41,7 +41,7 @@ use Rattle.td_machine.specs.Examples.{sent_by-epoch}
 use Rattle.td_machine.proofs.Paths.{could_from_vertex}
 use Rattle.td_machine.proofs.Plain.{eqb-same}
 use Rattle.td_calls.specs.Answers.{Answers}
-use Rattle.td_calls.specs.Callbacks.{on_notification}
+use Rattle.td_calls.specs.Callbacks.{on_notification, is_notified}
 use Rattle.td_batch.specs.Meaning.{EpochInput, answer}
 use Rattle.td_batch.specs.Flow.{AreBelow}
 use Rattle.td_machine.specs.declared.records.Message.{Message}
@@ -51,7 +51,7 @@ use Rattle.td_machine.specs.declared.records.StateLeft.{StateLeft}
 use Rattle.td_machine.specs.State.{HallState, KeyItems, message_cmp, notification_cmp, left_cmp, state_cmp, is_there, arrival, asked_of, with_left, states_at}
 use Rattle.td_machine.specs.Active.{kind_or, kind_of, active, IsFree, stamp_at, stamp_of_asked, stamp_of_message}
 use Rattle.td_machine.specs.Steps.{posts, posted, stamped, notified, notified_sends, leaves, to_notify, with_state_of, is_for, on_edge}
-use Rattle.td_machine.specs.History.{Origin, History, IsTold, AreAnswered, Running, IsTime, IsOnEdge, is_grouping, has_answer, asking, also_notified, epoch_from, sent_at, came_at, is_left_at, left_by}
+use Rattle.td_machine.specs.History.{Origin, History, IsTold, AreAnswered, Running, IsTime, IsOnEdge, has_answer, asking, also_notified, epoch_from, sent_at, came_at, is_left_at, left_by}
 use Rattle.td_machine.specs.PlanFacts.{PlanFacts, IsFound, LeadsAway, InTurn}
 use Rattle.td_machine.proofs.Orders.{message_total, message_apart, notification_apart, left_total, left_apart, there_is, there_itself}
 use Rattle.td_machine.proofs.Lists.{filter_yes, filter_no, filter_all, filter_none, filter_filter, filter_alike, filter_map, filter-bag_of, filter-join, all_app, all_map, all_everywhere, all_weaken, all_join, all_filter, all_both}
@@ -161,7 +161,7 @@ module _ (answers : Answers) (origin : Origin) (S : HallState) (H : History) (fa
   abbrev known : AreAnswered answers origin S H
   known = runs.answered
 
-  is : IsTime origin S.next S.plan v t × (is_grouping (kind_of S.plan v) ≡ true) × (has notification_cmp it H.notified ≡ false) × (has notification_cmp it (asking S.plan S.workers H.arrived) ≡ true)
+  is : IsTime origin S.next S.plan v t × (is_notified (kind_of S.plan v) ≡ true) × (has notification_cmp it H.notified ≡ false) × (has notification_cmp it (asking S.plan S.workers H.arrived) ≡ true)
   is = asked_is answers origin S H runs it asked
 
   abbrev ready : Message → Bool
@@ -237,7 +237,7 @@ module _ (answers : Answers) (origin : Origin) (S : HallState) (H : History) (fa
       sym (join-bag_of rec_cmp rec_total rec_apart (flat_map f (groups shard_items)) (bag_of rec_cmp (flat_map f (groups (came v t)))))
       ∙ sym (answered_split S.plan S.workers H.notified s v t is.1 is.2 H.arrived rec_cmp rec_total rec_apart f)
 
-  sent_kind : (k : Kind) → is_grouping k ≡ true → join rec_cmp (notified_sends answers k items) (answer now v k (came v t)) ≡ answer now v k (came_now v t)
+  sent_kind : (k : Kind) → is_notified k ≡ true → join rec_cmp (notified_sends answers k items) (answer now v k (came v t)) ≡ answer now v k (came_now v t)
   sent_kind Input e = cc
   sent_kind (Map code) e = cc
   sent_kind Distinct e = cc
@@ -265,7 +265,7 @@ module _ (answers : Answers) (origin : Origin) (S : HallState) (H : History) (fa
 
   fewer_none : filter (λ c. not (is_for S it c)) (filter none H.arrived) ≡ filter none_now H.arrived
   fewer_none = filter_filter (λ c. not (is_for S it c)) none H.arrived ∙ filter_alike (λ c. none c && not (is_for S it c)) none_now H.arrived (all_everywhere (λ c. (none c && not (is_for S it c)) ≡ none_now c)
-      (λ c. ap (λ b. none c && not b) (eq_swap it (asked_of S.workers c)) ∙ still_none (is_grouping (kind_of S.plan c.vertex)) (is_eq (notification_cmp (asked_of S.workers c) it)) (has notification_cmp (asked_of S.workers c) H.notified)) H.arrived)
+      (λ c. ap (λ b. none c && not b) (eq_swap it (asked_of S.workers c)) ∙ still_none (is_notified (kind_of S.plan c.vertex)) (is_eq (notification_cmp (asked_of S.workers c) it)) (has notification_cmp (asked_of S.workers c) H.notified)) H.arrived)
 
   buffered : after.buffered ≡ bag_of message_cmp (filter none_now H.arrived)
   buffered = ap (filter (λ c. not (is_for S it c))) told.buffered ∙ filter-bag_of message_cmp message_total message_apart (λ c. not (is_for S it c)) (filter none H.arrived) ∙ ap (bag_of message_cmp) fewer_none
@@ -313,7 +313,7 @@ module _ (answers : Answers) (origin : Origin) (S : HallState) (H : History) (fa
       by c r false f = f
       by c r true f =
           let p = there_is w c.vertex u c.time f in
-          let h = with_notice (is_grouping (kind_of S.plan c.vertex)) (has notification_cmp (asked_of S.workers c) H.notified) (ap (λ n. is_grouping (kind_of S.plan n)) (p.0 ∙ e) ∙ is.1) r in
+          let h = with_notice (is_notified (kind_of S.plan c.vertex)) (has notification_cmp (asked_of S.workers c) H.notified) (ap (λ n. is_notified (kind_of S.plan n)) (p.0 ∙ e) ∙ is.1) r in
           absurd (settled_here u a b l (subst (λ x. IsFree S (stamp_at v x)) p.1 (subst (λ n. IsFree S (stamp_at n c.time)) (p.0 ∙ e) (all_has (λ a. IsFree S (stamp_of_asked a)) (asked_of S.workers c) H.notified runs.settled h))))
 
   abbrev States : ℕ → Timestamp → Type 0
@@ -479,7 +479,7 @@ module _ (answers : Answers) (origin : Origin) (S : HallState) (H : History) (fa
         all.2,
       )
 
-  sent_same : (o : Option Kind) → is_grouping (kind_or o) ≡ true → sent_by o t ≡ t
+  sent_same : (o : Option Kind) → is_notified (kind_or o) ≡ true → sent_by o t ≡ t
   sent_same None e = refl
   sent_same (Some Input) e = refl
   sent_same (Some (Map code)) e = refl
@@ -507,7 +507,7 @@ module _ (answers : Answers) (origin : Origin) (S : HallState) (H : History) (fa
           vertex_of x y p = ap (λ (q : Place). elim q [ places.Vertex z ↦ z | places.Edge z ↦ x ]) p
       by e later ks source when was k true n =
           let p = there_is w v u t n in
-          let groups_there : is_grouping (kind_of S.plan e.source) ≡ true = ap (λ x. is_grouping (kind_of S.plan x)) source ∙ is.1 in
+          let groups_there : is_notified (kind_of S.plan e.source) ≡ true = ap (λ x. is_notified (kind_of S.plan x)) source ∙ is.1 in
           let then : later ≡ t = when ∙ sent_same (kind_at S.plan e.source) groups_there in
           ks.1 t (subst (λ x. InTurn S.plan x t) (sym source) is.0.2) groups_there
           (subst (λ x. Could S.plan (record { time = x; place = places.Edge (edge_at S.plan e.reader e.port) }) (stamp_at e.source t)) then

@@ -20,6 +20,7 @@ use Rattle.td_plan.specs.declared.vertex.Kind.{Kind}
 use Rattle.td_plan.specs.declared.vertex.Kind.TheVariants.{Input, Map, Distinct, Group, Fold, Enter, Feedback, Leave, Output}
 use Rattle.td_plan.specs.Blocks.{bounds, reading_loops_at}
 use Rattle.td_plan.specs.Faults.{is_fold}
+use Rattle.td_calls.specs.Callbacks.{is_notified}
 use Rattle.td_batch.specs.Meaning.{EpochInput, answer}
 use Rattle.td_batch.specs.Flow.{AreBelow}
 use Rattle.td_reach.specs.declared.stamp.Stamp.{Stamp}
@@ -33,7 +34,7 @@ use Rattle.td_machine.specs.State.{HallState, Task, Content, message_cmp, notifi
 use Rattle.td_machine.specs.State.Content.{messages, notification}
 use Rattle.td_machine.specs.Active.{kind_of, inputs_of, active, IsFree, stamp_at, stamp_of_message, stamp_of_asked, stamp_of_input, stamps_of_inputs}
 use Rattle.td_machine.specs.Steps.{posts, posted, entered, with_batch, accepts, coming}
-use Rattle.td_machine.specs.History.{Origin, History, IsTold, AreAnswered, Running, StandsOut, Invariant, IsTime, IsOnEdge, is_grouping, has_answer, asking, epoch_from, sent_at, came_at, is_left_at, left_by, recs_in}
+use Rattle.td_machine.specs.History.{Origin, History, IsTold, AreAnswered, Running, StandsOut, Invariant, IsTime, IsOnEdge, has_answer, asking, epoch_from, sent_at, came_at, is_left_at, left_by, recs_in}
 use Rattle.td_machine.specs.PlanFacts.{PlanFacts}
 use Rattle.td_machine.specs.Examples.{could-epoch}
 use Rattle.td_machine.proofs.Orders.{message_total, message_apart, there_is}
@@ -51,15 +52,15 @@ no_answer_is false h e = cc
 
 -- what is asked for is of a time that was released, at a group or a fold, was not notified, and a record asks for it
 pub asked_is : (answers : Answers) (origin : Origin) (S : HallState) (H : History) → Running answers origin S H → (a : Notification) → has notification_cmp a S.asked ≡ true
-    → IsTime origin S.next S.plan a.vertex a.time × (is_grouping (kind_of S.plan a.vertex) ≡ true) × (has notification_cmp a H.notified ≡ false) × (has notification_cmp a (asking S.plan S.workers H.arrived) ≡ true)
+    → IsTime origin S.next S.plan a.vertex a.time × (is_notified (kind_of S.plan a.vertex) ≡ true) × (has notification_cmp a H.notified ≡ false) × (has notification_cmp a (asking S.plan S.workers H.arrived) ≡ true)
 asked_is answers origin S H runs a h =
-    let P : Notification → Type 0 = λ a. IsTime origin S.next S.plan a.vertex a.time × (is_grouping (kind_of S.plan a.vertex) ≡ true) × (has notification_cmp a H.notified ≡ false) × (has notification_cmp a (asking S.plan S.workers H.arrived) ≡ true) in
+    let P : Notification → Type 0 = λ a. IsTime origin S.next S.plan a.vertex a.time × (is_notified (kind_of S.plan a.vertex) ≡ true) × (has notification_cmp a H.notified ≡ false) × (has notification_cmp a (asking S.plan S.workers H.arrived) ≡ true) in
     let no : Message → Bool = λ c. not (has_answer S.plan S.workers H.notified c) in
     let Timed : Message → Type 0 = λ c. IsTime origin S.next S.plan c.vertex c.time in
-    let Asks : Message → Type 0 = λ c. is_grouping (kind_of S.plan c.vertex) ≡ true → has notification_cmp (asked_of S.workers c) (asking S.plan S.workers H.arrived) ≡ true in
+    let Asks : Message → Type 0 = λ c. is_notified (kind_of S.plan c.vertex) ≡ true → has notification_cmp (asked_of S.workers c) (asking S.plan S.workers H.arrived) ≡ true in
     let known : AllByRecursion (λ c. Timed c × Asks c) H.arrived = all_both Timed Asks H.arrived runs.answered.arrived_times (all_asking S.plan S.workers H.arrived) in
     all_has P a (map (asked_of S.workers) (filter no H.arrived)) (all_map P (asked_of S.workers) (filter no H.arrived) (all_weaken (λ c. (Timed c × Asks c) × (no c ≡ true)) (λ c. P (asked_of S.workers c))
-    (λ c k. let n = no_answer_is (is_grouping (kind_of S.plan c.vertex)) (has notification_cmp (asked_of S.workers c) H.notified) k.1 in (k.0.0, n.0, n.1, k.0.1 n.0)) (filter no H.arrived) (all_filter (λ c. Timed c × Asks c) no H.arrived known))) (sym (runs.told.asked a) ∙ h)
+    (λ c k. let n = no_answer_is (is_notified (kind_of S.plan c.vertex)) (has notification_cmp (asked_of S.workers c) H.notified) k.1 in (k.0.0, n.0, n.1, k.0.1 n.0)) (filter no H.arrived) (all_filter (λ c. Timed c × Asks c) no H.arrived known))) (sym (runs.told.asked a) ∙ h)
 
 pub get_before : {X : Type 0} (xs ys : List X) (i : ℕ) (d : X) → i < length xs → get_or (xs ++ ys) i d ≡ get_or xs i d
 get_before [] ys i d h = absurd (omega (arith, h))

@@ -10,6 +10,7 @@ use Rattle.std.proofs.lemmas.Cmp.{tied_itself}
 use Rattle.td_plan.specs.Lines.{Line}
 use Rattle.td_plan.specs.Blocks.{bounds, reading_loops_at}
 use Rattle.td_calls.specs.Answers.{Answers}
+use Rattle.td_calls.specs.Callbacks.{is_notified}
 use Rattle.td_reach.specs.declared.stamp.Stamp.{Stamp}
 use Rattle.td_reach.specs.Paths.{Could, IsOf}
 use Rattle.td_reach.specs.Laws.{IsLeast}
@@ -23,7 +24,7 @@ use Rattle.td_machine.specs.Active.{kind_of, inputs_of, active, has_passed, IsFr
 use Rattle.td_machine.specs.Steps.{Answer, MayTake, Takes, to_notify}
 use Rattle.td_machine.specs.Steps.Answer.{has_taken}
 use Rattle.td_machine.specs.Steps.Takes.{is_busy, has_none, is_spent, takes}
-use Rattle.td_machine.specs.History.{Origin, History, Invariant, IsTime, is_grouping, has_answer}
+use Rattle.td_machine.specs.History.{Origin, History, Invariant, IsTime, has_answer}
 use Rattle.td_machine.proofs.Orders.{notification_total}
 use Rattle.td_machine.proofs.Lists.{all_app, all_map, all_everywhere, all_weaken, all_filter}
 use Rattle.td_machine.proofs.Delivered.{all_has, to_active}
@@ -106,7 +107,7 @@ module _ (answers : Answers) (origin : Origin) (S : HallState) (H : History) (in
       of_one : (c : Message) → IsTime origin S.next S.plan c.vertex c.time × (waits c ≡ true) → IsGood (asked_of S.workers c)
       of_one c h = (
         (
-          grouping_within S.plan c.vertex (waits_for (is_grouping (kind_of S.plan c.vertex)) (has notification_cmp (asked_of S.workers c) H.notified) h.1),
+          grouping_within S.plan c.vertex (waits_for (is_notified (kind_of S.plan c.vertex)) (has notification_cmp (asked_of S.workers c) H.notified) h.1),
           as_many c.time.turns (bounds (reading_loops_at S.plan c.vertex)) h.0.2 ∙ length-map (reading_loops_at S.plan c.vertex) (λ l. l.bound),
         ),
         h.0.1,

@@ -18,7 +18,7 @@ use Rattle.td_stamp.proofs.Bags.{join-assoc, join-bag_insert, bag_insert-join, b
 use Rattle.td_plan.specs.declared.vertex.Kind.{Kind}
 use Rattle.td_plan.specs.declared.vertex.Kind.TheVariants.{Input, Map, Distinct, Group, Fold, Enter, Feedback, Leave, Output}
 use Rattle.td_calls.specs.Answers.{Answers}
-use Rattle.td_calls.specs.Callbacks.{Added, on_arrival}
+use Rattle.td_calls.specs.Callbacks.{Added, on_arrival, is_notified}
 use Rattle.td_machine.specs.declared.records.Message.{Message}
 use Rattle.td_machine.specs.declared.records.Stamped.{Stamped}
 use Rattle.td_machine.specs.declared.records.Notification.{Notification}
@@ -26,7 +26,7 @@ use Rattle.td_machine.specs.declared.records.OutputAt.{OutputAt}
 use Rattle.td_machine.specs.State.{HallState, message_cmp, stamped_cmp, notification_cmp, output_at_cmp, is_there, arrival, asked_of, local_at}
 use Rattle.td_machine.specs.Active.{kind_of}
 use Rattle.td_machine.specs.Steps.{posts, posted, stamped, comes_out, with_asked, waiting, called, delivered}
-use Rattle.td_machine.specs.History.{Origin, History, IsTold, is_grouping, is_distinct, stamped_of, has_answer, also_delivered}
+use Rattle.td_machine.specs.History.{Origin, History, IsTold, is_distinct, stamped_of, has_answer, also_delivered}
 use Rattle.td_machine.proofs.Orders.{message_total, message_apart, stamped_total, stamped_apart, notification_total, notification_apart, output_at_total, output_at_apart, there_is, there_itself}
 use Rattle.td_machine.proofs.Lists.{filter_yes, filter_no, filter_app, has-set_insert}
 use Rattle.td_machine.proofs.Callings.{where_true, buffers, sees, sees_none}
@@ -92,7 +92,7 @@ removed c messages rest here = ap (bag_remove message_cmp c) here ∙ bag_remove
 
 module _ (answers : Answers) (origin : Origin) (S : HallState) (H : History) (c : Message) (rest : List Message)
     (here : S.messages ≡ bag_insert message_cmp c rest) (told : IsTold origin S H)
-    (waits : is_grouping (kind_of S.plan c.vertex) ≡ true → has notification_cmp (asked_of S.workers c) H.notified ≡ false) (recent : S.collected < c.time.epoch) where
+    (waits : is_notified (kind_of S.plan c.vertex) ≡ true → has notification_cmp (asked_of S.workers c) H.notified ≡ false) (recent : S.collected < c.time.epoch) where
   abbrev kind : Kind
   kind = kind_of S.plan c.vertex
 
@@ -116,16 +116,16 @@ module _ (answers : Answers) (origin : Origin) (S : HallState) (H : History) (c 
       ∙ join-bag_insert message_cmp message_total message_apart rest c B ∙ sym (bag_insert-join message_cmp message_total message_apart c rest B) ∙ ap (λ l. join message_cmp l B) (sym here) ∙ told.balance)
       ∙ sym (bag_of-append message_cmp message_total message_apart (posts S.plan new) (posts S.plan H.sent)) ∙ ap (bag_of message_cmp) (sym (flat_map-append (posted S.plan) new H.sent))
 
-  unanswered : is_grouping kind ≡ true → no_answer c ≡ true
+  unanswered : is_notified kind ≡ true → no_answer c ≡ true
   unanswered e = λ i. not (not (e i) || waits e i)
 
-  answered : is_grouping kind ≡ false → no_answer c ≡ false
+  answered : is_notified kind ≡ false → no_answer c ≡ false
   answered e = λ i. not (not (e i) || has notification_cmp (asked_of S.workers c) H.notified)
 
-  kept_of : (b : Bool) → is_grouping kind ≡ b → added.buffered ≡ where_true b (arrival c)
+  kept_of : (b : Bool) → is_notified kind ≡ b → added.buffered ≡ where_true b (arrival c)
   kept_of b e = buffers answers kind (local_at S c.vertex c.time) (arrival c) ∙ ap (λ b. where_true b (arrival c)) e
 
-  buffered : (b : Bool) → is_grouping kind ≡ b → after.buffered ≡ bag_of message_cmp (filter no_answer (c ∷ H.arrived))
+  buffered : (b : Bool) → is_notified kind ≡ b → after.buffered ≡ bag_of message_cmp (filter no_answer (c ∷ H.arrived))
   buffered true e =
       ap (λ l. join message_cmp (map (waiting c.vertex c.time) l) S.buffered) (kept_of true e) ∙ ap (bag_insert message_cmp c) told.buffered
       ∙ ap (bag_of message_cmp) (sym (filter_yes no_answer c H.arrived (unanswered e)))
@@ -133,7 +133,7 @@ module _ (answers : Answers) (origin : Origin) (S : HallState) (H : History) (c 
       ap (λ l. join message_cmp (map (waiting c.vertex c.time) l) S.buffered) (kept_of false e) ∙ told.buffered
       ∙ ap (bag_of message_cmp) (sym (filter_no no_answer c H.arrived (answered e)))
 
-  asked : (b : Bool) → is_grouping kind ≡ b → (a : Notification) → has notification_cmp a after.asked ≡ has notification_cmp a (map (asked_of S.workers) (filter no_answer (c ∷ H.arrived)))
+  asked : (b : Bool) → is_notified kind ≡ b → (a : Notification) → has notification_cmp a after.asked ≡ has notification_cmp a (map (asked_of S.workers) (filter no_answer (c ∷ H.arrived)))
   asked true e a =
       ap (λ l. has notification_cmp a (with_asked (map (λ a. asked_of S.workers (waiting c.vertex c.time a)) l) S.asked)) (kept_of true e)
       ∙ has-set_insert notification_cmp notification_total notification_apart a (asked_of S.workers c) S.asked ∙ ap (λ b. is_eq (notification_cmp a (asked_of S.workers c)) || b) (told.asked a)
@@ -173,8 +173,8 @@ module _ (answers : Answers) (origin : Origin) (S : HallState) (H : History) (c 
   pub delivered_told : IsTold origin (delivered answers S (kind_of S.plan c.vertex) c) (also_delivered answers S H c)
   delivered_told = record {
     balance = balance;
-    buffered = buffered (is_grouping kind) refl;
-    asked = asked (is_grouping kind) refl;
+    buffered = buffered (is_notified kind) refl;
+    asked = asked (is_notified kind) refl;
     seen = seen (is_distinct kind) refl;
     outputs = outputs;
     left_bag = told.left_bag;

@@ -13,13 +13,13 @@ use Rattle.td_stamp.specs.Bag.{join, bag_of, has, IsBag}
 use Rattle.td_stamp.specs.Groups.{groups}
 use Rattle.td_stamp.specs.States.{StateList, state_of, AreStates}
 use Rattle.td_plan.specs.declared.vertex.Kind.{Kind}
-use Rattle.td_plan.specs.declared.vertex.Kind.TheVariants.{Distinct, Group, Fold}
+use Rattle.td_plan.specs.declared.vertex.Kind.TheVariants.{Distinct, Fold}
 use Rattle.td_plan.specs.Lines.{Line}
 use Rattle.td_plan.specs.declared.vertex.Edge.{Edge}
 use Rattle.td_plan.specs.Blocks.{bounds, reading_loops_at, edges, edge_at}
 use Rattle.td_plan.specs.Faults.{IsPlan, is_fold}
 use Rattle.td_calls.specs.Answers.{Answers}
-use Rattle.td_calls.specs.Callbacks.{on_notification}
+use Rattle.td_calls.specs.Callbacks.{on_notification, is_notified}
 use Rattle.td_batch.specs.Meaning.{EpochInput, answer}
 use Rattle.td_batch.specs.Flow.{AreBelow}
 use Rattle.td_reach.specs.declared.stamp.Stamp.{Stamp}
@@ -53,12 +53,7 @@ no_history = record { arrived = []; sent = []; notified = []; left = [] }
 abbrev pub Gained : ℕ → ℕ → History → History → Type 0
 Gained records notes H H' = (length H'.arrived ≡ records + length H.arrived) × (length H'.notified ≡ notes + length H.notified)
 
--- kinds whose items wait for a notification
-abbrev pub is_grouping : Kind → Bool
-is_grouping (Group code) = true
-is_grouping (Fold code) = true
-is_grouping _ = false
-
+-- kinds that keep what they have seen
 abbrev pub is_distinct : Kind → Bool
 is_distinct Distinct = true
 is_distinct _ = false
@@ -75,11 +70,11 @@ came_at cs v t = map arrival (filter (λ c. is_there v t c.vertex c.time) cs)
 
 -- a record that came to a vertex has its answer: at once, or with the notification of its shard
 abbrev pub has_answer : List Line → ℕ → List Notification → Message → Bool
-has_answer plan workers notified c = not (is_grouping (kind_of plan c.vertex)) || has notification_cmp (asked_of workers c) notified
+has_answer plan workers notified c = not (is_notified (kind_of plan c.vertex)) || has notification_cmp (asked_of workers c) notified
 
 -- the notifications for which records ask: those that come to groups and folds
 abbrev pub asking : List Line → ℕ → List Message → List Notification
-asking plan workers cs = map (asked_of workers) (filter (λ c. is_grouping (kind_of plan c.vertex)) cs)
+asking plan workers cs = map (asked_of workers) (filter (λ c. is_notified (kind_of plan c.vertex)) cs)
 
 -- what a fold leaves for a group of items
 abbrev pub left_by : EpochInput → ℕ → ℕ → ℕ → ℕ × List Item → StateLeft

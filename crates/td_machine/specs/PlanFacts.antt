@@ -8,12 +8,12 @@ use Rattle.td_plan.specs.Lines.{Line}
 use Rattle.td_plan.specs.Inputs.{is_input_of}
 use Rattle.td_plan.specs.Tree.{size, tree_of}
 use Rattle.td_plan.specs.Blocks.{PlacedVertex, vertices, bounds, reading_loops, reading_loops_at, read_loops_at, edges, edge_at}
+use Rattle.td_calls.specs.Callbacks.{is_notified}
 use Rattle.td_batch.specs.Flow.{AreBelow}
 use Rattle.td_reach.specs.declared.stamp.Place.TheVariants as places
 use Rattle.td_reach.specs.Paths.{Could}
 use Rattle.td_machine.specs.Active.{kind_of, bound_of, stamp_at}
 use Rattle.td_machine.specs.Steps.{sending_times}
-use Rattle.td_machine.specs.History.{is_grouping}
 
 -- the counters are those of a turn of the block on which a vertex reads
 abbrev pub InTurn : List Line → ℕ → Timestamp → Type 0
@@ -29,7 +29,7 @@ LeadsOn plan e = (t : Timestamp) → InTurn plan e.source t → AllByRecursion (
 
 -- what a group or a fold sends does not come back to it at the same time
 abbrev pub LeadsAway : List Line → Edge → Type 0
-LeadsAway plan e = (t : Timestamp) → InTurn plan e.source t → is_grouping (kind_of plan e.source) ≡ true → Could plan (record { time = t; place = places.Edge (edge_at plan e.reader e.port) }) (stamp_at e.source t) → ⊥
+LeadsAway plan e = (t : Timestamp) → InTurn plan e.source t → is_notified (kind_of plan e.source) ≡ true → Could plan (record { time = t; place = places.Edge (edge_at plan e.reader e.port) }) (stamp_at e.source t) → ⊥
 
 -- each source of a vertex, by port, is read in the loops in which the vertex reads
 abbrev pub AreReadThere : List Line → PlacedVertex → Type 0

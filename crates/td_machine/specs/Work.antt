@@ -10,12 +10,11 @@ use Rattle.td_plan.specs.Lines.{Vertex, Line}
 use Rattle.td_plan.specs.Blocks.{PlacedVertex, vertices, edges, bounds, reading_loops, read_loops_at}
 use Rattle.td_plan.specs.Tree.{tree_of}
 use Rattle.td_calls.specs.Answers.{Answers}
-use Rattle.td_calls.specs.Callbacks.{arrivals}
+use Rattle.td_calls.specs.Callbacks.{arrivals, is_notified}
 use Rattle.td_batch.specs.Meaning.{EpochInput, states_after}
 use Rattle.td_batch.specs.Flow.{Flow, numbers_from}
 use Rattle.td_batch.specs.BagAt.{bag_at}
 use Rattle.td_machine.specs.State.{shard_of_key}
-use Rattle.td_machine.specs.History.{is_grouping}
 
 -- the turns of a block in loops of these bounds, the innermost first: all counters below them
 abbrev pub turns_of : List ℕ → List (List ℕ)
@@ -45,7 +44,7 @@ vertex_notes workers flow p = sum_by (λ counters. length (shards_of workers (co
 
 -- the groups and folds of a plan
 abbrev pub groupings : List Line → List PlacedVertex
-groupings plan = filter (λ p. is_grouping p.vertex.kind) (vertices plan)
+groupings plan = filter (λ p. is_notified p.vertex.kind) (vertices plan)
 
 -- of an epoch: the records on all edges, and the notifications of all groups and folds
 abbrev pub epoch_records : List Line → EpochInput → ℕ
