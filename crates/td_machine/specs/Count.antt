@@ -16,6 +16,8 @@ use Rattle.td_machine.specs.Steps.Event.{release, taking, give, collect}
 use Rattle.td_machine.specs.Steps.Answer.{has_released, has_taken, has_given, has_collected}
 use Rattle.td_machine.specs.Steps.Takes.{takes}
 use Rattle.td_machine.specs.Steps.Gives.{gives}
+use Rattle.td_machine.specs.Tally.{records_in, notes_in, tally}
+use Rattle.td_machine.specs.Exact.{WorkIs}
 use Rattle.td_machine.specs.Examples.{at_epoch, one_batch, message_task, taken_by, given_by, could-epoch}
 
 -- COUNT, one record
@@ -114,3 +116,10 @@ count_collected = refl
 
 pub count_batch : (run stock (tree_of count_plan) [] (one_batch (pos 1) ∷ [])).outs ≡ (out 2 7 (pos 1) ∷ []) ∷ []
 count_batch = refl
+
+-- two records and one notification were given, which is the work of the batch meaning
+pub count_given : (tally records_in count_events count_answers ≡ 2) × (tally notes_in count_events count_answers ≡ 1)
+count_given = (refl, refl)
+
+pub count_work : WorkIs stock count_plan [] 1 count_events count_answers
+count_work = record { records = refl; notes = refl }
