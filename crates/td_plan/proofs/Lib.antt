@@ -1,9 +1,12 @@
+pub mod Alike
 pub mod Answered
 pub mod Built
 pub mod Canonical
 pub mod Cuts
 pub mod Edges
+pub mod EdgesTo
 pub mod Growth
+pub mod Laid
 pub mod Lengths
 pub mod Listed
 pub mod Looked
@@ -11,6 +14,7 @@ pub mod Numerals
 pub mod Placed
 pub mod Printing
 pub mod ReadOn
+pub mod ReadThere
 pub mod Readings
 pub mod SameLoops
 pub mod SamePlans

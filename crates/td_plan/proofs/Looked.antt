@@ -16,7 +16,7 @@ use Rattle.td_plan.proofs.Growth.{length-edges_to}
 use Rattle.td_plan.proofs.Trees.{length-placed, tree_numbered, tree_vertices}
 
 -- NUMBERS
-abbrev CountUp : ℕ → List PlacedVertex → Type 0
+abbrev pub CountUp : ℕ → List PlacedVertex → Type 0
 CountUp n [] = Unit {0}
 CountUp n (p ∷ ps) = (p.vertex.number ≡ n) × CountUp (n + 1) ps
 
@@ -24,7 +24,7 @@ count_append : (n : ℕ) (xs ys : List PlacedVertex) → CountUp n xs → CountU
 count_append n [] ys c d = subst (λ k. CountUp k ys) (let z : n + 0 ≡ n = omega arith in z) d
 count_append n (x ∷ xs) ys c d = (c.0, count_append (n + 1) xs ys c.1 (subst (λ k. CountUp k ys) (let z : n + length (x ∷ xs) ≡ n + 1 + length xs = omega arith in z) d))
 
-count_placed : (ns : Nodes) (ls : List Loop) (n : ℕ) → IsNumbered n ns → CountUp n (placed_in ls n ns)
+pub count_placed : (ns : Nodes) (ls : List Loop) (n : ℕ) → IsNumbered n ns → CountUp n (placed_in ls n ns)
 count_placed done ls n h = tt
 count_placed (node v rest) ls n h = (h.0, count_placed rest ls (n + 1) h.1)
 count_placed (block b body rest) ls n h =
@@ -37,7 +37,7 @@ count_at n [] i p c at = absurd (cc)
 count_at n (q ∷ ps) zero p c at = let same : q ≡ p = cc in ap (λ r. r.vertex.number) (sym same) ∙ c.0 ∙ omega arith
 count_at n (q ∷ ps) (suc i) p c at = let r = count_at (n + 1) ps i p c.1 at in omega arith
 
-number_at : (plan : List Line) (v : ℕ) (p : PlacedVertex) → IsPlan plan → slice_get (vertices plan) v ≡ Some p → p.vertex.number ≡ v
+pub number_at : (plan : List Line) (v : ℕ) (p : PlacedVertex) → IsPlan plan → slice_get (vertices plan) v ≡ Some p → p.vertex.number ≡ v
 number_at plan v p lawful at =
     let counted : CountUp 0 (vertices plan) = subst (CountUp 0) (tree_vertices plan lawful) (count_placed (tree_of plan) [] 0 (tree_numbered plan lawful)) in
     count_at 0 (vertices plan) v p counted at ∙ omega arith

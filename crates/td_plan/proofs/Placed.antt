@@ -29,12 +29,12 @@ on_fewer there [] ys s h on = absurd (omega arith)
 on_fewer there (x ∷ xs) ys zero h on = on
 on_fewer there (x ∷ xs) ys (suc s) h on = on_fewer there xs ys s (omega arith) on
 
-on_more : (there : List Loop) (xs ys : List PlacedVertex) (s : ℕ) → is_source_on there xs s ≡ true → is_source_on there (xs ++ ys) s ≡ true
+pub on_more : (there : List Loop) (xs ys : List PlacedVertex) (s : ℕ) → is_source_on there xs s ≡ true → is_source_on there (xs ++ ys) s ≡ true
 on_more there [] ys s on = absurd (cc)
 on_more there (x ∷ xs) ys zero on = on
 on_more there (x ∷ xs) ys (suc s) on = on_more there xs ys s on
 
-all_true : (f : ℕ → Bool) (xs : List ℕ) → list_all f xs ≡ true → AllByRecursion (λ x. f x ≡ true) xs
+pub all_true : (f : ℕ → Bool) (xs : List ℕ) → list_all f xs ≡ true → AllByRecursion (λ x. f x ≡ true) xs
 all_true f [] h = tt
 all_true f (x ∷ xs) h = let parts = both (f x) (list_all f xs) h in (parts.0, all_true f xs parts.1)
 
@@ -49,7 +49,7 @@ all_both P Q R f (x ∷ xs) p q = (f x p.0 q.0, all_both P Q R f xs p.1 q.1)
 below : (n s : ℕ) → nat_le n s ≡ false → s < n
 below n s h = grind (arith, nat_tests)
 
-not_false : (b : Bool) → not b ≡ false → b ≡ true
+pub not_false : (b : Bool) → not b ≡ false → b ≡ true
 not_false true h = refl
 not_false false h = absurd (cc)
 

@@ -14,5 +14,6 @@ pub mod Inputs
 pub mod LookedUp
 pub mod Times
 pub mod Standing
+pub mod Laid
 pub mod Named
 pub mod Examples

@@ -1,14 +1,16 @@
 //! Laws of the definitions. Each is the contract of a function that does nothing.
-ghost use Rattle.std.specs.Prelude.{[], ◌≡◌, ◌⊎◌, ◌≤◌, ℕ, List, length, true, false, Some};
+ghost use Rattle.std.specs.Prelude.{[], ◌≡◌, ◌==◌, ◌⊎◌, ◌≤◌, ℕ, List, filter, length, true, false, Some};
 ghost use Rattle.td_plan.specs.declared.error.PlanError.{PlanError as AnyError};
 ghost use Rattle.std.specs.List.{AllByRecursion, join_with_byte, slice_get};
 ghost use Rattle.td_plan.specs.Text.{words};
 ghost use Rattle.td_plan.specs.Lines.{Line, has_form, text_of, words_of};
-ghost use Rattle.td_plan.specs.Blocks.{PlacedVertex, loops, vertices};
-ghost use Rattle.td_plan.specs.Standing.{HasFirst, StandsAmong, StandsWell};
+ghost use Rattle.td_plan.specs.Blocks.{PlacedVertex, edge_at, edges, edges_to, loops, read_loops_at, reading_loops_at, vertices};
+ghost use Rattle.td_plan.specs.Standing.{may_stand, AreAlike, HasFirst, IsBounded, StandsAmong, StandsWell};
+ghost use Rattle.td_plan.specs.declared.vertex.Edge.{Edge as AnyEdge};
+ghost use Rattle.td_plan.specs.Laid.{AreLaid};
 ghost use Rattle.td_plan.specs.LookedUp.{IsLookedUp, IsSourceAt, IsEdgeAt};
-ghost use Rattle.td_plan.specs.Tree.{tree_of, lines_of, placed_in, IsNumbered};
-ghost use Rattle.td_plan.specs.Faults.{IsPlan};
+ghost use Rattle.td_plan.specs.Tree.{tree_of, lines_of, placed_in, size, IsNumbered};
+ghost use Rattle.td_plan.specs.Faults.{is_in_loop, IsPlan};
 ghost use Rattle.td_plan.specs.Sources.{ReadEarlier};
 ghost use Rattle.td_plan.specs.Placed.{IsPlacedTree};
 ghost use Rattle.td_plan.specs.Texts.{PlanText, PlanFault};
@@ -35,11 +37,12 @@ pub fn canonical_text()
 {}
 
 /// The tree of a plan: its lines are the plan's, its vertices are the plan's in the order of their numbers, each with
-/// the loops in which it stands.
+/// the loops in which it stands, and as many.
 pub fn trees()
     ensures lines { (plan : List Line) → IsPlan plan → lines_of (tree_of plan) ≡ plan }
     ensures numbers { (plan : List Line) → IsPlan plan → IsNumbered 0 (tree_of plan) }
     ensures all { (plan : List Line) → IsPlan plan → placed_in [] 0 (tree_of plan) ≡ vertices plan }
+    ensures size { (plan : List Line) → IsPlan plan → length (vertices plan) ≡ size (tree_of plan) }
 {}
 
 /// Each source of a plan's vertices, but for that of a feedback, comes before its reader, and is read on the block on
@@ -60,15 +63,48 @@ pub fn stands_well()
     ensures { (plan : List Line) → IsPlan plan → StandsWell false (tree_of plan) }
 {}
 
+/// The same by number: where a vertex may stand by its kind, and the bounds of the loops round it.
+pub fn stands_at()
+    ensures kind { (plan : List Line) → IsPlan plan → (v : ℕ) (p : PlacedVertex) → slice_get (vertices plan) v ≡ Some p
+        → may_stand (is_in_loop p.loops) p.vertex.kind ≡ true }
+    ensures bounds { (plan : List Line) → IsPlan plan → (v : ℕ) (p : PlacedVertex) → slice_get (vertices plan) v ≡ Some p
+        → AllByRecursion IsBounded p.loops }
+{}
+
+/// Each source of a vertex is read in the loops in which the vertex reads.
+pub fn read_there()
+    ensures { (plan : List Line) → IsPlan plan → (reader port source : ℕ) → IsSourceAt plan reader port source
+        → read_loops_at plan source ≡ Some (reading_loops_at plan reader) }
+{}
+
 /// Look-ups by number find the vertex of that number, and `edge_at` the edge that leads to a port of a vertex.
 pub fn look_ups()
     ensures vertices { (plan : List Line) (v : ℕ) (p : PlacedVertex) → IsPlan plan → slice_get (vertices plan) v ≡ Some p → IsLookedUp plan v p }
     ensures edges { (plan : List Line) (reader port source : ℕ) → IsPlan plan → IsSourceAt plan reader port source → IsEdgeAt plan reader port source }
 {}
 
+/// An edge of a plan stands at the number that `edge_at` tells, and leads from a source of its reader. Those that lead to a
+/// vertex are those of its sources, by port.
+pub fn edges_by_number()
+    ensures number { (plan : List Line) → IsPlan plan → (i : ℕ) (e : AnyEdge) → slice_get (edges plan) i ≡ Some e
+        → edge_at plan e.reader e.port ≡ i }
+    ensures source { (plan : List Line) → IsPlan plan → (i : ℕ) (e : AnyEdge) → slice_get (edges plan) i ≡ Some e
+        → IsSourceAt plan e.reader e.port e.source }
+    ensures into { (plan : List Line) → IsPlan plan → (v : ℕ) (p : PlacedVertex) → slice_get (vertices plan) v ≡ Some p
+        → filter (λ e. e.reader == v) (edges plan) ≡ edges_to p }
+{}
+
+/// Each vertex of a plan's tree is found by its number, where it stands in the tree, with the edges that lead to it.
+pub fn laid()
+    ensures { (plan : List Line) → IsPlan plan → AreLaid plan [] (tree_of plan) }
+{}
+
 /// The loops of a plan and the vertices that stand in them: each loop in which a vertex stands is one of the plan's, and
-/// in each loop of the plan stands the vertex of its first number.
+/// in each loop of the plan stands the vertex of its first number. The first numbers of the loops round a vertex, from any
+/// of them outwards, tell these loops.
 pub fn blocks()
     ensures among { (plan : List Line) → IsPlan plan → AllByRecursion (StandsAmong (loops plan)) (vertices plan) }
     ensures begun { (plan : List Line) → IsPlan plan → AllByRecursion (HasFirst (vertices plan)) (loops plan) }
+    ensures alike { (plan : List Line) (v w : ℕ) (p q : PlacedVertex) → slice_get (vertices plan) v ≡ Some p → slice_get (vertices plan) w ≡ Some q
+        → AreAlike p.loops q.loops }
 {}
