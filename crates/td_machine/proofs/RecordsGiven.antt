@@ -144,9 +144,9 @@ module _ (answers : Answers) (origin : Origin) (S : HallState) (H : History) (fa
       ∙ sum_alike (λ m. work (epoch_at (origin.first + m))) (λ m. work (of_run m)) (numbers_from 0 n)
       (all_weaken (λ m. (0 ≤ m) × (m < 0 + n)) (λ m. work (epoch_at (origin.first + m)) ≡ work (of_run m))
       (λ m h.
-      let below = h.1 in
+      let under = h.1 in
       let index : origin.first + m - origin.first ≡ m = omega arith in
-      let states = run_states answers origin S H facts numbered laid placed inv m (omega (arith, below, inv.stands.next)) (λ d a b. passed d a (omega (arith, b, below, inv.stands.next))) in
+      let states = run_states answers origin S H facts numbered laid placed inv m (omega (arith, under, inv.stands.next)) (λ d a b. passed d a (omega (arith, b, under, inv.stands.next))) in
       λ i. work (record { answers = answers; states = states i; batch = get_or origin.batches (index i) [] })) (numbers_from 0 n) (all_numbers 0 n))
       ∙ sym (sum_map work of_run (numbers_from 0 n))
 
