@@ -38,13 +38,13 @@ comes_at flow p = comes_to flow p.0 p.1
 
 -- TURNS: each of a block is counted once
 pub turn_once : (bs d : List ℕ) (q : List ℕ → Bool) → q d ≡ true → ((c : List ℕ) → (c ≡ d → ⊥) → q c ≡ false) → AreBelow d bs → count q (turns_of bs) ≡ 1
-turn_once [] [] q is others below = ap length (filter_yes q [] [] is)
-turn_once [] (k ∷ d) q is others below = absurd below
-turn_once (b ∷ bs) [] q is others below = absurd below
-turn_once (b ∷ bs) (k ∷ d) q is others below =
+turn_once [] [] q is others under = ap length (filter_yes q [] [] is)
+turn_once [] (k ∷ d) q is others under = absurd under
+turn_once (b ∷ bs) [] q is others under = absurd under
+turn_once (b ∷ bs) (k ∷ d) q is others under =
     one_of (λ k. map (λ c. k ∷ c) (turns_of bs)) q k
     (λ j other. count_map q (λ c. j ∷ c) (turns_of bs) ∙ count_none (λ c. q (j ∷ c)) (turns_of bs) (λ c. others (j ∷ c) (λ e. other (heads j k c d e))))
-    0 b (count_map q (λ c. k ∷ c) (turns_of bs) ∙ turn_once bs d (λ c. q (k ∷ c)) is (λ c other. others (k ∷ c) (λ e. other (tails k k c d e))) below.1) (omega arith) (let l = below.0 in omega (arith, l))
+    0 b (count_map q (λ c. k ∷ c) (turns_of bs) ∙ turn_once bs d (λ c. q (k ∷ c)) is (λ c other. others (k ∷ c) (λ e. other (tails k k c d e))) under.1) (omega arith) (let l = under.0 in omega (arith, l))
   where
     heads : (j k : ℕ) (c d : List ℕ) → j ∷ c ≡ k ∷ d → j ≡ k
     heads j k c d e = ap (λ l. elim l [ [] ↦ j | x ∷ xs ↦ x ]) e
@@ -87,14 +87,14 @@ module _ (plan : List Line) (e w : ℕ) (t : Timestamp) where
       next (inl l) = inl (omega (arith, l))
       next (inr l) = inr (omega (arith, l))
 
-  module _ (same : t.epoch ≡ e) (below : AreBelow t.turns (bounds (reading_loops_at plan w))) where
+  module _ (same : t.epoch ≡ e) (under : AreBelow t.turns (bounds (reading_loops_at plan w))) where
     here_once : (v : Vertex) (bs : List ℕ) → v.number ≡ w → bounds (reading_loops_at plan v.number) ≡ bs → count is_place (map (λ c. (v, c)) (turns_of bs)) ≡ 1
     here_once v bs at reads =
         count_map is_place (λ c. (v, c)) (turns_of bs)
         ∙ turn_once bs t.turns (λ c. is_place (v, c))
         (subst (λ n. is_there n (record { epoch = e; turns = t.turns }) w t ≡ true) (sym at) (subst (λ d. is_there w (record { epoch = d; turns = t.turns }) w t ≡ true) same (there_itself w t)))
         (λ c other. not_true (is_place (v, c)) (λ h. other (sym (ap (λ (u : Timestamp). u.turns) (there_is v.number w (record { epoch = e; turns = c }) t h).1))))
-        (subst (AreBelow t.turns) (ap (λ n. bounds (reading_loops_at plan n)) (sym at) ∙ reads) below)
+        (subst (AreBelow t.turns) (ap (λ n. bounds (reading_loops_at plan n)) (sym at) ∙ reads) under)
 
     pub place_once : (nodes : Nodes) (own : List ℕ) (n : ℕ) → IsNumbered n nodes → AreLaid plan own nodes → n ≤ w → w < n + size nodes → count is_place (places own nodes) ≡ 1
     place_once done own n numbered laid l m = absurd (omega (arith, l, m))
