@@ -4,14 +4,17 @@ use Rattle.std.proofs.Common.{◌≡◌, ℕ, List, [], ◌∷◌, ◌++◌, map
 use Rattle.std.proofs.lemmas.List.{map-append}
 use Rattle.td_stamp.specs.declared.values.Rec.{Rec}
 use Rattle.td_stamp.specs.declared.values.Arrival.{Arrival}
-use Rattle.td_stamp.specs.Orders.{rec_cmp}
+use Rattle.td_stamp.specs.declared.values.State.{State}
+use Rattle.td_stamp.specs.Orders.{rec_cmp, arrival_cmp}
 use Rattle.td_stamp.specs.Bag.{bag_insert, bag_of, join, set_insert, set_of, has}
 use Rattle.td_stamp.specs.Groups.{rec_of, groups}
-use Rattle.std.specs.Prelude.{fold}
+use Rattle.std.specs.Prelude.{fold, Option}
 use Rattle.td_stamp.specs.States.{StateList, state_of}
 use Rattle.td_plan.specs.declared.vertex.Kind.{Kind}
 use Rattle.td_plan.specs.declared.vertex.Kind.TheVariants.{Input, Map, Distinct, Group, Fold}
-use Rattle.td_calls.specs.Callbacks.{on_notification}
+use Rattle.td_calls.specs.Answers.{Answers}
+use Rattle.td_calls.specs.Callbacks.{nothing_kept, on_notification}
+use Rattle.td_calls.specs.Laws.{SendsInAnyOrder}
 use Rattle.td_plan.specs.Lines.{Vertex}
 use Rattle.td_batch.specs.Meaning.{EpochInput, answer, with_kept, states_by}
 
@@ -56,3 +59,18 @@ module _
   states-middle epoch v (Fold code) xs a ys states =
       ap (λ gs. fold (λ kept g. with_kept kept v.number g.0 (on_notification epoch.answers (Fold code) g.0 (state_of epoch.states v.number g.0) g.1).0) states gs) (groups_any_place xs ys a)
   states-middle epoch v _ xs a ys states = refl
+
+-- ONE BAG: what is answered of the arrivals of one bag
+module _
+    (any_order : (answers : Answers) (state : ℕ → Option State) (kind : Kind) → SendsInAnyOrder answers state kind)
+    (groups_of_bag : (xs : List Arrival) → groups (bag_of arrival_cmp xs) ≡ groups xs) where
+  pub answer_alike : (epoch : EpochInput) (v : ℕ) (kind : Kind) (xs ys : List Arrival) → bag_of arrival_cmp xs ≡ bag_of arrival_cmp ys → answer epoch v kind xs ≡ answer epoch v kind ys
+  answer_alike epoch v Input xs ys h = refl
+  answer_alike epoch v kind xs ys h = any_order epoch.answers (state_of epoch.states v) kind nothing_kept nothing_kept xs ys (λ e r. refl) (λ e. refl) h
+
+  pub states_alike : (epoch : EpochInput) (v : Vertex) (kind : Kind) (xs ys : List Arrival) (states : StateList) → bag_of arrival_cmp xs ≡ bag_of arrival_cmp ys
+      → states_by epoch v kind xs states ≡ states_by epoch v kind ys states
+  states_alike epoch v (Fold code) xs ys states h =
+      ap (λ gs. fold (λ kept g. with_kept kept v.number g.0 (on_notification epoch.answers (Fold code) g.0 (state_of epoch.states v.number g.0) g.1).0) states gs)
+      (sym (groups_of_bag xs) ∙ ap groups h ∙ groups_of_bag ys)
+  states_alike epoch v _ xs ys states h = refl

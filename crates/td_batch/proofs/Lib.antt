@@ -8,6 +8,7 @@ pub mod Runs
 pub mod Solutions
 pub mod Turns
 pub mod TurnsSolve
+pub mod Unique
 mod Alike
 mod Epochs
 mod Loops

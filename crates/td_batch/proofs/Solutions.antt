@@ -35,7 +35,7 @@ module _ (epoch : EpochInput) (flow : Flow) where
   Ends (node v rest) counters last = (v.number < length last) × (emitted last v.number ≡ answer_at epoch flow v counters) × Ends rest counters last
   Ends (block b body rest) counters last = AllEndAs flow counters last (leaves_of body) × Ends rest counters last
 
-  begins_more : (all outer : List ℕ) (before : Option Bags) (counters : List ℕ) (bags more : Bags) → Begins all outer before counters bags → Begins all outer before counters (bags ++ more)
+  pub begins_more : (all outer : List ℕ) (before : Option Bags) (counters : List ℕ) (bags more : Bags) → Begins all outer before counters bags → Begins all outer before counters (bags ++ more)
   begins_more all outer None [] bags more b = b
   begins_more all outer None (zero ∷ counters) bags more b = ends_more flow counters bags more outer b
   begins_more all outer None (suc k ∷ counters) bags more b = b

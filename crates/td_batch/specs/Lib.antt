@@ -1,5 +1,6 @@
 pub mod Meaning
 pub mod Flow
+pub mod SameFlow
 pub mod BagAt
 pub mod Quiet
 pub mod Examples

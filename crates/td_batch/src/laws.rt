@@ -2,8 +2,8 @@
 ghost use Rattle.std.specs.Prelude.{◌≡◌, ◌≤◌, [], ◌∷◌, ◌++◌, ℕ, List, Option, flat_map, length};
 ghost use Rattle.td_stamp.specs.declared.values.Arrival.{Arrival};
 ghost use Rattle.td_stamp.specs.declared.values.Entry.{Entry};
-ghost use Rattle.td_stamp.specs.Orders.{output_cmp};
-ghost use Rattle.td_stamp.specs.Bag.{IsBag};
+ghost use Rattle.td_stamp.specs.Orders.{arrival_cmp, output_cmp};
+ghost use Rattle.td_stamp.specs.Bag.{bag_of, IsBag};
 ghost use Rattle.td_stamp.specs.States.{StateList};
 ghost use Rattle.td_plan.specs.declared.vertex.Kind.{Kind};
 ghost use Rattle.td_plan.specs.Lines.{Vertex, Line};
@@ -13,9 +13,11 @@ ghost use Rattle.td_plan.specs.Placed.{IsPlacedTree};
 ghost use Rattle.td_batch.specs.Meaning.{EpochInput, Bags, emitted, answer, turn, turns, states_by, run, epoch_result, result_of};
 ghost use Rattle.td_batch.specs.Quiet.{IsLoopBody, NothingEnters, NothingReturns};
 ghost use Rattle.td_batch.specs.Flow.{Flow, Solves};
+ghost use Rattle.td_batch.specs.SameFlow.{ReadAlike};
 ghost use Rattle.td_batch.specs.BagAt.{bag_at};
 
 use td_calls::Law;
+use td_calls::laws::in_any_order;
 use td_stamp::{Output, Rec, laws};
 
 /// Epochs after one another: the later ones go on from the states that the earlier ones leave.
@@ -27,17 +29,23 @@ pub fn run_joins<L: Law>()
 {}
 
 /// What a vertex emits, and the states that a fold keeps, are the same in whatever order records arrive: each may as well
-/// arrive first.
+/// arrive first, and all depends on the bag of the arrivals alone.
 pub fn arrivals_in_any_order()
     ensures sent { (epoch : EpochInput) (v : ℕ) (kind : Kind) (xs : List Arrival) (a : Arrival) (ys : List Arrival) →
         answer epoch v kind (xs ++ a ∷ ys) ≡ answer epoch v kind (a ∷ xs ++ ys) }
     ensures states { (epoch : EpochInput) (v : Vertex) (kind : Kind) (xs : List Arrival) (a : Arrival) (ys : List Arrival) (states : StateList) →
         states_by epoch v kind (xs ++ a ∷ ys) states ≡ states_by epoch v kind (a ∷ xs ++ ys) states }
+    ensures sent_alike { (epoch : EpochInput) (v : ℕ) (kind : Kind) (xs ys : List Arrival) →
+        bag_of arrival_cmp xs ≡ bag_of arrival_cmp ys → answer epoch v kind xs ≡ answer epoch v kind ys }
+    ensures states_alike { (epoch : EpochInput) (v : Vertex) (kind : Kind) (xs ys : List Arrival) (states : StateList) →
+        bag_of arrival_cmp xs ≡ bag_of arrival_cmp ys → states_by epoch v kind xs states ≡ states_by epoch v kind ys states }
 {
     laws::joins::<Rec>();
     laws::bags::<Rec>();
     laws::sets::<Rec>();
     laws::groups_in_any_order();
+    laws::groups_of_a_bag();
+    in_any_order();
 }
 
 /// Where bags at all times answer one another, as those of an engine do that passes messages, an epoch gives what they
@@ -46,6 +54,13 @@ pub fn arrivals_in_any_order()
 pub fn one_meaning()
     ensures { (epoch : EpochInput) (nodes : Nodes) (flow : Flow) → IsPlacedTree nodes → Solves epoch flow [] nodes →
         epoch_result epoch nodes ≡ result_of epoch nodes (λ v. flow v []) }
+{}
+
+/// Two solutions of the flat equations are the same to all readers: in each turn of its block, each vertex of the plan reads
+/// the same in both.
+pub fn one_flow()
+    ensures { (epoch : EpochInput) (nodes : Nodes) (f g : Flow) → IsPlacedTree nodes → Solves epoch f [] nodes → Solves epoch g [] nodes →
+        ReadAlike f g [] nodes }
 {}
 
 /// The bags of the nested turns, at all times, solve the flat equations of every plan whose sources are read where their

@@ -1,6 +1,6 @@
 -- An edge of a plan by its number, and the edges that lead to a vertex.
 use Rattle.std.proofs.Common.{◌≡◌, ℕ, zero, suc, ◌+◌, ◌≤◌, ◌⊎◌, inl, inr, Bool, true, false, ◌==◌, List, [], ◌∷◌, ◌++◌, length, take, map, filter, refl, sym, ap, ◌∙◌, arith, subst, eq-eqb, append-nil}
-use Rattle.std.specs.Prelude.{Option, Some, flat_map}
+use Rattle.std.specs.Prelude.{Some, flat_map}
 use Rattle.std.specs.List.{AllByRecursion, slice_get, enumerate_from}
 use Rattle.std.proofs.lemmas.Bool.{ne_eqb}
 use Rattle.std.proofs.lemmas.List.Elements.{filter-append}

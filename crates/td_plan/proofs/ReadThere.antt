@@ -1,6 +1,6 @@
 -- Each source of a plan's vertices is read in the loops in which its reader reads: not only in loops of the same first numbers.
 use Rattle.std.proofs.Common.{◌≡◌, ℕ, zero, suc, ◌+◌, Bool, true, false, List, [], ◌∷◌, ◌++◌, refl, sym, ap, ◌∙◌, subst}
-use Rattle.std.specs.Prelude.{Option, Some, None, drop, not, ◌&&◌, ◌||◌}
+use Rattle.std.specs.Prelude.{Option, Some, None, drop, not, ◌&&◌}
 use Rattle.std.specs.List.{AllByRecursion, list_all, list_any, slice_get}
 use Rattle.std.specs.Str.{bytes_eq}
 use Rattle.std.proofs.lemmas.List.{append_assoc}
@@ -11,19 +11,17 @@ use Rattle.td_plan.specs.declared.vertex.Kind.TheVariants.{Enter, Feedback, Leav
 use Rattle.td_plan.specs.declared.vertex.Loop.{Loop}
 use Rattle.td_plan.specs.Lines.{Line}
 use Rattle.td_plan.specs.Lines.Line.{vertex}
-use Rattle.td_plan.specs.Blocks.{PlacedVertex, vertices, firsts, reading_loops, read_loops, reading_loops_at, read_loops_at, is_read_on, is_source_on, sources_at}
-use Rattle.td_plan.specs.Faults.{is_feedback, reads_elsewhere, is_stray, is_stray_feedback, IsPlan}
-use Rattle.td_plan.specs.LookedUp.{IsSourceAt, IsLookedUp}
+use Rattle.td_plan.specs.Blocks.{PlacedVertex, vertices, firsts, reading_loops, read_loops, reading_loops_at, read_loops_at, is_read_on, is_source_on}
+use Rattle.td_plan.specs.Faults.{is_feedback, is_stray, is_stray_feedback, IsPlan}
+use Rattle.td_plan.specs.LookedUp.{IsSourceAt}
 use Rattle.td_plan.specs.Sources.{ReadEarlier}
-use Rattle.td_plan.specs.Standing.{AreAlike, IsBounded, StandsWell, may_stand}
+use Rattle.td_plan.specs.Standing.{AreAlike}
 use Rattle.td_plan.specs.Tree.{Nodes, size, tree_of, lines_of, placed_in}
 use Rattle.td_plan.specs.Tree.Nodes.{done, node, block}
-use Rattle.td_plan.specs.Faults.{is_in_loop}
 use Rattle.td_plan.proofs.Alike.{plan_alike}
 use Rattle.td_plan.proofs.Looked.{vertex_found}
 use Rattle.td_plan.proofs.Placed.{on_more, all_true, not_false}
 use Rattle.td_plan.proofs.ReadOn.{all_append, all_weaker}
-use Rattle.td_plan.proofs.StandsWell.{tree_stands}
 use Rattle.td_plan.proofs.Trees.{neither, tree_lines, tree_vertices, vertices_read}
 
 -- what holds of all elements holds of that at a place

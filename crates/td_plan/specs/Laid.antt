@@ -1,5 +1,5 @@
 -- Where the vertices of a plan's tree are found, and which edges lead to them.
-use Rattle.std.specs.Prelude.{◌≡◌, ℕ, ◌==◌, List, [], ◌∷◌, drop, filter, Some}
+use Rattle.std.specs.Prelude.{◌≡◌, ℕ, ◌==◌, List, ◌∷◌, drop, filter, Some}
 use Rattle.td_plan.specs.declared.vertex.Kind.{Kind}
 use Rattle.td_plan.specs.declared.vertex.Kind.TheVariants.{Enter}
 use Rattle.td_plan.specs.Lines.{Vertex, Line}
