@@ -14,7 +14,7 @@ use Rattle.td_batch.specs.Flow.{Flow, numbers_from}
 use Rattle.td_batch.specs.BagAt.{bag_at}
 use Rattle.td_machine.specs.State.{shard_of_key}
 use Rattle.td_machine.specs.History.{is_grouping}
-use Rattle.td_machine.specs.Flows.{read_bounds}
+use Rattle.td_plan.specs.Laid.{read_bounds}
 
 abbrev pub sum_of : {X : Type 0} → (X → ℕ) → List X → ℕ
 sum_of f [] = 0
