@@ -1,19 +1,33 @@
 -- The orders of a state's lists are total, and only equal elements tie.
-use Rattle.std.specs.Prelude.{◌≡◌, ◌==◌, ◌&&◌, Bool, true, false, Some, None, ℕ}
-use Rattle.std.proofs.Common.{refl, ap, rules}
+use Rattle.std.specs.Prelude.{◌≡◌, ◌==◌, ◌&&◌, Bool, true, false, Some, None, ℕ, reverse}
+use Rattle.std.proofs.Common.{refl, ap, sym, ◌∙◌, rules, inr, arith}
 use Rattle.std.specs.declared.cmp.Ordering.{Ordering}
 use Rattle.std.specs.declared.cmp.Ordering.TheVariants.{Less, Equal, Greater}
-use Rattle.std.specs.Ordering.{is_eq}
+use Rattle.std.specs.Ordering.{is_eq, nat_cmp}
 use Rattle.std.specs.Option.{option_cmp}
 use Rattle.std.specs.Cmp.{IsTotalOrder, then_total, on_total, nat_cmp_total}
-use Rattle.std.specs.Cmp.Lexicographic.{options_total}
+use Rattle.std.specs.Cmp.Lexicographic.{options_total, lists_total}
 use Rattle.std.proofs.lemmas.Cmp.{int_cmp_total, tied_itself}
 use Rattle.std.proofs.lemmas.Bool.{eqb-true}
-use Rattle.std.specs.FinMap.{IsAntisymmetric, nat_cmp-IsAntisymmetric, int_cmp-IsAntisymmetric}
+use Rattle.std.specs.FinMap.{IsAntisymmetric, nat_cmp-IsAntisymmetric, int_cmp-IsAntisymmetric, slice_cmp-IsAntisymmetric}
+use Rattle.std.proofs.lemmas.List.{reverse-reverse}
 use Rattle.td_stamp.specs.ProvedOrders.{both_tie, rec_total, rec_apart, output_total, output_apart}
-use Rattle.td_stamp.specs.Time.{Timestamp, time_cmp}
-use Rattle.td_stamp.proofs.TimeLaws.{time_total, time_apart}
+use Rattle.td_stamp.specs.Time.{Timestamp, IsAtMost, counters_cmp, time_cmp}
 use Rattle.td_machine.specs.State.{message_cmp, stamped_cmp, notification_cmp, output_at_cmp, state_cmp, left_cmp, same_time, is_there}
+
+pub time_total : IsTotalOrder time_cmp
+time_total = then_total (on_total (λ t. t.epoch) nat_cmp_total) (on_total (λ t. reverse t.turns) (lists_total nat_cmp_total))
+
+pub time_apart : IsAntisymmetric time_cmp
+time_apart t u e =
+    let tied = both_tie (nat_cmp t.epoch u.epoch) (counters_cmp t.turns u.turns) e in
+    let backwards = slice_cmp-IsAntisymmetric nat_cmp-IsAntisymmetric (reverse t.turns) (reverse u.turns) tied.1 in
+    let turns = sym (reverse-reverse t.turns) ∙ ap reverse backwards ∙ reverse-reverse u.turns in
+    λ i. record { epoch = nat_cmp-IsAntisymmetric t.epoch u.epoch tied.0 i; turns = turns i }
+
+-- a time is at most itself
+pub IsAtMost-refl : (t : Timestamp) → IsAtMost t t
+IsAtMost-refl t = record { epoch = omega arith; turns = inr refl }
 
 pub message_total : IsTotalOrder message_cmp
 message_total = then_total (on_total (λ c. c.vertex) nat_cmp_total) (then_total (on_total (λ c. c.port) nat_cmp_total) (then_total (on_total (λ c. c.time) time_total) (on_total (λ c. c.rec) rec_total)))

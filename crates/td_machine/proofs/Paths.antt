@@ -4,7 +4,7 @@ use Rattle.std.specs.Prelude.{Option, Some, None}
 use Rattle.std.specs.List.{AllByRecursion}
 use Rattle.td_stamp.specs.Time.{Timestamp, IsAtMost, again}
 use Rattle.std.specs.Prelude.{nat_lt, suc, Bool, true, false, if◌then◌else◌}
-use Rattle.td_stamp.proofs.TimeLaws.{IsAtMost-refl}
+use Rattle.td_machine.proofs.Orders.{IsAtMost-refl}
 use Rattle.td_plan.specs.declared.vertex.Kind.{Kind}
 use Rattle.td_plan.specs.declared.vertex.Kind.TheVariants.{Input, Map, Distinct, Group, Fold, Enter, Feedback, Leave, Output}
 use Rattle.td_plan.specs.declared.vertex.Edge.{Edge}

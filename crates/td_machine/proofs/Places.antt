@@ -1,6 +1,6 @@
 -- The places at which the vertices of a tree read: each vertex in each turn of the block on which it reads. A vertex and a time
 -- have one place, and a sum over the places is one over the vertices of the plan.
-use Rattle.std.proofs.Common.{◌≡◌, ℕ, ◌+◌, ◌<◌, ◌≤◌, ◌==◌, Bool, true, ◌⊎◌, inl, inr, List, [], ◌∷◌, ◌++◌, map, filter, length, refl, ap, sym, ◌∙◌, subst, arith, false, sum_by}
+use Rattle.std.proofs.Common.{◌≡◌, ℕ, ◌+◌, ◌<◌, ◌≤◌, ◌==◌, Bool, true, ◌⊎◌, inl, inr, List, [], ◌∷◌, ◌++◌, map, flat_map, filter, length, refl, ap, sym, ◌∙◌, subst, arith, false, sum_by, zero, suc}
 use Rattle.std.specs.Prelude.{nat_lt}
 use Rattle.std.specs.List.{AllByRecursion, enumerate_from}
 use Rattle.std.proofs.lemmas.Bool.{ltb-true, ltb-false}
@@ -14,13 +14,15 @@ use Rattle.td_plan.specs.Lines.{Vertex, Line}
 use Rattle.td_plan.specs.Blocks.{PlacedVertex, edges, bounds, reading_loops, reading_loops_at}
 use Rattle.td_plan.specs.Tree.{Nodes, size, placed_in, IsNumbered}
 use Rattle.td_plan.specs.Tree.Nodes.{done, node, block}
-use Rattle.td_batch.specs.Flow.{Flow, AreBelow}
+use Rattle.td_plan.specs.Laid.{read_bounds}
+use Rattle.td_batch.specs.Flow.{Flow, AreBelow, numbers_from}
+use Rattle.td_batch.specs.SameFlow.{ReadAlike}
 use Rattle.td_machine.specs.State.{is_there}
 use Rattle.td_machine.specs.Active.{kind_of}
-use Rattle.td_machine.specs.Flows.{AreLaid, edge_to, read_bounds}
+use Rattle.td_machine.specs.Flows.{AreLaid, edge_to}
 use Rattle.td_machine.specs.Work.{turns_of, comes_to}
 use Rattle.td_machine.proofs.Orders.{there_is, there_itself}
-use Rattle.td_machine.proofs.Lists.{filter_yes, all_app, all_map, all_everywhere}
+use Rattle.td_machine.proofs.Lists.{filter_yes, all_app, all_map, all_weaken, all_everywhere}
 use Rattle.td_machine.proofs.Sums.{sum_map, count, count_app, count_map, count_none, one_of, not_true}
 
 -- a vertex, in a turn of the block on which it reads
@@ -171,3 +173,28 @@ module _ (plan : List Line) where
   places_kind done own laid = tt
   places_kind (node v rest) own laid = all_app IsKind (map (λ c. (v, c)) (turns_of (read_bounds v.kind own))) (places own rest) (at_turns IsKind v (turns_of (read_bounds v.kind own)) (λ c. laid.0.kind)) (places_kind rest own laid.1)
   places_kind (block bound body rest) own laid = all_app IsKind (places (bound ∷ own) body) (places own rest) (places_kind body (bound ∷ own) laid.0) (places_kind rest own laid.1)
+
+-- TWO FLOWS that are the same to all readers are so at each place
+module _ (f g : Flow) where
+  abbrev pub ReadsSame : Place → Type 0
+  ReadsSame p = map (λ s. f s p.1) p.0.sources ≡ map (λ s. g s p.1) p.0.sources
+
+  all_turns : (bounds : List ℕ) → AllByRecursion (λ c. AreBelow c bounds) (turns_of bounds)
+  all_turns [] = (tt, tt)
+  all_turns (bound ∷ bounds) = heads (all_turns bounds) 0 bound (omega arith)
+    where
+      heads : AllByRecursion (λ c. AreBelow c bounds) (turns_of bounds) → (k n : ℕ) → k + n ≤ bound → AllByRecursion (λ c. AreBelow c (bound ∷ bounds)) (flat_map (λ k. map (λ c. k ∷ c) (turns_of bounds)) (numbers_from k n))
+      heads all k zero l = tt
+      heads all k (suc n) l =
+          let low : k < bound = omega (arith, l) in
+          all_app (λ c. AreBelow c (bound ∷ bounds)) (map (λ c. k ∷ c) (turns_of bounds)) (flat_map (λ k. map (λ c. k ∷ c) (turns_of bounds)) (numbers_from (suc k) n))
+          (all_map (λ c. AreBelow c (bound ∷ bounds)) (λ c. k ∷ c) (turns_of bounds) (all_weaken (λ c. AreBelow c bounds) (λ c. AreBelow (k ∷ c) (bound ∷ bounds)) (λ c h. (low, h)) (turns_of bounds) all))
+          (heads all (suc k) n (omega (arith, l)))
+
+  pub places_alike : (nodes : Nodes) (own : List ℕ) → ReadAlike f g own nodes → AllByRecursion ReadsSame (places own nodes)
+  places_alike done own h = tt
+  places_alike (node v rest) own h =
+      let turns : List (List ℕ) = turns_of (read_bounds v.kind own) in
+      all_app ReadsSame (map (λ c. (v, c)) turns) (places own rest)
+      (all_map ReadsSame (λ c. (v, c)) turns (all_weaken (λ c. AreBelow c (read_bounds v.kind own)) (λ c. ReadsSame (v, c)) (λ c k. h.0 c k) turns (all_turns (read_bounds v.kind own)))) (places_alike rest own h.1)
+  places_alike (block bound body rest) own h = all_app ReadsSame (places (bound ∷ own) body) (places own rest) (places_alike body (bound ∷ own) h.0) (places_alike rest own h.1)

@@ -10,7 +10,6 @@ use Rattle.std.specs.Ordering.{is_eq}
 use Rattle.std.specs.Cmp.{IsTotalOrder}
 use Rattle.std.proofs.lemmas.Cmp.{tied_itself}
 use Rattle.std.specs.FinMap.{IsAntisymmetric}
-use Rattle.td_stamp.proofs.Bags.{turned_back}
 use Rattle.td_stamp.specs.declared.values.State.{State}
 use Rattle.td_stamp.specs.Orders.{state_key_cmp}
 use Rattle.td_stamp.specs.ProvedOrders.{state_key_total, both_tie}
@@ -23,6 +22,7 @@ use Rattle.std.specs.FinMap.{nat_cmp-IsAntisymmetric}
 use Rattle.td_machine.specs.declared.records.StateLeft.{StateLeft}
 use Rattle.td_machine.specs.State.{left_cmp, with_left}
 use Rattle.td_machine.proofs.Lists.{all_weaken, from_map}
+use Rattle.td_machine.proofs.Bags.{turned_back}
 
 module _ {K X : Type 0} (cmp : K → K → Ordering) (total : IsTotalOrder cmp) (same : IsAntisymmetric cmp) where
   -- entries in the order of their keys, each key once
@@ -64,7 +64,7 @@ module _ {K X : Type 0} (cmp : K → K → Ordering) (total : IsTotalOrder cmp) 
       by : (o : Ordering) → cmp k e.0 ≡ o → AreInOrder (insert_entry cmp es k v) → AreInOrder (insert_entry cmp (e ∷ es) k v)
       by Less f rest = subst AreInOrder (sym (put_less k v e es f)) ((f, all_weaken (λ (d : K × X). cmp e.0 d.0 ≡ Less) (λ (d : K × X). cmp k d.0 ≡ Less) (λ d g. total.trans k e.0 d.0 f g) es h.0), h)
       by Equal f rest = subst AreInOrder (sym (put_same k v e es f)) h
-      by Greater f rest = subst AreInOrder (sym (put_more k v e es f)) (above_put e.0 k v es (turned_back cmp total same k e.0 f) h.0, rest)
+      by Greater f rest = subst AreInOrder (sym (put_more k v e es f)) (above_put e.0 k v es (turned_back cmp total k e.0 f) h.0, rest)
 
   all_removed : (P : K × X → Type 0) (test : K → Bool) (es : List (K × X)) → AllByRecursion P es → AllByRecursion P (remove_entry test es)
   all_removed P test [] h = tt

@@ -16,7 +16,7 @@ use Rattle.td_batch.specs.Examples.{entry}
 use Rattle.td_machine.specs.declared.records.Message.{Message}
 use Rattle.td_machine.specs.State.{HallState, Task}
 use Rattle.td_machine.specs.State.Content.{messages}
-use Rattle.td_machine.specs.Steps.{with_task, effect, is_given}
+use Rattle.td_machine.specs.Steps.{with_task, effect, is_given, sending_times}
 
 abbrev pub at_epoch : ℕ → Timestamp
 at_epoch e = record { epoch = e; turns = [] }
@@ -59,3 +59,10 @@ adjust-epoch plan (e ∷ path) t = adjust-epoch plan path (over plan (slice_get 
 
 pub could-epoch : (plan : List Line) (p q : Stamp) → Could plan p q → p.time.epoch ≤ q.time.epoch
 could-epoch plan p q c = subst (λ e. e ≤ q.time.epoch) (adjust-epoch plan c.path p.time) c.in_time.epoch
+
+-- a loop of bound 3 has the turns 0, 1 and 2: what comes to its feedback in the last of them is sent no more
+pub goes_round : sending_times Feedback 3 (record { epoch = 1; turns = 1 ∷ [] }) ≡ record { epoch = 1; turns = 2 ∷ [] } ∷ []
+goes_round = refl
+
+pub goes_no_further : sending_times Feedback 3 (record { epoch = 1; turns = 2 ∷ [] }) ≡ []
+goes_no_further = refl

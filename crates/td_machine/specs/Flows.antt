@@ -1,15 +1,14 @@
 -- What vertices sent, by the times that their records bear: a flow, for each epoch.
-use Rattle.std.specs.Prelude.{◌≡◌, ℕ, ◌==◌, List, [], ◌∷◌, map, flat_map, filter, drop, if◌then◌else◌}
+use Rattle.std.specs.Prelude.{◌≡◌, ℕ, ◌==◌, List, [], ◌∷◌, map, flat_map, filter, if◌then◌else◌}
 use Rattle.std.specs.List.{enumerate_from}
 use Rattle.td_stamp.specs.declared.values.Rec.{Rec}
 use Rattle.td_stamp.specs.Orders.{rec_cmp}
 use Rattle.td_stamp.specs.Time.{Timestamp}
 use Rattle.td_stamp.specs.Bag.{bag_of}
-use Rattle.td_plan.specs.declared.vertex.Kind.{Kind}
-use Rattle.td_plan.specs.declared.vertex.Kind.TheVariants.{Enter}
 use Rattle.td_plan.specs.declared.vertex.Edge.{Edge}
 use Rattle.td_plan.specs.Lines.{Vertex, Line}
 use Rattle.td_plan.specs.Blocks.{edges, bounds, reading_loops_at}
+use Rattle.td_plan.specs.Laid.{read_bounds}
 use Rattle.td_plan.specs.Tree.{Nodes}
 use Rattle.td_plan.specs.Tree.Nodes.{done, node, block}
 use Rattle.td_batch.specs.Flow.{Flow}
@@ -33,10 +32,6 @@ flow_of plan sent e u counters = bag_of rec_cmp (flat_map (sent_to plan u (recor
 -- sources, by port, and it reads in the loops around it
 abbrev pub edge_to : ℕ → ℕ × ℕ → Edge
 edge_to v p = record { source = p.1; reader = v; port = p.0 }
-
-abbrev pub read_bounds : Kind → List ℕ → List ℕ
-read_bounds Enter own = drop 1 own
-read_bounds _ own = own
 
 abbrev pub innermost_bound : List ℕ → ℕ
 innermost_bound [] = 0

@@ -1,6 +1,4 @@
 use Rattle.std.proofs.Common.{◌≡◌, [], ap, sym, subst, ◌∙◌}
-use Rattle.td_plan.proofs.Placed.{tree_placed}
-use Rattle.td_plan.proofs.Trees.{tree_numbered, tree_vertices}
 use Rattle.td_plan.specs.Blocks.{vertices}
 use Rattle.td_plan.specs.Tree.{tree_of, placed_in, IsNumbered}
 use Rattle.td_plan.specs.Placed.{IsPlacedTree}
@@ -17,16 +15,17 @@ use Rattle.td_machine.proofs.laws.exact_work.Goals as goal
 
 pub returns : goal.returns
 returns g c plan states first workers events replies S lawful ordered l m p passed =
+    let below = c.laws_below.ensures in
     let answers = g.L.Law.answers in
-    let r = play_has answers plan states first workers events replies S lawful (plan_facts plan lawful) ordered l m p in
+    let r = play_has below answers plan states first workers events replies S lawful (plan_facts below plan lawful) ordered l m p in
     let origin : Origin = record { states = states; first = first; batches = batches_of events replies } in
     let back = sym r.2 in
-    let facts : PlanFacts S.plan = subst PlanFacts back (plan_facts plan lawful) in
-    let numbered : IsNumbered 0 (tree_of S.plan) = subst (λ q. IsNumbered 0 (tree_of q)) back (tree_numbered plan lawful) in
-    let laid : AreLaid S.plan [] (tree_of S.plan) = subst (λ q. AreLaid q [] (tree_of q)) back (plan_laid plan lawful) in
-    let placed : IsPlacedTree (tree_of S.plan) = subst (λ q. IsPlacedTree (tree_of q)) back (tree_placed plan lawful) in
-    let all : placed_in [] 0 (tree_of S.plan) ≡ vertices S.plan = subst (λ q. placed_in [] 0 (tree_of q) ≡ vertices q) back (tree_vertices plan lawful) in
+    let facts : PlanFacts S.plan = subst PlanFacts back (plan_facts below plan lawful) in
+    let numbered : IsNumbered 0 (tree_of S.plan) = subst (λ q. IsNumbered 0 (tree_of q)) back (below.numbered plan lawful) in
+    let laid : AreLaid S.plan [] (tree_of S.plan) = subst (λ q. AreLaid q [] (tree_of q)) back (plan_laid below plan lawful) in
+    let placed : IsPlacedTree (tree_of S.plan) = subst (λ q. IsPlacedTree (tree_of q)) back (below.placed plan lawful) in
+    let all : placed_in [] 0 (tree_of S.plan) ≡ vertices S.plan = subst (λ q. placed_in [] 0 (tree_of q) ≡ vertices q) back (below.in_order plan lawful) in
     record {
-      records = sym r.4 ∙ records_are answers origin S r.0 facts numbered laid placed all r.1 passed ∙ ap (λ q. Records answers q states (batches_of events replies)) r.2;
-      notes = sym r.5 ∙ notes_are answers origin S r.0 facts numbered laid placed all r.1 passed ∙ (λ i. Notes (r.3 i) answers (r.2 i) states (batches_of events replies));
+      records = sym r.4 ∙ records_are below answers origin S r.0 facts numbered laid placed all r.1 passed ∙ ap (λ q. Records answers q states (batches_of events replies)) r.2;
+      notes = sym r.5 ∙ notes_are below answers origin S r.0 facts numbered laid placed all r.1 passed ∙ (λ i. Notes (r.3 i) answers (r.2 i) states (batches_of events replies));
     }
