@@ -1,0 +1,77 @@
+//! Laws of the definitions. Each is the contract of a function that does nothing, or calls the laws that it follows from.
+ghost use Rattle.td_machine.specs.Exact.{ExactWork, ExactWorkDrained};
+ghost use Rattle.td_machine.specs.Sound.{Confluence, EachIsSound, NeverStuck};
+ghost use Rattle.td_machine.specs.Below.{Below};
+
+use crate::records::{Message, Notification, OutputAt, Stamped, StateLeft};
+use td_calls::Law;
+use td_stamp::{Arrival, Output, Rec};
+
+/// What the laws of the crates below say of what stands here.
+fn laws_below()
+    ensures { Below }
+{
+    td_stamp::laws::bags_by_any_order::<Message>();
+    td_stamp::laws::bags_by_any_order::<Stamped>();
+    td_stamp::laws::bags_by_any_order::<StateLeft>();
+    td_stamp::laws::bags_by_any_order::<OutputAt>();
+    td_stamp::laws::bags_by_any_order::<Output>();
+    td_stamp::laws::bags_by_any_order::<Rec>();
+    td_stamp::laws::bags_by_any_order::<Arrival>();
+    td_stamp::laws::sets_by_any_order::<Notification>();
+    td_stamp::laws::sets_by_any_order::<Rec>();
+    td_stamp::laws::sets_by_any_order::<u64>();
+    td_stamp::laws::groups_in_any_order();
+    td_stamp::laws::groups_of_a_bag();
+    td_plan::laws::trees();
+    td_plan::laws::well_placed();
+    td_plan::laws::stands_at();
+    td_plan::laws::read_there();
+    td_plan::laws::edges_by_number();
+    td_plan::laws::laid();
+    td_reach::laws::could_order();
+    td_reach::laws::some_least();
+    td_batch::laws::arrivals_in_any_order();
+    td_batch::laws::one_meaning();
+    td_batch::laws::turns_solve();
+    td_batch::laws::one_flow();
+}
+
+/// Confluence: whatever order the takes and gives fall in, with any number of shards, the outputs that a play collects are
+/// the first outputs of the batch meaning of what it released, and its cuts have the batch meaning's states.
+pub fn confluence<L: Law>()
+    ensures { Confluence L.answers }
+{
+    laws_below();
+}
+
+/// Each state of a play is sound: the outputs of its passed epochs that were not collected, and the states at its passed
+/// epochs, are those of the batch meaning of what was released since its base, from the states of the base.
+pub fn each_is_sound<L: Law>()
+    ensures { EachIsSound L.answers }
+{
+    laws_below();
+}
+
+/// Never stuck: where no task is out and no shard has one that may be taken, every released epoch has passed.
+pub fn never_stuck<L: Law>()
+    ensures { NeverStuck L.answers }
+{
+    laws_below();
+}
+
+/// Exact work: where every released epoch has passed, a play has given as many records and notifications as the batch meaning
+/// of what it released has, with any number of shards, in whatever order the takes and gives fell.
+pub fn exact_work<L: Law>()
+    ensures { ExactWork L.answers }
+{
+    laws_below();
+}
+
+/// And so it has where no task is out and no shard has one that may be taken.
+pub fn exact_work_drained<L: Law>()
+    ensures { ExactWorkDrained L.answers }
+{
+    never_stuck::<L>();
+    exact_work::<L>();
+}
