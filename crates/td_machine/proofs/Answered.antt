@@ -17,8 +17,8 @@ use Rattle.td_machine.specs.declared.records.Stamped.{Stamped}
 use Rattle.td_machine.specs.State.{HallState, message_cmp, notification_cmp, is_there, arrival, asked_of, local_at}
 use Rattle.td_machine.specs.Active.{kind_of}
 use Rattle.td_machine.specs.Steps.{posts, stamped, called, delivered}
-use Rattle.td_machine.specs.History.{Origin, History, IsTold, AreAnswered, IsTime, is_distinct, stamped_of, has_answer, also_delivered, epoch_from, sent_at, came_at, left_by}
-use Rattle.td_machine.specs.PlanFacts.{PlanFacts}
+use Rattle.td_machine.proofs.History.{Origin, History, IsTold, AreAnswered, IsTime, is_distinct, stamped_of, has_answer, also_delivered, epoch_from, sent_at, came_at, left_by}
+use Rattle.td_machine.proofs.PlanFacts.{PlanFacts}
 use Rattle.td_machine.proofs.Orders.{there_is}
 use Rattle.td_machine.proofs.Lists.{filter_yes, filter_no, all_app, all_map, all_everywhere}
 use Rattle.td_machine.proofs.Callings.{groups_send_later, answer_step}

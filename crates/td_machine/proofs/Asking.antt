@@ -10,7 +10,7 @@ use Rattle.td_machine.specs.declared.records.Message.{Message}
 use Rattle.td_machine.specs.declared.records.Notification.{Notification}
 use Rattle.td_machine.specs.State.{notification_cmp, asked_of}
 use Rattle.td_machine.specs.Active.{kind_of}
-use Rattle.td_machine.specs.History.{asking}
+use Rattle.td_machine.proofs.History.{asking}
 use Rattle.td_machine.proofs.Orders.{notification_total}
 use Rattle.td_machine.proofs.Lists.{filter_yes, filter_no, all_weaken, from_filter}
 

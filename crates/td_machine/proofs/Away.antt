@@ -16,7 +16,7 @@ use Rattle.td_batch.specs.Flow.{AreBelow}
 use Rattle.td_plan.specs.Times.{sent_at, sent_by}
 use Rattle.td_reach.specs.Paths.{Could, IsOf, IsPath, adjust, over}
 use Rattle.td_machine.specs.Active.{kind_of, kind_or, stamp_at}
-use Rattle.td_machine.specs.PlanFacts.{IsFound, LeadsAway}
+use Rattle.td_machine.proofs.PlanFacts.{IsFound, LeadsAway}
 use Rattle.td_machine.specs.Below.{Below}
 
 module _ (below : Below) where

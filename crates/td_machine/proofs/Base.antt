@@ -11,9 +11,9 @@ use Rattle.td_reach.specs.declared.stamp.Stamp.{Stamp}
 use Rattle.td_machine.specs.State.{HallState}
 use Rattle.td_machine.specs.Active.{active, has_passed}
 use Rattle.td_machine.specs.Sound.{Sound}
-use Rattle.td_machine.specs.History.{Origin, History, Invariant}
-use Rattle.td_machine.specs.Flows.{AreLaid}
-use Rattle.td_machine.specs.PlanFacts.{PlanFacts}
+use Rattle.td_machine.proofs.History.{Origin, History, Invariant}
+use Rattle.td_machine.proofs.Flows.{AreLaid}
+use Rattle.td_machine.proofs.PlanFacts.{PlanFacts}
 use Rattle.td_machine.proofs.Lists.{all_weaken}
 use Rattle.td_machine.proofs.Plain.{passed_from}
 use Rattle.td_machine.proofs.Cuts.{states_told}

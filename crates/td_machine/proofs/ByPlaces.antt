@@ -15,7 +15,7 @@ use Rattle.td_calls.specs.Callbacks.{is_notified}
 use Rattle.td_batch.specs.Meaning.{EpochInput}
 use Rattle.td_batch.specs.Flow.{Flow}
 use Rattle.td_batch.specs.BagAt.{bag_at}
-use Rattle.td_machine.specs.PlanFacts.{AreReadThere}
+use Rattle.td_machine.proofs.PlanFacts.{AreReadThere}
 use Rattle.td_machine.specs.Work.{turns_of, turns_read, edge_records, comes_to, shards_of, vertex_notes, epoch_records, epoch_notes}
 use Rattle.td_machine.proofs.Lists.{all_weaken}
 use Rattle.td_machine.proofs.Places.{Place, places, comes_at, over_turns, places_sum}

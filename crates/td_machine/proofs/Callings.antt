@@ -10,7 +10,7 @@ use Rattle.td_plan.specs.declared.vertex.Kind.TheVariants.{Input, Map, Distinct,
 use Rattle.td_calls.specs.Answers.{Answers}
 use Rattle.td_calls.specs.Callbacks.{Kept, Added, only_sent, on_arrival, is_notified}
 use Rattle.td_batch.specs.Meaning.{EpochInput, answer}
-use Rattle.td_machine.specs.History.{is_distinct}
+use Rattle.td_machine.proofs.History.{is_distinct}
 use Rattle.td_machine.proofs.Lists.{filter_all, all_everywhere}
 use Rattle.td_machine.proofs.Bags.{bag_of-append, set_has-set_of, set_insert-there, set_insert-new}
 use Rattle.td_machine.specs.Below.{Below}

@@ -25,9 +25,9 @@ use Rattle.td_machine.specs.Steps.Takes.{is_busy, has_none, is_spent, takes}
 use Rattle.td_machine.specs.Steps.Gives.{gives, is_stranger}
 use Rattle.td_machine.specs.Sound.{batch_by, batches_of, outs_by, CutIs, CutsAre}
 use Rattle.td_machine.proofs.Played.{step_goes, last_passed}
-use Rattle.td_machine.specs.History.{Origin, History, Invariant}
-use Rattle.td_machine.specs.Flows.{AreLaid}
-use Rattle.td_machine.specs.PlanFacts.{PlanFacts}
+use Rattle.td_machine.proofs.History.{Origin, History, Invariant}
+use Rattle.td_machine.proofs.Flows.{AreLaid}
+use Rattle.td_machine.proofs.PlanFacts.{PlanFacts}
 use Rattle.td_machine.proofs.Lists.{filter_yes}
 use Rattle.td_machine.proofs.Plain.{none_from, down, passed_before, collected_passed, passed_from}
 use Rattle.td_machine.proofs.Releases.{get_before}

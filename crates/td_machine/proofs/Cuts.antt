@@ -22,7 +22,7 @@ use Rattle.td_machine.specs.State.{HallState, Task, Content, KeyItems, stamped_c
 use Rattle.td_machine.specs.State.Content.{messages, notification}
 use Rattle.td_machine.specs.Active.{kind_of, active, has_passed}
 use Rattle.td_machine.specs.Steps.{cut_to, asked_at, is_for}
-use Rattle.td_machine.specs.History.{Origin, History, IsTold, StandsOut, recs_in, Invariant}
+use Rattle.td_machine.proofs.History.{Origin, History, IsTold, StandsOut, recs_in, Invariant}
 use Rattle.td_machine.proofs.Orders.{stamped_apart}
 use Rattle.td_machine.proofs.Lists.{all_weaken, all_both, filter_filter, filter_alike, filter_yes, filter_no, filter_all, filter_none, all_everywhere}
 use Rattle.td_machine.proofs.Delivered.{from_active, all_has}

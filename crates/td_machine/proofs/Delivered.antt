@@ -22,8 +22,8 @@ use Rattle.td_machine.specs.declared.records.Notification.{Notification}
 use Rattle.td_machine.specs.State.{HallState, message_cmp, notification_cmp, asked_of}
 use Rattle.td_machine.specs.Active.{kind_of, bound_of, active, IsFree, stamp_of_message, stamp_of_asked, stamp_at, stamps_of_inputs}
 use Rattle.td_machine.specs.Steps.{posts, posted, stamped, on_edge, sending_times, with_asked, waiting, called, delivered}
-use Rattle.td_machine.specs.History.{Origin, History, Running, IsOnEdge, asking, also_delivered}
-use Rattle.td_machine.specs.PlanFacts.{PlanFacts, IsFound}
+use Rattle.td_machine.proofs.History.{Origin, History, Running, IsOnEdge, asking, also_delivered}
+use Rattle.td_machine.proofs.PlanFacts.{PlanFacts, IsFound}
 use Rattle.td_machine.specs.Examples.{sent_by-epoch}
 use Rattle.td_machine.proofs.Orders.{notification_apart}
 use Rattle.td_machine.proofs.Lists.{all_app, from_app, all_map, from_map, all_flat, all_weaken, all_everywhere}

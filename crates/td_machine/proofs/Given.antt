@@ -19,8 +19,8 @@ use Rattle.td_machine.specs.State.{HallState, Task, Content, KeyItems, message_c
 use Rattle.td_machine.specs.State.Content.{messages, notification}
 use Rattle.td_machine.specs.Active.{kind_of, IsFree, stamp_at, stamp_of_message}
 use Rattle.td_machine.specs.Steps.{posts, stamped, coming, asked_at, notified, notified_sends, leaves, called, delivered, all_delivered, with_asked, waiting, to_notify, with_state_of, is_for}
-use Rattle.td_machine.specs.History.{Origin, History, Running, Stands, StandsOut, recs_in, also_delivered, IsOnEdge, has_answer, IsTime, Gained}
-use Rattle.td_machine.specs.PlanFacts.{PlanFacts}
+use Rattle.td_machine.proofs.History.{Origin, History, Running, Stands, StandsOut, recs_in, also_delivered, IsOnEdge, has_answer, IsTime, Gained}
+use Rattle.td_machine.proofs.PlanFacts.{PlanFacts}
 use Rattle.td_machine.proofs.Orders.{message_total, message_apart, notification_apart, tied}
 use Rattle.td_machine.proofs.Lists.{filter_none, filter_filter, filter_alike, all_filter, all_weaken, all_map, all_everywhere}
 use Rattle.td_machine.proofs.Told.{removed}

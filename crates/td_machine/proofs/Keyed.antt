@@ -15,7 +15,7 @@ use Rattle.td_machine.specs.declared.records.Message.{Message}
 use Rattle.td_machine.specs.declared.records.Notification.{Notification}
 use Rattle.td_machine.specs.State.{message_cmp, notification_cmp, is_there, arrival, asked_of, shard_of_key}
 use Rattle.td_machine.specs.Active.{kind_of}
-use Rattle.td_machine.specs.History.{has_answer, came_at}
+use Rattle.td_machine.proofs.History.{has_answer, came_at}
 use Rattle.td_machine.proofs.Orders.{notification_total, notification_apart, there_is, there_itself, tied}
 use Rattle.td_machine.proofs.Lists.{filter_filter, filter_alike, filter_map, all_everywhere}
 use Rattle.td_machine.proofs.Splits.{groups_split, groups_of_came}

@@ -20,8 +20,8 @@ use Rattle.td_plan.specs.Tree.Nodes.{done, node, block}
 use Rattle.td_batch.specs.Flow.{AreBelow}
 use Rattle.td_machine.specs.Active.{kind_of, kind_or, bound_of}
 use Rattle.td_machine.specs.Steps.{sending_times, again_below}
-use Rattle.td_machine.specs.Flows.{AreLaid, innermost_bound}
-use Rattle.td_machine.specs.PlanFacts.{PlanFacts, InTurn, IsFound, LeadsOn, LeadsAway, AreReadThere}
+use Rattle.td_machine.proofs.Flows.{AreLaid, innermost_bound}
+use Rattle.td_machine.proofs.PlanFacts.{PlanFacts, InTurn, IsFound, LeadsOn, LeadsAway, AreReadThere}
 use Rattle.td_machine.proofs.Lists.{all_weaken, all_at}
 use Rattle.td_machine.proofs.Away.{leads_away}
 use Rattle.td_machine.specs.Below.{Below}

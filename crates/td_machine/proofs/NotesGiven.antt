@@ -25,9 +25,9 @@ use Rattle.td_machine.specs.declared.records.Message.{Message}
 use Rattle.td_machine.specs.declared.records.Notification.{Notification}
 use Rattle.td_machine.specs.State.{HallState, notification_cmp, is_there, arrival, asked_of, shard_of_key}
 use Rattle.td_machine.specs.Active.{kind_of, has_passed}
-use Rattle.td_machine.specs.History.{Origin, History, Invariant, IsTime, AreOnce, has_answer, asking, epoch_from, came_at}
-use Rattle.td_machine.specs.PlanFacts.{PlanFacts}
-use Rattle.td_machine.specs.Flows.{AreLaid}
+use Rattle.td_machine.proofs.History.{Origin, History, Invariant, IsTime, AreOnce, has_answer, asking, epoch_from, came_at}
+use Rattle.td_machine.proofs.PlanFacts.{PlanFacts}
+use Rattle.td_machine.proofs.Flows.{AreLaid}
 use Rattle.td_machine.specs.Work.{shards_of, epoch_notes, Notes}
 use Rattle.td_machine.proofs.Orders.{notification_total, notification_apart, there_is, there_itself}
 use Rattle.td_machine.proofs.Lists.{all_map, all_weaken, all_both, all_everywhere, all_filter, filter_yes, filter_no, filter_none, filter_filter}

@@ -46,8 +46,8 @@ use Rattle.td_machine.specs.declared.records.StateLeft.{StateLeft}
 use Rattle.td_machine.specs.State.{HallState, KeyItems, message_cmp, notification_cmp, left_cmp, state_cmp, is_there, arrival, asked_of, with_left, states_at}
 use Rattle.td_machine.specs.Active.{kind_or, kind_of, active, IsFree, stamp_at, stamp_of_asked, stamp_of_message}
 use Rattle.td_machine.specs.Steps.{posts, posted, stamped, notified, notified_sends, leaves, to_notify, with_state_of, is_for, on_edge}
-use Rattle.td_machine.specs.History.{Origin, History, IsTold, AreAnswered, Running, IsTime, IsOnEdge, has_answer, asking, also_notified, epoch_from, sent_at, came_at, is_left_at, left_by}
-use Rattle.td_machine.specs.PlanFacts.{PlanFacts, IsFound, LeadsAway, InTurn}
+use Rattle.td_machine.proofs.History.{Origin, History, IsTold, AreAnswered, Running, IsTime, IsOnEdge, has_answer, asking, also_notified, epoch_from, sent_at, came_at, is_left_at, left_by}
+use Rattle.td_machine.proofs.PlanFacts.{PlanFacts, IsFound, LeadsAway, InTurn}
 use Rattle.td_machine.proofs.Orders.{notification_apart, there_is, there_itself}
 use Rattle.td_machine.proofs.Lists.{filter_yes, filter_no, filter_all, filter_none, filter_filter, filter_alike, filter_map, all_app, all_map, all_everywhere, all_weaken, all_filter, all_both}
 use Rattle.td_machine.proofs.Times.{posts_times, sent_app, sent_here, sent_elsewhere}

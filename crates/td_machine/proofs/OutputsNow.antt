@@ -30,10 +30,10 @@ use Rattle.td_machine.specs.declared.records.OutputAt.{OutputAt}
 use Rattle.td_machine.specs.State.{HallState, output_at_cmp, is_there, same_time, arrival}
 use Rattle.td_machine.specs.Active.{kind_of, active}
 use Rattle.td_machine.specs.Steps.{comes_out, outputs_at as hall_outputs}
-use Rattle.td_machine.specs.History.{Origin, History, Running, IsTime, has_answer, epoch_from, came_at}
+use Rattle.td_machine.proofs.History.{Origin, History, Running, IsTime, has_answer, epoch_from, came_at}
 use Rattle.td_plan.specs.Laid.{read_bounds}
-use Rattle.td_machine.specs.Flows.{flow_of, IsLaid, AreLaid}
-use Rattle.td_machine.specs.PlanFacts.{PlanFacts}
+use Rattle.td_machine.proofs.Flows.{flow_of, IsLaid, AreLaid}
+use Rattle.td_machine.proofs.PlanFacts.{PlanFacts}
 use Rattle.td_machine.proofs.Lists.{filter_yes, filter_no, filter_filter, filter_alike, all_weaken, all_everywhere, all_filter}
 use Rattle.td_machine.proofs.Plain.{eqb-same}
 use Rattle.td_machine.proofs.Exchanges.{exchanged}

@@ -25,8 +25,8 @@ use Rattle.td_machine.specs.declared.records.Stamped.{Stamped}
 use Rattle.td_machine.specs.State.{HallState, message_cmp, notification_cmp, is_there, same_time, arrival, asked_of}
 use Rattle.td_machine.specs.Active.{kind_of, bound_of, active}
 use Rattle.td_machine.specs.Steps.{posts, posted, on_edge, edges_from, sending_times, again_below}
-use Rattle.td_machine.specs.History.{Origin, History, Running, IsTime, has_answer, epoch_from, sent_at, came_at}
-use Rattle.td_machine.specs.Flows.{at_time, sent_to, flow_of, edge_to}
+use Rattle.td_machine.proofs.History.{Origin, History, Running, IsTime, has_answer, epoch_from, sent_at, came_at}
+use Rattle.td_machine.proofs.Flows.{at_time, sent_to, flow_of, edge_to}
 use Rattle.td_machine.proofs.Orders.{there_is}
 use Rattle.td_machine.proofs.Lists.{filter_yes, filter_no, filter_none, filter_filter, filter_alike, filter_map, filter_app, all_weaken, all_everywhere, from_filter}
 use Rattle.td_machine.proofs.Asking.{each_asked}

@@ -18,8 +18,8 @@ use Rattle.td_reach.specs.Paths.{Could, IsPath, EndsAt, adjust, over}
 use Rattle.td_machine.specs.declared.records.Message.{Message}
 use Rattle.td_machine.specs.Active.{kind_or, kind_of, bound_of, stamp_of_message, stamp_at}
 use Rattle.td_machine.specs.Steps.{sending_times, again_below}
-use Rattle.td_machine.specs.History.{IsOnEdge}
-use Rattle.td_machine.specs.PlanFacts.{IsFound}
+use Rattle.td_machine.proofs.History.{IsOnEdge}
+use Rattle.td_machine.proofs.PlanFacts.{IsFound}
 
 -- a vertex sends at no other time than the one of paths
 sends_again : (bound : ℕ) (t : Timestamp) (turns : List ℕ) → AllByRecursion (λ (later : Timestamp). later ≡ again t) (again_below bound t turns)

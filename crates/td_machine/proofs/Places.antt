@@ -19,7 +19,7 @@ use Rattle.td_batch.specs.Flow.{Flow, AreBelow, numbers_from}
 use Rattle.td_batch.specs.SameFlow.{ReadAlike}
 use Rattle.td_machine.specs.State.{is_there}
 use Rattle.td_machine.specs.Active.{kind_of}
-use Rattle.td_machine.specs.Flows.{AreLaid, edge_to}
+use Rattle.td_machine.proofs.Flows.{AreLaid, edge_to}
 use Rattle.td_machine.specs.Work.{turns_of, comes_to}
 use Rattle.td_machine.proofs.Orders.{there_is, there_itself}
 use Rattle.td_machine.proofs.Lists.{filter_yes, all_app, all_map, all_weaken, all_everywhere}

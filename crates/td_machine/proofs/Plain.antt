@@ -14,7 +14,7 @@ use Rattle.td_machine.specs.State.{HallState, Task, Content, task_cmp, output_at
 use Rattle.td_machine.specs.State.Content.{messages, notification}
 use Rattle.td_machine.specs.Active.{kind_of, active, IsFree, stamp_of_asked, has_passed}
 use Rattle.td_machine.specs.Steps.{MayTake, IsContent, with_task, collected_to, to_collect, comes_out}
-use Rattle.td_machine.specs.History.{Origin, History, Stands, OneAShard, StandsOut, recs_in, Invariant}
+use Rattle.td_machine.proofs.History.{Origin, History, Stands, OneAShard, StandsOut, recs_in, Invariant}
 use Rattle.td_machine.proofs.Lists.{all_weaken, all_both, filter_filter, filter_alike, all_everywhere, filter_yes, filter_no}
 use Rattle.td_machine.proofs.Delivered.{from_active, to_active}
 use Rattle.td_machine.proofs.Bags.{filter-bag_of}

@@ -24,8 +24,8 @@ use Rattle.td_machine.specs.Steps.Takes.{is_busy, has_none, is_spent, takes}
 use Rattle.td_machine.specs.Steps.Gives.{gives, is_stranger}
 use Rattle.td_machine.specs.Sound.{batch_by, batches_of}
 use Rattle.td_machine.specs.Tally.{records_in, notes_in, tally_by, tally}
-use Rattle.td_machine.specs.History.{Origin, History, no_history, Running, Stands, OneAShard, StandsOut, Invariant, recs_in, also_notified, Gained}
-use Rattle.td_machine.specs.PlanFacts.{PlanFacts}
+use Rattle.td_machine.proofs.History.{Origin, History, no_history, Running, Stands, OneAShard, StandsOut, Invariant, recs_in, also_notified, Gained}
+use Rattle.td_machine.proofs.PlanFacts.{PlanFacts}
 use Rattle.td_machine.proofs.Lists.{all_weaken, all_filter, all_map, all_everywhere, filter_yes, filter_no}
 use Rattle.td_machine.proofs.Plain.{taken_keeps, closed_keeps, collected_keeps, passed_from, eqb-same}
 use Rattle.td_machine.proofs.Cuts.{cut_keeps}

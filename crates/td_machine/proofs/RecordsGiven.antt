@@ -23,9 +23,9 @@ use Rattle.td_machine.specs.declared.records.Stamped.{Stamped}
 use Rattle.td_machine.specs.State.{HallState, message_cmp, arrival}
 use Rattle.td_machine.specs.Active.{kind_of, bound_of, has_passed}
 use Rattle.td_machine.specs.Steps.{posts, posted, on_edge, sending_times}
-use Rattle.td_machine.specs.History.{Origin, History, Invariant, IsTime, epoch_from, came_at}
-use Rattle.td_machine.specs.PlanFacts.{PlanFacts}
-use Rattle.td_machine.specs.Flows.{flow_of, AreLaid}
+use Rattle.td_machine.proofs.History.{Origin, History, Invariant, IsTime, epoch_from, came_at}
+use Rattle.td_machine.proofs.PlanFacts.{PlanFacts}
+use Rattle.td_machine.proofs.Flows.{flow_of, AreLaid}
 use Rattle.td_machine.specs.Work.{epoch_records, epochs_of, Records}
 use Rattle.td_machine.proofs.Orders.{there_is}
 use Rattle.td_machine.proofs.Lists.{all_app, all_map, all_flat, all_weaken, all_both, all_everywhere}

@@ -33,8 +33,8 @@ use Rattle.td_machine.specs.State.{HallState, Task, Content, message_cmp, notifi
 use Rattle.td_machine.specs.State.Content.{messages, notification}
 use Rattle.td_machine.specs.Active.{kind_of, inputs_of, active, IsFree, stamp_at, stamp_of_message, stamp_of_asked, stamp_of_input, stamps_of_inputs}
 use Rattle.td_machine.specs.Steps.{posts, posted, entered, with_batch, accepts, coming}
-use Rattle.td_machine.specs.History.{Origin, History, IsTold, AreAnswered, Running, StandsOut, Invariant, IsTime, IsOnEdge, has_answer, asking, epoch_from, sent_at, came_at, is_left_at, left_by, recs_in}
-use Rattle.td_machine.specs.PlanFacts.{PlanFacts}
+use Rattle.td_machine.proofs.History.{Origin, History, IsTold, AreAnswered, Running, StandsOut, Invariant, IsTime, IsOnEdge, has_answer, asking, epoch_from, sent_at, came_at, is_left_at, left_by, recs_in}
+use Rattle.td_machine.proofs.PlanFacts.{PlanFacts}
 use Rattle.td_machine.specs.Examples.{could-epoch}
 use Rattle.td_machine.proofs.Orders.{there_is}
 use Rattle.td_machine.proofs.Lists.{all_app, all_map, all_flat, all_weaken, all_everywhere, all_filter, all_both, filter_yes, filter_no, filter_none}

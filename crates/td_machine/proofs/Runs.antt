@@ -14,9 +14,9 @@ use Rattle.td_machine.specs.declared.records.StateLeft.{StateLeft}
 use Rattle.td_machine.specs.State.{HallState, with_left, states_at}
 use Rattle.td_machine.specs.Active.{kind_of, has_passed}
 use Rattle.td_plan.specs.Faults.{is_fold}
-use Rattle.td_machine.specs.History.{Origin, History, Running, Invariant, epoch_from}
-use Rattle.td_machine.specs.Flows.{flow_of, AreLaid}
-use Rattle.td_machine.specs.PlanFacts.{PlanFacts}
+use Rattle.td_machine.proofs.History.{Origin, History, Running, Invariant, epoch_from}
+use Rattle.td_machine.proofs.Flows.{flow_of, AreLaid}
+use Rattle.td_machine.proofs.PlanFacts.{PlanFacts}
 use Rattle.td_machine.proofs.Lists.{filter_none, filter_alike, all_weaken, all_everywhere}
 use Rattle.td_machine.proofs.Plain.{passed_all, passed_before}
 use Rattle.td_machine.proofs.Cuts.{states_told}

@@ -28,9 +28,9 @@ use Rattle.td_machine.specs.declared.records.Stamped.{Stamped}
 use Rattle.td_machine.specs.State.{HallState, same_time, is_there}
 use Rattle.td_machine.specs.Active.{kind_of, bound_of, active}
 use Rattle.td_machine.specs.Steps.{sending_times, again_below}
-use Rattle.td_machine.specs.History.{Origin, History, Running, IsTime, epoch_from, sent_at}
+use Rattle.td_machine.proofs.History.{Origin, History, Running, IsTime, epoch_from, sent_at}
 use Rattle.td_plan.specs.Laid.{read_bounds}
-use Rattle.td_machine.specs.Flows.{at_time, sent_to, flow_of, IsLaid, AreLaid, innermost_bound}
+use Rattle.td_machine.proofs.Flows.{at_time, sent_to, flow_of, IsLaid, AreLaid, innermost_bound}
 use Rattle.td_machine.proofs.Orders.{tied}
 use Rattle.td_machine.proofs.Lists.{filter_yes, filter_no}
 use Rattle.td_machine.proofs.Plain.{eqb-same}

@@ -29,10 +29,10 @@ use Rattle.td_reach.specs.declared.stamp.Stamp.{Stamp}
 use Rattle.td_machine.specs.declared.records.StateLeft.{StateLeft}
 use Rattle.td_machine.specs.State.{HallState, left_cmp, state_cmp, with_left}
 use Rattle.td_machine.specs.Active.{kind_of, active}
-use Rattle.td_machine.specs.History.{Origin, History, Running, epoch_from, came_at, is_left_at, left_by}
+use Rattle.td_machine.proofs.History.{Origin, History, Running, epoch_from, came_at, is_left_at, left_by}
 use Rattle.td_plan.specs.Laid.{read_bounds}
-use Rattle.td_machine.specs.Flows.{flow_of, IsLaid, AreLaid}
-use Rattle.td_machine.specs.PlanFacts.{PlanFacts}
+use Rattle.td_machine.proofs.Flows.{flow_of, IsLaid, AreLaid}
+use Rattle.td_machine.proofs.PlanFacts.{PlanFacts}
 use Rattle.td_machine.proofs.Lists.{filter_yes, filter_no, filter_none, filter_alike, all_weaken, all_everywhere}
 use Rattle.td_machine.proofs.Cuts.{left_app}
 use Rattle.td_machine.proofs.Plain.{eqb-same}

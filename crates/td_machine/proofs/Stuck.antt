@@ -22,7 +22,7 @@ use Rattle.td_machine.specs.Active.{kind_of, inputs_of, active, has_passed, IsFr
 use Rattle.td_machine.specs.Steps.{Answer, MayTake, Takes, to_notify}
 use Rattle.td_machine.specs.Steps.Answer.{has_taken}
 use Rattle.td_machine.specs.Steps.Takes.{is_busy, has_none, is_spent, takes}
-use Rattle.td_machine.specs.History.{Origin, History, Invariant, IsTime, has_answer}
+use Rattle.td_machine.proofs.History.{Origin, History, Invariant, IsTime, has_answer}
 use Rattle.td_machine.proofs.Orders.{notification_total}
 use Rattle.td_machine.proofs.Lists.{get_left, all_app, all_map, all_everywhere, all_weaken, all_filter}
 use Rattle.td_machine.proofs.Delivered.{all_has, to_active}

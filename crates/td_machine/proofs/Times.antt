@@ -15,8 +15,8 @@ use Rattle.td_machine.specs.declared.records.Stamped.{Stamped}
 use Rattle.td_machine.specs.State.{is_there, arrival}
 use Rattle.td_machine.specs.Active.{kind_of, bound_of}
 use Rattle.td_machine.specs.Steps.{posts, posted, stamped, edges_from, on_edge, sending_times, again_below}
-use Rattle.td_machine.specs.History.{Origin, IsTime, sent_at, came_at}
-use Rattle.td_machine.specs.PlanFacts.{InTurn, LeadsOn, PlanFacts}
+use Rattle.td_machine.proofs.History.{Origin, IsTime, sent_at, came_at}
+use Rattle.td_machine.proofs.PlanFacts.{InTurn, LeadsOn, PlanFacts}
 use Rattle.td_machine.proofs.Lists.{filter_yes, filter_no, filter_app, all_everywhere, all_map, all_flat, all_filter, all_weaken, all_both}
 use Rattle.td_machine.proofs.Orders.{there_itself}
 

@@ -25,7 +25,7 @@ use Rattle.td_machine.specs.declared.records.OutputAt.{OutputAt}
 use Rattle.td_machine.specs.State.{HallState, message_cmp, stamped_cmp, notification_cmp, output_at_cmp, is_there, arrival, asked_of, local_at}
 use Rattle.td_machine.specs.Active.{kind_of}
 use Rattle.td_machine.specs.Steps.{posts, posted, stamped, comes_out, with_asked, waiting, called, delivered}
-use Rattle.td_machine.specs.History.{Origin, History, IsTold, is_distinct, stamped_of, has_answer, also_delivered}
+use Rattle.td_machine.proofs.History.{Origin, History, IsTold, is_distinct, stamped_of, has_answer, also_delivered}
 use Rattle.td_machine.proofs.Orders.{stamped_apart, there_is, there_itself}
 use Rattle.td_machine.proofs.Lists.{filter_yes, filter_no, filter_app}
 use Rattle.td_machine.proofs.Callings.{where_true, buffers, sees, sees_none}

@@ -1,6 +1,14 @@
 //! Laws of the definitions. Each is the contract of a function that does nothing, or calls the laws that it follows from.
+ghost use Rattle.std.specs.Prelude.{◌≡◌, ◌+◌, ◌≤◌, ◌++◌, ℕ, List};
+ghost use Rattle.td_stamp.specs.States.{StateList, AreStates};
+ghost use Rattle.td_plan.specs.Lines.{Line};
+ghost use Rattle.td_plan.specs.Faults.{IsPlan};
+ghost use Rattle.td_machine.specs.State.{HallState, Content};
+ghost use Rattle.td_machine.specs.Steps.{Event, Answer, Step, Plays, opened};
 ghost use Rattle.td_machine.specs.Exact.{ExactWork, ExactWorkDrained};
-ghost use Rattle.td_machine.specs.Sound.{Confluence, EachIsSound, NeverStuck};
+ghost use Rattle.td_machine.specs.Sound.{Sound, Confluence, EachIsSound, NeverStuck, batches_of};
+ghost use Rattle.td_machine.specs.Reached.{IsReached};
+ghost use Rattle.td_machine.specs.Tally.{tally};
 ghost use Rattle.td_machine.specs.Below.{Below};
 
 use crate::records::{Message, Notification, OutputAt, Stamped, StateLeft};
@@ -74,4 +82,30 @@ pub fn exact_work_drained<L: Law>()
 {
     never_stuck::<L>();
     exact_work::<L>();
+}
+
+/// Plays after one another: a play from where another ends is one play with it, which released what both released, and
+/// gave what both gave.
+pub fn plays_join<L: Law>()
+    ensures joined { (S T U : HallState) (events more : List Event) (replies others : List Answer)
+        → Plays L.answers S events replies T → Plays L.answers T more others U
+        → Plays L.answers S (events ++ more) (replies ++ others) U }
+    ensures released { (S T : HallState) (events more : List Event) (replies others : List Answer)
+        → Plays L.answers S events replies T
+        → batches_of (events ++ more) (replies ++ others) ≡ batches_of events replies ++ batches_of more others }
+    ensures given { (count : Content → ℕ) (S T : HallState) (events more : List Event) (replies others : List Answer)
+        → Plays L.answers S events replies T
+        → tally count (events ++ more) (replies ++ others) ≡ tally count events replies + tally count more others }
+{}
+
+/// The states that plays reach: an opening is one, each step from one leads to one, and each is sound.
+pub fn reached<L: Law>()
+    ensures opened { (plan : List Line) (states : StateList) (first workers : ℕ)
+        → IsPlan plan → AreStates states → 1 ≤ first → 1 ≤ workers
+        → IsReached L.answers (opened plan states first workers) }
+    ensures step { (S T : HallState) (event : Event) (answer : Answer)
+        → IsReached L.answers S → Step L.answers S event answer T → IsReached L.answers T }
+    ensures sound { (S : HallState) → IsReached L.answers S → Sound L.answers S }
+{
+    each_is_sound::<L>();
 }

@@ -3,7 +3,7 @@ use Rattle.td_stamp.specs.declared.epoch_out.EpochOut.{EpochOut}
 use Rattle.td_plan.specs.Tree.{tree_of}
 use Rattle.td_batch.specs.Meaning.{run}
 use Rattle.td_batch.specs.Flow.{numbers_from}
-use Rattle.td_machine.specs.History.{no_history}
+use Rattle.td_machine.proofs.History.{no_history}
 use Rattle.td_machine.specs.Steps.{opened}
 use Rattle.td_machine.specs.Sound.{batches_of}
 use Rattle.td_machine.proofs.Played.{play_has, opened_holds}

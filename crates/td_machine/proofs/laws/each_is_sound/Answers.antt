@@ -1,9 +1,9 @@
 use Rattle.std.proofs.Common.{[], subst, sym}
 use Rattle.td_plan.specs.Tree.{tree_of, IsNumbered}
 use Rattle.td_plan.specs.Placed.{IsPlacedTree}
-use Rattle.td_machine.specs.History.{Origin}
-use Rattle.td_machine.specs.Flows.{AreLaid}
-use Rattle.td_machine.specs.PlanFacts.{PlanFacts}
+use Rattle.td_machine.proofs.History.{Origin}
+use Rattle.td_machine.proofs.Flows.{AreLaid}
+use Rattle.td_machine.proofs.PlanFacts.{PlanFacts}
 use Rattle.td_machine.specs.Sound.{batches_of}
 use Rattle.td_machine.proofs.Played.{play_has}
 use Rattle.td_machine.proofs.Base.{is_sound}

@@ -2,9 +2,9 @@ use Rattle.std.proofs.Common.{◌≡◌, [], ap, sym, subst, ◌∙◌}
 use Rattle.td_plan.specs.Blocks.{vertices}
 use Rattle.td_plan.specs.Tree.{tree_of, placed_in, IsNumbered}
 use Rattle.td_plan.specs.Placed.{IsPlacedTree}
-use Rattle.td_machine.specs.Flows.{AreLaid}
-use Rattle.td_machine.specs.History.{Origin}
-use Rattle.td_machine.specs.PlanFacts.{PlanFacts}
+use Rattle.td_machine.proofs.Flows.{AreLaid}
+use Rattle.td_machine.proofs.History.{Origin}
+use Rattle.td_machine.proofs.PlanFacts.{PlanFacts}
 use Rattle.td_machine.specs.Sound.{batches_of}
 use Rattle.td_machine.specs.Work.{Records, Notes}
 use Rattle.td_machine.proofs.Lawful.{plan_facts, plan_laid}

@@ -1,6 +1,6 @@
 use Rattle.std.proofs.Common.{◌<◌, refl, subst}
 use Rattle.std.specs.Prelude.{None}
-use Rattle.td_machine.specs.History.{Origin}
+use Rattle.td_machine.proofs.History.{Origin}
 use Rattle.td_machine.specs.Steps.Answer.{has_taken}
 use Rattle.td_machine.specs.Sound.{batches_of}
 use Rattle.td_machine.proofs.Played.{play_has}
