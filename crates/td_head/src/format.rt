@@ -1,5 +1,6 @@
 // What makes a disk a formatted one: zeros over all its parts, and in the end its first head.
-ghost use Rattle.std.specs.Prelude.{◌≡◌, ◌≢◌, ◌⊎◌, ◌↔◌, ◌+◌, ◌≤◌, false, length, slice_index, OnOk, OnErr, IfOk, IfErr, IsErrOf};
+ghost use Rattle.std.specs.Prelude.{◌≡◌, ◌≢◌, ◌⊎◌, ◌↔◌, ◌+◌, ◌≤◌, false, length, slice_index};
+ghost use Rattle.std.specs.Prelude.{OnOk, OnErr, IfOk, IfErr, IsErrOf};
 ghost use Rattle.td_disk.specs.Disk.{CountsFailures, IsDurable, Rises, SameOutside};
 ghost use Rattle.td_gate.specs.CrashSafe.{CrashSafe};
 ghost use Rattle.td_gate.specs.Region.{gate_of, IsSettled, IsOpen, Puts};
@@ -54,7 +55,8 @@ fn close_heads<D: Disk>(device: &mut D) -> Result<(), Fault>
     ensures second { OnOk result (D.is_lawful device.old → gate_of head_b (D.state device.new).bytes ≢ 0xA5) }
     ensures others { OnOk result (D.is_lawful device.old
         → SameOutside 0 8258 (D.state device.old).bytes (D.state device.new).bytes) }
-    ensures durable { OnOk result (D.is_lawful device.old → IsDurable (D.state device.old) → IsDurable (D.state device.new)) }
+    ensures durable { OnOk result (D.is_lawful device.old
+        → IsDurable (D.state device.old) → IsDurable (D.state device.new)) }
 {
     let is_first = write_closed(device, 4_128)?;
     let is_second = write_closed(device, 8_257)?;
@@ -130,9 +132,6 @@ pub fn put_first<D: Disk>(
     ensures durable { OnOk result (D.is_lawful device.old → IsDurable (D.state device.new)) }
 {
     td_plan::laws::canonical_text();
-    let _vertices = plan.vertices();
-    let _bytes = shape.bytes();
-    let _size = device.size();
     let Ok(text) = plan.text() else {
         return Err(HeadError::Memory);
     };

@@ -60,7 +60,8 @@ fn told(alloc: Global, plan: &Plan, size: u64, side: u8, payload: &[u8]) -> Resu
     requires { length payload.now ≡ 4128 }
     ensures told { IfOk result (λ h. IsFieldsTold plan.now size (fields_in side payload.now) (Headed h)) }
     ensures fits { IfOk result (λ h. size_of h.shape ≤ size) }
-    ensures refused { IfErr result (λ e. (e ≡ HeadError.Memory) ⊎ IsFieldsTold plan.now size (fields_in side payload.now) (Refused e)) }
+    ensures refused { IfErr result (λ e. (e ≡ HeadError.Memory)
+        ⊎ IsFieldsTold plan.now size (fields_in side payload.now) (Refused e)) }
 {
     td_plan::laws::one_answer();
     let version = u32_at(payload, 4);
@@ -108,7 +109,8 @@ fn told(alloc: Global, plan: &Plan, size: u64, side: u8, payload: &[u8]) -> Resu
 fn counted<D: Disk>(alloc: Global, device: &mut D, side: u8) -> Result<Option<Vec<u8>>, HeadError>
     requires which { side ≤ 1 }
     requires room { 8258 ≤ D.capacity device.old }
-    ensures told { IfOk result (λ p. D.is_lawful device.old → candidate side (opened (head side) (D.state device.old).bytes) ≡ fields_of side p) }
+    ensures told { IfOk result (λ p. D.is_lawful device.old
+        → candidate side (opened (head side) (D.state device.old).bytes) ≡ fields_of side p) }
     ensures len { IfOk result (λ p. HasLength p 4128) }
     ensures refusals { IfErr result (λ e. (e ≡ HeadError.Device) ⊎ (e ≡ HeadError.Memory)) }
     ensures device { IsErrOf result HeadError.Device → Rises (D.failures device.old) (D.failures device.new) }

@@ -1,5 +1,5 @@
-//! The head of a formatted disk: what a disk was formatted for. The one contract is that of [`read`]: the shape that the
-//! heads of the disk tell for a plan, or why they tell none.
+//! The head of a formatted disk: what a disk was formatted for. The one contract is that of [`read`]: the version,
+//! generation and shape that the heads of the disk tell for a plan, or why they tell none.
 #![tactic(auto)]
 
 mod error;

@@ -19,7 +19,8 @@ pub fn slots()
 
 /// What is written for states has a slot's length and is read back.
 pub fn slots_read_back()
-    ensures size { (k epoch last : ℕ) (states : StateList) → length states ≤ k → length (slot_bytes k epoch last states) ≡ slot_len k }
+    ensures size { (k epoch last : ℕ) (states : StateList)
+        → length states ≤ k → length (slot_bytes k epoch last states) ≡ slot_len k }
     ensures found { (version : ℕ) (folds : List ℕ) (k side epoch last : ℕ) (states : StateList)
         → epoch < 2 ^ 63 → IsLast version last → AreSlotStates folds k states
         → checkpoint_in version folds k side (slot_bytes k epoch last states)
@@ -35,12 +36,14 @@ pub fn slots_tell()
 /// While states are put into the slot that is not the newest, the newest is that of before, or that after the write;
 /// once they are put, that after the write.
 pub fn other_is_put()
-    ensures begun { (version : ℕ) (folds : List ℕ) (s : AnySlots) (old new : List ℕ) (c : AnyCheckpoint) (epoch last : ℕ) (states : StateList)
+    ensures begun { (version : ℕ) (folds : List ℕ) (s : AnySlots) (old new : List ℕ)
+        (c : AnyCheckpoint) (epoch last : ℕ) (states : StateList)
         → newest version folds s old ≡ Ok c
         → epoch < 2 ^ 63 → IsLast version last → AreSlotStates folds s.k states
         → Puts (slot s (1 - c.slot)) (slot_bytes s.k epoch last states) old new
         → (newest version folds s new ≡ Ok c) ⊎ (newest version folds s new ≡ Ok (after_write c epoch last states)) }
-    ensures done { (version : ℕ) (folds : List ℕ) (s : AnySlots) (old new : List ℕ) (c : AnyCheckpoint) (epoch last : ℕ) (states : StateList)
+    ensures done { (version : ℕ) (folds : List ℕ) (s : AnySlots) (old new : List ℕ)
+        (c : AnyCheckpoint) (epoch last : ℕ) (states : StateList)
         → newest version folds s old ≡ Ok c
         → epoch < 2 ^ 63 → IsLast version last → AreSlotStates folds s.k states
         → Replaces (slot s (1 - c.slot)) (slot_bytes s.k epoch last states) old new

@@ -1,8 +1,9 @@
 // What a slot's payload holds. It is looked at whole before any of its states is taken up.
-ghost use Rattle.std.specs.Prelude.{◌≡◌, ◌==◌, ◌+◌, ◌*◌, ◌^◌, ◌<◌, ◌≤◌, true, false, drop, length, IfSome, IfNone, IfOk};
+ghost use Rattle.std.specs.Prelude.{◌≡◌, ◌==◌, ◌+◌, ◌≤◌, true, false, drop, length, IfSome, IfNone, IfOk};
 ghost use Rattle.std.specs.List.{list_any};
-ghost use Rattle.td_gate.specs.Fields.{front_in, number_at, signed_at};
-ghost use Rattle.td_slots.specs.Slot.{are_states as are_states_of, is_front as is_front_of, is_slot as is_slot_of, states_in, state_in, slot_len};
+ghost use Rattle.td_gate.specs.Fields.{front_in};
+ghost use Rattle.td_slots.specs.Slot.{are_states as are_states_of, is_front as is_front_of, is_slot as is_slot_of};
+ghost use Rattle.td_slots.specs.Slot.{states_in, state_in, slot_len};
 ghost use Rattle.td_slots.specs.Parsed.{may_come_after};
 
 use std::alloc::Global;
@@ -27,7 +28,8 @@ fn named(folds: &[u8], number: u64) -> Option<u8>
 fn kept_at(folds: &[u8], payload: &[u8], at: usize) -> Option<(u8, u64)>
     requires { at + 32 ≤ length payload.now }
     ensures some { IfSome result (λ place. place ≡ (state_in (drop at payload.now)).0) }
-    ensures named { IfSome result (λ place. list_any (λ v. v == (state_in (drop at payload.now)).0.0) folds.now ≡ true) }
+    ensures named { IfSome result (λ place.
+        list_any (λ v. v == (state_in (drop at payload.now)).0.0) folds.now ≡ true) }
     ensures none { IfNone result (list_any (λ v. v == (state_in (drop at payload.now)).0.0) folds.now ≡ false) }
 {
     match named(folds, u64_at(payload, at)) {

@@ -1,5 +1,5 @@
 // Two slots.
-ghost use Rattle.std.specs.Prelude.{◌≡◌, ◌⊎◌, ◌↔◌, ◌+◌, ◌-◌, ◌*◌, ◌^◌, ◌<◌, ◌≤◌, ℕ, length, true, OnOk, IfOk, IfErr, IsErrOf};
+ghost use Rattle.std.specs.Prelude.{◌≡◌, ◌⊎◌, ◌↔◌, ◌+◌, ◌-◌, ◌*◌, ◌^◌, ◌<◌, ◌≤◌, length, true, OnOk, IfOk, IfErr, IsErrOf};
 ghost use Rattle.td_disk.specs.Disk.{IsDurable, Rises};
 ghost use Rattle.td_gate.specs.CrashSafe.{CrashSafe, Unchanged};
 ghost use Rattle.td_gate.specs.Reading.{Each};
@@ -86,7 +86,8 @@ impl Slots {
         requires room { self.now.at + 2 * (slot_len self.now.k + 1) ≤ D.capacity device.old }
         requires small { epoch < 2 ^ 63 }
         ensures too_many { IsErrOf result SlotsError.TooManyKeys ↔ (self.now.k < length states.now) }
-        ensures refusals { IfErr result (λ e. (e ≡ SlotsError.TooManyKeys) ⊎ (e ≡ SlotsError.Memory) ⊎ (e ≡ SlotsError.Device)) }
+        ensures refusals { IfErr result (λ e.
+            (e ≡ SlotsError.TooManyKeys) ⊎ (e ≡ SlotsError.Memory) ⊎ (e ≡ SlotsError.Device)) }
         ensures untouched { IfErr result (λ e. (e ≡ SlotsError.Device) ⊎ (device.new ≡ device.old)) }
         ensures device { IsErrOf result SlotsError.Device → Rises (D.failures device.old) (D.failures device.new) }
         ensures later { D.failures device.old ≤ D.failures device.new }
@@ -98,7 +99,8 @@ impl Slots {
 
         // Where it answers Ok or Device: each image since the start of the call, by the image before.
         ensures crash_safe { D.is_lawful device.old → IsSettled (slot self.now (1 - newest)) (D.state device.old)
-            → CrashSafe (Puts (slot self.now (1 - newest)) (slot_bytes self.now.k epoch last states.now)) (D.state device.old) (D.state device.new) }
+            → CrashSafe (Puts (slot self.now (1 - newest)) (slot_bytes self.now.k epoch last states.now))
+            (D.state device.old) (D.state device.new) }
         ensures open { OnOk result (D.is_lawful device.old → IsSettled (slot self.now (1 - newest)) (D.state device.old)
             → IsOpen (slot self.now (1 - newest)) (slot_bytes self.now.k epoch last states.now) (D.state device.new)) }
         ensures durable { OnOk result (D.is_lawful device.old → IsDurable (D.state device.new)) }
@@ -106,6 +108,7 @@ impl Slots {
         if (self.k as usize) < states.len() {
             return Err(SlotsError::TooManyKeys);
         }
+        // The answer fits a u64, and so do the places of the slots.
         let _size = device.size();
         let payload = slot_payload(alloc, self.k, epoch, last, states)?;
         self.slot(1 - newest).put(device, &payload)?;
@@ -125,7 +128,8 @@ impl Slots {
         requires which { side ≤ 1 }
         requires limit { self.now.k ≤ 1048576 }
         requires room { self.now.at + 2 * (slot_len self.now.k + 1) ≤ D.capacity device.old }
-        ensures found { IfOk result (λ p. D.is_lawful device.old → payload_of p ≡ opened (slot self.now side) (D.state device.old).bytes) }
+        ensures found { IfOk result (λ p. D.is_lawful device.old
+            → payload_of p ≡ opened (slot self.now side) (D.state device.old).bytes) }
         ensures valid { IfOk result (λ p. IsValid version folds.now self.now.k p) }
         ensures len { IfOk result (λ p. HasLength p (slot_len self.now.k)) }
         ensures refused { IfErr result (λ e. (e ≡ SlotsError.Device) ⊎ ((e ≡ SlotsError.Memory) ⊎ (D.is_lawful device.old
@@ -138,6 +142,7 @@ impl Slots {
         ensures durable { D.is_lawful device.old → IsDurable (D.state device.old) → IsDurable (D.state device.new) }
         ensures crash_safe { D.is_lawful device.old → CrashSafe Unchanged (D.state device.old) (D.state device.new) }
     {
+        // The answer fits a u64, and so do the places of the slots.
         let _size = device.size();
         let Some(payload) = self.slot(side).get(alloc, device)? else {
             return Ok(None);
@@ -162,7 +167,8 @@ impl Slots {
     ) -> Result<Checkpoint, SlotsError>
         requires limit { self.now.k ≤ 1048576 }
         requires room { self.now.at + 2 * (slot_len self.now.k + 1) ≤ D.capacity device.old }
-        ensures told { IfOk result (λ c. D.is_lawful device.old → newest version folds.now self.now (D.state device.old).bytes ≡ Told c) }
+        ensures told { IfOk result (λ c. D.is_lawful device.old
+            → newest version folds.now self.now (D.state device.old).bytes ≡ Told c) }
         ensures refused { IfErr result (λ e. (e ≡ SlotsError.Device) ⊎ ((e ≡ SlotsError.Memory) ⊎ (D.is_lawful device.old
             → newest version folds.now self.now (D.state device.old).bytes ≡ Refused e))) }
         ensures slot { IfOk result (λ c. c.slot ≤ 1) }
