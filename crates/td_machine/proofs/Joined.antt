@@ -1,12 +1,11 @@
 -- Plays after one another.
 use Rattle.std.proofs.Common.{◌≡◌, ℕ, ◌+◌, List, [], ◌∷◌, ◌++◌, refl, ap, sym, ◌∙◌, subst, arith}
 use Rattle.std.proofs.lemmas.List.{append_assoc}
-use Rattle.td_stamp.specs.declared.values.Entry.{Entry}
 use Rattle.td_calls.specs.Answers.{Answers}
 use Rattle.td_machine.specs.State.{HallState, Content}
 use Rattle.td_machine.specs.Steps.{Event, Answer, Step, Plays}
 use Rattle.td_machine.specs.Sound.{batch_by, batches_of}
-use Rattle.td_machine.specs.Tally.{tally_by, tally}
+use Rattle.td_machine.specs.Tally.{tally}
 use Rattle.td_machine.specs.Reached.{IsReached}
 
 module _ (answers : Answers) where

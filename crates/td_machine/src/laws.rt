@@ -1,4 +1,5 @@
-//! Laws of the definitions. Each is the contract of a function that does nothing, or calls the laws that it follows from.
+//! Laws of the definitions. Each is the contract of a function that does nothing, or calls the laws that it follows
+//! from.
 ghost use Rattle.std.specs.Prelude.{◌≡◌, ◌+◌, ◌≤◌, ◌++◌, ℕ, List};
 ghost use Rattle.td_stamp.specs.States.{StateList, AreStates};
 ghost use Rattle.td_plan.specs.Lines.{Line};
@@ -45,38 +46,39 @@ fn laws_below()
     td_batch::laws::one_flow();
 }
 
-/// Confluence: whatever order the takes and gives fall in, with any number of shards, the outputs that a play collects are
-/// the first outputs of the batch meaning of what it released, and its cuts have the batch meaning's states.
+/// Confluence: whatever order the takes and gives fall in, with any number of shards, the outputs that a play collects
+/// are the first outputs of the batch meaning of what it released, and its cuts have the batch meaning's states.
 pub fn confluence<L: Law>()
     ensures { Confluence L.answers }
 {
     laws_below();
 }
 
-/// Each state of a play is sound: the outputs of its passed epochs that were not collected, and the states at its passed
-/// epochs, are those of the batch meaning of what was released since its base, from the states of the base.
+/// Each state of a play is sound: the outputs of its passed epochs that were not collected, and the states at its
+/// passed epochs, are those of the batch meaning of what was released since its base, from the states of the base.
 pub fn each_is_sound<L: Law>()
     ensures { EachIsSound L.answers }
 {
     laws_below();
 }
 
-/// Never stuck: where no task is out and no shard has one that may be taken, every released epoch has passed.
+/// Never stuck: where each shard answers that it has no task, so that none is out either, every released epoch has
+/// passed.
 pub fn never_stuck<L: Law>()
     ensures { NeverStuck L.answers }
 {
     laws_below();
 }
 
-/// Exact work: where every released epoch has passed, a play has given as many records and notifications as the batch meaning
-/// of what it released has, with any number of shards, in whatever order the takes and gives fell.
+/// Exact work: where every released epoch has passed, a play has given as many records and notifications as the batch
+/// meaning of what it released has, with any number of shards, in whatever order the takes and gives fell.
 pub fn exact_work<L: Law>()
     ensures { ExactWork L.answers }
 {
     laws_below();
 }
 
-/// And so it has where no task is out and no shard has one that may be taken.
+/// And so it has where each shard answers that it has no task.
 pub fn exact_work_drained<L: Law>()
     ensures { ExactWorkDrained L.answers }
 {
