@@ -84,8 +84,8 @@ pub fn look_ups()
     ensures edges { (plan : List Line) (reader port source : ℕ) → IsPlan plan → IsSourceAt plan reader port source → IsEdgeAt plan reader port source }
 {}
 
-/// An edge of a plan stands at the number that `edge_at` tells, and leads from a source of its reader. Those that lead to
-/// a vertex are those of its sources, by port.
+/// An edge of a plan stands at the number that `edge_at` tells, and leads from a source of its reader. Those that lead
+/// to a vertex are those of its sources, by port.
 pub fn edges_by_number()
     ensures number { (plan : List Line) → IsPlan plan → (i : ℕ) (e : AnyEdge) → slice_get (edges plan) i ≡ Some e
         → edge_at plan e.reader e.port ≡ i }
