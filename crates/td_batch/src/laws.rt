@@ -38,7 +38,8 @@ pub fn arrivals_in_any_order()
     ensures sent_alike { (epoch : EpochInput) (v : ℕ) (kind : Kind) (xs ys : List Arrival) →
         bag_of arrival_cmp xs ≡ bag_of arrival_cmp ys → answer epoch v kind xs ≡ answer epoch v kind ys }
     ensures states_alike { (epoch : EpochInput) (v : Vertex) (kind : Kind) (xs ys : List Arrival) (states : StateList) →
-        bag_of arrival_cmp xs ≡ bag_of arrival_cmp ys → states_by epoch v kind xs states ≡ states_by epoch v kind ys states }
+        bag_of arrival_cmp xs ≡ bag_of arrival_cmp ys →
+        states_by epoch v kind xs states ≡ states_by epoch v kind ys states }
 {
     laws::joins::<Rec>();
     laws::bags::<Rec>();
@@ -56,11 +57,11 @@ pub fn one_meaning()
         epoch_result epoch nodes ≡ result_of epoch nodes (λ v. flow v []) }
 {}
 
-/// Two solutions of the flat equations are the same to all readers: in each turn of its block, each vertex of the plan reads
-/// the same in both.
+/// Two solutions of the flat equations are the same to all readers: in each turn of its block, each vertex of the plan
+/// reads the same in both.
 pub fn one_flow()
-    ensures { (epoch : EpochInput) (nodes : Nodes) (f g : Flow) → IsPlacedTree nodes → Solves epoch f [] nodes → Solves epoch g [] nodes →
-        ReadAlike f g [] nodes }
+    ensures { (epoch : EpochInput) (nodes : Nodes) (f g : Flow) → IsPlacedTree nodes →
+        Solves epoch f [] nodes → Solves epoch g [] nodes → ReadAlike f g [] nodes }
 {}
 
 /// The bags of the nested turns, at all times, solve the flat equations of every plan whose sources are read where their

@@ -28,7 +28,7 @@ sent_to plan u t x = if u == x.vertex then flat_map (at_time t x.rec) (sending_t
 abbrev pub flow_of : List Line → List Stamped → ℕ → Flow
 flow_of plan sent e u counters = bag_of rec_cmp (flat_map (sent_to plan u (record { epoch = e; turns = counters })) sent)
 
--- OF EACH PLAN (law `plan_facts`): where the vertices of its tree stand. The vertex is found by its number, the edges to it are those of its
+-- OF EACH PLAN: where the vertices of its tree stand. The vertex is found by its number, the edges to it are those of its
 -- sources, by port, and it reads in the loops around it
 abbrev pub edge_to : ℕ → ℕ × ℕ → Edge
 edge_to v p = record { source = p.1; reader = v; port = p.0 }

@@ -1,4 +1,4 @@
--- What holds of each plan without faults (law `plan_facts`): where its edges stand, which times they lead to, and that none leads back.
+-- What holds of each plan without faults: where its edges stand, which times they lead to, and that none leads back.
 use Rattle.std.specs.Prelude.{◌≡◌, ℕ, ◌<◌, true, List, [], Some, slice_get}
 use Rattle.std.specs.List.{AllByRecursion, enumerate_from}
 use Rattle.td_stamp.specs.Time.{Timestamp}

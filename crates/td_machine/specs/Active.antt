@@ -19,6 +19,7 @@ abbrev pub kind_or : Option Kind → Kind
 kind_or None = Input
 kind_or (Some k) = k
 
+-- the kind of the vertex of this number
 abbrev pub kind_of : List Line → ℕ → Kind
 kind_of plan v = kind_or (kind_at plan v)
 
@@ -30,13 +31,15 @@ bound_of plan v = unwrap_or (bound_at plan v) 0
 abbrev pub inputs_of : List Line → List ℕ
 inputs_of plan = map (λ p. p.vertex.number) (filter (λ p. is_input p.vertex.kind) (vertices plan))
 
--- the pointstamps of a message, of a vertex and time, and of a notification
+-- the pointstamp of a message: its time, on the edge to its port
 abbrev pub stamp_of_message : List Line → Message → Stamp
 stamp_of_message plan c = record { time = c.time; place = places.Edge (edge_at plan c.vertex c.port) }
 
+-- that of a vertex and a time
 abbrev pub stamp_at : ℕ → Timestamp → Stamp
 stamp_at v t = record { time = t; place = places.Vertex v }
 
+-- that of a notification: its shard is not told
 abbrev pub stamp_of_asked : Notification → Stamp
 stamp_of_asked a = stamp_at a.vertex a.time
 

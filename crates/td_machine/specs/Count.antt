@@ -9,7 +9,6 @@ use Rattle.td_calls.specs.Stock.{stock}
 use Rattle.td_batch.specs.Meaning.{run}
 use Rattle.td_batch.specs.Examples.{out}
 use Rattle.td_machine.specs.State.{HallState, Task}
-use Rattle.td_machine.specs.State.Content.{notification}
 use Rattle.td_machine.specs.Active.{Frontier}
 use Rattle.td_machine.specs.Steps.{Event, Answer, Plays, Takes, opened, release_step, collect_step}
 use Rattle.td_machine.specs.Steps.Event.{release, taking, give, collect}
@@ -18,7 +17,7 @@ use Rattle.td_machine.specs.Steps.Takes.{takes}
 use Rattle.td_machine.specs.Steps.Gives.{gives}
 use Rattle.td_machine.specs.Tally.{records_in, notes_in, tally}
 use Rattle.td_machine.specs.Exact.{WorkIs}
-use Rattle.td_machine.specs.Examples.{at_epoch, one_batch, message_task, taken_by, given_by, could-epoch}
+use Rattle.td_machine.specs.Examples.{at_epoch, one_batch, message_task, one_item, note_task, taken_by, given_by, could-epoch}
 
 -- COUNT, one record
 abbrev s0 : HallState
@@ -37,7 +36,7 @@ abbrev s3 : HallState
 s3 = given_by s2 t1
 
 abbrev t2 : Task
-t2 = record { shard = 0; number = 2; vertex = 1; kind = Group 20; time = at_epoch 1; content = notification (record { key = 7; items = record { port = 0; val = pos 1 } ∷ []; state = None } ∷ []) }
+t2 = note_task 0 2 1 (Group 20) (at_epoch 1) (one_item 7 (pos 1) None)
 
 abbrev s4 : HallState
 s4 = taken_by s3 t2
@@ -61,7 +60,9 @@ abbrev count_events : List Event
 count_events = release (one_batch (pos 1)) ∷ taking 0 ∷ give t1 ∷ taking 0 ∷ give t2 ∷ taking 0 ∷ give t3 ∷ collect ∷ []
 
 abbrev count_answers : List Answer
-count_answers = has_released 1 ∷ has_taken (Some t1) ∷ has_given ∷ has_taken (Some t2) ∷ has_given ∷ has_taken (Some t3) ∷ has_given ∷ has_collected (record { epoch = 1; recs = out 2 7 (pos 1) ∷ [] } ∷ []) ∷ []
+count_answers =
+    has_released 1 ∷ has_taken (Some t1) ∷ has_given ∷ has_taken (Some t2) ∷ has_given ∷ has_taken (Some t3) ∷ has_given
+    ∷ has_collected (record { epoch = 1; recs = out 2 7 (pos 1) ∷ [] } ∷ []) ∷ []
 
 -- the group's notification is in the frontier, though the input is open for epoch 2
 in_frontier : Frontier s3 (record { time = at_epoch 1; place = places.Vertex 1 })

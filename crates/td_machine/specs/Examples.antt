@@ -2,6 +2,7 @@
 use Rattle.std.specs.Prelude.{◌≡◌, ℕ, ◌≤◌, List, [], ◌∷◌, ℤ, refl, Option, Some, None, slice_get}
 use Rattle.std.proofs.Common.{◌∙◌, subst}
 use Rattle.td_stamp.specs.declared.values.Entry.{Entry}
+use Rattle.td_stamp.specs.declared.values.State.{State}
 use Rattle.td_stamp.specs.Time.{Timestamp}
 use Rattle.td_plan.specs.declared.vertex.Kind.{Kind}
 use Rattle.td_plan.specs.declared.vertex.Kind.TheVariants.{Enter, Feedback, Leave}
@@ -14,8 +15,8 @@ use Rattle.td_reach.specs.Paths.{Could, adjust, over}
 use Rattle.td_calls.specs.Stock.{stock}
 use Rattle.td_batch.specs.Examples.{entry}
 use Rattle.td_machine.specs.declared.records.Message.{Message}
-use Rattle.td_machine.specs.State.{HallState, Task}
-use Rattle.td_machine.specs.State.Content.{messages}
+use Rattle.td_machine.specs.State.{HallState, KeyItems, Task}
+use Rattle.td_machine.specs.State.Content.{messages, notification}
 use Rattle.td_machine.specs.Steps.{with_task, effect, is_given, sending_times}
 
 abbrev pub at_epoch : ℕ → Timestamp
@@ -31,6 +32,13 @@ message_at v t val = record { vertex = v; port = 0; time = t; rec = record { key
 -- a task of one message, of the only shard
 abbrev pub message_task : ℕ → ℕ → Kind → Timestamp → ℤ → Task
 message_task number v kind t val = record { shard = 0; number = number; vertex = v; kind = kind; time = t; content = messages 0 (record { key = 7; val = val } ∷ []) }
+
+-- what waits for a notification, where one item does, and the task of its notification
+abbrev pub one_item : ℕ → ℤ → Option State → List KeyItems
+one_item key val state = record { key = key; items = record { port = 0; val = val } ∷ []; state = state } ∷ []
+
+abbrev pub note_task : ℕ → ℕ → ℕ → Kind → Timestamp → List KeyItems → Task
+note_task shard number v kind t items = record { shard = shard; number = number; vertex = v; kind = kind; time = t; content = notification items }
 
 abbrev pub taken_by : HallState → Task → HallState
 taken_by S task = with_task S task

@@ -11,7 +11,7 @@ use Rattle.td_reach.specs.Paths.{Could}
 use Rattle.td_calls.specs.Stock.{stock}
 use Rattle.td_batch.specs.Examples.{entry}
 use Rattle.td_machine.specs.State.{HallState, Task}
-use Rattle.td_machine.specs.State.Content.{messages, notification}
+use Rattle.td_machine.specs.State.Content.{messages}
 use Rattle.td_machine.specs.Active.{Frontier}
 use Rattle.td_machine.specs.Steps.{Plays, opened, release_step}
 use Rattle.td_machine.specs.Steps.Refusal.{busy, stranger}
@@ -19,7 +19,7 @@ use Rattle.td_machine.specs.Steps.Event.{release, taking, give}
 use Rattle.td_machine.specs.Steps.Answer.{refused, has_released, has_taken, has_given}
 use Rattle.td_machine.specs.Steps.Takes.{takes, is_busy}
 use Rattle.td_machine.specs.Steps.Gives.{gives, is_stranger}
-use Rattle.td_machine.specs.Examples.{at_epoch, taken_by, given_by, could-epoch}
+use Rattle.td_machine.specs.Examples.{at_epoch, message_at, one_item, note_task, taken_by, given_by, could-epoch}
 
 -- keys 7 and 8 are of shards 1 and 0
 abbrev two : List Entry
@@ -29,7 +29,7 @@ abbrev message_of : ℕ → ℕ → ℕ → Task
 message_of shard number key = record { shard = shard; number = number; vertex = 1; kind = Group 20; time = at_epoch 1; content = messages 0 (record { key = key; val = pos 1 } ∷ []) }
 
 abbrev note_of : ℕ → ℕ → ℕ → Task
-note_of shard number key = record { shard = shard; number = number; vertex = 1; kind = Group 20; time = at_epoch 1; content = notification (record { key = key; items = record { port = 0; val = pos 1 } ∷ []; state = None } ∷ []) }
+note_of shard number key = note_task shard number 1 (Group 20) (at_epoch 1) (one_item key (pos 1) None)
 
 abbrev s0 : HallState
 s0 = opened count_plan [] 1 2
@@ -105,14 +105,15 @@ gone (suc k, l, e) = absurd (omega (arith, l))
 
 pub shards_play : Plays stock s0
     (release two ∷ taking 0 ∷ give t1 ∷ taking 1 ∷ give t2 ∷ taking 0 ∷ taking 0 ∷ taking 1 ∷ give t4 ∷ give t4 ∷ give t3 ∷ [])
-    (has_released 1 ∷ has_taken (Some t1) ∷ has_given ∷ has_taken (Some t2) ∷ has_given ∷ has_taken (Some t3) ∷ refused busy ∷ has_taken (Some t4) ∷ has_given ∷ refused stranger ∷ has_given ∷ [])
+    (has_released 1 ∷ has_taken (Some t1) ∷ has_given ∷ has_taken (Some t2) ∷ has_given
+    ∷ has_taken (Some t3) ∷ refused busy ∷ has_taken (Some t4) ∷ has_given ∷ refused stranger ∷ has_given ∷ [])
     s7
 shards_play = (
   s1,
   (refl, refl),
   (
     taken_by s1 t1,
-    takes refl t1 (record { shard = refl; number = refl; kind = refl; content = (omega arith, omega arith, (refl, tt), (record { vertex = 1; port = 0; time = at_epoch 1; rec = record { key = 7; val = pos 1 } } ∷ [], refl)) }) (omega arith),
+    takes refl t1 (record { shard = refl; number = refl; kind = refl; content = (omega arith, omega arith, (refl, tt), (message_at 1 (at_epoch 1) (pos 1) ∷ [], refl)) }) (omega arith),
     (
       s2,
       gives (0, omega arith, refl),

@@ -42,11 +42,13 @@ abbrev pub batch_by : Event → Answer → List (List Entry)
 batch_by (release batch) (has_released e) = batch ∷ []
 batch_by _ _ = []
 
+-- of a whole play
 abbrev pub batches_of : List Event → List Answer → List (List Entry)
 batches_of [] answers = []
 batches_of (event ∷ events) [] = []
 batches_of (event ∷ events) (answer ∷ more) = batch_by event answer ++ batches_of events more
 
+-- the outputs that an answer has
 abbrev pub outs_by : Answer → List EpochOut
 outs_by (has_collected outs) = outs
 outs_by _ = []
@@ -56,6 +58,7 @@ abbrev pub CutIs : Answers → List Line → StateList → ℕ → List (List En
 CutIs answers plan states first batches (has_cut e at) = at ≡ states_after answers (tree_of plan) states batches (e + 1 - first)
 CutIs answers plan states first batches _ = Unit {0}
 
+-- of all answers
 abbrev pub CutsAre : Answers → List Line → StateList → ℕ → List (List Entry) → List Answer → Type 0
 CutsAre answers plan states first batches [] = Unit {0}
 CutsAre answers plan states first batches (answer ∷ more) = CutIs answers plan states first batches answer × CutsAre answers plan states first batches more

@@ -76,6 +76,7 @@ abbrev pub again_below : ℕ → Timestamp → List ℕ → List Timestamp
 again_below bound t [] = []
 again_below bound t (k ∷ outer) = if nat_lt (suc k) bound then again t ∷ [] else []
 
+-- by its kind
 abbrev pub sending_times : Kind → ℕ → Timestamp → List Timestamp
 sending_times Enter bound t = enter t ∷ []
 sending_times Leave bound t = leave t ∷ []
@@ -90,9 +91,11 @@ edges_from plan u = filter (λ e. e.source == u) (edges plan)
 abbrev pub on_edge : Timestamp → Rec → Edge → Message
 on_edge t r e = record { vertex = e.reader; port = e.port; time = t; rec = r }
 
+-- those of one record
 abbrev pub posted : List Line → Stamped → List Message
 posted plan x = flat_map (λ later. map (on_edge later x.rec) (edges_from plan x.vertex)) (sending_times (kind_of plan x.vertex) (bound_of plan x.vertex) x.time)
 
+-- those of all
 abbrev pub posts : List Line → List Stamped → List Message
 posts plan xs = flat_map (posted plan) xs
 
@@ -133,13 +136,19 @@ opened plan states first workers = record {
 module _ (S : HallState) where
   -- RELEASE: each entry's record is on every edge out of its input
   abbrev pub with_batch : List Entry → HallState
-  with_batch batch = record S { batches = S.batches ++ batch ∷ []; next = S.next + 1; messages = join message_cmp (posts S.plan (map (entered S.next) batch)) S.messages }
+  with_batch batch = record S {
+    batches = S.batches ++ batch ∷ [];
+    next = S.next + 1;
+    messages = join message_cmp (posts S.plan (map (entered S.next) batch)) S.messages;
+  }
 
+  -- a hall that is closed is released nothing, nor one that is out of numbers
   abbrev pub release_by : Bool → Bool → List Entry → Answer × HallState
   release_by true at_end batch = (refused inputs_closed, S)
   release_by false true batch = (refused out_of_epochs, S)
   release_by false false batch = (has_released S.next, with_batch batch)
 
+  -- the first that holds is answered
   abbrev pub release_step : List Entry → Answer × HallState
   release_step batch = release_by S.closed (S.next == ends) batch
 
@@ -147,19 +156,28 @@ module _ (S : HallState) where
   abbrev pub outputs_at : ℕ → List Output
   outputs_at e = map (λ o. o.output) (filter (λ o. o.epoch == e) S.outputs)
 
+  -- the epochs whose outputs are answered
   abbrev pub to_collect : List ℕ
   to_collect = filter (has_passed S) (released_after S S.collected)
 
+  -- the outputs of epochs up to this one are let go
   abbrev pub collected_to : ℕ → HallState
   collected_to e = record S { collected = e; outputs = filter (λ o. nat_lt e o.epoch) S.outputs }
 
+  -- the outputs of each of them, in order
   abbrev pub collect_step : Answer × HallState
   collect_step = (has_collected (map (λ e. record { epoch = e; recs = outputs_at e }) to_collect), collected_to (S.collected + length to_collect))
 
   -- CUT: the states after an epoch become the base, and what belongs to epochs up to it is let go: batches, what folds left and what
   -- distincts have seen (Naiad, section 3.4, Checkpoint)
   abbrev pub cut_to : ℕ → HallState
-  cut_to e = record S { base = e; base_states = states_at S e; batches = drop (e - S.base) S.batches; left = filter (λ k. nat_lt e k.epoch) S.left; seen = filter (λ x. nat_lt e x.time.epoch) S.seen }
+  cut_to e = record S {
+    base = e;
+    base_states = states_at S e;
+    batches = drop (e - S.base) S.batches;
+    left = filter (λ k. nat_lt e k.epoch) S.left;
+    seen = filter (λ x. nat_lt e x.time.epoch) S.seen;
+  }
 
   -- at the last released epoch, where all have passed
   abbrev pub cut_by : Option ℕ → ℕ → Answer × HallState
@@ -179,9 +197,11 @@ module _ (S : HallState) where
   abbrev pub asked_at : ℕ → ℕ → Timestamp → Notification
   asked_at s v t = record { shard = s; vertex = v; time = t }
 
+  -- whether it was asked for
   abbrev pub is_asked : ℕ → ℕ → Timestamp → Bool
   is_asked s v t = has notification_cmp (asked_at s v t) S.asked
 
+  -- whether a message waits for it
   abbrev pub is_for : Notification → Message → Bool
   is_for a c = is_eq (notification_cmp a (asked_of S.workers c))
 
@@ -189,9 +209,12 @@ module _ (S : HallState) where
   abbrev pub with_state_of : ℕ → Timestamp → ℕ × List Item → KeyItems
   with_state_of v t g = record { key = g.0; items = g.1; state = state_of (states_at S (t.epoch - 1)) v g.0 }
 
+  -- what a notification is taken with
   abbrev pub to_notify : ℕ → ℕ → Timestamp → List KeyItems
   to_notify s v t = map (with_state_of v t) (groups (map arrival (filter (is_for (asked_at s v t)) S.buffered)))
 
+  -- records that are messages now, of the shard, of one edge and time, and 64 at most; or a notification that was asked for and is
+  -- in the frontier, with what waits for it
   abbrev pub IsContent : ℕ → ℕ → Timestamp → Content → Type 0
   IsContent s v t (messages port recs) = (0 < length recs) × (length recs ≤ task_size) × AllByRecursion (λ r. shard_of_key S.workers r.key ≡ s) recs
       × ((rest : List Message) × (S.messages ≡ join message_cmp (coming v port t recs) rest))
@@ -204,9 +227,11 @@ module _ (S : HallState) where
     pub kind : task.kind ≡ kind_of S.plan task.vertex
     pub content : IsContent s task.vertex task.time task.content
 
+  -- the task is out
   abbrev pub with_task : Task → HallState
   with_task task = record S { out = bag_insert task_cmp task S.out; taken = S.taken + 1 }
 
+  -- the answers of a take: busy; else none, where there is no such task; else spent, where all numbers are used; else any such task
   pub data Takes (s : ℕ) : Answer → HallState → Type 0 where
     is_busy : is_out S s ≡ true → Takes s (refused busy) S
     has_none : is_out S s ≡ false → ((task : Task) → MayTake s task → ⊥) → Takes s (has_taken None) S
@@ -251,6 +276,7 @@ module _ (answers : Answers) (S : HallState) where
     outputs = join output_at_cmp (comes_out kind c) S.outputs;
   }
 
+  -- by its callback
   abbrev pub delivered : Kind → Message → HallState
   delivered kind c = delivered_by (called kind c) kind c
 
@@ -268,13 +294,16 @@ abbrev pub all_delivered : Answers → Kind → HallState → List Message → H
 all_delivered answers kind S [] = S
 all_delivered answers kind S (c ∷ cs) = all_delivered answers kind (delivered answers S kind c) cs
 
+-- the effect of what a task has to do
 abbrev pub effect : Answers → HallState → Task → Content → HallState
 effect answers S task (messages port recs) = all_delivered answers task.kind S (coming task.vertex port task.time recs)
 effect answers S task (notification items) = notified answers S (asked_at S task.shard task.vertex task.time) task.kind items
 
+-- the task is out no more
 abbrev pub is_given : HallState → Task → HallState
 is_given S task = record S { out = filter (λ t. not (t.shard == task.shard)) S.out; given = S.given + 1 }
 
+-- the answers of a give: a task is taken back that is out, with all that it has; any other is a stranger
 pub data Gives (answers : Answers) (S : HallState) (task : Task) : Answer → HallState → Type 0 where
   gives : Contains S.out task → Gives answers S task has_given (is_given (effect answers S task task.content) task)
   is_stranger : (Contains S.out task → ⊥) → Gives answers S task (refused stranger) S
@@ -285,6 +314,7 @@ accepts plan batch = list_all (λ e. is_input_of plan e.input) batch
 
 -- A STEP of a hall; a release and a cut at an epoch have a condition on which they may be called
 module _ (answers : Answers) where
+  -- by what is called
   abbrev pub Step : HallState → Event → Answer → HallState → Type 0
   Step S (release batch) answer after = (accepts S.plan batch ≡ true) × (release_step S batch ≡ (answer, after))
   Step S (taking s) answer after = Takes S s answer after

@@ -11,6 +11,7 @@ abbrev pub records_in : Content → ℕ
 records_in (messages port recs) = length recs
 records_in (notification items) = 0
 
+-- a notification counts 1, whatever its items
 abbrev pub notes_in : Content → ℕ
 notes_in (messages port recs) = 0
 notes_in (notification items) = 1

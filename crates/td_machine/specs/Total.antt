@@ -12,7 +12,6 @@ use Rattle.td_calls.specs.Stock.{stock}
 use Rattle.td_batch.specs.Meaning.{run, states_after}
 use Rattle.td_batch.specs.Examples.{out}
 use Rattle.td_machine.specs.State.{HallState, Task}
-use Rattle.td_machine.specs.State.Content.{notification}
 use Rattle.td_machine.specs.Active.{Frontier}
 use Rattle.td_machine.specs.Steps.{Event, Answer, Plays, Takes, opened, release_step, collect_step, cut_to}
 use Rattle.td_machine.specs.Steps.Refusal.{not_passed}
@@ -20,14 +19,14 @@ use Rattle.td_machine.specs.Steps.Event.{release, taking, give, collect, cut, cu
 use Rattle.td_machine.specs.Steps.Answer.{refused, has_released, has_taken, has_given, has_collected, has_cut}
 use Rattle.td_machine.specs.Steps.Takes.{takes}
 use Rattle.td_machine.specs.Steps.Gives.{gives}
-use Rattle.td_machine.specs.Examples.{at_epoch, one_batch, message_task, message_at, taken_by, given_by, could-epoch}
+use Rattle.td_machine.specs.Examples.{at_epoch, one_batch, message_task, one_item, note_task, message_at, taken_by, given_by, could-epoch}
 
 abbrev kept : ℤ → ℤ → StateList
 kept a b = ((1, 7), record { a = a; b = b }) ∷ []
 
 -- the notification of an epoch, with the state before it
 abbrev note : ℕ → ℕ → ℤ → Option State → Task
-note number e val state = record { shard = 0; number = number; vertex = 1; kind = Fold 40; time = at_epoch e; content = notification (record { key = 7; items = record { port = 0; val = val } ∷ []; state = state } ∷ []) }
+note number e val state = note_task 0 number 1 (Fold 40) (at_epoch e) (one_item 7 val state)
 
 -- both epochs are released, and come to the fold
 abbrev s0 : HallState

@@ -46,10 +46,11 @@ vertex_notes workers flow p = sum_by (λ counters. length (shards_of workers (co
 abbrev pub groupings : List Line → List PlacedVertex
 groupings plan = filter (λ p. is_notified p.vertex.kind) (vertices plan)
 
--- of an epoch: the records on all edges, and the notifications of all groups and folds
+-- of an epoch: the records on all edges
 abbrev pub epoch_records : List Line → EpochInput → ℕ
 epoch_records plan epoch = sum_by (edge_records (bag_at epoch (tree_of plan)) plan) (edges plan)
 
+-- and the notifications of all groups and folds
 abbrev pub epoch_notes : ℕ → List Line → EpochInput → ℕ
 epoch_notes workers plan epoch = sum_by (vertex_notes workers (bag_at epoch (tree_of plan))) (groupings plan)
 
@@ -58,10 +59,10 @@ abbrev pub epochs_of : Answers → List Line → StateList → List (List Entry)
 epochs_of answers plan states batches =
     map (λ m. record { answers = answers; states = states_after answers (tree_of plan) states batches m; batch = get_or batches m [] }) (numbers_from 0 (length batches))
 
--- DELIVERIES of a run: the records on all edges in all turns, and the notifications, one for each group or fold, time and
--- shard at which records arrive
+-- DELIVERIES of a run: the records on all edges in all turns
 abbrev pub Records : Answers → List Line → StateList → List (List Entry) → ℕ
 Records answers plan states batches = sum_by (epoch_records plan) (epochs_of answers plan states batches)
 
+-- and the notifications, one for each group or fold, time and shard at which records arrive
 abbrev pub Notes : ℕ → Answers → List Line → StateList → List (List Entry) → ℕ
 Notes workers answers plan states batches = sum_by (epoch_notes workers plan) (epochs_of answers plan states batches)

@@ -4,7 +4,8 @@ ghost use Rattle.td_plan.specs.declared.error.PlanError.{PlanError as AnyError};
 ghost use Rattle.std.specs.List.{AllByRecursion, join_with_byte, slice_get};
 ghost use Rattle.td_plan.specs.Text.{words};
 ghost use Rattle.td_plan.specs.Lines.{Line, has_form, text_of, words_of};
-ghost use Rattle.td_plan.specs.Blocks.{PlacedVertex, edge_at, edges, edges_to, loops, read_loops_at, reading_loops_at, vertices};
+ghost use Rattle.td_plan.specs.Blocks.{PlacedVertex, loops, read_loops_at, reading_loops_at, vertices};
+ghost use Rattle.td_plan.specs.Blocks.{edge_at, edges, edges_to};
 ghost use Rattle.td_plan.specs.Standing.{may_stand, AreAlike, HasFirst, IsBounded, StandsAmong, StandsWell};
 ghost use Rattle.td_plan.specs.declared.vertex.Edge.{Edge as AnyEdge};
 ghost use Rattle.td_plan.specs.Laid.{AreLaid};
@@ -65,10 +66,10 @@ pub fn stands_well()
 
 /// The same by number: where a vertex may stand by its kind, and the bounds of the loops round it.
 pub fn stands_at()
-    ensures kind { (plan : List Line) → IsPlan plan → (v : ℕ) (p : PlacedVertex) → slice_get (vertices plan) v ≡ Some p
-        → may_stand (is_in_loop p.loops) p.vertex.kind ≡ true }
-    ensures bounds { (plan : List Line) → IsPlan plan → (v : ℕ) (p : PlacedVertex) → slice_get (vertices plan) v ≡ Some p
-        → AllByRecursion IsBounded p.loops }
+    ensures kind { (plan : List Line) → IsPlan plan → (v : ℕ) (p : PlacedVertex)
+        → slice_get (vertices plan) v ≡ Some p → may_stand (is_in_loop p.loops) p.vertex.kind ≡ true }
+    ensures bounds { (plan : List Line) → IsPlan plan → (v : ℕ) (p : PlacedVertex)
+        → slice_get (vertices plan) v ≡ Some p → AllByRecursion IsBounded p.loops }
 {}
 
 /// Each source of a vertex is read in the loops in which the vertex reads.
@@ -83,8 +84,8 @@ pub fn look_ups()
     ensures edges { (plan : List Line) (reader port source : ℕ) → IsPlan plan → IsSourceAt plan reader port source → IsEdgeAt plan reader port source }
 {}
 
-/// An edge of a plan stands at the number that `edge_at` tells, and leads from a source of its reader. Those that lead to a
-/// vertex are those of its sources, by port.
+/// An edge of a plan stands at the number that `edge_at` tells, and leads from a source of its reader. Those that lead
+/// to a vertex are those of its sources, by port.
 pub fn edges_by_number()
     ensures number { (plan : List Line) → IsPlan plan → (i : ℕ) (e : AnyEdge) → slice_get (edges plan) i ≡ Some e
         → edge_at plan e.reader e.port ≡ i }
@@ -100,11 +101,11 @@ pub fn laid()
 {}
 
 /// The loops of a plan and the vertices that stand in them: each loop in which a vertex stands is one of the plan's, and
-/// in each loop of the plan stands the vertex of its first number. The first numbers of the loops round a vertex, from any
-/// of them outwards, tell these loops.
+/// in each loop of the plan stands the vertex of its first number. The first numbers of the loops round a vertex, from
+/// any of them outwards, tell these loops.
 pub fn blocks()
     ensures among { (plan : List Line) → IsPlan plan → AllByRecursion (StandsAmong (loops plan)) (vertices plan) }
     ensures begun { (plan : List Line) → IsPlan plan → AllByRecursion (HasFirst (vertices plan)) (loops plan) }
-    ensures alike { (plan : List Line) (v w : ℕ) (p q : PlacedVertex) → slice_get (vertices plan) v ≡ Some p → slice_get (vertices plan) w ≡ Some q
-        → AreAlike p.loops q.loops }
+    ensures alike { (plan : List Line) (v w : ℕ) (p q : PlacedVertex) → slice_get (vertices plan) v ≡ Some p
+        → slice_get (vertices plan) w ≡ Some q → AreAlike p.loops q.loops }
 {}

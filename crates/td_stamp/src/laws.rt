@@ -95,9 +95,11 @@ pub fn sets_by_any_order<T>()
 
 /// What the members of a bag over such an order give, put together.
 pub fn parts_by_any_order<T, U>()
-    ensures { (cmp : T → T → Ordering) → IsTotalOrder cmp → IsAntisymmetric cmp → (part_cmp : U → U → Ordering) → IsTotalOrder part_cmp
-        → IsAntisymmetric part_cmp → (parts : T → List U) (x : T) (ys : List T)
-        → bag_of part_cmp (flat_map parts (bag_insert cmp x ys)) ≡ join part_cmp (parts x) (bag_of part_cmp (flat_map parts ys)) }
+    ensures { (cmp : T → T → Ordering) → IsTotalOrder cmp → IsAntisymmetric cmp
+        → (part_cmp : U → U → Ordering) → IsTotalOrder part_cmp → IsAntisymmetric part_cmp
+        → (parts : T → List U) (x : T) (ys : List T)
+        → bag_of part_cmp (flat_map parts (bag_insert cmp x ys))
+        ≡ join part_cmp (parts x) (bag_of part_cmp (flat_map parts ys)) }
 {}
 
 /// Groups do not depend on the order in which records arrive.
