@@ -1,5 +1,5 @@
 -- Worked plays.
-use Rattle.std.specs.Prelude.{◌≡◌, ℕ, ◌≤◌, List, [], ◌∷◌, ℤ, refl, Option, Some, None, slice_get}
+use Rattle.std.specs.Prelude.{◌≡◌, ℕ, ◌≤◌, List, [], ◌∷◌, ℤ, pos, refl, Option, Some, None, slice_get}
 use Rattle.std.proofs.Common.{◌∙◌, subst}
 use Rattle.td_stamp.specs.declared.values.Entry.{Entry}
 use Rattle.td_stamp.specs.declared.values.State.{State}
@@ -8,6 +8,7 @@ use Rattle.td_plan.specs.declared.vertex.Kind.{Kind}
 use Rattle.td_plan.specs.declared.vertex.Kind.TheVariants.{Enter, Feedback, Leave}
 use Rattle.td_plan.specs.declared.vertex.Edge.{Edge}
 use Rattle.td_plan.specs.Lines.{Line}
+use Rattle.td_plan.specs.Named.{count_plan}
 use Rattle.td_plan.specs.Blocks.{edges, kind_at}
 use Rattle.td_reach.specs.declared.stamp.Stamp.{Stamp}
 use Rattle.td_plan.specs.Times.{sent_at, sent_by}
@@ -15,9 +16,10 @@ use Rattle.td_reach.specs.Paths.{Could, adjust, over}
 use Rattle.td_calls.specs.Stock.{stock}
 use Rattle.td_batch.specs.Examples.{entry}
 use Rattle.td_machine.specs.declared.records.Message.{Message}
+use Rattle.td_machine.specs.declared.records.Stamped.{Stamped}
 use Rattle.td_machine.specs.State.{HallState, KeyItems, Task}
 use Rattle.td_machine.specs.State.Content.{messages, notification}
-use Rattle.td_machine.specs.Steps.{with_task, effect, is_given, sending_times}
+use Rattle.td_machine.specs.Steps.{opened, with_task, effect, is_given, sending_times, cut_to}
 
 abbrev pub at_epoch : ℕ → Timestamp
 at_epoch e = record { epoch = e; turns = [] }
@@ -74,3 +76,10 @@ goes_round = refl
 
 pub goes_no_further : sending_times Feedback 3 (record { epoch = 1; turns = 2 ∷ [] }) ≡ []
 goes_no_further = refl
+
+-- a cut at epoch 1 lets go of what was seen in epoch 1, and keeps what was seen in epoch 2
+abbrev pub seen_at : ℕ → Stamped
+seen_at e = record { vertex = 1; time = at_epoch e; rec = record { key = 7; val = pos 1 } }
+
+pub lets_go : (cut_to (record (opened count_plan [] 1 1) { next = 3; seen = seen_at 1 ∷ seen_at 2 ∷ [] }) 1).seen ≡ seen_at 2 ∷ []
+lets_go = refl

@@ -37,12 +37,12 @@ EachIsSound answers = (plan : List Line) (states : StateList) (first workers : �
     → Plays answers (opened plan states first workers) events replies S
     → Sound answers S
 
--- what a play released, collected and cut, in order
+-- the batch that a call released, if it did
 abbrev pub batch_by : Event → Answer → List (List Entry)
 batch_by (release batch) (has_released e) = batch ∷ []
 batch_by _ _ = []
 
--- of a whole play
+-- those of a whole play, in order
 abbrev pub batches_of : List Event → List Answer → List (List Entry)
 batches_of [] answers = []
 batches_of (event ∷ events) [] = []
