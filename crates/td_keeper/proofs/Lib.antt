@@ -1,0 +1,6 @@
+mod Requests
+mod Composes
+mod Parts
+mod Crash
+mod Moments
+mod Kept
