@@ -1,0 +1,7 @@
+pub mod Refusals
+pub mod Numbers
+pub mod Cell
+pub mod Ring
+pub mod Images
+pub mod Parsed
+pub mod Examples

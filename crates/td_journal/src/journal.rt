@@ -1,0 +1,252 @@
+//! A ring of cells.
+ghost use Rattle.std.specs.Prelude.{◌≡◌, ◌⊎◌, ◌↔◌, ◌+◌, ◌-◌, ◌^◌, ◌<◌, ◌≤◌, length, OnOk, IfOk, IfErr, IsErrOf};
+ghost use Rattle.td_disk.specs.Disk.{IsDurable, Rises};
+ghost use Rattle.td_gate.specs.CrashSafe.{CrashSafe, Unchanged};
+ghost use Rattle.td_gate.specs.Reading.{Each};
+ghost use Rattle.td_gate.specs.Region.{IsSettled, IsOpen, Puts};
+ghost use Rattle.td_journal.specs.Cell.{cell_of, ring_len, cell_bytes, FitsEntry};
+ghost use Rattle.td_journal.specs.Images.{Clears, IsGone};
+ghost use Rattle.td_journal.specs.Ring.{found, told_after};
+ghost use Rattle.td_journal.specs.Parsed.{found_by, IsDamage, Told, Refused};
+
+use crate::error::JournalError;
+use crate::numbers::floor_past;
+use crate::parse::submitted_by;
+use crate::payload::cell_payload;
+use crate::submitted::Submitted;
+use std::alloc::Global;
+use td_disk::Disk;
+use td_gate::Region;
+use td_gate::fields::u64_at;
+use td_stamp::Batch;
+
+/// `n` cells from the offset `at` on, each for a batch of at most `m` records. Epoch e stands in cell `e mod n`. The
+/// epochs up to `kept` may be overwritten.
+#[derive(Clone, Copy, Debug, PartialEq, Eq)]
+pub struct Journal {
+    pub at: u64,
+    pub m: u32,
+    pub n: u32,
+    pub kept: u64,
+}
+
+impl Journal {
+    /// From now on the epochs up to this one may be overwritten.
+    pub fn keep(&mut self, epoch: u64)
+        requires { self.old.kept ≤ epoch }
+        ensures { self.new ≡ record self.old { kept = epoch } }
+    {
+        self.kept = epoch;
+    }
+
+    /// The cell of an epoch.
+    pub fn cell_of(&self, epoch: u64) -> Region
+        requires cells { 0 < self.now.n }
+        requires records { self.now.m ≤ 65536 }
+        requires room { self.now.at + ring_len self.now.m self.now.n < 2 ^ 64 }
+        ensures region { result ≡ cell_of self.now epoch }
+        ensures within { result.at + result.len + 1 ≤ self.now.at + ring_len self.now.m self.now.n }
+    {
+        let len = 24 + 24 * u64::from(self.m);
+        Region {
+            at: self.at + epoch % u64::from(self.n) * (len + 1),
+            len,
+        }
+    }
+
+    /// What is written into the cell of an epoch for its request number (0 for none) and its batch, which has to have
+    /// at most `m` records. It refuses `Memory` alone.
+    pub fn payload(
+        &self,
+        alloc: Global,
+        epoch: u64,
+        request: u64,
+        batch: &Batch,
+    ) -> Result<Vec<u8>, JournalError>
+        requires records { self.now.m ≤ 65536 }
+        requires few { length batch.now ≤ self.now.m }
+        ensures ok { IfOk result (λ payload. payload.items ≡ cell_bytes self.now.m epoch request batch.now) }
+        ensures fits { IfOk result (λ _. Each FitsEntry batch.now) }
+        ensures err { IfErr result (λ e. e ≡ JournalError.Memory) }
+    {
+        Ok(cell_payload(alloc, self.m, epoch, request, batch)?)
+    }
+
+    /// Closes the cell of an epoch where it is open and bears that epoch, and writes nothing else. Of the cell it reads
+    /// the gate and the epoch's eight bytes. It refuses `Memory` before it has written, and `Device`.
+    pub fn clear<D: Disk>(
+        &self,
+        alloc: Global,
+        device: &mut D,
+        epoch: u64,
+    ) -> Result<(), JournalError>
+        requires cells { 0 < self.now.n }
+        requires records { self.now.m ≤ 65536 }
+        requires room { self.now.at + ring_len self.now.m self.now.n ≤ D.capacity device.old }
+        ensures refusals { IfErr result (λ e. (e ≡ JournalError.Memory) ⊎ (e ≡ JournalError.Device)) }
+        ensures device { IsErrOf result JournalError.Device → Rises (D.failures device.old) (D.failures device.new) }
+        ensures later { D.failures device.old ≤ D.failures device.new }
+        ensures size { D.capacity device.new ≡ D.capacity device.old }
+        ensures lawful { D.is_lawful device.old ↔ D.is_lawful device.new }
+        ensures crash_safe { D.is_lawful device.old → IsSettled (cell_of self.now epoch) (D.state device.old)
+            → CrashSafe (Clears self.now epoch) (D.state device.old) (D.state device.new) }
+        ensures unwritten { IsErrOf result JournalError.Memory → D.is_lawful device.old
+            → CrashSafe Unchanged (D.state device.old) (D.state device.new) }
+        ensures same { IsErrOf result JournalError.Memory → D.is_lawful device.old
+            → (D.state device.new).bytes ≡ (D.state device.old).bytes }
+        ensures durable { IfErr result (λ e. e ≡ JournalError.Memory) → D.is_lawful device.old
+            → IsDurable (D.state device.old) → IsDurable (D.state device.new) }
+        ensures gone { OnOk result (D.is_lawful device.old → IsSettled (cell_of self.now epoch) (D.state device.old)
+            → IsGone self.now epoch (D.state device.new)) }
+    {
+        if 1 << 63 <= epoch {
+            return Ok(());
+        }
+        let _size = device.size();
+        let cell = self.cell_of(epoch);
+        let Some(number) = cell.get_start(alloc, device, 8)? else {
+            return Ok(());
+        };
+        if u64_at(&number, 0) != epoch {
+            return Ok(());
+        }
+        cell.shut(device)?;
+        Ok(())
+    }
+
+    /// What the ring has for an epoch, where the epochs before it have this floor: what was submitted as it, or
+    /// nothing. It refuses `Damaged`, `Device` and `Memory`.
+    fn submitted_at<D: Disk>(
+        &self,
+        alloc: Global,
+        device: &mut D,
+        inputs: &[u8],
+        floor: Option<u64>,
+        epoch: u64,
+    ) -> Result<Option<Submitted>, JournalError>
+        requires cells { 0 < self.now.n }
+        requires records { self.now.m ≤ 65536 }
+        requires room { self.now.at + ring_len self.now.m self.now.n ≤ D.capacity device.old }
+        ensures found { IfOk result (λ s. D.is_lawful device.old → found inputs.now self.now (D.state device.old).bytes floor epoch ≡ found_by s) }
+        ensures refused { IfErr result (λ e. (e ≡ JournalError.Device) ⊎ ((e ≡ JournalError.Memory) ⊎ (D.is_lawful device.old
+            → IsDamage e (found inputs.now self.now (D.state device.old).bytes floor epoch)))) }
+        ensures device { IsErrOf result JournalError.Device → Rises (D.failures device.old) (D.failures device.new) }
+        ensures later { D.failures device.old ≤ D.failures device.new }
+        ensures size { D.capacity device.new ≡ D.capacity device.old }
+        ensures lawful { D.is_lawful device.old ↔ D.is_lawful device.new }
+        ensures same { D.is_lawful device.old → (D.state device.new).bytes ≡ (D.state device.old).bytes }
+        ensures durable { D.is_lawful device.old → IsDurable (D.state device.old) → IsDurable (D.state device.new) }
+        ensures crash_safe { D.is_lawful device.old → CrashSafe Unchanged (D.state device.old) (D.state device.new) }
+    {
+        if 1 << 63 <= epoch {
+            return Ok(None);
+        }
+        let _size = device.size();
+        let cell = self.cell_of(epoch);
+        let Some(payload) = cell.get(alloc, device)? else {
+            return Ok(None);
+        };
+        if u64_at(&payload, 0) != epoch {
+            return Ok(None);
+        }
+        match submitted_by(alloc, inputs, floor, self.m, &payload)? {
+            Some(submitted) => Ok(Some(submitted)),
+            None => Err(JournalError::Damaged((epoch % u64::from(self.n)) as u32)),
+        }
+    }
+
+    /// What was submitted as the epochs after a checkpoint's, as long as each stands in its cell: at most `n` epochs,
+    /// each with its request number. `inputs` are the numbers of the plan's inputs. `floor` is the greatest request
+    /// number up to the checkpoint, and `None` in version 1 of the format, which has no such numbers.
+    ///
+    /// A cell that is closed or bears another epoch ends the list, and no cell after it is read. It refuses
+    /// `Damaged(cell)` where a cell bears its epoch and is not valid: its count is above `m`, its zeros are not 0, a
+    /// record names no input or falls, or its request number is not 0 and not above the floor and those before it
+    /// (without a floor: not 0). Then `Device` and `Memory`.
+    pub fn read_from<D: Disk>(
+        &self,
+        alloc: Global,
+        device: &mut D,
+        inputs: &[u8],
+        checkpoint: u64,
+        floor: Option<u64>,
+    ) -> Result<Vec<Submitted>, JournalError>
+        requires cells { 0 < self.now.n }
+        requires few { self.now.n ≤ 65536 }
+        requires records { self.now.m ≤ 65536 }
+        requires room { self.now.at + ring_len self.now.m self.now.n ≤ D.capacity device.old }
+        requires small { checkpoint < 2 ^ 63 }
+        ensures told { IfOk result (λ w. D.is_lawful device.old → told_after inputs.now self.now (D.state device.old).bytes floor checkpoint ≡ Told w.items) }
+        ensures refused { IfErr result (λ e. (e ≡ JournalError.Device) ⊎ ((e ≡ JournalError.Memory) ⊎ (D.is_lawful device.old
+            → told_after inputs.now self.now (D.state device.old).bytes floor checkpoint ≡ Refused e))) }
+        ensures device { IsErrOf result JournalError.Device → Rises (D.failures device.old) (D.failures device.new) }
+        ensures later { D.failures device.old ≤ D.failures device.new }
+        ensures size { D.capacity device.new ≡ D.capacity device.old }
+        ensures lawful { D.is_lawful device.old ↔ D.is_lawful device.new }
+        ensures same { D.is_lawful device.old → (D.state device.new).bytes ≡ (D.state device.old).bytes }
+        ensures durable { D.is_lawful device.old → IsDurable (D.state device.old) → IsDurable (D.state device.new) }
+        ensures crash_safe { D.is_lawful device.old → CrashSafe Unchanged (D.state device.old) (D.state device.new) }
+    {
+        td_gate::laws::unchanged::<D>();
+        td_gate::laws::reads_in_turn::<D>();
+        let mut told = Vec::new(alloc);
+        let mut greatest = floor;
+        for i in 0..self.n {
+            let epoch = checkpoint + 1 + u64::from(i);
+            match self.submitted_at(alloc, device, inputs, greatest, epoch) {
+                Ok(Some(submitted)) => {
+                    greatest = floor_past(greatest, submitted.request);
+                    told.push(submitted)?;
+                }
+                Ok(None) => return Ok(told),
+                Err(refusal) => return Err(refusal),
+            }
+        }
+        Ok(told)
+    }
+
+    /// Puts an epoch's request number (0 for none) and batch into its cell. It refuses `Full` where as many epochs as
+    /// there are cells stand after the kept one, then `TooManyRecords` where the batch has more than `m`, then
+    /// `Memory`, and in these cases has not called the disk; then `Device`.
+    pub fn append<D: Disk>(
+        &self,
+        alloc: Global,
+        device: &mut D,
+        epoch: u64,
+        request: u64,
+        batch: &Batch,
+    ) -> Result<(), JournalError>
+        requires cells { 0 < self.now.n }
+        requires records { self.now.m ≤ 65536 }
+        requires room { self.now.at + ring_len self.now.m self.now.n ≤ D.capacity device.old }
+        requires later { self.now.kept < epoch }
+        requires small { epoch < 2 ^ 63 }
+        ensures full { IsErrOf result JournalError.Full ↔ (self.now.n < epoch - self.now.kept) }
+        ensures too_many { IsErrOf result JournalError.TooManyRecords ↔ ((epoch - self.now.kept ≤ self.now.n) × (self.now.m < length batch.now)) }
+        ensures refusals { IfErr result (λ e. (e ≡ JournalError.Full) ⊎ (e ≡ JournalError.TooManyRecords) ⊎ (e ≡ JournalError.Memory) ⊎ (e ≡ JournalError.Device)) }
+        ensures untouched { IfErr result (λ e. (e ≡ JournalError.Device) ⊎ (device.new ≡ device.old)) }
+        ensures device { IsErrOf result JournalError.Device → Rises (D.failures device.old) (D.failures device.new) }
+        ensures later { D.failures device.old ≤ D.failures device.new }
+        ensures size { D.capacity device.new ≡ D.capacity device.old }
+        ensures lawful { D.is_lawful device.old ↔ D.is_lawful device.new }
+        ensures few { OnOk result (length batch.now ≤ self.now.m) }
+
+        // Where it answers Ok or Device: each image since the start of the call, by the image before.
+        ensures crash_safe { D.is_lawful device.old → IsSettled (cell_of self.now epoch) (D.state device.old)
+            → CrashSafe (Puts (cell_of self.now epoch) (cell_bytes self.now.m epoch request batch.now)) (D.state device.old) (D.state device.new) }
+        ensures open { OnOk result (D.is_lawful device.old → IsSettled (cell_of self.now epoch) (D.state device.old)
+            → IsOpen (cell_of self.now epoch) (cell_bytes self.now.m epoch request batch.now) (D.state device.new)) }
+        ensures durable { OnOk result (D.is_lawful device.old → IsDurable (D.state device.new)) }
+    {
+        if u64::from(self.n) < epoch - self.kept {
+            return Err(JournalError::Full);
+        }
+        if (self.m as usize) < batch.len() {
+            return Err(JournalError::TooManyRecords);
+        }
+        let _size = device.size();
+        let payload = cell_payload(alloc, self.m, epoch, request, batch)?;
+        self.cell_of(epoch).put(device, &payload)?;
+        Ok(())
+    }
+}

@@ -1,0 +1,24 @@
+//! Request numbers.
+ghost use Rattle.std.specs.Prelude.{◌≡◌};
+ghost use Rattle.td_journal.specs.Numbers.{may_come, raised};
+
+/// Whether a cell may bear a request number after those of the epochs before it: any number 0, and in version 2 of the
+/// format, which gives a floor, one above it.
+pub(crate) fn is_allowed(floor: Option<u64>, request: u64) -> bool
+    ensures { result ≡ may_come floor request }
+{
+    match floor {
+        Some(greatest) => request == 0 || greatest < request,
+        None => request == 0,
+    }
+}
+
+/// The floor of the epochs after one with this number.
+pub(crate) fn floor_past(floor: Option<u64>, request: u64) -> Option<u64>
+    ensures { result ≡ raised floor request }
+{
+    match floor {
+        Some(greatest) => Some(greatest.max(request)),
+        None => None,
+    }
+}
