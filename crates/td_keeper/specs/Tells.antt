@@ -27,7 +27,7 @@ pub record Tells (plan : List Line) (head : Head) (side : ℕ) (s : Standing) (i
   pub text : TellsCanonical canonical image
   pub head_is : headed canonical plan image ≡ Ok head
   pub checkpoint : newest head.version (folds_of plan) (slots_of head.shape) image ≡ Ok (checkpoint_of side s)
-  pub submitted : told_after (inputs_of plan) (ring_of head.shape s.epoch) (floor_of head.version s.last) image s.epoch ≡ Ok s.submitted
+  pub submitted : told_after (inputs_of plan) (ring_of head.shape s.epoch) image (floor_of head.version s.last) s.epoch ≡ Ok s.submitted
 
 -- Each image of a disk does.
 abbrev pub EachTells : List Line → Head → ℕ → Standing → DiskState → Type 0

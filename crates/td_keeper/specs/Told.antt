@@ -43,7 +43,7 @@ with_batches c (Ok w) = Ok (standing_from c w)
 with_batches c (Err e) = Err (of_journal e)
 
 abbrev pub from_checkpoint : List Line → Head → List ℕ → Result Checkpoint SlotsError → Result Standing KeeperError
-from_checkpoint plan head image (Ok c) = with_batches c (told_after (inputs_of plan) (ring_of head.shape c.epoch) (floor_of head.version c.last) image c.epoch)
+from_checkpoint plan head image (Ok c) = with_batches c (told_after (inputs_of plan) (ring_of head.shape c.epoch) image (floor_of head.version c.last) c.epoch)
 from_checkpoint plan head image (Err e) = Err (of_slots e)
 
 -- what the slots and the ring tell

@@ -97,7 +97,7 @@ pub fn told_refused()
     ensures cells { (canonical : Bool) (plan : List Line) (head : AnyHead) (image : List ℕ) (at : AnyCheckpoint) (e : JournalError)
         → TellsCanonical canonical image → headed canonical plan image ≡ Ok head
         → newest head.version (folds_of plan) (slots_of head.shape) image ≡ Ok at
-        → told_after (inputs_of plan) (ring_of head.shape at.epoch) (floor_of head.version at.last) image at.epoch ≡ Err e
+        → told_after (inputs_of plan) (ring_of head.shape at.epoch) image (floor_of head.version at.last) at.epoch ≡ Err e
         → Told plan image (Err (of_journal e)) }
 {}
 

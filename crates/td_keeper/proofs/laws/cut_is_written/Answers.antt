@@ -23,14 +23,14 @@ returns-clause-begun c plan head side s old new k states tells cut put =
     let some = some_cells sizes (c.heads_tell.ensures.limits tells.canonical plan old head tells.head_is).0 in
     let text = c.heads_tell.ensures.text tells.canonical old new heads tells.text in
     let head_is = c.heads_tell.ensures.sizes tells.canonical plan old new heads ∙ tells.head_is in
-    let submitted = c.cells_tell.ensures (inputs_of plan) ring floor old new s.epoch s.submitted some cells tells.submitted in
+    let submitted = c.cells_tell.ensures (inputs_of plan) ring old new floor s.epoch s.submitted some cells tells.submitted in
     ⊎_elim
     (λ before. inl (record { canonical = tells.canonical; text = text; head_is = head_is; checkpoint = before; submitted = submitted }))
     (λ after. inr (record {
       canonical = tells.canonical; text = text; head_is = head_is;
       checkpoint = after ∙ ap made (after_cut s states side k cut.same);
-      submitted = subst (λ (f : Option ℕ). told_after (inputs_of plan) ring f new (s.epoch + k) ≡ Ok (drop k s.submitted)) (floor-after head.version s.last (take k s.submitted))
-          (c.checkpoint_goes_on.ensures (inputs_of plan) ring floor new s.epoch k s.submitted some cut.most submitted);
+      submitted = subst (λ (f : Option ℕ). told_after (inputs_of plan) ring new f (s.epoch + k) ≡ Ok (drop k s.submitted)) (floor-after head.version s.last (take k s.submitted))
+          (c.checkpoint_goes_on.ensures (inputs_of plan) ring new floor s.epoch k s.submitted some cut.most submitted);
     }))
     (c.other_is_put.ensures.begun head.version (folds_of plan) (slots_of sizes) old new (checkpoint_of side s) (s.epoch + k) last states tells.checkpoint cut.small cut.fit put)
 
@@ -53,7 +53,7 @@ returns-clause-done c plan head side s old new k states tells cut done =
       head_is = c.heads_tell.ensures.sizes tells.canonical plan old new heads ∙ tells.head_is;
       checkpoint = c.other_is_put.ensures.done head.version (folds_of plan) (slots_of sizes) old new (checkpoint_of side s) (s.epoch + k) last states tells.checkpoint cut.small cut.fit done
           ∙ ap made (after_cut s states side k cut.same);
-      submitted = subst (λ (f : Option ℕ). told_after (inputs_of plan) ring f new (s.epoch + k) ≡ Ok (drop k s.submitted)) (floor-after head.version s.last (take k s.submitted))
-          (c.checkpoint_goes_on.ensures (inputs_of plan) ring floor new s.epoch k s.submitted some cut.most
-          (c.cells_tell.ensures (inputs_of plan) ring floor old new s.epoch s.submitted some cells tells.submitted));
+      submitted = subst (λ (f : Option ℕ). told_after (inputs_of plan) ring new f (s.epoch + k) ≡ Ok (drop k s.submitted)) (floor-after head.version s.last (take k s.submitted))
+          (c.checkpoint_goes_on.ensures (inputs_of plan) ring new floor s.epoch k s.submitted some cut.most
+          (c.cells_tell.ensures (inputs_of plan) ring old new floor s.epoch s.submitted some cells tells.submitted));
     }

@@ -17,13 +17,13 @@ returns-clause-begun c plan head side s old new e tells room clears =
     let others = c.put_leaves_others.ensures in
     let heads = heads_by_cell others sizes [] old new s.epoch (suc e % sizes.n) put in
     let slots = slots_by_cell others sizes [] old new s.epoch (suc e % sizes.n) put in
-    let next : IsNext (inputs_of plan) ring floor old s.epoch s.submitted e = record { told = tells.submitted; room = room.room; epoch = room.epoch } in
+    let next : IsNext (inputs_of plan) ring old floor s.epoch s.submitted e = record { told = tells.submitted; room = room.room; epoch = room.epoch } in
     record {
       canonical = tells.canonical;
       text = c.heads_tell.ensures.text tells.canonical old new heads tells.text;
       head_is = c.heads_tell.ensures.sizes tells.canonical plan old new heads ∙ tells.head_is;
       checkpoint = c.slots_tell.ensures head.version (folds_of plan) (slots_of sizes) old new slots ∙ tells.checkpoint;
-      submitted = c.following_is_closed.ensures.begun (inputs_of plan) ring floor old new s.epoch e s.submitted next closes.0 closes.1;
+      submitted = c.following_is_closed.ensures.begun (inputs_of plan) ring old new floor s.epoch e s.submitted next closes.0 closes.1;
     }) clears
 
 pub returns-clause-done : goal.returns-clause-done
