@@ -1,0 +1,172 @@
+// Reading the heads of a disk.
+ghost use Rattle.std.specs.Prelude.{◌≡◌, ◌⊎◌, ◌↔◌, ◌+◌, ◌≤◌, length, IfOk, IfErr, IfSome, IsErrOf, Decides};
+ghost use Rattle.td_disk.specs.Disk.{IsDurable, Rises};
+ghost use Rattle.td_gate.specs.CrashSafe.{CrashSafe, Unchanged};
+ghost use Rattle.td_gate.specs.Region.{opened, HasLength};
+ghost use Rattle.td_head.specs.Head.{candidate, greater, fields_in, IsCanonical, IsHeaded};
+ghost use Rattle.td_head.specs.Layout.{head, size_of};
+ghost use Rattle.td_head.specs.Read.{Headed, Refused, IsFieldsTold, fields_of, chosen_of};
+
+use crate::error::HeadError;
+use crate::shape::Shape;
+use std::alloc::Global;
+use td_disk::Disk;
+use td_gate::Region;
+use td_gate::fields::{u32_at, u64_at};
+use td_plan::{Plan, PlanError};
+
+/// What the heads of a disk tell: the format's version (1 or 2), which head says so (0 for head A, 1 for head B), its
+/// generation (1 or more), and the shape of the disk.
+#[derive(Clone, Copy, Debug, PartialEq, Eq)]
+pub struct Head {
+    pub version: u32,
+    pub side: u8,
+    pub generation: u64,
+    pub shape: Shape,
+}
+
+/// Whether a text is the canonical one of a plan. It refuses `Memory` alone.
+fn is_canonical(alloc: Global, text: &[u8]) -> Result<bool, HeadError>
+    ensures ok { IfOk result (λ b. Decides b (IsCanonical text.now)) }
+    ensures refusals { IfErr result (λ e. e ≡ HeadError.Memory) }
+{
+    td_plan::laws::one_answer();
+    let Ok(spelled) = std::str::from_utf8(text) else {
+        return Ok(false);
+    };
+    match Plan::read(alloc, spelled) {
+        Ok(plan) => match plan.text() {
+            Ok(again) => Ok(again.as_bytes() == text),
+            Err(_) => Err(HeadError::Memory),
+        },
+        Err(refusal) => {
+            let PlanError::Memory = refusal else {
+                return Ok(false);
+            };
+            Err(HeadError::Memory)
+        }
+    }
+}
+
+/// What a head that counts tells for a plan, on a disk of this size.
+fn told(alloc: Global, plan: &Plan, size: u64, side: u8, payload: &[u8]) -> Result<Head, HeadError>
+    requires { length payload.now ≡ 4128 }
+    ensures told { IfOk result (λ h. IsFieldsTold plan.now size (fields_in side payload.now) (Headed h)) }
+    ensures fits { IfOk result (λ h. size_of h.shape ≤ size) }
+    ensures refused { IfErr result (λ e. (e ≡ HeadError.Memory) ⊎ IsFieldsTold plan.now size (fields_in side payload.now) (Refused e)) }
+{
+    td_plan::laws::one_answer();
+    let version = u32_at(payload, 4);
+    if version != 1 && version != 2 {
+        return Err(HeadError::Damaged);
+    }
+    let generation = u64_at(payload, 8);
+    if generation == 0 {
+        return Err(HeadError::Damaged);
+    }
+    let Some(shape) = Shape::new(u32_at(payload, 16), u32_at(payload, 20), u32_at(payload, 24)) else {
+        return Err(HeadError::Damaged);
+    };
+    let len = u32_at(payload, 28);
+    if 4096 < len {
+        return Err(HeadError::Damaged);
+    }
+    let text = &payload[32..32 + len as usize];
+    if !is_canonical(alloc, text)? {
+        return Err(HeadError::Damaged);
+    }
+    if size < shape.bytes() {
+        return Err(HeadError::Damaged);
+    }
+    let Ok(own) = plan.text() else {
+        return Err(HeadError::Memory);
+    };
+    if text == own.as_bytes() {
+        Ok(Head {
+            version,
+            side,
+            generation,
+            shape,
+        })
+    } else {
+        Err(HeadError::WrongPlan)
+    }
+}
+
+/// The payload of head A (side 0) or B (1), where it is open and begins as a head.
+fn counted<D: Disk>(alloc: Global, device: &mut D, side: u8) -> Result<Option<Vec<u8>>, HeadError>
+    requires which { side ≤ 1 }
+    requires room { 8258 ≤ D.capacity device.old }
+    ensures told { IfOk result (λ p. D.is_lawful device.old → candidate side (opened (head side) (D.state device.old).bytes) ≡ fields_of side p) }
+    ensures len { IfOk result (λ p. HasLength p 4128) }
+    ensures refusals { IfErr result (λ e. (e ≡ HeadError.Device) ⊎ (e ≡ HeadError.Memory)) }
+    ensures device { IsErrOf result HeadError.Device → Rises (D.failures device.old) (D.failures device.new) }
+    ensures later { D.failures device.old ≤ D.failures device.new }
+    ensures size { D.capacity device.new ≡ D.capacity device.old }
+    ensures lawful { D.is_lawful device.old ↔ D.is_lawful device.new }
+    ensures same { D.is_lawful device.old → (D.state device.new).bytes ≡ (D.state device.old).bytes }
+    ensures durable { D.is_lawful device.old → IsDurable (D.state device.old) → IsDurable (D.state device.new) }
+    ensures crash_safe { D.is_lawful device.old → CrashSafe Unchanged (D.state device.old) (D.state device.new) }
+{
+    let head = Region {
+        at: 4_129 * u64::from(side),
+        len: 4_128,
+    };
+    let Some(payload) = head.get(alloc, device)? else {
+        return Ok(None);
+    };
+    if payload.starts_with(b"TDFL") {
+        Ok(Some(payload))
+    } else {
+        Ok(None)
+    }
+}
+
+/// The payload with the greater generation, the first on a tie, and its side.
+fn later(first: Option<Vec<u8>>, second: Option<Vec<u8>>) -> Option<(u8, Vec<u8>)>
+    requires first { HasLength first 4128 }
+    requires second { HasLength second 4128 }
+    ensures greater { chosen_of result ≡ greater (fields_of 0 first) (fields_of 1 second) }
+    ensures len { IfSome result (λ c. length c.1.items ≡ 4128) }
+{
+    let Some(first) = first else {
+        return second.map(|second| (1, second));
+    };
+    let Some(second) = second else {
+        return Some((0, first));
+    };
+    if u64_at(&first, 8) < u64_at(&second, 8) {
+        Some((1, second))
+    } else {
+        Some((0, first))
+    }
+}
+
+/// The head that a disk has for a plan. It refuses `NotFormatted`, `Damaged`, `WrongPlan`, `Device` and `Memory`. It
+/// reads each head once.
+pub fn read<D: Disk>(alloc: Global, device: &mut D, plan: &Plan) -> Result<Head, HeadError>
+    ensures told { IfOk result (λ h. D.is_lawful device.old → IsHeaded plan.now (D.state device.old).bytes (Headed h)) }
+    ensures fits { IfOk result (λ h. size_of h.shape ≤ D.capacity device.old) }
+    ensures refused { IfErr result (λ e. (e ≡ HeadError.Device) ⊎ ((e ≡ HeadError.Memory) ⊎ (D.is_lawful device.old
+        → IsHeaded plan.now (D.state device.old).bytes (Refused e)))) }
+    ensures device { IsErrOf result HeadError.Device → Rises (D.failures device.old) (D.failures device.new) }
+    ensures later { D.failures device.old ≤ D.failures device.new }
+    ensures size { D.capacity device.new ≡ D.capacity device.old }
+    ensures lawful { D.is_lawful device.old ↔ D.is_lawful device.new }
+    ensures same { D.is_lawful device.old → (D.state device.new).bytes ≡ (D.state device.old).bytes }
+    ensures durable { D.is_lawful device.old → IsDurable (D.state device.old) → IsDurable (D.state device.new) }
+    ensures crash_safe { D.is_lawful device.old → CrashSafe Unchanged (D.state device.old) (D.state device.new) }
+{
+    td_plan::laws::one_answer();
+    td_gate::laws::reads_in_turn::<D>();
+    let size = device.size();
+    if size < 8_258 {
+        return Err(HeadError::NotFormatted);
+    }
+    let first = counted(alloc, device, 0)?;
+    let second = counted(alloc, device, 1)?;
+    let Some((side, payload)) = later(first, second) else {
+        return Err(HeadError::NotFormatted);
+    };
+    told(alloc, plan, size, side, &payload)
+}

@@ -1,0 +1,14 @@
+//! The head of a formatted disk: what a disk was formatted for. The one contract is that of [`read`]: the shape that the
+//! heads of the disk tell for a plan, or why they tell none.
+#![tactic(auto)]
+
+mod error;
+mod format;
+mod head;
+pub mod laws;
+mod shape;
+
+pub use error::HeadError;
+pub use format::{put_first, wipe};
+pub use head::{Head, read};
+pub use shape::Shape;

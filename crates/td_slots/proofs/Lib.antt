@@ -1,0 +1,5 @@
+mod ReadBack
+mod OtherPut
+mod Order
+mod Parsing
+mod Reading

@@ -1,0 +1,111 @@
+// What a slot's payload holds. It is looked at whole before any of its states is taken up.
+ghost use Rattle.std.specs.Prelude.{◌≡◌, ◌==◌, ◌+◌, ◌*◌, ◌^◌, ◌<◌, ◌≤◌, true, false, drop, length, IfSome, IfNone, IfOk};
+ghost use Rattle.std.specs.List.{list_any};
+ghost use Rattle.td_gate.specs.Fields.{front_in, number_at, signed_at};
+ghost use Rattle.td_slots.specs.Slot.{are_states as are_states_of, is_front as is_front_of, is_slot as is_slot_of, states_in, state_in, slot_len};
+ghost use Rattle.td_slots.specs.Parsed.{may_come_after};
+
+use std::alloc::Global;
+use td_gate::fields::{i64_at, u32_at, u64_at};
+use td_stamp::{StampError, State, States};
+
+/// The fold of this number, if it is one of them.
+fn named(folds: &[u8], number: u64) -> Option<u8>
+    ensures some { IfSome result (λ fold. fold ≡ number) }
+    ensures named { IfSome result (λ fold. list_any (λ v. v == number) folds.now ≡ true) }
+    ensures none { IfNone result (list_any (λ v. v == number) folds.now ≡ false) }
+{
+    for fold in folds {
+        if u64::from(*fold) == number {
+            return Some(*fold);
+        }
+    }
+    None
+}
+
+/// Where the state at a place of a payload is kept, if by a fold.
+fn kept_at(folds: &[u8], payload: &[u8], at: usize) -> Option<(u8, u64)>
+    requires { at + 32 ≤ length payload.now }
+    ensures some { IfSome result (λ place. place ≡ (state_in (drop at payload.now)).0) }
+    ensures named { IfSome result (λ place. list_any (λ v. v == (state_in (drop at payload.now)).0.0) folds.now ≡ true) }
+    ensures none { IfNone result (list_any (λ v. v == (state_in (drop at payload.now)).0.0) folds.now ≡ false) }
+{
+    match named(folds, u64_at(payload, at)) {
+        Some(fold) => Some((fold, u64_at(payload, at + 8))),
+        None => None,
+    }
+}
+
+/// The state at a place of a payload.
+fn state_at(payload: &[u8], at: usize) -> State
+    requires { at + 32 ≤ length payload.now }
+    ensures { result ≡ (state_in (drop at payload.now)).1 }
+{
+    State {
+        a: i64_at(payload, at + 16),
+        b: i64_at(payload, at + 24),
+    }
+}
+
+/// Whether a state kept there may come after the last one.
+fn may_come(last: Option<(u8, u64)>, place: (u8, u64)) -> bool
+    ensures { result ≡ may_come_after last place }
+{
+    match last {
+        Some(last) => last.cmp(&place).is_lt(),
+        None => true,
+    }
+}
+
+/// Whether what stands before the states is such as a slot for `k` of them has.
+fn is_front(version: u32, k: u32, payload: &[u8]) -> bool
+    requires { 24 ≤ length payload.now }
+    ensures { result ≡ is_front_of version k (front_in payload.now) }
+{
+    let is_epoch = u64_at(payload, 0) < 1 << 63;
+    let is_last = 2 <= version || u64_at(payload, 8) == 0;
+    let is_count = u32_at(payload, 20) == 0 && u32_at(payload, 16) <= k;
+    is_epoch && (is_last && is_count)
+}
+
+/// Whether the counted states are kept by folds and rise strictly by vertex and key.
+fn are_states(folds: &[u8], payload: &[u8]) -> bool
+    requires { slot_len (front_in payload.now).count ≤ length payload.now }
+    ensures { result ≡ are_states_of folds.now (states_in payload.now) }
+{
+    let mut last = None;
+    for i in 0..u32_at(payload, 16) {
+        let Some(place) = kept_at(folds, payload, 24 + 32 * i as usize) else {
+            return false;
+        };
+        if !may_come(last, place) {
+            return false;
+        }
+        last = Some(place);
+    }
+    true
+}
+
+/// Whether a payload is that of the states after an epoch, in a slot for `k` of them.
+pub(crate) fn is_slot(version: u32, folds: &[u8], k: u32, payload: &[u8]) -> bool
+    requires { length payload.now ≡ slot_len k }
+    ensures { result ≡ is_slot_of version folds.now k payload.now }
+{
+    is_front(version, k, payload) && are_states(folds, payload)
+}
+
+/// The states of a payload that is valid.
+pub(crate) fn states_of(alloc: Global, folds: &[u8], payload: &[u8]) -> Result<States, StampError>
+    requires room { slot_len (front_in payload.now).count ≤ length payload.now }
+    requires valid { are_states_of folds.now (states_in payload.now) ≡ true }
+    ensures { IfOk result (λ states. states ≡ states_in payload.now) }
+{
+    let mut states = States::new(alloc);
+    for i in 0..u32_at(payload, 16) {
+        let at = 24 + 32 * i as usize;
+        if let Some(place) = kept_at(folds, payload, at) {
+            states.set(place.0, place.1, state_at(payload, at))?;
+        }
+    }
+    Ok(states)
+}

@@ -1,0 +1,192 @@
+// Two slots.
+ghost use Rattle.std.specs.Prelude.{◌≡◌, ◌⊎◌, ◌↔◌, ◌+◌, ◌-◌, ◌*◌, ◌^◌, ◌<◌, ◌≤◌, ℕ, length, true, OnOk, IfOk, IfErr, IsErrOf};
+ghost use Rattle.td_disk.specs.Disk.{IsDurable, Rises};
+ghost use Rattle.td_gate.specs.CrashSafe.{CrashSafe, Unchanged};
+ghost use Rattle.td_gate.specs.Reading.{Each};
+ghost use Rattle.td_gate.specs.Region.{opened, payload_of, HasLength, IsSettled, IsOpen, Puts};
+ghost use Rattle.td_slots.specs.Slot.{slot, slot_len, slot_bytes, is_last, FitsState};
+ghost use Rattle.td_slots.specs.Newest.{newest};
+ghost use Rattle.td_slots.specs.Parsed.{newer_of, chosen_of, AtLeast, IsValid, IsDamaged, Told, Refused};
+
+use crate::error::SlotsError;
+use crate::parse::{is_slot, states_of};
+use crate::payload::slot_payload;
+use std::alloc::Global;
+use td_disk::Disk;
+use td_gate::Region;
+use td_gate::fields::u64_at;
+use td_stamp::States;
+
+/// A checkpoint: the slot in which it stands, its epoch, the greatest request number of the epochs up to it (0 for
+/// none), and the kept states after it.
+#[derive(Debug, Drop)]
+pub struct Checkpoint {
+    pub slot: u8,
+    pub epoch: u64,
+    pub last: u64,
+    pub states: States,
+}
+
+/// Two slots from the offset `at` on, each for at most `k` states.
+#[derive(Clone, Copy, Debug, PartialEq, Eq)]
+pub struct Slots {
+    pub at: u64,
+    pub k: u32,
+}
+
+/// The payload with the greater epoch, the first on a tie, and the slot in which it stands.
+fn newer(first: Option<Vec<u8>>, second: Option<Vec<u8>>) -> Option<(u8, Vec<u8>)>
+    requires first { AtLeast 24 first }
+    requires second { AtLeast 24 second }
+    ensures { chosen_of result ≡ newer_of (payload_of first) (payload_of second) }
+{
+    let Some(first) = first else {
+        return second.map(|second| (1, second));
+    };
+    let Some(second) = second else {
+        return Some((0, first));
+    };
+    if u64_at(&first, 0) < u64_at(&second, 0) {
+        Some((1, second))
+    } else {
+        Some((0, first))
+    }
+}
+
+impl Slots {
+    /// A slot.
+    pub(crate) fn slot(&self, side: u8) -> Region
+        requires which { side ≤ 1 }
+        requires limit { self.now.k ≤ 1048576 }
+        requires room { self.now.at + 2 * (slot_len self.now.k + 1) < 2 ^ 64 }
+        ensures region { result ≡ slot self.now side }
+        ensures within { result.at + result.len + 1 ≤ self.now.at + 2 * (slot_len self.now.k + 1) }
+    {
+        let len = 24 + 32 * u64::from(self.k);
+        Region {
+            at: self.at + u64::from(side) * (len + 1),
+            len,
+        }
+    }
+
+    /// Puts the states after an epoch, and the greatest request number of the epochs up to it (0 for none), into the
+    /// slot that is not the newest. It refuses `TooManyKeys` where there are more states than a slot holds, then
+    /// `Memory`, and in both cases has written nothing; then `Device`.
+    pub fn write<D: Disk>(
+        &self,
+        alloc: Global,
+        device: &mut D,
+        newest: u8,
+        epoch: u64,
+        last: u64,
+        states: &States,
+    ) -> Result<(), SlotsError>
+        requires which { newest ≤ 1 }
+        requires limit { self.now.k ≤ 1048576 }
+        requires room { self.now.at + 2 * (slot_len self.now.k + 1) ≤ D.capacity device.old }
+        requires small { epoch < 2 ^ 63 }
+        ensures too_many { IsErrOf result SlotsError.TooManyKeys ↔ (self.now.k < length states.now) }
+        ensures refusals { IfErr result (λ e. (e ≡ SlotsError.TooManyKeys) ⊎ (e ≡ SlotsError.Memory) ⊎ (e ≡ SlotsError.Device)) }
+        ensures untouched { IfErr result (λ e. (e ≡ SlotsError.Device) ⊎ (device.new ≡ device.old)) }
+        ensures device { IsErrOf result SlotsError.Device → Rises (D.failures device.old) (D.failures device.new) }
+        ensures later { D.failures device.old ≤ D.failures device.new }
+        ensures size { D.capacity device.new ≡ D.capacity device.old }
+        ensures lawful { D.is_lawful device.old ↔ D.is_lawful device.new }
+        ensures few { OnOk result (length states.now ≤ self.now.k) }
+        ensures fits { OnOk result (Each FitsState states.now) }
+        ensures fits_too { IsErrOf result SlotsError.Device → Each FitsState states.now }
+
+        // Where it answers Ok or Device: each image since the start of the call, by the image before.
+        ensures crash_safe { D.is_lawful device.old → IsSettled (slot self.now (1 - newest)) (D.state device.old)
+            → CrashSafe (Puts (slot self.now (1 - newest)) (slot_bytes self.now.k epoch last states.now)) (D.state device.old) (D.state device.new) }
+        ensures open { OnOk result (D.is_lawful device.old → IsSettled (slot self.now (1 - newest)) (D.state device.old)
+            → IsOpen (slot self.now (1 - newest)) (slot_bytes self.now.k epoch last states.now) (D.state device.new)) }
+        ensures durable { OnOk result (D.is_lawful device.old → IsDurable (D.state device.new)) }
+    {
+        if (self.k as usize) < states.len() {
+            return Err(SlotsError::TooManyKeys);
+        }
+        let _size = device.size();
+        let payload = slot_payload(alloc, self.k, epoch, last, states)?;
+        self.slot(1 - newest).put(device, &payload)?;
+        Ok(())
+    }
+
+    /// The payload of a slot, where it is open. It refuses `Damaged` where that is open and not valid, `Device` and
+    /// `Memory`.
+    fn valid_payload<D: Disk>(
+        &self,
+        alloc: Global,
+        device: &mut D,
+        version: u32,
+        folds: &[u8],
+        side: u8,
+    ) -> Result<Option<Vec<u8>>, SlotsError>
+        requires which { side ≤ 1 }
+        requires limit { self.now.k ≤ 1048576 }
+        requires room { self.now.at + 2 * (slot_len self.now.k + 1) ≤ D.capacity device.old }
+        ensures found { IfOk result (λ p. D.is_lawful device.old → payload_of p ≡ opened (slot self.now side) (D.state device.old).bytes) }
+        ensures valid { IfOk result (λ p. IsValid version folds.now self.now.k p) }
+        ensures len { IfOk result (λ p. HasLength p (slot_len self.now.k)) }
+        ensures refused { IfErr result (λ e. (e ≡ SlotsError.Device) ⊎ ((e ≡ SlotsError.Memory) ⊎ (D.is_lawful device.old
+            → IsDamaged version folds.now self.now.k side (opened (slot self.now side) (D.state device.old).bytes) e))) }
+        ensures device { IsErrOf result SlotsError.Device → Rises (D.failures device.old) (D.failures device.new) }
+        ensures later { D.failures device.old ≤ D.failures device.new }
+        ensures size { D.capacity device.new ≡ D.capacity device.old }
+        ensures lawful { D.is_lawful device.old ↔ D.is_lawful device.new }
+        ensures same { D.is_lawful device.old → (D.state device.new).bytes ≡ (D.state device.old).bytes }
+        ensures durable { D.is_lawful device.old → IsDurable (D.state device.old) → IsDurable (D.state device.new) }
+        ensures crash_safe { D.is_lawful device.old → CrashSafe Unchanged (D.state device.old) (D.state device.new) }
+    {
+        let _size = device.size();
+        let Some(payload) = self.slot(side).get(alloc, device)? else {
+            return Ok(None);
+        };
+        if is_slot(version, folds, self.k, &payload) {
+            Ok(Some(payload))
+        } else {
+            Err(SlotsError::Damaged(side))
+        }
+    }
+
+    /// The newest checkpoint: that of the slot with the greater epoch, the first on a tie. It refuses `Damaged` of the
+    /// lowest slot that is open and holds no states of these folds (before version 2 also where it has a request
+    /// number), `NoSlot` where none is open, `Device` and `Memory`. It reads each slot once, and takes up the states of
+    /// the newest alone.
+    pub fn newest<D: Disk>(
+        &self,
+        alloc: Global,
+        device: &mut D,
+        version: u32,
+        folds: &[u8],
+    ) -> Result<Checkpoint, SlotsError>
+        requires limit { self.now.k ≤ 1048576 }
+        requires room { self.now.at + 2 * (slot_len self.now.k + 1) ≤ D.capacity device.old }
+        ensures told { IfOk result (λ c. D.is_lawful device.old → newest version folds.now self.now (D.state device.old).bytes ≡ Told c) }
+        ensures refused { IfErr result (λ e. (e ≡ SlotsError.Device) ⊎ ((e ≡ SlotsError.Memory) ⊎ (D.is_lawful device.old
+            → newest version folds.now self.now (D.state device.old).bytes ≡ Refused e))) }
+        ensures slot { IfOk result (λ c. c.slot ≤ 1) }
+        ensures small { IfOk result (λ c. c.epoch < 2 ^ 63) }
+        ensures last { IfOk result (λ c. is_last version c.last ≡ true) }
+        ensures device { IsErrOf result SlotsError.Device → Rises (D.failures device.old) (D.failures device.new) }
+        ensures later { D.failures device.old ≤ D.failures device.new }
+        ensures size { D.capacity device.new ≡ D.capacity device.old }
+        ensures lawful { D.is_lawful device.old ↔ D.is_lawful device.new }
+        ensures same { D.is_lawful device.old → (D.state device.new).bytes ≡ (D.state device.old).bytes }
+        ensures durable { D.is_lawful device.old → IsDurable (D.state device.old) → IsDurable (D.state device.new) }
+        ensures crash_safe { D.is_lawful device.old → CrashSafe Unchanged (D.state device.old) (D.state device.new) }
+    {
+        td_gate::laws::reads_in_turn::<D>();
+        let first = self.valid_payload(alloc, device, version, folds, 0)?;
+        let second = self.valid_payload(alloc, device, version, folds, 1)?;
+        let Some((slot, payload)) = newer(first, second) else {
+            return Err(SlotsError::NoSlot);
+        };
+        Ok(Checkpoint {
+            slot,
+            epoch: u64_at(&payload, 0),
+            last: u64_at(&payload, 8),
+            states: states_of(alloc, folds, &payload)?,
+        })
+    }
+}
