@@ -27,7 +27,7 @@ use Rattle.td_keeper.specs.declared.error.KeeperError.{KeeperError}
 use Rattle.td_keeper.specs.Standing.{Standing, cut_at}
 use Rattle.td_keeper.specs.Told.{Told, told, told_in, with_batches, from_checkpoint, from_head, inputs_of, folds_of, slots_of, ring_of, floor_of}
 use Rattle.td_keeper.specs.Tells.{Tells, checkpoint_of, side_after, IsCut}
-use Rattle.td_keeper.proofs.Parts.{heads_slots, heads_cells, slots_cells}
+use Rattle.td_keeper.proofs.Places.{heads_slots, heads_cells, slots_cells}
 
 pub turned : (r s : Region) → Apart r s → Apart s r
 turned r s apart = ⊎_elim (λ low. inr low) (λ high. inl high) apart

@@ -1,6 +1,6 @@
 mod Requests
 mod Composes
-mod Parts
+mod Places
 mod Crash
 mod Moments
 mod Kept

@@ -3,11 +3,12 @@ ghost use Rattle.std.specs.Prelude.{◌≡◌};
 ghost use Rattle.td_keeper.specs.Refusals.{number_of, of_head, of_slots, of_journal};
 ghost use Rattle.td_keeper.specs.declared.error.KeeperError.TheVariants.{Memory as OutOfMemory, Device as DeviceFailed};
 
-use std::alloc::AllocError;
+use std::alloc::{AllocError, AllocFailed};
 use td_disk::Fault;
 use td_head::HeadError;
 use td_journal::JournalError;
 use td_slots::SlotsError;
+use td_stamp::StampError;
 use thiserror::Error;
 
 /// A part of a disk.
@@ -110,6 +111,22 @@ impl From<AllocError> for KeeperError {
     ghost from_gives = { λ _ e. e ≡ OutOfMemory };
 
     fn from(_error: AllocError) -> KeeperError {
+        KeeperError::Memory
+    }
+}
+
+impl<T: Drop> From<AllocFailed<T>> for KeeperError {
+    ghost from_gives = { λ _ e. e ≡ OutOfMemory };
+
+    fn from(_failed: AllocFailed<T>) -> KeeperError {
+        KeeperError::Memory
+    }
+}
+
+impl From<StampError> for KeeperError {
+    ghost from_gives = { λ _ e. e ≡ OutOfMemory };
+
+    fn from(_error: StampError) -> KeeperError {
         KeeperError::Memory
     }
 }

@@ -3,7 +3,7 @@ ghost use Rattle.std.specs.Prelude.{◌≡◌, ◌⊎◌, ◌↔◌, ◌≤◌, 
 ghost use Rattle.td_disk.specs.Disk.{IsDurable, Rises};
 ghost use Rattle.td_gate.specs.CrashSafe.{CrashSafe, Unchanged};
 ghost use Rattle.td_keeper.specs.Told.{Told, inputs_of, folds_of};
-ghost use Rattle.td_keeper.specs.Tells.{Tells};
+ghost use Rattle.td_keeper.specs.Tells.{Tells, Keeps};
 ghost use Rattle.td_keeper.specs.Read.{standing_of, Refused};
 
 use crate::error::KeeperError;
@@ -57,6 +57,7 @@ pub fn read_parts<D: Disk>(alloc: Global, device: &mut D, plan: &Plan) -> Result
     ensures size { D.capacity device.new ≡ D.capacity device.old }
     ensures lawful { D.is_lawful device.old ↔ D.is_lawful device.new }
     ensures same { D.is_lawful device.old → (D.state device.new).bytes ≡ (D.state device.old).bytes }
+    ensures durable { D.is_lawful device.old → IsDurable (D.state device.old) → IsDurable (D.state device.new) }
     ensures crash_safe { D.is_lawful device.old → CrashSafe Unchanged (D.state device.old) (D.state device.new) }
 {
     laws::told_refused();
@@ -83,4 +84,30 @@ pub fn read_parts<D: Disk>(alloc: Global, device: &mut D, plan: &Plan) -> Result
         checkpoint,
         submitted,
     })
+}
+
+/// Syncs a disk, and gives what its keeper has in memory: a copy of the plan, and what the disk tells for it. It refuses as
+/// `read_parts` does.
+pub(crate) fn recover_device<D: Disk>(
+    alloc: Global,
+    device: &mut D,
+    plan: &Plan,
+) -> Result<(Plan, Recovered), KeeperError>
+    ensures size { D.capacity device.new ≡ D.capacity device.old }
+    ensures lawful { D.is_lawful device.old ↔ D.is_lawful device.new }
+    ensures plan { IfOk result (λ r. r.0 ≡ plan.now) }
+    ensures kept { IfOk result (λ r. D.is_lawful device.old → Keeps plan.now r.1.head r.1.checkpoint.slot (standing_of r.1) (D.state device.new)) }
+    ensures refused { IfErr result (λ e. (e ≡ KeeperError.Device) ⊎ ((e ≡ KeeperError.Memory) ⊎ (D.is_lawful device.old
+        → IsDurable (D.state device.new) × Told plan.now (D.state device.new).bytes (Refused e)))) }
+    ensures device { IsErrOf result KeeperError.Device → Rises (D.failures device.old) (D.failures device.new) }
+    ensures crash_safe { D.is_lawful device.old → CrashSafe Unchanged (D.state device.old) (D.state device.new) }
+{
+    td_gate::laws::unchanged::<D>();
+    td_gate::laws::reads_in_turn::<D>();
+    device.sync()?;
+    let recovered = read_parts(alloc, device, plan)?;
+    let Ok(copy) = plan.copy() else {
+        return Err(KeeperError::Memory);
+    };
+    Ok((copy, recovered))
 }
