@@ -1,0 +1,7 @@
+mod Same
+mod ReadBack
+mod First
+mod Zeros
+mod Ascii
+mod Canonical
+mod Told

@@ -1,5 +1,5 @@
 -- What the heads of a disk tell.
-use Rattle.std.specs.Prelude.{◌≡◌, ℕ, ◌+◌, ◌-◌, Bool, true, false, ◌&&◌, ◌||◌, ◌==◌, nat_lt, nat_le, List, [], ◌∷◌, ◌++◌, length, drop, take, replicate, codes, bytes_eq, Option, Some, None, Result, Ok, Err, Decides}
+use Rattle.std.specs.Prelude.{◌≡◌, ℕ, ◌-◌, Bool, true, false, ◌&&◌, ◌||◌, ◌==◌, nat_lt, nat_le, List, [], ◌++◌, length, drop, take, replicate, codes, bytes_eq, Option, Some, None, Result, Ok, Err, Decides}
 use Rattle.td_gate.specs.Fields.{number_bytes, number_at}
 use Rattle.td_gate.specs.Region.{opened}
 use Rattle.td_plan.specs.Lines.{Line, text_of}

@@ -1,12 +1,12 @@
-//! The first head of a disk.
-ghost use Rattle.std.specs.Prelude.{◌≡◌, ◌⊎◌, ◌↔◌, ◌≤◌, length, OnOk, OnErr, IfOk, IfErr, IsErrOf};
-ghost use Rattle.td_disk.specs.Disk.{IsDurable, Rises};
+// What makes a disk a formatted one: zeros over all its parts, and in the end its first head.
+ghost use Rattle.std.specs.Prelude.{◌≡◌, ◌≢◌, ◌⊎◌, ◌↔◌, ◌+◌, ◌≤◌, false, length, slice_index, OnOk, OnErr, IfOk, IfErr, IsErrOf};
+ghost use Rattle.td_disk.specs.Disk.{CountsFailures, IsDurable, Rises, SameOutside};
 ghost use Rattle.td_gate.specs.CrashSafe.{CrashSafe};
-ghost use Rattle.td_gate.specs.Region.{IsSettled, IsOpen, Puts};
+ghost use Rattle.td_gate.specs.Region.{gate_of, IsSettled, IsOpen, Puts};
 ghost use Rattle.td_plan.specs.Lines.{text_of};
 ghost use Rattle.td_head.specs.Head.{head_bytes};
-ghost use Rattle.td_head.specs.Layout.{head_a, size_of};
 ghost use Rattle.td_head.specs.Images.{IsZero};
+ghost use Rattle.td_head.specs.Layout.{head_a, head_b, size_of};
 
 use crate::error::HeadError;
 use crate::shape::Shape;
@@ -19,7 +19,53 @@ use td_plan::Plan;
 /// The version of the format that is written.
 const VERSION: u32 = 2;
 
-/// Writes zeros over all parts of a disk of this shape. It refuses `Device` alone.
+/// The byte of a gate that is open.
+const OPEN: u8 = 0xA5;
+
+/// Writes 00 to a gate that reads open, without a sync, and answers whether it did.
+fn write_closed<D: Disk>(device: &mut D, gate: u64) -> Result<bool, Fault>
+    requires { gate + 1 ≤ D.capacity device.old }
+    ensures cause { CountsFailures result (D.failures device.old) (D.failures device.new) }
+    ensures size { D.capacity device.new ≡ D.capacity device.old }
+    ensures lawful { D.is_lawful device.old ↔ D.is_lawful device.new }
+    ensures closed { OnOk result (D.is_lawful device.old → slice_index (D.state device.new).bytes gate ≢ 0xA5) }
+    ensures others { OnOk result (D.is_lawful device.old
+        → SameOutside gate 1 (D.state device.old).bytes (D.state device.new).bytes) }
+    ensures durable { IfOk result (λ is_written. is_written ≡ false
+        → D.is_lawful device.old → IsDurable (D.state device.old) → IsDurable (D.state device.new)) }
+{
+    let mut byte = [0];
+    device.read(gate, &mut byte)?;
+    if byte[0] == OPEN {
+        device.write(gate, &[0])?;
+        Ok(true)
+    } else {
+        Ok(false)
+    }
+}
+
+/// Closes the gates of both heads, where they read open, and syncs where it closed one.
+fn close_heads<D: Disk>(device: &mut D) -> Result<(), Fault>
+    requires { 8258 ≤ D.capacity device.old }
+    ensures cause { CountsFailures result (D.failures device.old) (D.failures device.new) }
+    ensures size { D.capacity device.new ≡ D.capacity device.old }
+    ensures lawful { D.is_lawful device.old ↔ D.is_lawful device.new }
+    ensures first { OnOk result (D.is_lawful device.old → gate_of head_a (D.state device.new).bytes ≢ 0xA5) }
+    ensures second { OnOk result (D.is_lawful device.old → gate_of head_b (D.state device.new).bytes ≢ 0xA5) }
+    ensures others { OnOk result (D.is_lawful device.old
+        → SameOutside 0 8258 (D.state device.old).bytes (D.state device.new).bytes) }
+    ensures durable { OnOk result (D.is_lawful device.old → IsDurable (D.state device.old) → IsDurable (D.state device.new)) }
+{
+    let is_first = write_closed(device, 4_128)?;
+    let is_second = write_closed(device, 8_257)?;
+    if is_first || is_second {
+        device.sync()?;
+    }
+    Ok(())
+}
+
+/// Takes a disk of this shape back to zeros: closes the gates of both heads that read open (with a sync where it closed
+/// one), then writes zeros over all parts, and syncs. It refuses `Device` alone.
 pub fn wipe<D: Disk>(device: &mut D, shape: Shape) -> Result<(), Fault>
     requires { size_of shape ≤ D.capacity device.old }
     ensures device { OnErr result (Rises (D.failures device.old) (D.failures device.new)) }
@@ -27,11 +73,14 @@ pub fn wipe<D: Disk>(device: &mut D, shape: Shape) -> Result<(), Fault>
     ensures size { D.capacity device.new ≡ D.capacity device.old }
     ensures lawful { D.is_lawful device.old ↔ D.is_lawful device.new }
     ensures zero { OnOk result (D.is_lawful device.old → IsZero (size_of shape) (D.state device.new).bytes) }
+    ensures others { OnOk result (D.is_lawful device.old
+        → SameOutside 0 (size_of shape) (D.state device.old).bytes (D.state device.new).bytes) }
     ensures durable { OnOk result (D.is_lawful device.old → IsDurable (D.state device.new)) }
 {
-    let zeros = [0; 4096];
     let bytes = shape.bytes();
     let _size = device.size();
+    close_heads(device)?;
+    let zeros = [0; 4096];
     for i in 0..bytes / 4096 {
         device.write(4096 * i, &zeros)?;
     }
@@ -59,7 +108,12 @@ fn head_payload(alloc: Global, text: &str, shape: Shape) -> Result<Vec<u8>, Allo
 
 /// Puts the head for a plan and a shape into the first place. It refuses `Memory`, and then has not called the disk;
 /// then `Device`.
-pub fn put_first<D: Disk>(alloc: Global, device: &mut D, plan: &Plan, shape: Shape) -> Result<(), HeadError>
+pub fn put_first<D: Disk>(
+    alloc: Global,
+    device: &mut D,
+    plan: &Plan,
+    shape: Shape,
+) -> Result<(), HeadError>
     requires room { size_of shape ≤ D.capacity device.old }
     ensures refusals { IfErr result (λ e. (e ≡ HeadError.Memory) ⊎ (e ≡ HeadError.Device)) }
     ensures untouched { IfErr result (λ e. (e ≡ HeadError.Device) ⊎ (device.new ≡ device.old)) }

@@ -3,7 +3,7 @@ ghost use Rattle.std.specs.Prelude.{◌≡◌, ◌⊎◌, ◌↔◌, ◌+◌, �
 ghost use Rattle.td_disk.specs.Disk.{IsDurable, Rises};
 ghost use Rattle.td_gate.specs.CrashSafe.{CrashSafe, Unchanged};
 ghost use Rattle.td_gate.specs.Region.{opened, HasLength};
-ghost use Rattle.td_head.specs.Head.{candidate, greater, fields_in, IsCanonical, IsHeaded};
+ghost use Rattle.td_head.specs.Head.{candidate, greater, fields_in, is_version, IsCanonical, IsHeaded};
 ghost use Rattle.td_head.specs.Layout.{head, size_of};
 ghost use Rattle.td_head.specs.Read.{Headed, Refused, IsFieldsTold, fields_of, chosen_of};
 
@@ -48,6 +48,13 @@ fn is_canonical(alloc: Global, text: &[u8]) -> Result<bool, HeadError>
     }
 }
 
+/// Whether a disk of this version can be read.
+fn can_read(version: u32) -> bool
+    ensures { result ≡ is_version version }
+{
+    version == 1 || version == 2
+}
+
 /// What a head that counts tells for a plan, on a disk of this size.
 fn told(alloc: Global, plan: &Plan, size: u64, side: u8, payload: &[u8]) -> Result<Head, HeadError>
     requires { length payload.now ≡ 4128 }
@@ -57,14 +64,18 @@ fn told(alloc: Global, plan: &Plan, size: u64, side: u8, payload: &[u8]) -> Resu
 {
     td_plan::laws::one_answer();
     let version = u32_at(payload, 4);
-    if version != 1 && version != 2 {
+    if !can_read(version) {
         return Err(HeadError::Damaged);
     }
     let generation = u64_at(payload, 8);
     if generation == 0 {
         return Err(HeadError::Damaged);
     }
-    let Some(shape) = Shape::new(u32_at(payload, 16), u32_at(payload, 20), u32_at(payload, 24)) else {
+    let Some(shape) = Shape::new(
+        u32_at(payload, 16),
+        u32_at(payload, 20),
+        u32_at(payload, 24),
+    ) else {
         return Err(HeadError::Damaged);
     };
     let len = u32_at(payload, 28);

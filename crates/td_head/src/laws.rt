@@ -33,7 +33,7 @@ pub fn heads_read_back()
     ensures fields { (side version generation : ℕ) (sizes : Sizes) (text : List ℕ)
         → version < 2 ^ 32 → generation < 2 ^ 64 → is_shape sizes ≡ true → length text ≤ 4096
         → candidate side (Some (head_bytes version generation sizes text))
-            ≡ Some (record { side = side; version = version; generation = generation; sizes = sizes; text_len = length text; text = text }) }
+        ≡ Some (record { side = side; version = version; generation = generation; sizes = sizes; text_len = length text; text = text }) }
 {}
 
 /// Heads as a format leaves them tell version 2, head A, generation 1 and the shape.

@@ -1,5 +1,5 @@
 -- What a put into the slot beside the newest makes of the newest.
-use Rattle.std.proofs.Common.{◌≡◌, ◌⊎◌, inl, inr, ⊎_elim, ℕ, zero, suc, ◌+◌, ◌*◌, ◌-◌, ◌<◌, ◌≤◌, ◌^◌, Bool, true, false, nat_lt, List, Option, Some, None, refl, sym, ap, ◌∙◌, subst, arith, Result, Ok, Err}
+use Rattle.std.proofs.Common.{◌≡◌, ◌⊎◌, inl, inr, ⊎_elim, ℕ, ◌-◌, ◌<◌, ◌^◌, Bool, true, false, nat_lt, List, Option, Some, None, refl, sym, ap, ◌∙◌, arith, Result, Ok, Err}
 use Rattle.td_stamp.specs.States.{StateList}
 use Rattle.td_gate.specs.Region.{opened}
 use Rattle.td_gate.specs.Regions.{Apart}
@@ -7,7 +7,7 @@ use Rattle.td_slots.specs.declared.slots.Slots.{Slots}
 use Rattle.td_slots.specs.declared.error.SlotsError.{SlotsError}
 use Rattle.td_slots.specs.Slot.{slot, slot_bytes, is_slot, IsLast, AreSlotStates}
 use Rattle.td_slots.specs.declared.slots.Checkpoint.{Checkpoint}
-use Rattle.td_slots.specs.Newest.{where_valid, spelled, checkpoint_in, second_if, later, newest_of, newest_in, newest, beside, in_order, after_write}
+use Rattle.td_slots.specs.Newest.{where_valid, spelled, checkpoint_in, second_if, later, newest_of, newest_in, newest, in_order, after_write}
 use Rattle.td_slots.proofs.ReadBack.{slot_found}
 
 abbrev made : Checkpoint → Result Checkpoint SlotsError
@@ -22,7 +22,7 @@ one_of true x y c e = inr e
 one_of false x y c e = inl e
 
 -- both are valid, and the newest is one of them
-both_valid : (r q : Result Checkpoint SlotsError) (c : Checkpoint) → newest_of r q ≡ Ok c → ((r ≡ Ok c) ⊎ (q ≡ Ok c)) 
+both_valid : (r q : Result Checkpoint SlotsError) (c : Checkpoint) → newest_of r q ≡ Ok c → ((r ≡ Ok c) ⊎ (q ≡ Ok c))
 both_valid (Err e) q c is = absurd cc
 both_valid (Ok x) (Err e) c is = absurd cc
 both_valid (Ok x) (Ok y) c is = one_of (nat_lt x.epoch y.epoch) x y c is
@@ -61,22 +61,24 @@ module _ (version : ℕ) (folds : List ℕ) (s : Slots) (old new : List ℕ) (c 
       → ((opened (slot s 1) new ≡ opened (slot s 1) old → newest version folds s new ≡ Ok c)
       × (opened (slot s 1) new ≡ None → newest version folds s new ≡ Ok c)
       × (opened (slot s 1) new ≡ Some (slot_bytes s.k e q states) → newest version folds s new ≡ Ok (after_write c e q states)))
-  into_second side bytes held valid same =
-      (λ is. ap (λ (h : Option (List ℕ)). newest_in version folds s.k h (opened (slot s 1) new)) same ∙ ap (newest_in version folds s.k (opened (slot s 0) old)) is ∙ was,
-       λ none. second_closed version folds s.k (opened (slot s 0) new) (opened (slot s 1) new) bytes c (same ∙ held) valid none,
-       λ is. both_open version folds s.k (opened (slot s 0) new) (opened (slot s 1) new) bytes (slot_bytes s.k e q states) c (record { slot = 1; epoch = e; last = q; states = states }) (same ∙ held) is valid (slot_found version folds s.k e q states small number ok 1)
-           ∙ sym (ap (λ (i : ℕ). made (in_order i c (record { slot = 1 - i; epoch = e; last = q; states = states }))) side))
+  into_second side bytes held valid same = (
+    λ is. ap (λ (h : Option (List ℕ)). newest_in version folds s.k h (opened (slot s 1) new)) same ∙ ap (newest_in version folds s.k (opened (slot s 0) old)) is ∙ was,
+    λ none. second_closed version folds s.k (opened (slot s 0) new) (opened (slot s 1) new) bytes c (same ∙ held) valid none,
+    λ is. both_open version folds s.k (opened (slot s 0) new) (opened (slot s 1) new) bytes (slot_bytes s.k e q states) c (record { slot = 1; epoch = e; last = q; states = states }) (same ∙ held) is valid (slot_found version folds s.k e q states small number ok 1)
+        ∙ sym (ap (λ (i : ℕ). made (in_order i c (record { slot = 1 - i; epoch = e; last = q; states = states }))) side),
+  )
 
   -- the newest is in slot 1, and slot 0 is written
   pub into_first : c.slot ≡ 1 → (bytes : List ℕ) → opened (slot s 1) old ≡ Some bytes → checkpoint_in version folds s.k 1 bytes ≡ Ok c → opened (slot s 1) new ≡ opened (slot s 1) old
       → ((opened (slot s 0) new ≡ opened (slot s 0) old → newest version folds s new ≡ Ok c)
       × (opened (slot s 0) new ≡ None → newest version folds s new ≡ Ok c)
       × (opened (slot s 0) new ≡ Some (slot_bytes s.k e q states) → newest version folds s new ≡ Ok (after_write c e q states)))
-  into_first side bytes held valid same =
-      (λ is. ap (λ (h : Option (List ℕ)). newest_in version folds s.k (opened (slot s 0) new) h) same ∙ ap (λ (h : Option (List ℕ)). newest_in version folds s.k h (opened (slot s 1) old)) is ∙ was,
-       λ none. first_closed version folds s.k (opened (slot s 0) new) (opened (slot s 1) new) bytes c (same ∙ held) valid none,
-       λ is. both_open version folds s.k (opened (slot s 0) new) (opened (slot s 1) new) (slot_bytes s.k e q states) bytes (record { slot = 0; epoch = e; last = q; states = states }) c is (same ∙ held) (slot_found version folds s.k e q states small number ok 0) valid
-           ∙ sym (ap (λ (i : ℕ). made (in_order i c (record { slot = 1 - i; epoch = e; last = q; states = states }))) side))
+  into_first side bytes held valid same = (
+    λ is. ap (λ (h : Option (List ℕ)). newest_in version folds s.k (opened (slot s 0) new) h) same ∙ ap (λ (h : Option (List ℕ)). newest_in version folds s.k h (opened (slot s 1) old)) is ∙ was,
+    λ none. first_closed version folds s.k (opened (slot s 0) new) (opened (slot s 1) new) bytes c (same ∙ held) valid none,
+    λ is. both_open version folds s.k (opened (slot s 0) new) (opened (slot s 1) new) (slot_bytes s.k e q states) bytes (record { slot = 0; epoch = e; last = q; states = states }) c is (same ∙ held) (slot_found version folds s.k e q states small number ok 0) valid
+        ∙ sym (ap (λ (i : ℕ). made (in_order i c (record { slot = 1 - i; epoch = e; last = q; states = states }))) side),
+  )
 
 pub slot_0_1 : (s : Slots) → Apart (slot s 0) (slot s 1)
 slot_0_1 s = inl (omega arith)

@@ -1,5 +1,5 @@
 -- How a payload is read, state by state.
-use Rattle.std.proofs.Common.{◌≡◌, ℕ, suc, ◌+◌, ◌-◌, ◌*◌, ◌<◌, ◌≤◌, Bool, true, false, ◌&&◌, ◌==◌, List, [], ◌∷◌, ◌++◌, drop, Option, Some, sym, ap, ◌∙◌, subst, arith, append-nil, refl}
+use Rattle.std.proofs.Common.{◌≡◌, ℕ, suc, ◌+◌, ◌-◌, ◌*◌, ◌<◌, Bool, true, false, ◌==◌, List, [], ◌∷◌, ◌++◌, drop, Option, Some, sym, ap, ◌∙◌, arith, append-nil, refl}
 use Rattle.std.specs.List.{list_all, list_any}
 use Rattle.std.proofs.lemmas.List.{append_assoc, drop-drop}
 use Rattle.std.proofs.lemmas.List.Folds.{list_all-append}
@@ -72,7 +72,7 @@ module _ (folds : List ℕ) (count : ℕ) (bytes : List ℕ) where
         let es = looked.first in
         let rest = left count (i + 1) bytes in
         let none : list_all (names folds) (es ++ next ∷ rest) ≡ false =
-            list_all-append (names folds) es (next ∷ rest) ∙ and_right (list_all (names folds) es) (list_all (names folds) (next ∷ rest)) (and_left (names folds next) (list_all (names folds) rest) no_) in
+        list_all-append (names folds) es (next ∷ rest) ∙ and_right (list_all (names folds) es) (list_all (names folds) (next ∷ rest)) (and_left (names folds next) (list_all (names folds) rest) no_) in
         ap (are_states folds) (whole lt) ∙ and_left (list_all (names folds) (es ++ next ∷ rest)) (ordered (es ++ next ∷ rest)) none
 
     pub too_late : i < count → may_come_after last next.0 ≡ false → are_states folds (states_in bytes) ≡ false
@@ -96,7 +96,7 @@ module _ (folds : List ℕ) (count : ℕ) (bytes : List ℕ) where
   pub all_looked : (i : ℕ) (last : Option (ℕ × ℕ)) → i ≡ count → Looked folds count i bytes last → are_states folds (states_in bytes) ≡ true
   all_looked i last done looked =
       let all : states_in bytes ≡ looked.first =
-          looked.read ∙ ap (λ (n : ℕ). looked.first ++ left count n bytes) done ∙ ap (λ (l : StateList). looked.first ++ l) (left_all count bytes) ∙ append-nil looked.first in
+      looked.read ∙ ap (λ (n : ℕ). looked.first ++ left count n bytes) done ∙ ap (λ (l : StateList). looked.first ++ l) (left_all count bytes) ∙ append-nil looked.first in
       ap (are_states folds) all ∙ and_from (list_all (names folds) looked.first) (ordered looked.first) looked.named looked.rises
 
   -- the states of a valid payload are taken up one by one

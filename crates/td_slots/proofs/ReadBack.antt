@@ -1,13 +1,13 @@
 -- What is written into a slot is read back.
-use Rattle.std.proofs.Common.{◌≡◌, ℕ, ◌+◌, ◌-◌, ◌*◌, ◌<◌, ◌≤◌, ◌^◌, Bool, true, ◌&&◌, ◌==◌, nat_lt, nat_le, List, [], ◌∷◌, ◌++◌, length, drop, replicate, refl, sym, ap, ◌∙◌, arith, Result, Ok}
+use Rattle.std.proofs.Common.{◌≡◌, ℕ, ◌+◌, ◌-◌, ◌*◌, ◌<◌, ◌≤◌, ◌^◌, Bool, true, ◌&&◌, nat_lt, List, [], ◌++◌, length, drop, replicate, refl, sym, ap, ◌∙◌, arith, Ok}
 use Rattle.std.specs.Prelude.{flat_map}
 use Rattle.std.specs.Int.{w64, cast_unsigned}
 use Rattle.std.proofs.lemmas.Bool.{and_from, lt-ltb, le-leb}
 use Rattle.std.proofs.lemmas.List.{append_assoc, length-append, length-replicate}
 use Rattle.td_stamp.specs.declared.values.State.{State}
 use Rattle.td_stamp.specs.States.{StateList}
-use Rattle.td_gate.specs.Fields.{number_bytes, number_at, signed_at, signed_bytes, Front, FitsFront, front_bytes, front_in, front_len, front_of, is_plain, each_in}
-use Rattle.td_gate.specs.Reading.{Each, number_behind, signed_behind, length_bytes, front_back, front_past, front_size, each_back, each_size}
+use Rattle.td_gate.specs.Fields.{number_bytes, number_at, signed_at, signed_bytes, Front, front_bytes, front_in, front_len, front_of, is_plain, each_in}
+use Rattle.td_gate.specs.Reading.{number_behind, signed_behind, length_bytes, front_back, front_past, front_size, each_back, each_size}
 use Rattle.td_slots.specs.Slot.{slot_len, state_bytes, state_in, slot_bytes, states_in, is_last, is_front, are_states, is_slot, IsLast, FitsState, AreSlotStates}
 use Rattle.td_slots.specs.Newest.{where_valid, spelled, checkpoint_in}
 
@@ -23,11 +23,12 @@ state_numbers s a b c d rest ea eb ec ed fits =
     let lc : length c ≡ 8 = ap length ec ∙ length_bytes 8 (cast_unsigned w64 s.1.a) in
     let lab : length (a ++ b) ≡ 16 = length-append a b ∙ omega arith in
     let labc : length ((a ++ b) ++ c) ≡ 24 = length-append (a ++ b) c ∙ omega arith in
-    let whole = four_parts a b c d rest in
-    (ap (number_at 8 0) (whole ∙ ap (λ (l : List ℕ). l ++ (b ++ (c ++ (d ++ rest)))) ea) ∙ number_behind 8 0 s.0.0 [] (b ++ (c ++ (d ++ rest))) refl fits.vertex,
-     ap (number_at 8 8) (whole ∙ ap (λ (l : List ℕ). a ++ (l ++ (c ++ (d ++ rest)))) eb) ∙ number_behind 8 8 s.0.1 a (c ++ (d ++ rest)) la fits.key,
-     ap (signed_at 16) (whole ∙ sym (append_assoc a b (c ++ (d ++ rest))) ∙ ap (λ (l : List ℕ). (a ++ b) ++ (l ++ (d ++ rest))) ec) ∙ signed_behind 16 s.1.a (a ++ b) (d ++ rest) lab fits.a,
-     ap (signed_at 24) (whole ∙ sym (append_assoc a b (c ++ (d ++ rest))) ∙ sym (append_assoc (a ++ b) c (d ++ rest)) ∙ ap (λ (l : List ℕ). ((a ++ b) ++ c) ++ (l ++ rest)) ed) ∙ signed_behind 24 s.1.b ((a ++ b) ++ c) rest labc fits.b)
+    let whole = four_parts a b c d rest in (
+      ap (number_at 8 0) (whole ∙ ap (λ (l : List ℕ). l ++ (b ++ (c ++ (d ++ rest)))) ea) ∙ number_behind 8 0 s.0.0 [] (b ++ (c ++ (d ++ rest))) refl fits.vertex,
+      ap (number_at 8 8) (whole ∙ ap (λ (l : List ℕ). a ++ (l ++ (c ++ (d ++ rest)))) eb) ∙ number_behind 8 8 s.0.1 a (c ++ (d ++ rest)) la fits.key,
+      ap (signed_at 16) (whole ∙ sym (append_assoc a b (c ++ (d ++ rest))) ∙ ap (λ (l : List ℕ). (a ++ b) ++ (l ++ (d ++ rest))) ec) ∙ signed_behind 16 s.1.a (a ++ b) (d ++ rest) lab fits.a,
+      ap (signed_at 24) (whole ∙ sym (append_assoc a b (c ++ (d ++ rest))) ∙ sym (append_assoc (a ++ b) c (d ++ rest)) ∙ ap (λ (l : List ℕ). ((a ++ b) ++ c) ++ (l ++ rest)) ed) ∙ signed_behind 24 s.1.b ((a ++ b) ++ c) rest labc fits.b,
+    )
 
 state_back : (s : (ℕ × ℕ) × State) (rest : List ℕ) → FitsState s → state_in (state_bytes s ++ rest) ≡ s
 state_back s rest fits =

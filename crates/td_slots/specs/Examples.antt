@@ -1,5 +1,5 @@
 -- Worked examples, by computation: slots of at most 3 states, from offset 8,258 on.
-use Rattle.std.specs.Prelude.{◌≡◌, ℕ, List, [], ◌∷◌, ◌++◌, pos, length, replicate, Ok, Err, Some, None}
+use Rattle.std.specs.Prelude.{◌≡◌, [], ◌∷◌, pos, replicate, Ok, Err, Some, None}
 use Rattle.std.proofs.Common.{refl}
 use Rattle.td_gate.specs.Fields.{number_at, number_bytes}
 use Rattle.td_stamp.specs.States.{StateList}

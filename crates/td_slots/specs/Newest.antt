@@ -1,5 +1,5 @@
 -- The newest checkpoint that two slots hold.
-use Rattle.std.specs.Prelude.{◌≡◌, ℕ, zero, suc, ◌-◌, Bool, true, false, nat_lt, List, Option, Some, None, Result, Ok, Err}
+use Rattle.std.specs.Prelude.{ℕ, zero, suc, ◌-◌, Bool, true, false, nat_lt, List, Option, Some, None, Result, Ok, Err}
 use Rattle.td_stamp.specs.States.{StateList}
 use Rattle.td_gate.specs.Fields.{front_in}
 use Rattle.td_gate.specs.Region.{opened}

@@ -23,7 +23,7 @@ pub fn slots_read_back()
     ensures found { (version : ℕ) (folds : List ℕ) (k side epoch last : ℕ) (states : StateList)
         → epoch < 2 ^ 63 → IsLast version last → AreSlotStates folds k states
         → checkpoint_in version folds k side (slot_bytes k epoch last states)
-            ≡ Ok (record { slot = side; epoch = epoch; last = last; states = states }) }
+        ≡ Ok (record { slot = side; epoch = epoch; last = last; states = states }) }
 {}
 
 /// The newest checkpoint depends on what the slots hold alone.

@@ -21,9 +21,9 @@ returns-clause-ok c =
     let third = c.push_i64.new.payload.items in
     on_ok_from c.push_i64-2.result
     (λ (e : c.push_i64-2.new.payload.items ≡ third ++ signed_bytes (to_z w64 (of_z w64 b))).
-        in_turn c.args.payload.now.items (number_bytes 8 c.args.vertex) (number_bytes 8 c.args.key) (signed_bytes a) (signed_bytes b)
-        c.push_u64.new.payload.items second third c.push_i64-2.new.payload.items
-        (c.in_ok-push_u64.ensures ∙ ap (λ (n : ℕ). c.args.payload.now.items ++ number_bytes 8 n) c.from.ensures) c.in_ok-push_u64-2.ensures
-        (c.in_ok-push_i64.ensures ∙ ap (λ (z : ℤ). second ++ signed_bytes z) (to_z-of_z w64 a fits_a))
-        (e ∙ ap (λ (z : ℤ). third ++ signed_bytes z) (to_z-of_z w64 b fits_b)))
+    in_turn c.args.payload.now.items (number_bytes 8 c.args.vertex) (number_bytes 8 c.args.key) (signed_bytes a) (signed_bytes b)
+    c.push_u64.new.payload.items second third c.push_i64-2.new.payload.items
+    (c.in_ok-push_u64.ensures ∙ ap (λ (n : ℕ). c.args.payload.now.items ++ number_bytes 8 n) c.from.ensures) c.in_ok-push_u64-2.ensures
+    (c.in_ok-push_i64.ensures ∙ ap (λ (z : ℤ). second ++ signed_bytes z) (to_z-of_z w64 a fits_a))
+    (e ∙ ap (λ (z : ℤ). third ++ signed_bytes z) (to_z-of_z w64 b fits_b)))
     c.push_i64-2.ensures
