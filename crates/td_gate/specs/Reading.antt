@@ -1,11 +1,11 @@
 -- What was written is read back.
-use Rattle.std.proofs.Common.{◌≡◌, ℕ, suc, ◌+◌, ◌*◌, ◌<◌, ◌^◌, mul-zero, mul-suc, ℤ, pos, negsuc, FitsSigned, List, [], ◌∷◌, ◌++◌, length, drop, refl, sym, ap, ◌∙◌, arith}
+use Rattle.std.proofs.Common.{◌≡◌, ℕ, suc, ◌+◌, ◌*◌, ◌<◌, ◌≤◌, ◌^◌, mul-zero, mul-suc, ℤ, pos, negsuc, FitsSigned, List, [], ◌∷◌, ◌++◌, length, take, drop, refl, sym, ap, ◌∙◌, arith}
 use Rattle.std.specs.Prelude.{flat_map}
 use Rattle.std.specs.Int.{cast_signed, cast_unsigned, w64}
 use Rattle.std.proofs.lemmas.List.{append_assoc, drop_at, drop-drop, length-append}
 use Rattle.std.proofs.lemmas.Int.{to_z-of_z}
 use Rattle.byteorder.specs.Endian.{big_number}
-use Rattle.byteorder.specs.Numbers.{big_number-reads_back, length-bytes_high_first}
+use Rattle.byteorder.specs.Numbers.{big_from-take, big_number-reads_back, length-bytes_high_first}
 use Rattle.td_gate.specs.Fields.{Front, FitsFront, front_bytes, front_in, front_len, number_at, number_bytes, signed_at, signed_bytes, each_in}
 
 -- a number behind a first part
@@ -108,3 +108,8 @@ number_first n x rest fits = number_behind n 0 x [] rest refl fits
 pub number_dropped : (n at more : ℕ) (bytes : List ℕ) → number_at n more (drop at bytes) ≡ number_at n (at + more) bytes
 unfolding number_at
 number_dropped n at more bytes = ap (big_number n) (drop-drop more at bytes)
+
+-- a number at the front of a first part
+pub number_taken : (n more : ℕ) (bytes : List ℕ) → n ≤ more → number_at n 0 (take more bytes) ≡ number_at n 0 bytes
+unfolding number_at
+number_taken n more bytes le = big_from-take 0 n more bytes (omega (arith, le))

@@ -1,5 +1,5 @@
 -- How a payload is read, record by record.
-use Rattle.std.proofs.Common.{◌≡◌, ℕ, zero, suc, ◌+◌, ◌-◌, ◌*◌, ◌<◌, ◌≤◌, Bool, true, false, ◌&&◌, ◌==◌, nat_le, List, [], ◌∷◌, ◌++◌, length, drop, Option, Some, None, refl, sym, ap, ◌∙◌, subst, arith, append-nil}
+use Rattle.std.proofs.Common.{◌≡◌, ℕ, suc, ◌+◌, ◌-◌, ◌*◌, ◌<◌, ◌≤◌, Bool, true, false, ◌&&◌, ◌==◌, nat_le, List, [], ◌∷◌, ◌++◌, length, drop, Option, refl, sym, ap, ◌∙◌, subst, arith, append-nil}
 use Rattle.std.specs.List.{list_all, list_any, slice_get}
 use Rattle.std.specs.Ordering.{is_le}
 use Rattle.std.proofs.lemmas.List.{append_assoc, drop-drop}
@@ -9,7 +9,8 @@ use Rattle.td_stamp.specs.declared.values.Entry.{Entry}
 use Rattle.td_stamp.specs.Orders.{entry_cmp}
 use Rattle.td_stamp.specs.ProvedOrders.{entry_total}
 use Rattle.td_stamp.specs.Bag.{bag_of}
-use Rattle.td_gate.specs.Fields.{front_in, front_len, number_at, is_plain, each_in, is_chain}
+use Rattle.td_gate.specs.Fields.{front_in, number_at, is_plain, each_in, is_chain}
+use Rattle.td_journal.specs.Numbers.{may_come}
 use Rattle.td_journal.specs.Cell.{entry_in, batch_in, is_batch, is_cell}
 use Rattle.td_journal.specs.Parsed.{may_come_after, may_follow}
 use Rattle.td_journal.proofs.Order.{bag_from_chain}
@@ -66,39 +67,56 @@ broken [] rest e no_ = absurd cc
 broken (y ∷ []) rest e no_ = and_left (is_le (entry_cmp y e)) (in_order (e ∷ rest)) no_
 broken (y ∷ z ∷ zs) rest e no_ = and_right (is_le (entry_cmp y z)) (in_order ((z ∷ zs) ++ e ∷ rest)) (broken (z ∷ zs) rest e (sym (last_of y z e zs) ∙ no_))
 
-not_a_batch : (inputs : List ℕ) (m : ℕ) (bytes : List ℕ) → is_batch inputs (batch_in bytes) ≡ false → is_cell inputs m bytes ≡ false
-not_a_batch inputs m bytes is = and_right (is_plain m (front_in bytes)) (is_batch inputs (batch_in bytes)) is
+-- what makes a payload not valid
+module _ (inputs : List ℕ) (floor : Option ℕ) (m : ℕ) (bytes : List ℕ) where
+  abbrev request : ℕ
+  request = number_at 8 8 bytes
 
--- a record that names no input, or that comes too late
-pub not_named : (inputs : List ℕ) (m count i : ℕ) (bytes : List ℕ) (es : List Entry) → i < count → batch_in bytes ≡ es ++ left count i bytes → list_any (λ v. v == (entry_in (drop (24 + 24 * i) bytes)).input) inputs ≡ false → is_cell inputs m bytes ≡ false
-not_named inputs m count i bytes es lt read no_ =
-    let e = entry_in (drop (24 + 24 * i) bytes) in
-    let rest = left count (i + 1) bytes in
-    let none : list_all (names inputs) (es ++ e ∷ rest) ≡ false = list_all-append (names inputs) es (e ∷ rest) ∙ and_right (list_all (names inputs) es) (list_all (names inputs) (e ∷ rest)) (and_left (names inputs e) (list_all (names inputs) rest) no_) in
-    not_a_batch inputs m bytes (ap (is_batch inputs) (read ∙ ap (λ (l : List Entry). es ++ l) (left_step count i bytes lt)) ∙ and_left (list_all (names inputs) (es ++ e ∷ rest)) (in_order (es ++ e ∷ rest)) none)
+  abbrev zeros : ℕ
+  zeros = number_at 4 20 bytes
 
-pub not_ordered : (inputs : List ℕ) (m count i : ℕ) (bytes : List ℕ) (es : List Entry) (e : Entry) → i < count → e ≡ entry_in (drop (24 + 24 * i) bytes) → batch_in bytes ≡ es ++ left count i bytes → may_follow es e ≡ false → is_cell inputs m bytes ≡ false
-not_ordered inputs m count i bytes es e lt is read no_ =
-    let rest = left count (i + 1) bytes in
-    not_a_batch inputs m bytes (ap (is_batch inputs) (read ∙ ap (λ (l : List Entry). es ++ l) (left_step count i bytes lt ∙ ap (λ (x : Entry). x ∷ rest) (sym is)))
-    ∙ and_right (list_all (names inputs) (es ++ e ∷ rest)) (in_order (es ++ e ∷ rest)) (broken es rest e no_))
+  abbrev counted : ℕ
+  counted = number_at 4 16 bytes
 
--- the fields of the front
-pub is_valid : (inputs : List ℕ) (m count : ℕ) (bytes : List ℕ) (es : List Entry) → number_at 8 8 bytes ≡ 0 → number_at 4 20 bytes ≡ 0 → count ≡ number_at 4 16 bytes → count ≤ m → batch_in bytes ≡ es ++ left count count bytes
-    → list_all (names inputs) es ≡ true → in_order es ≡ true → (is_cell inputs m bytes ≡ true) × (bag_of entry_cmp es ≡ batch_in bytes)
-is_valid inputs m count bytes es reserved zeros is le read named chain =
-    let all : batch_in bytes ≡ es = read ∙ ap (λ (l : List Entry). es ++ l) (left_all count bytes) ∙ append-nil es in (
-      and_from (is_plain m (front_in bytes)) (is_batch inputs (batch_in bytes))
-          (and_from ((number_at 8 8 bytes == 0) && (number_at 4 20 bytes == 0)) (nat_le (number_at 4 16 bytes) m) (and_from (number_at 8 8 bytes == 0) (number_at 4 20 bytes == 0) (eq-eqb (number_at 8 8 bytes) 0 reserved) (eq-eqb (number_at 4 20 bytes) 0 zeros)) (le-leb (number_at 4 16 bytes) m (subst (λ (n : ℕ). n ≤ m) is le)))
-          (ap (is_batch inputs) all ∙ and_from (list_all (names inputs) es) (in_order es) named chain),
-      bag_from_chain entry_cmp entry_total es chain ∙ sym all,
-    )
+  abbrev may : Bool
+  may = may_come floor request
 
-pub bad_reserved : (inputs : List ℕ) (m : ℕ) (bytes : List ℕ) → (number_at 8 8 bytes ≡ 0 → ⊥) → is_cell inputs m bytes ≡ false
-bad_reserved inputs m bytes not = and_left (is_plain m (front_in bytes)) (is_batch inputs (batch_in bytes)) (and_left ((number_at 8 8 bytes == 0) && (number_at 4 20 bytes == 0)) (nat_le (number_at 4 16 bytes) m) (and_left (number_at 8 8 bytes == 0) (number_at 4 20 bytes == 0) (ne_eqb (number_at 8 8 bytes) 0 not)))
+  abbrev of_batch : Bool
+  of_batch = is_batch inputs (batch_in bytes)
 
-pub bad_zeros : (inputs : List ℕ) (m : ℕ) (bytes : List ℕ) → (number_at 4 20 bytes ≡ 0 → ⊥) → is_cell inputs m bytes ≡ false
-bad_zeros inputs m bytes not = and_left (is_plain m (front_in bytes)) (is_batch inputs (batch_in bytes)) (and_left ((number_at 8 8 bytes == 0) && (number_at 4 20 bytes == 0)) (nat_le (number_at 4 16 bytes) m) (and_right (number_at 8 8 bytes == 0) (number_at 4 20 bytes == 0) (ne_eqb (number_at 4 20 bytes) 0 not)))
+  not_a_batch : of_batch ≡ false → is_cell inputs floor m bytes ≡ false
+  not_a_batch is = and_right (is_plain m (front_in bytes)) (may && of_batch) (and_right may of_batch is)
 
-pub bad_count : (inputs : List ℕ) (m : ℕ) (bytes : List ℕ) → m < number_at 4 16 bytes → is_cell inputs m bytes ≡ false
-bad_count inputs m bytes lt = and_left (is_plain m (front_in bytes)) (is_batch inputs (batch_in bytes)) (and_right ((number_at 8 8 bytes == 0) && (number_at 4 20 bytes == 0)) (nat_le (number_at 4 16 bytes) m) (lt-leb (number_at 4 16 bytes) m lt))
+  -- a record that names no input, or that comes too late
+  pub not_named : (count i : ℕ) (es : List Entry) → i < count → batch_in bytes ≡ es ++ left count i bytes → list_any (λ v. v == (entry_in (drop (24 + 24 * i) bytes)).input) inputs ≡ false → is_cell inputs floor m bytes ≡ false
+  not_named count i es lt read no_ =
+      let e = entry_in (drop (24 + 24 * i) bytes) in
+      let rest = left count (i + 1) bytes in
+      let none : list_all (names inputs) (es ++ e ∷ rest) ≡ false = list_all-append (names inputs) es (e ∷ rest) ∙ and_right (list_all (names inputs) es) (list_all (names inputs) (e ∷ rest)) (and_left (names inputs e) (list_all (names inputs) rest) no_) in
+      not_a_batch (ap (is_batch inputs) (read ∙ ap (λ (l : List Entry). es ++ l) (left_step count i bytes lt)) ∙ and_left (list_all (names inputs) (es ++ e ∷ rest)) (in_order (es ++ e ∷ rest)) none)
+
+  pub not_ordered : (count i : ℕ) (es : List Entry) (e : Entry) → i < count → e ≡ entry_in (drop (24 + 24 * i) bytes) → batch_in bytes ≡ es ++ left count i bytes → may_follow es e ≡ false → is_cell inputs floor m bytes ≡ false
+  not_ordered count i es e lt is read no_ =
+      let rest = left count (i + 1) bytes in
+      not_a_batch (ap (is_batch inputs) (read ∙ ap (λ (l : List Entry). es ++ l) (left_step count i bytes lt ∙ ap (λ (x : Entry). x ∷ rest) (sym is)))
+      ∙ and_right (list_all (names inputs) (es ++ e ∷ rest)) (in_order (es ++ e ∷ rest)) (broken es rest e no_))
+
+  -- the fields of the front
+  pub is_valid : (count : ℕ) (es : List Entry) → may ≡ true → zeros ≡ 0 → count ≡ counted → count ≤ m → batch_in bytes ≡ es ++ left count count bytes
+      → list_all (names inputs) es ≡ true → in_order es ≡ true → (is_cell inputs floor m bytes ≡ true) × (bag_of entry_cmp es ≡ batch_in bytes)
+  is_valid count es number none is le read named chain =
+      let all : batch_in bytes ≡ es = read ∙ ap (λ (l : List Entry). es ++ l) (left_all count bytes) ∙ append-nil es in (
+        and_from (is_plain m (front_in bytes)) (may && of_batch)
+            (and_from (zeros == 0) (nat_le counted m) (eq-eqb zeros 0 none) (le-leb counted m (subst (λ (n : ℕ). n ≤ m) is le)))
+            (and_from may of_batch number (ap (is_batch inputs) all ∙ and_from (list_all (names inputs) es) (in_order es) named chain)),
+        bag_from_chain entry_cmp entry_total es chain ∙ sym all,
+      )
+
+  pub bad_request : may ≡ false → is_cell inputs floor m bytes ≡ false
+  bad_request not_ = and_right (is_plain m (front_in bytes)) (may && of_batch) (and_left may of_batch not_)
+
+  pub bad_zeros : (zeros ≡ 0 → ⊥) → is_cell inputs floor m bytes ≡ false
+  bad_zeros not_ = and_left (is_plain m (front_in bytes)) (may && of_batch) (and_left (zeros == 0) (nat_le counted m) (ne_eqb zeros 0 not_))
+
+  pub bad_count : m < counted → is_cell inputs floor m bytes ≡ false
+  bad_count lt = and_left (is_plain m (front_in bytes)) (may && of_batch) (and_right (zeros == 0) (nat_le counted m) (lt-leb counted m lt))

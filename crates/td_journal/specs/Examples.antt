@@ -1,8 +1,7 @@
 -- Worked examples, by computation: cells of at most 4 records, two of them, from offset 8,500 on.
-use Rattle.std.specs.Prelude.{◌≡◌, ℕ, slice_index, List, [], ◌∷◌, ◌++◌, ℤ, pos, negsuc, length, replicate, Option, Some, None, Ok, Err, true, false}
+use Rattle.std.specs.Prelude.{◌≡◌, ℕ, slice_index, List, [], ◌∷◌, ℤ, pos, negsuc, length, replicate, Option, Some, None, Ok, Err, true, false}
 use Rattle.std.proofs.Common.{refl}
 use Rattle.td_gate.specs.Fields.{number_at, number_bytes}
-use Rattle.td_stamp.specs.declared.values.Rec.{Rec}
 use Rattle.td_stamp.specs.declared.values.Entry.{Entry}
 use Rattle.td_journal.specs.declared.journal.Journal.{Journal}
 use Rattle.td_journal.specs.declared.submitted.Submitted.{Submitted}

@@ -1,4 +1,4 @@
-use Rattle.std.proofs.Common.{List, ◌==◌}
+use Rattle.std.proofs.Common.{◌==◌}
 use Rattle.std.specs.List.{list_all, list_any}
 use Rattle.std.specs.Ordering.{is_le}
 use Rattle.std.proofs.lemmas.Bool.{and_parts, and_from}

@@ -1,9 +1,9 @@
-use Rattle.std.proofs.Common.{◌≡◌, ℕ, ◌+◌, ◌-◌, ◌*◌, ◌≤◌, List, [], ◌++◌, length, take, replicate, flat_map, ap, sym, ◌∙◌, arith, append_assoc, length-append}
+use Rattle.std.proofs.Common.{◌≡◌, ℕ, ◌+◌, ◌-◌, ◌*◌, ◌≤◌, List, [], ◌++◌, length, take, replicate, flat_map, ap, ◌∙◌, arith, append_assoc, length-append}
 use Rattle.std.proofs.lemmas.List.{take_all}
 use Rattle.td_stamp.specs.declared.values.Entry.{Entry}
 use Rattle.td_gate.specs.Fields.{number_bytes}
 use Rattle.td_gate.specs.Reading.{length_bytes, each_size}
-use Rattle.td_journal.specs.Cell.{entry_bytes, cell_bytes}
+use Rattle.td_journal.specs.Cell.{entry_bytes}
 use Rattle.td_journal.proofs.Cells.{entry_size}
 use Rattle.td_journal.proofs.payload.cell_payload.Goals as goal
 
@@ -26,15 +26,15 @@ pub returns-clause-ok : goal.returns-clause-ok
 returns-clause-ok c =
     let x = c.args.batch.now in
     let a = number_bytes 8 c.args.epoch in
-    let b = number_bytes 8 0 in
+    let b = number_bytes 8 c.args.request in
     let n = number_bytes 4 (length x) in
     let z = number_bytes 4 0 in
     let t = c.push_entries.new.payload.items in
     let is : t ≡ (a ++ (b ++ (n ++ z))) ++ flat_map entry_bytes x =
-    in_turn c.new-payload.result.items a b n z (flat_map entry_bytes x) c.push_u64.new.payload.items c.push_u64-2.new.payload.items c.push_u32.new.payload.items c.push_u32-2.new.payload.items t
-    c.new-payload.ensures.items c.in_ok-push_u64.ensures c.in_ok-push_u64-2.ensures
+    in_turn c.in_ok-payload.payload.items a b n z (flat_map entry_bytes x) c.push_u64.new.payload.items c.push_u64-2.new.payload.items c.push_u32.new.payload.items c.push_u32-2.new.payload.items t
+    c.in_ok-payload.ensures.items c.in_ok-push_u64.ensures c.in_ok-push_u64-2.ensures
     (c.in_ok-push_u32.ensures ∙ ap (λ (k : ℕ). c.push_u64-2.new.payload.items ++ number_bytes 4 k) c.len.ensures)
     c.in_ok-push_u32-2.ensures c.in_ok-push_entries.ensures.ok in
     assembled c.args.m x a b n z t c.resize.new.self.items (24 + 24 * c.args.m) c.push_entries.new.payload.len
-    (length_bytes 8 c.args.epoch) (length_bytes 8 0) (length_bytes 4 (length x)) (length_bytes 4 0) c.requires.few
+    (length_bytes 8 c.args.epoch) (length_bytes 8 c.args.request) (length_bytes 4 (length x)) (length_bytes 4 0) c.requires.few
     is (omega arith) (omega (arith, c.push_entries.new.payload.ok.0)) c.in_ok-resize.ensures.items

@@ -1,19 +1,19 @@
-use Rattle.std.proofs.Common.{arith, ◌≡◌, ◌≤◌, ℕ, List, length, ap, sym, ◌∙◌, subst}
+use Rattle.std.proofs.Common.{arith, ℕ, List, length, ap, sym, ◌∙◌, subst}
 use Rattle.td_gate.specs.CrashSafe.{CrashSafe}
 use Rattle.td_gate.specs.declared.region.Region.{Region}
-use Rattle.td_gate.specs.Region.{IsSettled, IsOpen, Puts}
-use Rattle.td_journal.specs.Cell.{cell_of, cell_bytes}
+use Rattle.td_gate.specs.Region.{IsSettled, Puts}
+use Rattle.td_journal.specs.Cell.{cell_bytes}
 use Rattle.td_journal.proofs.Cells.{cell_size}
 use Rattle.td_journal.proofs.journal.Journal.append.Goals as goal
 
 pub put-requires-clause-len : goal.put-requires-clause-len
-put-requires-clause-len g c = ap length (c.deref.ensures.value ∙ c.in_ok-payload.ensures.ok) ∙ cell_size c.args.self.now.m c.args.epoch c.args.batch.now (omega (arith, c.if-self-len.false, c.len.ensures)) ∙ sym (ap (λ (r : Region). r.len) c.cell_of.ensures.region)
+put-requires-clause-len g c = ap length (c.deref.ensures.value ∙ c.in_ok-payload.ensures.ok) ∙ cell_size c.args.self.now.m c.args.epoch c.args.request c.args.batch.now (omega (arith, c.if-self-len.false, c.len.ensures)) ∙ sym (ap (λ (r : Region). r.len) c.cell_of.ensures.region)
 
 pub returns-in_err-put-clause-crash_safe : goal.returns-in_err-put-clause-crash_safe
 returns-in_err-put-clause-crash_safe g c lawful settled =
     let state = g.D.Disk.state in
     let region = c.cell_of.ensures.region in
     let payload = c.deref.ensures.value ∙ c.in_ok-payload.ensures.ok in
-    subst (λ (r : Region). CrashSafe (Puts r (cell_bytes c.args.self.now.m c.args.epoch c.args.batch.now)) (state c.args.device.now) (state c.put.new.device)) region
+    subst (λ (r : Region). CrashSafe (Puts r (cell_bytes c.args.self.now.m c.args.epoch c.args.request c.args.batch.now)) (state c.args.device.now) (state c.put.new.device)) region
     (subst (λ (p : List ℕ). CrashSafe (Puts c.cell_of.result p) (state c.args.device.now) (state c.put.new.device)) payload
     (c.in_err-put.ensures.crash_safe lawful (subst (λ (r : Region). IsSettled r (state c.args.device.now)) (sym region) settled)))

@@ -1,15 +1,14 @@
-use Rattle.std.proofs.Common.{◌≡◌, ◌<◌, ◌^◌, ◌%◌, ℕ, List, inl, inr, Some, None, true, false, ap, sym, ◌∙◌, subst, arith}
+use Rattle.std.proofs.Common.{◌≡◌, ◌<◌, ◌^◌, ◌%◌, ℕ, List, inr, Some, None, ap, sym, ◌∙◌, subst, arith}
 use Rattle.std.specs.Prelude.{Option}
-use Rattle.td_stamp.specs.declared.values.Entry.{Entry}
 use Rattle.td_gate.specs.declared.region.Region.{Region}
 use Rattle.td_gate.specs.Region.{opened, payload_of}
 use Rattle.td_gate.specs.Fields.{number_at}
+use Rattle.td_journal.specs.declared.submitted.Submitted.{Submitted}
 use Rattle.td_journal.specs.Cell.{cell_of}
 use Rattle.td_journal.specs.Cell.Found.{damaged}
-use Rattle.td_journal.specs.Ring.{found}
-use Rattle.td_journal.specs.Parsed.{IsBatchOf}
+use Rattle.td_journal.specs.Parsed.{IsSubmittedBy}
 use Rattle.td_journal.proofs.Clearing.{bears_it, valid_found, damaged_found}
-use Rattle.td_journal.proofs.journal.Journal.batch_at.Goals as goal
+use Rattle.td_journal.proofs.journal.Journal.submitted_at.Goals as goal
 
 pub returns-in-Some-2-clause-found : goal.returns-in-Some-2-clause-found
 returns-in-Some-2-clause-found g c lawful =
@@ -19,10 +18,10 @@ returns-in-Some-2-clause-found g c lawful =
     let number : number_at 8 0 payload ≡ c.args.epoch = ap (number_at 8 0) (sym c.deref.ensures.value) ∙ sym c.u64_at.ensures ∙ c.if-u64_at-epoch.false in
     let held : opened (cell_of c.args.self.now c.args.epoch) bytes ≡ Some payload =
     ap (λ (r : Region). opened r bytes) (sym c.cell_of-cell.ensures.region) ∙ sym (ap payload_of (sym c.in-Some.is) ∙ c.in_ok-payload.ensures.found lawful) in
-    let read : IsBatchOf c.args.inputs.now c.args.self.now.m payload (Some c.in-Some-2.batch) =
-    subst (λ (p : List ℕ). IsBatchOf c.args.inputs.now c.args.self.now.m p (Some c.in-Some-2.batch)) c.deref-2.ensures.value
-    (subst (λ (o : Option (List Entry)). IsBatchOf c.args.inputs.now c.args.self.now.m c.deref-2.result.now o) c.in-Some-2.is c.in_ok-batch.ensures) in
-    valid_found c.args.inputs.now c.args.self.now bytes c.args.epoch payload c.in-Some-2.batch held (bears_it payload c.args.epoch small number) read.0 read.1
+    let read : IsSubmittedBy c.args.inputs.now c.args.floor c.args.self.now.m payload (Some c.in-Some-2.submitted) =
+    subst (λ (p : List ℕ). IsSubmittedBy c.args.inputs.now c.args.floor c.args.self.now.m p (Some c.in-Some-2.submitted)) c.deref-2.ensures.value
+    (subst (λ (o : Option Submitted). IsSubmittedBy c.args.inputs.now c.args.floor c.args.self.now.m c.deref-2.result.now o) c.in-Some-2.is c.in_ok-submitted.ensures) in
+    valid_found c.args.inputs.now c.args.self.now bytes c.args.floor c.args.epoch payload c.in-Some-2.submitted held (bears_it payload c.args.epoch small number) read.0 read.1
 
 pub returns-clause-refused : goal.returns-clause-refused
 returns-clause-refused g c = inr (inr (λ lawful.
@@ -32,8 +31,8 @@ returns-clause-refused g c = inr (inr (λ lawful.
     let number : number_at 8 0 payload ≡ c.args.epoch = ap (number_at 8 0) (sym c.deref.ensures.value) ∙ sym c.u64_at.ensures ∙ c.if-u64_at-epoch.false in
     let held : opened (cell_of c.args.self.now c.args.epoch) bytes ≡ Some payload =
     ap (λ (r : Region). opened r bytes) (sym c.cell_of-cell.ensures.region) ∙ sym (ap payload_of (sym c.in-Some.is) ∙ c.in_ok-payload.ensures.found lawful) in
-    let read : IsBatchOf c.args.inputs.now c.args.self.now.m payload None =
-    subst (λ (p : List ℕ). IsBatchOf c.args.inputs.now c.args.self.now.m p None) c.deref-2.ensures.value
-    (subst (λ (o : Option (List Entry)). IsBatchOf c.args.inputs.now c.args.self.now.m c.deref-2.result.now o) c.in-None.is c.in_ok-batch.ensures) in
-    damaged_found c.args.inputs.now c.args.self.now bytes c.args.epoch payload held (bears_it payload c.args.epoch small number) read
+    let read : IsSubmittedBy c.args.inputs.now c.args.floor c.args.self.now.m payload None =
+    subst (λ (p : List ℕ). IsSubmittedBy c.args.inputs.now c.args.floor c.args.self.now.m p None) c.deref-2.ensures.value
+    (subst (λ (o : Option Submitted). IsSubmittedBy c.args.inputs.now c.args.floor c.args.self.now.m c.deref-2.result.now o) c.in-None.is c.in_ok-submitted.ensures) in
+    damaged_found c.args.inputs.now c.args.self.now bytes c.args.floor c.args.epoch payload held (bears_it payload c.args.epoch small number) read
     ∙ ap (λ (n : ℕ). damaged (c.args.epoch % n)) (sym c.from.ensures)))
