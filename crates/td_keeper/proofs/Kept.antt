@@ -15,5 +15,6 @@ pub still_tells : (plan : List Line) (head : Head) (side : ℕ) (s : Standing) (
     → (c : List ℕ) → state.since state.moment c → Tells plan head side s c
 still_tells plan head side s state only keeps c left = each_keeps plan head side s state keeps c (only c left)
 
-pub keeps_from : (plan : List Line) (head : Head) (side : ℕ) (s : Standing) (state : DiskState) → IsDurable state → state.images state.bytes → EachTells plan head side s state → Keeps plan head side s state
-keeps_from plan head side s state durable read each = record { durable = durable; tells = each state.bytes read }
+-- the same is read, and a crash leaves it still
+pub keeps_after : (plan : List Line) (head : Head) (side : ℕ) (s : Standing) (old new : DiskState) → Keeps plan head side s old → IsDurable new → new.bytes ≡ old.bytes → Keeps plan head side s new
+keeps_after plan head side s old new keeps durable same = record { durable = durable; tells = subst (Tells plan head side s) (sym same) keeps.tells }

@@ -4,3 +4,5 @@ mod Places
 mod Crash
 mod Moments
 mod Kept
+mod Versions
+mod Formats

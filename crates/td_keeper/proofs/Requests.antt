@@ -1,5 +1,5 @@
 -- Request numbers: the greatest of them.
-use Rattle.std.proofs.Common.{◌≡◌, ℕ, ◌+◌, ◌-◌, ◌≤◌, max, Bool, true, false, ◌==◌, Option, Some, None, List, [], ◌∷◌, ◌++◌, length, take, drop, map, refl, sym, ap, ◌∙◌, subst, arith}
+use Rattle.std.proofs.Common.{◌≡◌, ℕ, ◌+◌, ◌-◌, ◌≤◌, max, Bool, true, false, nat_le, Option, Some, None, List, [], ◌∷◌, ◌++◌, length, take, drop, map, refl, sym, ap, ◌∙◌, subst, arith}
 use Rattle.std.proofs.lemmas.List.{append_assoc, take-append-drop, length-append, length-take-le, map-append, take_at}
 use Rattle.std.proofs.Math.Seq.{take-append-add}
 use Rattle.std.proofs.Math.Nat.{le-max_left, le-max_right}
@@ -56,9 +56,9 @@ cut-last s k states = sym (greatest-append s.last (take k s.submitted) (drop k s
 
 -- the floor after some epochs
 pub floor-after : (version q : ℕ) (x : List Submitted) → floor_after (floor_of version q) x ≡ floor_of version (greatest q x)
-floor-after version q x = cases (version == 1)
+floor-after version q x = cases (nat_le 2 version)
   where
-    cases : (b : Bool) → floor_after (elim b [ true ↦ None | false ↦ Some q ]) x ≡ elim b [ true ↦ None | false ↦ Some (greatest q x) ]
+    cases : (b : Bool) → floor_after (elim b [ true ↦ Some q | false ↦ None ]) x ≡ elim b [ true ↦ Some (greatest q x) | false ↦ None ]
     cases true = refl
     cases false = refl
 

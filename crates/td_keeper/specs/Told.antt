@@ -1,5 +1,5 @@
 -- What a disk tells after a stop, as a function of its bytes.
-use Rattle.std.specs.Prelude.{◌≡◌, ℕ, Bool, true, false, ◌==◌, List, filter, map, Option, Some, None, Result, Ok, Err}
+use Rattle.std.specs.Prelude.{◌≡◌, ℕ, Bool, true, false, nat_le, List, filter, map, Option, Some, None, Result, Ok, Err}
 use Rattle.td_plan.specs.Lines.{Line}
 use Rattle.td_plan.specs.Blocks.{vertices}
 use Rattle.td_plan.specs.Faults.{is_input, is_fold}
@@ -33,9 +33,9 @@ slots_of sizes = record { at = slots_at; k = sizes.k }
 abbrev pub ring_of : Sizes → ℕ → Journal
 ring_of sizes kept = record { at = cells_at sizes; m = sizes.m; n = sizes.n; kept = kept }
 
--- the number above which the requests after a checkpoint are: none in version 1, where there are none
+-- the number above which the requests after a checkpoint are: before version 2 there are no requests, and so no floor
 abbrev pub floor_of : ℕ → ℕ → Option ℕ
-floor_of version last = elim (version == 1) [ true ↦ None | false ↦ Some last ]
+floor_of version last = elim (nat_le 2 version) [ true ↦ Some last | false ↦ None ]
 
 -- a checkpoint with the batches after it
 abbrev pub with_batches : Checkpoint → Result (List Submitted) JournalError → Result Standing KeeperError

@@ -1,5 +1,5 @@
 //! Laws of the definitions. Each is the contract of a function that does nothing.
-ghost use Rattle.std.specs.Prelude.{◌≡◌, ◌≢◌, ◌⊎◌, ◌+◌, ◌-◌, ◌<◌, ◌≤◌, ◌++◌, [], ◌∷◌, List, length, take, ℕ, suc, Bool, Result, None, Ok, Err};
+ghost use Rattle.std.specs.Prelude.{◌≡◌, ◌≢◌, ◌⊎◌, ◌+◌, ◌-◌, ◌^◌, ◌<◌, ◌≤◌, ◌++◌, [], ◌∷◌, List, length, take, ℕ, suc, Bool, Result, None, Ok, Err};
 ghost use Rattle.td_stamp.specs.States.{StateList};
 ghost use Rattle.td_plan.specs.Tree.{Nodes};
 ghost use Rattle.td_plan.specs.Lines.{Line};
@@ -141,11 +141,11 @@ pub fn following_is_cleared()
 /// a standing tells it still, or the standing cut there; once they are put, the latter.
 pub fn cut_is_written()
     ensures begun { (plan : List Line) (head : AnyHead) (side : ℕ) (s : Standing) (old new : List ℕ) (k : ℕ) (states : StateList)
-        → Tells plan head side s old → IsCut plan head.shape s k states
+        → Tells plan head side s old → IsCut plan head.shape s k states → greatest s.last (take k s.submitted) < 2 ^ 64
         → Puts (slot (slots_of head.shape) (1 - side)) (slot_bytes head.shape.k (s.epoch + k) (greatest s.last (take k s.submitted)) states) old new
         → Tells plan head side s new ⊎ Tells plan head (side_after side k) (cut_at s k states) new }
     ensures done { (plan : List Line) (head : AnyHead) (side : ℕ) (s : Standing) (old new : List ℕ) (k : ℕ) (states : StateList)
-        → Tells plan head side s old → IsCut plan head.shape s k states
+        → Tells plan head side s old → IsCut plan head.shape s k states → greatest s.last (take k s.submitted) < 2 ^ 64
         → Replaces (slot (slots_of head.shape) (1 - side)) (slot_bytes head.shape.k (s.epoch + k) (greatest s.last (take k s.submitted)) states) old new
         → Tells plan head (side_after side k) (cut_at s k states) new }
 {
@@ -154,6 +154,7 @@ pub fn cut_is_written()
     td_slots::laws::other_is_put();
     td_journal::laws::cells_tell();
     td_journal::laws::checkpoint_goes_on();
+    td_journal::laws::told_numbers_rise();
 }
 
 /// The crash clause of a submit, by the contracts of `Journal::clear` and `Region::put` alone: each image since its start
@@ -184,11 +185,11 @@ pub fn submit_is_safe<D: Disk>()
 /// The same for a cut that is written, by the contract of `Slots::write`.
 pub fn write_cut_is_safe<D: Disk>()
     ensures begun { (plan : List Line) (head : AnyHead) (side : ℕ) (s : Standing) (k : ℕ) (states : StateList) (old new : D)
-        → EachTells plan head side s (D.state old) → IsCut plan head.shape s k states
+        → EachTells plan head side s (D.state old) → IsCut plan head.shape s k states → greatest s.last (take k s.submitted) < 2 ^ 64
         → CrashSafe (Puts (slot (slots_of head.shape) (1 - side)) (slot_bytes head.shape.k (s.epoch + k) (greatest s.last (take k s.submitted)) states)) (D.state old) (D.state new)
         → (c : List ℕ) → (D.state new).since (D.state old).moment c → Tells plan head side s c ⊎ Tells plan head (side_after side k) (cut_at s k states) c }
     ensures done { (plan : List Line) (head : AnyHead) (side : ℕ) (s : Standing) (k : ℕ) (states : StateList) (old new : D)
-        → EachTells plan head side s (D.state old) → IsCut plan head.shape s k states → D.is_lawful new
+        → EachTells plan head side s (D.state old) → IsCut plan head.shape s k states → greatest s.last (take k s.submitted) < 2 ^ 64 → D.is_lawful new
         → CrashSafe (Puts (slot (slots_of head.shape) (1 - side)) (slot_bytes head.shape.k (s.epoch + k) (greatest s.last (take k s.submitted)) states)) (D.state old) (D.state new)
         → IsOpen (slot (slots_of head.shape) (1 - side)) (slot_bytes head.shape.k (s.epoch + k) (greatest s.last (take k s.submitted)) states) (D.state new)
         → EachTells plan head (side_after side k) (cut_at s k states) (D.state new) }

@@ -77,7 +77,7 @@ pub fn read_parts<D: Disk>(alloc: Global, device: &mut D, plan: &Plan) -> Result
         n: shape.cells(),
         kept: checkpoint.epoch,
     };
-    let floor = if head.version == 1 { None } else { Some(checkpoint.last) };
+    let floor = if head.version < 2 { None } else { Some(checkpoint.last) };
     let submitted = journal.read_from(alloc, device, &inputs, checkpoint.epoch, floor)?;
     Ok(Recovered {
         head,

@@ -21,7 +21,7 @@ returns-clause-begun c plan head side s old new e tells room clears =
     record {
       canonical = tells.canonical;
       text = c.heads_tell.ensures.text tells.canonical old new heads tells.text;
-      head_is = c.heads_tell.ensures.sizes tells.canonical plan old new heads ∙ tells.head_is;
+      head_is = c.heads_tell.ensures.head tells.canonical plan old new heads ∙ tells.head_is;
       checkpoint = c.slots_tell.ensures head.version (folds_of plan) (slots_of sizes) old new slots ∙ tells.checkpoint;
       submitted = c.following_is_closed.ensures.begun (inputs_of plan) ring old new floor s.epoch e s.submitted next closes.0 closes.1;
     }) clears

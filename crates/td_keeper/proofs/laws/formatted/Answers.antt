@@ -19,6 +19,6 @@ returns c plan sizes image lawful is =
       head_is = heads.0;
       checkpoint = ap (λ (h : Option (List ℕ)). newest_in 2 (folds_of plan) sizes.k h (opened (slot (slots_of sizes) 1) image)) is.slot_0
           ∙ ap (newest_in 2 (folds_of plan) sizes.k (Some (slot_bytes sizes.k 0 0 []))) is.slot_1
-          ∙ c.slots_read_back.ensures.found 2 (folds_of plan) sizes.k 0 0 0 [] fit (omega arith);
+          ∙ c.slots_read_back.ensures.found 2 (folds_of plan) sizes.k 0 0 0 [] (omega arith) (record { lawful = refl; fits = omega arith }) fit;
       submitted = c.closed_tells_nothing.ensures (inputs_of plan) (ring_of sizes 0) image (Some 0) 0 is.cell_1;
     }

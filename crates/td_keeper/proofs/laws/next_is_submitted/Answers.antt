@@ -18,7 +18,7 @@ returns-clause-begun c plan head side s old new e x tells room fresh ok nothing 
     let slots = slots_by_cell others sizes payload old new s.epoch (e % sizes.n) put in
     let next : IsNext (inputs_of plan) ring old floor s.epoch s.submitted e = record { told = tells.submitted; room = room.room; epoch = room.epoch } in
     let text = c.heads_tell.ensures.text tells.canonical old new heads tells.text in
-    let head_is = c.heads_tell.ensures.sizes tells.canonical plan old new heads ∙ tells.head_is in
+    let head_is = c.heads_tell.ensures.head tells.canonical plan old new heads ∙ tells.head_is in
     let checkpoint = c.slots_tell.ensures head.version (folds_of plan) (slots_of sizes) old new slots ∙ tells.checkpoint in
     ⊎_elim
     (λ before. inl (record { canonical = tells.canonical; text = text; head_is = head_is; checkpoint = checkpoint; submitted = before }))
@@ -39,7 +39,7 @@ returns-clause-done c plan head side s old new e x tells room fresh ok nothing d
     record {
       canonical = tells.canonical;
       text = c.heads_tell.ensures.text tells.canonical old new heads tells.text;
-      head_is = c.heads_tell.ensures.sizes tells.canonical plan old new heads ∙ tells.head_is;
+      head_is = c.heads_tell.ensures.head tells.canonical plan old new heads ∙ tells.head_is;
       checkpoint = c.slots_tell.ensures head.version (folds_of plan) (slots_of sizes) old new slots ∙ tells.checkpoint;
       submitted = c.next_is_put.ensures.done (inputs_of plan) ring old new floor s.epoch e s.submitted x next room.small ok (fresh_after head.version s x.request fresh) nothing done;
     }
