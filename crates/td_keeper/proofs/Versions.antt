@@ -1,5 +1,5 @@
 -- The request numbers of each version of the format: before version 2 there are none.
-use Rattle.std.proofs.Common.{◌≡◌, ℕ, zero, suc, max, Bool, true, false, ◌&&◌, ◌||◌, ◌==◌, nat_lt, nat_le, List, [], ◌∷◌, take, Option, Some, None, Result, Ok, Err, refl, sym, ap, ◌∙◌, subst, arith}
+use Rattle.std.proofs.Common.{◌≡◌, ℕ, zero, suc, max, Bool, true, false, ◌&&◌, ◌||◌, ◌==◌, ◌^◌, nat_lt, nat_le, List, [], ◌∷◌, take, Option, Some, None, Result, Ok, Err, refl, sym, ap, ◌∙◌, subst, arith}
 use Rattle.std.specs.List.{list_all}
 use Rattle.std.proofs.lemmas.Bool.{and_parts, cases_eq, eqb-true}
 use Rattle.td_gate.specs.Fields.{front_in, is_plain}
@@ -13,6 +13,14 @@ use Rattle.td_journal.specs.declared.submitted.Submitted.{Submitted}
 use Rattle.td_journal.specs.Numbers.{greatest, rise}
 use Rattle.td_keeper.specs.Told.{floor_of}
 
+-- what an answer tells
+abbrev taken : Checkpoint → Result Checkpoint SlotsError → Checkpoint
+taken d (Ok c) = c
+taken d (Err e) = d
+
+abbrev told_as : Checkpoint → Result Checkpoint SlotsError
+told_as c = Ok c
+
 module _ (version : ℕ) (folds : List ℕ) (k : ℕ) where
   -- what a slot tells has a number that it may have
   valid_last : (side : ℕ) (p : List ℕ) (b : Bool) (c : Checkpoint) → is_slot version folds k p ≡ b → where_valid b (spelled side p) ≡ Ok c → is_last version c.last ≡ true
@@ -20,7 +28,7 @@ module _ (version : ℕ) (folds : List ℕ) (k : ℕ) where
       let front = and_parts (is_front version k (front_in p)) (are_states folds (states_in p)) is in
       let rest = and_parts (nat_lt (front_in p).epoch (2 ^ 63)) (is_last version (front_in p).request && is_plain k (front_in p)) front.0 in
       let last = and_parts (is_last version (front_in p).request) (is_plain k (front_in p)) rest.1 in
-      let same : spelled side p ≡ c = cc in
+      let same : spelled side p ≡ c = ap (taken c) told in
       subst (λ (x : Checkpoint). is_last version x.last ≡ true) same last.0
   valid_last side p false c is told = absurd cc
 
@@ -34,9 +42,9 @@ module _ (version : ℕ) (folds : List ℕ) (k : ℕ) where
   both_last (Ok x) (Err e) c one other told = absurd cc
   both_last (Ok x) (Ok y) c one other told = chosen (nat_lt x.epoch y.epoch) told
     where
-      chosen : (b : Bool) → Ok {E = SlotsError} (second_if b x y) ≡ Ok c → is_last version c.last ≡ true
-      chosen true is = let same : y ≡ c = cc in subst (λ (z : Checkpoint). is_last version z.last ≡ true) same (other y refl)
-      chosen false is = let same : x ≡ c = cc in subst (λ (z : Checkpoint). is_last version z.last ≡ true) same (one x refl)
+      chosen : (b : Bool) → told_as (second_if b x y) ≡ told_as c → is_last version c.last ≡ true
+      chosen true is = let same : y ≡ c = ap (taken c) is in subst (λ (z : Checkpoint). is_last version z.last ≡ true) same (other y refl)
+      chosen false is = let same : x ≡ c = ap (taken c) is in subst (λ (z : Checkpoint). is_last version z.last ≡ true) same (one x refl)
 
   pub newest_last : (p q : Option (List ℕ)) (c : Checkpoint) → newest_in version folds k p q ≡ Ok c → is_last version c.last ≡ true
   newest_last None None c told = absurd cc

@@ -1,5 +1,5 @@
 //! Laws of the definitions. Each is the contract of a function that does nothing.
-ghost use Rattle.std.specs.Prelude.{◌≡◌, ◌≢◌, ◌⊎◌, ◌+◌, ◌-◌, ◌^◌, ◌<◌, ◌≤◌, ◌++◌, [], ◌∷◌, List, length, take, ℕ, suc, Bool, Result, None, Ok, Err};
+ghost use Rattle.std.specs.Prelude.{◌≡◌, ◌≢◌, ◌⊎◌, ◌+◌, ◌-◌, ◌^◌, ◌<◌, ◌≤◌, ◌++◌, [], ◌∷◌, List, length, take, ℕ, suc, Result, None, Ok, Err};
 ghost use Rattle.td_stamp.specs.States.{StateList};
 ghost use Rattle.td_plan.specs.Tree.{Nodes};
 ghost use Rattle.td_plan.specs.Lines.{Line};
@@ -12,7 +12,7 @@ ghost use Rattle.td_gate.specs.Regions.{Apart, Replaces};
 ghost use Rattle.td_head.specs.declared.error.HeadError.{HeadError};
 ghost use Rattle.td_head.specs.declared.head.Head.{Head as AnyHead};
 ghost use Rattle.td_head.specs.Layout.{Sizes, head_a, head_b, size_of};
-ghost use Rattle.td_head.specs.Head.{headed, TellsCanonical};
+ghost use Rattle.td_head.specs.Head.{IsHeaded};
 ghost use Rattle.td_slots.specs.declared.error.SlotsError.{SlotsError};
 ghost use Rattle.td_slots.specs.Slot.{slot, slot_bytes};
 ghost use Rattle.td_slots.specs.declared.slots.Checkpoint.{Checkpoint as AnyCheckpoint};
@@ -88,14 +88,13 @@ pub fn told_in_parts()
 
 /// The first refusal of the parts is what an image tells.
 pub fn told_refused()
-    ensures head { (canonical : Bool) (plan : List Line) (image : List ℕ) (e : HeadError) → TellsCanonical canonical image → headed canonical plan image ≡ Err e
-        → Told plan image (Err (of_head e)) }
-    ensures slots { (canonical : Bool) (plan : List Line) (head : AnyHead) (image : List ℕ) (e : SlotsError)
-        → TellsCanonical canonical image → headed canonical plan image ≡ Ok head
+    ensures head { (plan : List Line) (image : List ℕ) (e : HeadError) → IsHeaded plan image (Err e) → Told plan image (Err (of_head e)) }
+    ensures slots { (plan : List Line) (head : AnyHead) (image : List ℕ) (e : SlotsError)
+        → IsHeaded plan image (Ok head)
         → newest head.version (folds_of plan) (slots_of head.shape) image ≡ Err e
         → Told plan image (Err (of_slots e)) }
-    ensures cells { (canonical : Bool) (plan : List Line) (head : AnyHead) (image : List ℕ) (at : AnyCheckpoint) (e : JournalError)
-        → TellsCanonical canonical image → headed canonical plan image ≡ Ok head
+    ensures cells { (plan : List Line) (head : AnyHead) (image : List ℕ) (at : AnyCheckpoint) (e : JournalError)
+        → IsHeaded plan image (Ok head)
         → newest head.version (folds_of plan) (slots_of head.shape) image ≡ Ok at
         → told_after (inputs_of plan) (ring_of head.shape at.epoch) image (floor_of head.version at.last) at.epoch ≡ Err e
         → Told plan image (Err (of_journal e)) }

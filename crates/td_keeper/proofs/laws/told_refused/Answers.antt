@@ -3,15 +3,15 @@ use Rattle.td_keeper.specs.Told.{from_head, from_checkpoint, with_batches}
 use Rattle.td_keeper.proofs.laws.told_refused.Goals as goal
 
 pub returns-clause-head : goal.returns-clause-head
-returns-clause-head c canonical plan image e text is = record { canonical = canonical; text = text; is = ap (from_head plan image) is }
+returns-clause-head c plan image e is = record { canonical = is.canonical; text = is.text; is = ap (from_head plan image) is.head }
 
 pub returns-clause-slots : goal.returns-clause-slots
-returns-clause-slots c canonical plan head image e text head_is is =
-    record { canonical = canonical; text = text; is = ap (from_head plan image) head_is ∙ ap (from_checkpoint plan head image) is }
+returns-clause-slots c plan head image e is refused =
+    record { canonical = is.canonical; text = is.text; is = ap (from_head plan image) is.head ∙ ap (from_checkpoint plan head image) refused }
 
 pub returns-clause-cells : goal.returns-clause-cells
-returns-clause-cells c canonical plan head image at e text head_is checkpoint is = record {
-  canonical = canonical;
-  text = text;
-  is = ap (from_head plan image) head_is ∙ ap (from_checkpoint plan head image) checkpoint ∙ ap (with_batches at) is;
+returns-clause-cells c plan head image at e is checkpoint refused = record {
+  canonical = is.canonical;
+  text = is.text;
+  is = ap (from_head plan image) is.head ∙ ap (from_checkpoint plan head image) checkpoint ∙ ap (with_batches at) refused;
 }
