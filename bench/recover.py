@@ -6,8 +6,10 @@
 It builds bench/recover.rattle in a copy of the repository's crates below it, which is proved on the way. The reading shares
 nothing with the crates. The disks are: one that the keeper itself formats and writes, which is compared byte for byte with
 one that is written here; the named cases below; and of a disk with two epochs and a checkpoint, in version 1 and in version
-2, each beginning of its bytes, and each single byte of it changed to 00, 01, 5a, a5 and ff."""
+2, each beginning of its bytes, and each single byte of it changed to 00, 01, 5a, a5 and ff. Last, with a C compiler, one disk
+is recovered with each allocation refused in turn, alone and with all that follow: the answer is what is told, or `memory`."""
 
+import os
 import pathlib
 import shutil
 import struct
@@ -24,6 +26,8 @@ M, N, K = 4, 2, 3
 OPEN = 0xA5
 CHANGED = (0x00, 0x01, 0x5A, 0xA5, 0xFF)
 TOP = 1 << 63
+# So many runs in a row that meet no refusal end the count.
+UNTOUCHED = 40
 
 
 # The layout: parts of a payload and a gate byte, one after the other
@@ -276,7 +280,7 @@ def build(folder):
     source = folder / "crates/recover/src"
     source.mkdir(parents=True)
     shutil.copy(ROOT / "bench/recover.rattle", source / "main.rt")
-    (folder / "crates.txt").write_text("\n".join([*below.values(), f"recover: {' '.join(below)}", ""]))
+    (folder / "crates.txt").write_text("\n".join([*below.values(), f"recover: {' '.join(below)} hex", ""]))
     shutil.copy(ROOT / "HANDLES", folder / "HANDLES")
     subprocess.run(["git", "init", "-q", folder], check=True)
     done = subprocess.run(["rt", "run"], cwd=source.parent, input="", capture_output=True, text=True)
@@ -306,6 +310,27 @@ def compare(program, name, lines, images, wanted=None):
     print(f"{name}: {len(wanted)} images, no difference;", ", ".join(f"{kinds[kind]} {kind}" for kind in sorted(kinds)))
 
 
+def refuse_each(program, folder, image):
+    """Where a run ends with a status, it is the driver that had no memory."""
+    compiler = next(filter(None, map(shutil.which, ("cc", "gcc", "clang"))), None)
+    if compiler is None:
+        print("allocations: skipped, no C compiler is here")
+        return
+    library = folder / "refuse.so"
+    subprocess.run([compiler, "-O2", "-shared", "-fPIC", "-o", library, ROOT / "bench/refuse_allocation.c"], check=True)
+    wanted, refused, untouched, number = told(image) + "\n", 0, 0, 0
+    while untouched < UNTOUCHED:
+        number, untouched = number + 1, untouched + 1
+        for more in ({}, {"REFUSED_ON": "1"}):
+            done = subprocess.run([program], input=f"image {image.hex()}\n", capture_output=True, text=True,
+                                  env={**os.environ, "LD_PRELOAD": str(library), "REFUSED": str(number), **more})
+            if done.returncode != 0 or done.stdout == "memory\n":
+                refused, untouched = refused + (done.returncode == 0), 0
+            elif done.stdout != wanted:
+                sys.exit(f"with allocation {number} refused: {done.stdout}")
+    print(f"allocations: {number - UNTOUCHED}, {refused} runs answered memory, no other answer")
+
+
 def main():
     for name, image, wanted in named_cases():
         if told(image) != wanted:
@@ -328,6 +353,7 @@ def main():
             changes = [(at, value) for at in range(len(base)) for value in CHANGED]
             compare(program, f"version {version}, single bytes", [f"base {base.hex()}", *[f"set {at} {value}" for at, value in changes]],
                     [full.changed(change) for change in changes])
+        refuse_each(program, pathlib.Path(folder), bytes(disks(2)[0].bytes))
         print(f"{time.monotonic() - start:.0f} s after the build")
 
 

@@ -6,3 +6,4 @@ mod Moments
 mod Kept
 mod Versions
 mod Formats
+mod Refusing
