@@ -1,0 +1,361 @@
+#!/usr/bin/env python3
+"""Asks td_keeper what it recovers of many disks, and compares each answer with a reading of the format in this file.
+
+    bench/recover.py                    needs the kit
+
+It builds bench/recover.rattle in a copy of the repository's crates below it, which is proved on the way. The reading shares
+nothing with the crates. The disks are: one that the keeper itself formats and writes, which is compared byte for byte with
+one that is written here; the named cases below; and of a disk with two epochs and a checkpoint, in version 1 and in version
+2, each beginning of its bytes, and each single byte of it changed to 00, 01, 5a, a5 and ff. Last, with a C compiler, one disk
+is recovered with each allocation refused in turn, alone and with all that follow: the answer is what is told, or `memory`."""
+
+import os
+import pathlib
+import shutil
+import struct
+import subprocess
+import sys
+import tempfile
+import time
+
+ROOT = pathlib.Path(__file__).resolve().parent.parent
+CRATE = "td_keeper"
+TOTAL = b"0 input\n1 fold 40 0\n2 output 1\n"
+COUNT = b"0 input\n1 group 20 0\n2 output 1\n"
+M, N, K = 4, 2, 3
+OPEN = 0xA5
+CHANGED = (0x00, 0x01, 0x5A, 0xA5, 0xFF)
+TOP = 1 << 63
+# So many runs in a row that meet no refusal end the count.
+UNTOUCHED = 40
+
+
+# The layout: parts of a payload and a gate byte, one after the other
+
+
+def parts(m, n, k):
+    """Of each part its offset and the length of its payload."""
+    at, found = 0, {}
+    for name, length in [("head A", 4128), ("head B", 4128), ("slot 0", 24 + 32 * k), ("slot 1", 24 + 32 * k),
+                         *[(f"cell {i}", 24 + 24 * m) for i in range(n)]]:
+        found[name] = at, length
+        at += length + 1
+    return found, at
+
+
+# Writing
+
+
+class Disk:
+    """A formatted disk's bytes, all parts closed."""
+
+    def __init__(self, version=2, plan=TOTAL):
+        self.parts, size = parts(M, N, K)
+        self.bytes = bytearray(size)
+        self.version = version
+        self.slot(0, 0, 0, [])
+        self.head("A", 1, plan)
+
+    def put(self, part, payload):
+        at, length = self.parts[part]
+        self.bytes[at:at + length + 1] = payload.ljust(length, b"\0") + bytes([OPEN])
+
+    def head(self, side, generation, plan=TOTAL, version=None):
+        fields = struct.pack(">4sIQIIII", b"TDFL", version or self.version, generation, M, N, K, len(plan))
+        self.put(f"head {side}", fields + plan)
+
+    def slot(self, side, epoch, last, states):
+        entries = b"".join(struct.pack(">QQqq", *state) for state in states)
+        self.put(f"slot {side}", struct.pack(">QQII", epoch, last, len(states), 0) + entries)
+
+    def cell(self, epoch, request, records):
+        entries = b"".join(struct.pack(">QQq", *record) for record in records)
+        self.put(f"cell {epoch % N}", struct.pack(">QQII", epoch, request, len(records), 0) + entries)
+
+    def changed(self, *changes):
+        image = bytearray(self.bytes)
+        for at, value in changes:
+            image[at] = value
+        return bytes(image)
+
+
+# Reading
+
+
+class Refused(Exception):
+    pass
+
+
+def opened(image, part):
+    at, length = part
+    return image[at:at + length] if image[at + length] == OPEN else None
+
+
+def is_canonical(text):
+    """Whether a text is the canonical one of a plan, as far as it is asked here."""
+    if text in (TOTAL, COUNT):
+        return True
+    if not text.endswith(b"\n") or any(chr(byte) not in "\n abcdefghijklmnopqrstuvwxyz0123456789" for byte in text):
+        return False
+    sys.exit(f"is this a plan? {text}")
+
+
+def read_head(image):
+    if len(image) < 8258:
+        raise Refused("not formatted")
+    heads = [payload for payload in (opened(image, (0, 4128)), opened(image, (4129, 4128)))
+             if payload is not None and payload[:4] == b"TDFL"]
+    if not heads:
+        raise Refused("not formatted")
+    head = max(heads, key=lambda payload: struct.unpack_from(">Q", payload, 8))
+    version, generation, m, n, k, length = struct.unpack_from(">IQIIII", head, 4)
+    text = head[32:32 + length]
+    if (version not in (1, 2) or generation == 0 or not 1 <= m <= 65536 or not 1 <= n <= 65536 or not 1 <= k <= 1048576
+            or length > 4096 or not is_canonical(text) or len(image) < parts(m, 0, k)[1] + n * (25 + 24 * m)):
+        raise Refused("damaged: head")
+    if text != TOTAL:
+        raise Refused("another plan")
+    return version, parts(m, n, k)[0], (m, n, k)
+
+
+def rows(form, count, payload):
+    size = struct.calcsize(form)
+    return [struct.unpack_from(form, payload, 24 + size * i) for i in range(count)]
+
+
+def read_slot(version, k, payload):
+    """The epoch, the last request and the states of a slot's payload, or nothing where it is not valid."""
+    epoch, last, count, zero = struct.unpack_from(">QQII", payload)
+    if epoch >= TOP or version == 1 and last != 0 or zero != 0 or count > k:
+        return None
+    states = rows(">QQqq", count, payload)
+    places = [state[:2] for state in states]
+    rising = all(one < other for one, other in zip(places, places[1:]))
+    return (epoch, last, states) if rising and all(vertex == 1 for vertex, _ in places) else None
+
+
+def read_slots(version, layout, k, image):
+    found = []
+    for side in (0, 1):
+        payload = opened(image, layout[f"slot {side}"])
+        if payload is not None:
+            found.append((side, read_slot(version, k, payload)))
+    if not found:
+        raise Refused("damaged: no slot")
+    for side, slot in found:
+        if slot is None:
+            raise Refused(f"damaged: slot {side}")
+    return max(found, key=lambda each: (each[1][0], -each[0]))[1]
+
+
+def read_cell(version, m, last, payload):
+    """The request and the records of a cell's payload, or nothing where it is not valid after requests up to the last."""
+    _, request, count, zero = struct.unpack_from(">QQII", payload)
+    if zero != 0 or count > m or request != 0 and (version == 1 or request <= last):
+        return None
+    records = rows(">QQq", count, payload)
+    fallen = any(one > other for one, other in zip(records, records[1:]))
+    return None if fallen or any(record[0] != 0 for record in records) else (request, records)
+
+
+def read_cells(version, layout, shape, image, epoch, last):
+    m, n, _ = shape
+    told = []
+    for next_epoch in range(epoch + 1, epoch + 1 + n):
+        cell = next_epoch % n
+        payload = opened(image, layout[f"cell {cell}"])
+        if payload is None or next_epoch >= TOP or struct.unpack_from(">Q", payload)[0] != next_epoch:
+            break
+        found = read_cell(version, m, last, payload)
+        if found is None:
+            raise Refused(f"damaged: cell {cell}")
+        last = max(last, found[0])
+        told.append(found)
+    return told
+
+
+def spelled(members):
+    return ",".join(" ".join(map(str, member)) for member in members)
+
+
+def told(image):
+    try:
+        version, layout, shape = read_head(image)
+        epoch, last, states = read_slots(version, layout, shape[2], image)
+        cells = read_cells(version, layout, shape, image, epoch, last)
+    except Refused as refusal:
+        return str(refusal)
+    after = ";".join(f"{request}:{spelled(records)}" for request, records in cells)
+    return f"{version} {epoch} {last}|{spelled(states)}|{after}"
+
+
+# The cases
+
+
+def disks(version):
+    """A disk with two epochs after a checkpoint, and one with the first epoch alone."""
+    full, one = Disk(version), Disk(version)
+    request = [5, 9, 0] if version == 2 else [0, 0, 0]
+    full.cell(1, request[0], [(0, 7, 5)])
+    full.slot(1, 1, request[0], [(1, 7, 5, 1)])
+    full.cell(2, request[1], [(0, 7, -2), (0, 8, 1)])
+    full.cell(3, request[2], [])
+    one.cell(1, request[0], [(0, 7, 5)])
+    return full, one
+
+
+def named_cases():
+    """Lines of a name, an image and what is told, as the documents have it."""
+    for version in (1, 2):
+        _, one = disks(version)
+        request = 5 if version == 2 else 0
+        start = f"{version} 0 0||"
+        yield f"one epoch, version {version}", bytes(one.bytes), f"{start}{request}:0 7 5"
+        for size in (0, 100, 8257):
+            yield f"cut to {size}", bytes(one.bytes[:size]), "not formatted"
+        for size in (8258, 8741):
+            yield f"cut to {size}", bytes(one.bytes[:size]), "damaged: head"
+        yield "no head is open", one.changed((4128, 0)), "not formatted"
+        yield "version 9", one.changed((7, 9)), "damaged: head"
+        yield "no slot is open", one.changed((8378, 0)), "damaged: no slot"
+        yield "a number in slot 0", one.changed((8273, 1)), "damaged: slot 0" if version == 1 else "2 0 1||5:0 7 5"
+        yield "five records", one.changed((8640, 5)), "damaged: cell 1"
+        yield "epoch 7 in cell 1", one.changed((8628, 7)), start
+        yield "cell 1 closed", one.changed((8741, 0)), start
+        yield "zeros", bytes(8742), "not formatted"
+        yield "another plan", bytes(Disk(version, COUNT).bytes), "another plan"
+    yield from cases_of_requests()
+    yield from cases_of_heads()
+
+
+def cases_of_requests():
+    for name, slot, requests, wanted in [
+            ("requests rise", 0, (5, 9), "2 0 0||5:;9:"), ("a request again", 0, (5, 5), "damaged: cell 0"),
+            ("requests fall", 0, (9, 5), "damaged: cell 0"), ("none between", 0, (5, 0), "2 0 0||5:;0:"),
+            ("as the slot's", 5, (5, 6), "damaged: cell 1"), ("above the slot's", 5, (6, 7), "2 0 5||6:;7:"),
+            ("the greatest", 0, (2**64 - 1, 0), f"2 0 0||{2**64 - 1}:;0:")]:
+        disk = Disk()
+        disk.slot(0, 0, slot, [])
+        disk.cell(1, requests[0], [])
+        disk.cell(2, requests[1], [])
+        yield name, bytes(disk.bytes), wanted
+
+
+def cases_of_heads():
+    disk = Disk()
+    disk.cell(1, 5, [])
+    disk.head("B", 1, COUNT)
+    yield "a tie of heads", bytes(disk.bytes), "2 0 0||5:"
+    disk.head("B", 2, TOTAL, 1)
+    yield "the later head has version 1", bytes(disk.bytes), "damaged: cell 1"
+    disk.head("B", 2, COUNT)
+    yield "the later head has another plan", bytes(disk.bytes), "another plan"
+    disk = Disk()
+    disk.slot(1, 0, 0, [(1, 7, 5, 1)])
+    yield "a tie of slots", bytes(disk.bytes), "2 0 0||"
+    disk.cell(2, 0, [])
+    yield "a gap", bytes(disk.bytes), "2 0 0||"
+
+
+# The program
+
+
+def crates_below():
+    below, todo = {}, [CRATE]
+    lines = dict(line.split(":", 1) for line in (ROOT / "crates.txt").read_text().splitlines() if ":" in line and line[0] != "#")
+    lines = {words.split()[0]: (words, needs) for words, needs in lines.items()}
+    while todo:
+        name = todo.pop()
+        if name in lines and name not in below:
+            below[name] = "{}:{}".format(*lines[name])
+            todo += lines[name][1].split()
+    return below
+
+
+def build(folder):
+    """The program's path, in a repository of its own: copies of the crates and of what earlier checks kept."""
+    below = crates_below()
+    for crate in below:
+        shutil.copytree(ROOT / "crates" / crate, folder / "crates" / crate, ignore=shutil.ignore_patterns("edit_times"))
+    source = folder / "crates/recover/src"
+    source.mkdir(parents=True)
+    shutil.copy(ROOT / "bench/recover.rattle", source / "main.rt")
+    (folder / "crates.txt").write_text("\n".join([*below.values(), f"recover: {' '.join(below)} hex", ""]))
+    shutil.copy(ROOT / "HANDLES", folder / "HANDLES")
+    subprocess.run(["git", "init", "-q", folder], check=True)
+    done = subprocess.run(["rt", "run"], cwd=source.parent, input="", capture_output=True, text=True)
+    if done.returncode != 0:
+        sys.exit(done.stdout + done.stderr)
+    return source.parent / "out/recover"
+
+
+def asked(program, lines):
+    done = subprocess.run([program], input="\n".join(lines) + "\n", capture_output=True, text=True, check=True)
+    return done.stdout.splitlines()
+
+
+def compare(program, name, lines, images, wanted=None):
+    """What the program tells of each image, of which a line asks, against what is told here, or wanted."""
+    wanted = wanted or [told(image) for image in images]
+    got = asked(program, lines)
+    if len(got) != len(wanted):
+        sys.exit(f"{name}: {len(got)} answers to {len(wanted)} images")
+    for line, mine, theirs in zip(lines[-len(wanted):], wanted, got):
+        if mine != theirs:
+            sys.exit(f"{name}: {line[:60]}: told {mine}, and td_keeper answers {theirs}")
+    kinds = {}
+    for answer in wanted:
+        kind = answer if answer[0].isalpha() else "told"
+        kinds[kind] = kinds.get(kind, 0) + 1
+    print(f"{name}: {len(wanted)} images, no difference;", ", ".join(f"{kinds[kind]} {kind}" for kind in sorted(kinds)))
+
+
+def refuse_each(program, folder, image):
+    """Where a run ends with a status, it is the driver that had no memory."""
+    compiler = next(filter(None, map(shutil.which, ("cc", "gcc", "clang"))), None)
+    if compiler is None:
+        print("allocations: skipped, no C compiler is here")
+        return
+    library = folder / "refuse.so"
+    subprocess.run([compiler, "-O2", "-shared", "-fPIC", "-o", library, ROOT / "bench/refuse_allocation.c"], check=True)
+    wanted, refused, untouched, number = told(image) + "\n", 0, 0, 0
+    while untouched < UNTOUCHED:
+        number, untouched = number + 1, untouched + 1
+        for more in ({}, {"REFUSED_ON": "1"}):
+            done = subprocess.run([program], input=f"image {image.hex()}\n", capture_output=True, text=True,
+                                  env={**os.environ, "LD_PRELOAD": str(library), "REFUSED": str(number), **more})
+            if done.returncode != 0 or done.stdout == "memory\n":
+                refused, untouched = refused + (done.returncode == 0), 0
+            elif done.stdout != wanted:
+                sys.exit(f"with allocation {number} refused: {done.stdout}")
+    print(f"allocations: {number - UNTOUCHED}, {refused} runs answered memory, no other answer")
+
+
+def main():
+    for name, image, wanted in named_cases():
+        if told(image) != wanted:
+            sys.exit(f"{name}: wanted {wanted}, and this file tells {told(image)}")
+    with tempfile.TemporaryDirectory() as folder:
+        program = build(pathlib.Path(folder))
+        start = time.monotonic()
+        full, _ = disks(2)
+        made = asked(program, ["make"])
+        if made != [bytes(full.bytes).hex()]:
+            sys.exit("the keeper writes other bytes")
+        cases = list(named_cases())
+        compare(program, "named", [f"image {image.hex()}" for _, image, _ in cases], [], [wanted for _, _, wanted in cases])
+        for version in (1, 2):
+            full, _ = disks(version)
+            base = bytes(full.bytes)
+            beginnings = range(len(base) + 1)
+            compare(program, f"version {version}, beginnings", [f"base {base.hex()}", *[f"cut {n}" for n in beginnings]],
+                    [base[:n] for n in beginnings])
+            changes = [(at, value) for at in range(len(base)) for value in CHANGED]
+            compare(program, f"version {version}, single bytes", [f"base {base.hex()}", *[f"set {at} {value}" for at, value in changes]],
+                    [full.changed(change) for change in changes])
+        refuse_each(program, pathlib.Path(folder), bytes(disks(2)[0].bytes))
+        print(f"{time.monotonic() - start:.0f} s after the build")
+
+
+if __name__ == "__main__":
+    main()
