@@ -1,0 +1,6 @@
+pub mod Same
+pub mod Kept
+pub mod Counted
+pub mod Updates
+pub mod Epochs
+pub mod Free
