@@ -1,16 +1,16 @@
 -- How often a pointstamp occurs.
-use Rattle.std.proofs.Common.{◌≡◌, ℕ, zero, suc, ◌+◌, ◌*◌, ◌<◌, ◌≤◌, Bool, true, false, cond, List, [], ◌∷◌, ◌++◌, replicate, length, Option, Some, None, unwrap_or, Contains, slice_index_or, refl, sym, ap, ◌∙◌, subst, true≢false, arith}
-use Rattle.std.specs.List.{sum_by, count_by, AllByRecursion, IsDistinct}
+use Rattle.std.proofs.Common.{◌≡◌, ℕ, zero, suc, ◌+◌, ◌*◌, ◌<◌, ◌≤◌, Bool, true, false, cond, List, [], ◌∷◌, ◌++◌, replicate, length, Option, Some, None, unwrap_or, Contains, refl, sym, ap, ◌∙◌, true≢false, arith}
+use Rattle.std.specs.List.{IsDistinct}
 use Rattle.std.specs.Map.{keys_of, lookup}
 use Rattle.std.proofs.Common.{length-append, is_some}
 use Rattle.std.proofs.lemmas.List.{length-replicate}
-use Rattle.std.proofs.lemmas.List.Sums.{sum_by-cons, sum_by-append}
+use Rattle.std.proofs.lemmas.List.Sums.{sum_by-cons, sum_by-append, count_by-le-length}
 use Rattle.std.proofs.lemmas.List.Folds.{sum_by-replicate}
-use Rattle.std.proofs.lemmas.Map.{lookup-none, NonePasses}
+use Rattle.std.proofs.lemmas.Map.{NonePasses}
 use Rattle.std.proofs.lemmas.Map.Entries.{none_past_head}
 use Rattle.td_stamp.specs.Bag.{members}
 use Rattle.td_reach.specs.declared.stamp.Stamp.{Stamp}
-use Rattle.td_progress.specs.Bag.{is_stamp, occurrences, IsSameBag}
+use Rattle.td_progress.specs.Bag.{is_stamp, occurrences}
 use Rattle.td_progress.specs.Entries.{AreCounted}
 use Rattle.td_progress.proofs.Same.{Decides-is_stamp, is_stamp-self, is_stamp-equiv}
 
@@ -128,3 +128,6 @@ counted_length (d ∷ es) h e =
 pub no_members : (es : List (Stamp × ℕ)) → length es ≡ 0 → length (members es) ≡ 0
 no_members [] e = refl
 no_members (d ∷ es) e = absurd (omega (arith, e))
+
+pub occurrences-le : (p : Stamp) (xs : List Stamp) → occurrences p xs ≤ length xs
+occurrences-le p xs = count_by-le-length (is_stamp p) xs

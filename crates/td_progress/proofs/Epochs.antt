@@ -1,5 +1,5 @@
 -- How often a pointstamp occurs in all epochs: as often as in its own.
-use Rattle.std.proofs.Common.{◌≡◌, ℕ, ◌+◌, ◌<◌, ◌≤◌, Bool, true, false, cond, List, [], ◌∷◌, ◌++◌, length, replicate, Option, Some, None, refl, sym, ap, ◌∙◌, subst, true≢false, arith}
+use Rattle.std.proofs.Common.{◌≡◌, ℕ, ◌+◌, ◌<◌, Bool, true, false, cond, List, [], ◌∷◌, ◌++◌, length, replicate, Option, Some, None, unwrap_or, refl, sym, ap, ◌∙◌, subst, true≢false, arith}
 use Rattle.std.proofs.lemmas.Bool.Decides.{nat_tests}
 use Rattle.std.specs.List.{AllByRecursion, IsDistinct}
 use Rattle.std.specs.List.Sorted.{IsStrictlySortedBy}
@@ -7,16 +7,17 @@ use Rattle.std.specs.Map.{keys_of, lookup}
 use Rattle.std.specs.BTreeMap.{is_at}
 use Rattle.std.specs.Ordering.{nat_cmp, eq_by_cmp}
 use Rattle.std.specs.Cmp.{IsEquivalence, eq_by_cmp_equiv, nat_cmp_total}
-use Rattle.std.proofs.lemmas.Map.{lookup-none, none_passes_from_lookup, NonePasses}
+use Rattle.std.proofs.lemmas.Map.{NonePasses}
 use Rattle.std.proofs.lemmas.Map.Entries.{none_past_head}
 use Rattle.std.proofs.lemmas.Map.Keys.{IsDistinct-from_sorted}
 use Rattle.td_plan.specs.Lines.{Line}
 use Rattle.td_reach.specs.declared.stamp.Stamp.{Stamp}
 use Rattle.td_progress.specs.Bag.{is_stamp, occurrences, IsSameBag}
 use Rattle.td_progress.specs.Entries.{all_stamps, AreOpen, IsOpen, IsOfEpoch}
-use Rattle.td_progress.proofs.Same.{Decides-is_stamp}
-use Rattle.td_progress.proofs.Counted.{occurrences-cons, occurrences-append, occurrences-more, if_so}
+use Rattle.td_progress.proofs.Same.{Decides-is_stamp, is_stamp-self}
+use Rattle.td_progress.proofs.Counted.{occurrences-cons, occurrences-append, occurrences-more, if_so, occurs, stands, none_is_some}
 use Rattle.td_progress.proofs.Kept.{all-found}
+use Rattle.td_progress.proofs.Free.{all-append, all-replicate, all-has, has-all, same_members}
 
 abbrev same_epoch : ℕ → ℕ → Bool
 same_epoch = eq_by_cmp nat_cmp
@@ -102,3 +103,94 @@ epoch_changed plan k a b w es fs were still found counted p =
         let apart : is_stamp p k ≡ false = not_so (is_stamp p k) (λ s. true≢false (sym (is-same_epoch k.time.epoch p.time.epoch (ap (λ q. q.time.epoch) (sym ((Decides-is_stamp p k).0 s)))) ∙ other)) in
         ap (λ d. if_so d a + occurs_in p (lookup (is_at (nat_cmp p.time.epoch)) es)) apart
         ∙ sym (ap (λ d. if_so d b + occurs_in p (lookup (is_at (nat_cmp p.time.epoch)) es)) apart)
+
+-- how often in its own epoch, by whatever name that goes
+pub in_own_epoch : (plan : List Line) (p : Stamp) (es : List (ℕ × List Stamp)) → AreOpen plan es → (epoch : ℕ) → epoch ≡ p.time.epoch
+    → occurrences p (all_stamps es) ≡ occurs_in p (lookup (is_at (nat_cmp epoch)) es)
+in_own_epoch plan p es were epoch is =
+    occurrences-all_stamps plan p es were ∙ sym (ap (λ e. occurs_in p (lookup (is_at (nat_cmp e)) es)) is)
+
+-- a look-up finds w at an epoch, and elsewhere what it found before
+abbrev pub ChangedAt : ℕ → Option (List Stamp) → List (ℕ × List Stamp) → List (ℕ × List Stamp) → Type 0
+ChangedAt epoch w es fs = (q : ℕ) → lookup (is_at (nat_cmp q)) fs ≡ cond (is_at (nat_cmp epoch) q) w (lookup (is_at (nat_cmp q)) es)
+
+pub still_open : (plan : List Line) (es : List (ℕ × List Stamp)) → AreOpen plan es → (fs : List (ℕ × List Stamp)) → IsStrictlySortedBy nat_cmp (keys_of fs)
+    → (epoch : ℕ) (w : Option (List Stamp)) → ChangedAt epoch w es fs → ((stamps : List Stamp) → w ≡ Some stamps → IsOpen plan epoch stamps) → AreOpen plan fs
+still_open plan es were fs rising epoch w found some =
+    record { rising = rising; each = λ q stamps at. by q stamps (is_at (nat_cmp epoch) q) refl (sym (found q) ∙ at) }
+  where
+    by : (q : ℕ) (stamps : List Stamp) (b : Bool) → is_at (nat_cmp epoch) q ≡ b → cond b w (lookup (is_at (nat_cmp q)) es) ≡ Some stamps → IsOpen plan q stamps
+    by q stamps true same at = subst (λ e. IsOpen plan e stamps) (same_epoch-is epoch q same) (some stamps at)
+    by q stamps false other at = were.each q stamps at
+
+-- an epoch with some pointstamps of its own more
+pub opened : (plan : List Line) (epoch : ℕ) (n : ℕ) (p : Stamp) (old new : List Stamp) → 0 < n → IsOfEpoch plan epoch p
+    → AllByRecursion (IsOfEpoch plan epoch) old → IsSameBag new (replicate n p ++ old) → IsOpen plan epoch new
+opened plan epoch n p old new some of_epoch each same =
+    let there = occurrences-more p n p old in
+    let self : if_so (is_stamp p p) n ≡ n = ap (λ b. if_so b n) (is_stamp-self p) in
+    let at = stands p new (omega (arith, same p, there, self, some)) in
+    record {
+      some = omega (arith, at.1);
+      each = has-all (IsOfEpoch plan epoch) new (λ q stands_there.
+          all-has (IsOfEpoch plan epoch) (replicate n p ++ old) q
+          (all-append (IsOfEpoch plan epoch) (replicate n p) old (all-replicate (IsOfEpoch plan epoch) n p of_epoch) each)
+          (same_members new (replicate n p ++ old) same q stands_there));
+    }
+
+-- an epoch with some pointstamps less, which has some left
+pub less_open : (plan : List Line) (epoch : ℕ) (n : ℕ) (p : Stamp) (old new : List Stamp) → 0 < length new
+    → AllByRecursion (IsOfEpoch plan epoch) old → IsSameBag old (replicate n p ++ new) → AllByRecursion (IsOfEpoch plan epoch) new
+less_open plan epoch n p old new some each same =
+    has-all (IsOfEpoch plan epoch) new (λ q at. all-has (IsOfEpoch plan epoch) old q each
+    (same_members (replicate n p ++ new) old (λ r. sym (same r)) q (stands q (replicate n p ++ new) (more q (occurs q new at)))))
+  where
+    more : (q : Stamp) → 0 < occurrences q new → 0 < occurrences q (replicate n p ++ new)
+    more q h = let all = occurrences-more q n p new in omega (arith, h, all)
+
+pub some_open : (plan : List Line) (epoch : ℕ) (w : List Stamp) → IsOpen plan epoch w → (stamps : List Stamp) → Some w ≡ Some stamps → IsOpen plan epoch stamps
+some_open plan epoch w h stamps e = subst (IsOpen plan epoch) (ap (λ o. unwrap_or o []) e) h
+
+pub none_open : (plan : List Line) (epoch : ℕ) (stamps : List Stamp) → None ≡ Some stamps → IsOpen plan epoch stamps
+none_open plan epoch stamps e = absurd (none_is_some e)
+
+if_none : (b : Bool) → if_so b 0 ≡ 0
+if_none true = refl
+if_none false = refl
+
+module _ (plan : List Line) (k : Stamp) (n epoch : ℕ) (is : epoch ≡ k.time.epoch) (es fs : List (ℕ × List Stamp)) (were : AreOpen plan es) (still : AreOpen plan fs)
+    (old w : Option (List Stamp)) (had : old ≡ lookup (is_at (nat_cmp epoch)) es) (found : ChangedAt epoch w es fs) where
+  in_old : (p : Stamp) → occurs_in p old ≡ occurs_in p (lookup (is_at (nat_cmp k.time.epoch)) es)
+  in_old p = ap (occurs_in p) had ∙ ap (λ e. occurs_in p (lookup (is_at (nat_cmp e)) es)) is
+
+  finds : ChangedAt k.time.epoch w es fs
+  finds = subst (λ e. ChangedAt e w es fs) is found
+
+  -- n more in that epoch are n more in all
+  pub more_in_all : ((p : Stamp) → occurs_in p w ≡ if_so (is_stamp p k) n + occurs_in p old) → IsSameBag (all_stamps fs) (replicate n k ++ all_stamps es)
+  more_in_all more =
+      epoch_changed plan k 0 n w es fs were still finds
+      (λ p. let a = if_none (is_stamp p k) in let b = more p in let c = in_old p in omega (arith, a, b, c))
+
+  -- and n less
+  pub less_in_all : ((p : Stamp) → occurs_in p old ≡ if_so (is_stamp p k) n + occurs_in p w) → IsSameBag (all_stamps es) (replicate n k ++ all_stamps fs)
+  less_in_all less p =
+      sym (epoch_changed plan k n 0 w es fs were still finds
+      (λ p. let a = if_none (is_stamp p k) in let b = less p in let c = in_old p in omega (arith, a, b, c)) p)
+
+-- an epoch that was changed, and then taken out
+pub changed_twice : (epoch : ℕ) (v : Option (List Stamp)) (es fs gs : List (ℕ × List Stamp)) → ChangedAt epoch v es fs → ChangedAt epoch None fs gs → ChangedAt epoch None es gs
+changed_twice epoch v es fs gs first second q = second q ∙ by (is_at (nat_cmp epoch) q) (first q)
+  where
+    by : (b : Bool) → lookup (is_at (nat_cmp q)) fs ≡ cond b v (lookup (is_at (nat_cmp q)) es)
+        → cond b None (lookup (is_at (nat_cmp q)) fs) ≡ cond b None (lookup (is_at (nat_cmp q)) es)
+    by true h = refl
+    by false h = h
+
+pub none_occur : (p : Stamp) (xs : List Stamp) → length xs ≡ 0 → occurrences p xs ≡ 0
+none_occur p [] e = refl
+none_occur p (x ∷ xs) e = absurd (omega (arith, e))
+
+pub some_left : (xs : List Stamp) → (length xs ≡ 0 → ⊥) → 0 < length xs
+some_left [] h = absurd (h refl)
+some_left (x ∷ xs) h = omega arith

@@ -1,13 +1,12 @@
 -- What holds others back, over lists of pointstamps.
-use Rattle.std.proofs.Common.{◌≡◌, ℕ, zero, suc, ◌+◌, ◌<◌, ◌≤◌, Bool, true, false, ◌&&◌, List, [], ◌∷◌, ◌++◌, replicate, length, Contains, ◌↔◌, refl, sym, ap, ◌∙◌, subst, true≢false, arith, nat_lt}
-use Rattle.std.specs.List.{AllByRecursion, list_all}
+use Rattle.std.proofs.Common.{◌≡◌, ℕ, zero, suc, ◌<◌, Bool, true, false, ◌&&◌, List, [], ◌∷◌, ◌++◌, replicate, Contains, refl, sym, ap, ◌∙◌, subst, true≢false, arith, nat_lt}
+use Rattle.std.specs.List.{AllByRecursion}
 use Rattle.td_stamp.specs.Bag.{members}
 use Rattle.td_plan.specs.Lines.{Line}
 use Rattle.td_reach.specs.declared.stamp.Stamp.{Stamp}
-use Rattle.td_reach.specs.Paths.{Could, IsOf}
-use Rattle.td_reach.specs.Frontier.{IsFree, Frontier, has_passed}
-use Rattle.td_progress.specs.Bag.{is_stamp, occurrences, IsSameBag}
-use Rattle.td_progress.specs.Entries.{all_stamps, IsOfEpoch}
+use Rattle.td_reach.specs.Paths.{Could}
+use Rattle.td_reach.specs.Frontier.{Frontier, has_passed}
+use Rattle.td_progress.specs.Bag.{IsSameBag}
 use Rattle.td_progress.proofs.Counted.{occurs, stands}
 
 module _ {X : Type 0} (P : X → Type 0) where

@@ -1,5 +1,5 @@
 -- What look-ups in a list of entries say of its entries.
-use Rattle.std.proofs.Common.{◌≡◌, ℕ, zero, suc, List, [], ◌∷◌, Option, Some, None, Bool, refl}
+use Rattle.std.proofs.Common.{◌≡◌, ℕ, suc, List, [], ◌∷◌, Some, Bool, refl}
 use Rattle.std.specs.List.{AllByRecursion, IsDistinct, slice_get}
 use Rattle.std.specs.Cmp.{IsEquivalence}
 use Rattle.std.specs.Map.{keys_of, lookup}

@@ -1,7 +1,9 @@
 -- Counts of which one was changed, by what a look-up finds in them.
-use Rattle.std.proofs.Common.{◌≡◌, ℕ, ◌+◌, ◌<◌, ◌≤◌, Bool, true, false, cond, List, [], ◌∷◌, ◌++◌, replicate, length, Option, Some, None, unwrap_or, refl, sym, ap, ◌∙◌, subst, arith}
+use Rattle.std.proofs.Common.{◌≡◌, ℕ, ◌+◌, ◌<◌, Bool, true, false, cond, List, ◌++◌, replicate, Option, Some, None, unwrap_or, refl, sym, ap, ◌∙◌, subst}
 use Rattle.std.specs.List.{IsDistinct}
 use Rattle.std.specs.Option.{IsSome}
+use Rattle.std.specs.Result.{OnErr}
+use Rattle.std.proofs.Common.{Result, Ok, Err}
 use Rattle.std.specs.Map.{keys_of, lookup}
 use Rattle.td_stamp.specs.Bag.{members}
 use Rattle.td_reach.specs.declared.stamp.Stamp.{Stamp}
@@ -14,7 +16,7 @@ use Rattle.td_progress.proofs.Counted.{changed, occurrences-members, none_is_som
 abbrev pub Changed : (Stamp → Stamp → Bool) → Stamp → Option ℕ → List (Stamp × ℕ) → List (Stamp × ℕ) → Type 0
 Changed eq k w es fs = (q : Stamp) → lookup (eq q) fs ≡ cond (eq k q) w (lookup (eq q) es)
 
-pub is_some-found : (v : ℕ) (o : Option ℕ) → Some v ≡ o → IsSome o
+pub is_some-found : {X : Type 0} (v : X) (o : Option X) → Some v ≡ o → IsSome o
 is_some-found v o e = subst (λ p. IsSome p) e refl
 
 module _ (es : List (Stamp × ℕ)) (kept : AreCounted es) where
@@ -44,3 +46,7 @@ some_above v h n e = subst (λ m. 0 < m) (ap (λ o. unwrap_or o 0) e) h
 
 pub none_above : (n : ℕ) → None ≡ Some n → 0 < n
 none_above n e = absurd (none_is_some e)
+
+pub on_err_any : {T E P : Type 0} (r : Result T E) → P → OnErr r P
+on_err_any (Ok x) p = tt
+on_err_any (Err e) p = p

@@ -124,14 +124,11 @@ impl Table {
         ensures stamps { IsSameBag self.old.stamps (replicate times stamp.now ++ self.new.stamps) }
     {
         let epoch = stamp.time.epoch();
-        let is_done = match self.epochs.get_mut(&epoch) {
-            Some(counts) => {
-                counts.take_off(stamp, u128::from(times));
-                counts.is_empty()
-            }
-            None => false,
+        let Some(counts) = self.epochs.get_mut(&epoch) else {
+            return;
         };
-        if is_done {
+        counts.take_off(stamp, u128::from(times));
+        if counts.is_empty() {
             self.epochs.remove(&epoch);
         }
     }

@@ -1,5 +1,4 @@
 use Rattle.td_progress.proofs.Counted.{occurs, stands}
-use Rattle.td_progress.proofs.Kept.{all-found}
 use Rattle.td_progress.proofs.laws.counted.Goals as goal
 
 pub returns-clause-contains : goal.returns-clause-contains

@@ -1,5 +1,4 @@
 use Rattle.td_progress.proofs.Free.{same_frontier, same_passed}
-use Rattle.td_progress.proofs.Epochs.{epoch_changed}
 use Rattle.td_progress.proofs.laws.in_any_order.Goals as goal
 
 pub returns-clause-frontier : goal.returns-clause-frontier

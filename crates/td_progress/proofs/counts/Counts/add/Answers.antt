@@ -1,7 +1,5 @@
-use Rattle.std.proofs.Common.{◌≡◌, ◌+◌, ◌++◌, replicate, ℕ, Some, None, Option, unwrap_or, sym, ap, ◌∙◌, subst, arith, rules}
+use Rattle.std.proofs.Common.{◌≡◌, ◌+◌, ◌++◌, replicate, Some, unwrap_or, sym, ap, ◌∙◌, subst, arith}
 use Rattle.std.specs.Map.{lookup}
-use Rattle.std.specs.Option.{IsSome}
-use Rattle.td_stamp.specs.Bag.{members}
 use Rattle.td_progress.specs.Bag.{occurrences}
 use Rattle.td_progress.proofs.Same.{same}
 use Rattle.td_progress.proofs.Updates.{is_some-found, occurrences-lookup, still_counted, bag_changed, some_above, Changed}
@@ -37,7 +35,7 @@ invariant_of-self-2 c =
     let es = c.self.inside.counts.entries in
     let fs = c.insert.new.self.entries in
     let found = subst (λ k. Changed same k (Some c.args.times) es fs) c.copy.ensures
-        (subst (λ m. Changed same c.copy.result (Some c.args.times) m.entries fs) c.get_mut.follows.holds-at-none c.in_ok-insert.ensures.updates.0) in
+    (subst (λ m. Changed same c.copy.result (Some c.args.times) m.entries fs) c.get_mut.follows.holds-at-none c.in_ok-insert.ensures.updates.0) in
     still_counted es c.self.invariant fs c.in_ok-insert.ensures.unique c.args.stamp.now (Some c.args.times) found (some_above c.args.times c.requires.some)
 
 pub returns-clause-ok : goal.returns-clause-ok
@@ -45,7 +43,7 @@ returns-clause-ok c p =
     let es = c.self.inside.counts.entries in
     let fs = c.insert.new.self.entries in
     let found = subst (λ k. Changed same k (Some c.args.times) es fs) c.copy.ensures
-        (subst (λ m. Changed same c.copy.result (Some c.args.times) m.entries fs) c.get_mut.follows.holds-at-none c.in_ok-insert.ensures.updates.0) in
+    (subst (λ m. Changed same c.copy.result (Some c.args.times) m.entries fs) c.get_mut.follows.holds-at-none c.in_ok-insert.ensures.updates.0) in
     let before : 0 ≡ unwrap_or (lookup (same c.args.stamp.now) es) 0 = ap (λ o. unwrap_or o 0) c.in_default.ensures.value in
     bag_changed es c.self.invariant fs c.in_ok-insert.ensures.unique c.args.stamp.now (Some c.args.times) found 0 c.args.times (omega (arith, before)) p
     ∙ ap (λ xs. occurrences p (replicate c.args.times c.args.stamp.now ++ xs)) c.self.view_is

@@ -1,4 +1,4 @@
-use Rattle.std.proofs.Common.{◌≡◌, List, [], sym, ap, subst, None}
+use Rattle.std.proofs.Common.{sym, subst}
 use Rattle.td_progress.specs.Entries.{AreCounted}
 use Rattle.td_progress.proofs.Counted.{none_counted}
 use Rattle.td_progress.proofs.counts.Counts.new.Goals as goal

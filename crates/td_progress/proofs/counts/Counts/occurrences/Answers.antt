@@ -3,7 +3,6 @@ use Rattle.std.specs.Map.{lookup}
 use Rattle.td_progress.specs.Bag.{occurrences}
 use Rattle.td_progress.proofs.Same.{same-is_stamp}
 use Rattle.td_progress.proofs.Counted.{occurrences-members}
-use Rattle.td_progress.proofs.Epochs.{epoch_changed}
 use Rattle.td_progress.proofs.counts.Counts.occurrences.Goals as goal
 
 pub returns : goal.returns

@@ -1,4 +1,4 @@
-use Rattle.std.proofs.Common.{◌≡◌, ◌+◌, ◌-◌, ◌++◌, replicate, ℕ, Some, None, Option, unwrap_or, refl, sym, ap, ◌∙◌, subst, arith, rules}
+use Rattle.std.proofs.Common.{◌≡◌, ◌-◌, ◌++◌, replicate, Some, None, unwrap_or, sym, ap, ◌∙◌, subst, arith}
 use Rattle.std.specs.Map.{lookup}
 use Rattle.std.proofs.lemmas.Map.Steps.{set_value_same}
 use Rattle.td_stamp.specs.Bag.{members}
@@ -25,7 +25,7 @@ returns-in-Some c p =
     let before = ap (λ o. unwrap_or o 0) c.in-Some.ensures.value in
     sym (ap (occurrences p) c.self.view_is)
     ∙ sym (bag_changed es c.self.invariant (c.get_mut.follows.lender w).entries held.4 c.args.stamp.now (Some w) found.0 c.args.times 0
-        (omega (arith, before, c.if-get_mut-times.true)) p)
+    (omega (arith, before, c.if-get_mut-times.true)) p)
 
 pub invariant_of-self-in-Some-2 : goal.invariant_of-self-in-Some-2
 invariant_of-self-in-Some-2 c =
@@ -47,7 +47,7 @@ returns-in-Some-2 c p =
     let before = ap (λ o. unwrap_or o 0) c.in-Some.ensures.value in
     sym (ap (occurrences p) c.self.view_is)
     ∙ sym (bag_changed es c.self.invariant fs c.swap_remove.ensures.unique c.args.stamp.now None found c.args.times 0
-        (omega (arith, before, occurs, c.requires.there, c.if-get_mut-times.false)) p)
+    (omega (arith, before, occurs, c.requires.there, c.if-get_mut-times.false)) p)
 
 pub returns-in-None : goal.returns-in-None
 returns-in-None c p =
