@@ -1,0 +1,2 @@
+pub mod Bag
+pub mod Entries
