@@ -18,14 +18,14 @@ module _ (run : StateList → List (List Entry) → StateList) (in_parts : (s : 
       let done : List Submitted = take step.k w in
       let rest : List Submitted = step.submitted.0 in
       let states : t.states ≡ run [] (batches_of (b ++ done)) =
-          step.states ∙ ap (λ (v : StateList). run v (batches_of done)) stands.states ∙ sym (in_parts [] (batches_of b) (batches_of done))
-          ∙ ap (run []) (sym (batches-append b done)) in
+      step.states ∙ ap (λ (v : StateList). run v (batches_of done)) stands.states ∙ sym (in_parts [] (batches_of b) (batches_of done))
+      ∙ ap (run []) (sym (batches-append b done)) in
       let last : t.last ≡ greatest 0 (b ++ done) =
-          step.last ∙ ap (λ (q : ℕ). greatest q done) stands.last ∙ sym (greatest-append 0 b done) in
+      step.last ∙ ap (λ (q : ℕ). greatest q done) stands.last ∙ sym (greatest-append 0 b done) in
       let epochs : length (b ++ done) ≡ t.epoch =
-          length-append b done ∙ ap (λ (n : ℕ). length b + n) (length-take-le step.k w step.most) ∙ ap (λ (n : ℕ). n + step.k) stands.epochs ∙ sym step.epoch in
+      length-append b done ∙ ap (λ (n : ℕ). length b + n) (length-take-le step.k w step.most) ∙ ap (λ (n : ℕ). n + step.k) stands.epochs ∙ sym step.epoch in
       let whole : h ++ x ≡ ((b ++ done) ++ t.submitted) ++ rest =
-          ap (λ (l : List Submitted). l ++ x) stands.whole ∙ append_assoc b s.submitted x
-          ∙ ap (λ (l : List Submitted). b ++ l) (sym (take-append-drop step.k w) ∙ ap (λ (l : List Submitted). done ++ l) step.submitted.1)
-          ∙ sym (append_assoc b done (t.submitted ++ rest)) ∙ sym (append_assoc (b ++ done) t.submitted rest) in
+      ap (λ (l : List Submitted). l ++ x) stands.whole ∙ append_assoc b s.submitted x
+      ∙ ap (λ (l : List Submitted). b ++ l) (sym (take-append-drop step.k w) ∙ ap (λ (l : List Submitted). done ++ l) step.submitted.1)
+      ∙ sym (append_assoc b done (t.submitted ++ rest)) ∙ sym (append_assoc (b ++ done) t.submitted rest) in
       ((b ++ done) ++ t.submitted, (rest, whole), record { before = b ++ done; epochs = epochs; states = states; last = last; whole = refl })

@@ -111,9 +111,12 @@ of_checkpoint : (plan : List Line) (head : Head) (image : List ℕ) (r : Result 
 of_checkpoint plan head image (Err e) s is = absurd cc
 of_checkpoint plan head image (Ok c) s is =
     let parts = of_batches c (told_after (inputs_of plan) (ring_of head.shape c.epoch) image (floor_of head.version c.last) c.epoch) s is in
-    let same : c ≡ checkpoint_of c.slot s = λ i. record { slot = c.slot; epoch = parts.1 i; last = parts.3 i; states = parts.2 i } in
-    (c.slot, ap made same, subst (λ (z : ℕ). told_after (inputs_of plan) (ring_of head.shape s.epoch) image (floor_of head.version z) s.epoch ≡ Ok s.submitted) parts.3
-        (subst (λ (e : ℕ). told_after (inputs_of plan) (ring_of head.shape e) image (floor_of head.version c.last) e ≡ Ok s.submitted) parts.1 parts.0))
+    let same : c ≡ checkpoint_of c.slot s = λ i. record { slot = c.slot; epoch = parts.1 i; last = parts.3 i; states = parts.2 i } in (
+      c.slot,
+      ap made same,
+      subst (λ (z : ℕ). told_after (inputs_of plan) (ring_of head.shape s.epoch) image (floor_of head.version z) s.epoch ≡ Ok s.submitted) parts.3
+          (subst (λ (e : ℕ). told_after (inputs_of plan) (ring_of head.shape e) image (floor_of head.version c.last) e ≡ Ok s.submitted) parts.1 parts.0),
+    )
 
 pub parts_of : (plan : List Line) (s : Standing) (image : List ℕ) → Told plan image (Ok s) → (head : Head) × (side : ℕ) × Tells plan head side s image
 parts_of plan s image t = of_head (headed t.canonical plan image) refl t.is

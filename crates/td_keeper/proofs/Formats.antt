@@ -45,7 +45,7 @@ module _ (others : LeavesOthers) (plan : List Line) (sizes : Sizes) (shape : is_
       let lt : 1 % sizes.n < sizes.n = omega (arith, some) in
       let row : suc (1 % sizes.n) * (25 + 24 * sizes.m) ≤ sizes.n * (25 + 24 * sizes.m) = mul-le-mul_right (25 + 24 * sizes.m) lt in
       let after = λ (r : Region) (apart_first : Apart slot_0 r) (apart_second : Apart head_a r) (low : r.at + r.len < size_of sizes).
-          others head_a r q slotted image apart_second second ∙ others first_of r p wiped slotted apart_first first ∙ zero_closed r wiped (size_of sizes) is low in
+      others head_a r q slotted image apart_second second ∙ others first_of r p wiped slotted apart_first first ∙ zero_closed r wiped (size_of sizes) is low in
       record {
         head = record {
           shape = shape;

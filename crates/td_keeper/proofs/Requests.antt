@@ -42,8 +42,8 @@ advance-last run s t x step holds =
     let le : length s.submitted ≤ length v = let e = step.epoch in omega (arith, len, e, holds) in
     let m : List Submitted = take (length v - length s.submitted) x in
     let is : last_request t ≡ greatest (last_request s) m =
-        ap (λ (q : ℕ). greatest q t.submitted) step.last ∙ sym (greatest-append s.last done t.submitted)
-        ∙ ap (greatest s.last) (begins_both s.submitted x v rest whole le) ∙ greatest-append s.last s.submitted m in
+    ap (λ (q : ℕ). greatest q t.submitted) step.last ∙ sym (greatest-append s.last done t.submitted)
+    ∙ ap (greatest s.last) (begins_both s.submitted x v rest whole le) ∙ greatest-append s.last s.submitted m in
     let e = greatest-le (last_request s) m in subst (λ (n : ℕ). last_request s ≤ n) (sym is) e
 
 pub more-last : (s : Standing) (x : Submitted) → (last_request s ≤ last_request (with_more s (x ∷ []))) × (x.request ≤ last_request (with_more s (x ∷ [])))

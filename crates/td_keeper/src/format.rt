@@ -27,7 +27,8 @@ pub(crate) fn format_device<D: Disk>(
     ensures plan { IfOk result (λ r. r.0 ≡ plan.now) }
     ensures slot { IfOk result (λ r. r.1.slot ≡ 0) }
     ensures standing { IfOk result (λ r. standing_from r.1 [] ≡ nothing_told) }
-    ensures kept { IfOk result (λ _. D.is_lawful device.old → Keeps plan.now (first_head shape) 0 nothing_told (D.state device.new)) }
+    ensures kept { IfOk result (λ _. D.is_lawful device.old
+        → Keeps plan.now (first_head shape) 0 nothing_told (D.state device.new)) }
     ensures refusals { IfErr result (λ e. (e ≡ KeeperError.Memory) ⊎ (e ≡ KeeperError.Device)) }
     ensures device { IsErrOf result KeeperError.Device → Rises (D.failures device.old) (D.failures device.new) }
 {

@@ -52,7 +52,12 @@ impl<D: Disk, L: Law> Model for Keeper<D, L> {
 impl<D: Disk, L: Law> Keeper<D, L> {
     /// Formats a disk for a plan, in version 2 of the format: all that stood on it is gone. It refuses `Memory` and
     /// `Device` and hands the disk back; of what that disk tells nothing is said.
-    pub fn format(alloc: Global, disk: D, plan: &Plan, shape: Shape) -> Result<Keeper<D, L>, (KeeperError, D)>
+    pub fn format(
+        alloc: Global,
+        disk: D,
+        plan: &Plan,
+        shape: Shape,
+    ) -> Result<Keeper<D, L>, (KeeperError, D)>
         requires { size_of shape ≤ D.capacity disk }
         ensures size { IfOk result (λ k. D.capacity k.device ≡ D.capacity disk) }
         ensures size_back { IfErr result (λ e. D.capacity e.1 ≡ D.capacity disk) }
@@ -62,7 +67,8 @@ impl<D: Disk, L: Law> Keeper<D, L> {
         ensures head { IfOk result (λ k. k.head ≡ first_head shape) }
         ensures side { IfOk result (λ k. k.side ≡ 0) }
         ensures standing { IfOk result (λ k. k.standing ≡ nothing_told) }
-        ensures kept { IfOk result (λ k. D.is_lawful disk → Keeps plan.now (first_head shape) 0 nothing_told (D.state k.device)) }
+        ensures kept { IfOk result (λ k. D.is_lawful disk
+            → Keeps plan.now (first_head shape) 0 nothing_told (D.state k.device)) }
         ensures refusals { IfErr result (λ e. (e.0 ≡ KeeperError.Memory) ⊎ (e.0 ≡ KeeperError.Device)) }
         ensures device { IfErr result (λ e. e.0 ≡ KeeperError.Device → Rises (D.failures disk) (D.failures e.1)) }
     {
@@ -96,16 +102,20 @@ impl<D: Disk, L: Law> Keeper<D, L> {
         ensures lawful_back { IfErr result (λ e. D.is_lawful disk ↔ D.is_lawful e.1) }
         ensures plan { IfOk result (λ k. k.plan ≡ plan.now) }
         ensures told { IfOk result (λ k. D.is_lawful disk → Told plan.now (D.state k.device).bytes (Stood k.standing)) }
-        ensures kept { IfOk result (λ k. D.is_lawful disk → Keeps plan.now k.head k.side k.standing (D.state k.device)) }
+        ensures kept { IfOk result (λ k. D.is_lawful disk
+            → Keeps plan.now k.head k.side k.standing (D.state k.device)) }
 
         // A refusal but `Memory` and `Device` is told by what is read after the sync, which is all that a crash leaves.
-        ensures refused { IfErr result (λ e. (e.0 ≡ KeeperError.Device) ⊎ ((e.0 ≡ KeeperError.Memory) ⊎ (D.is_lawful disk
+        ensures refused { IfErr result (λ e. (e.0 ≡ KeeperError.Device) ⊎ ((e.0 ≡ KeeperError.Memory)
+            ⊎ (D.is_lawful disk
             → IsDurable (D.state e.1) × Told plan.now (D.state e.1).bytes (Refused e.0)))) }
         ensures device { IfErr result (λ e. e.0 ≡ KeeperError.Device → Rises (D.failures disk) (D.failures e.1)) }
 
         // What a crash may leave since the start of the call, it might have left then.
-        ensures crash_safe { IfOk result (λ k. D.is_lawful disk → CrashSafe Unchanged (D.state disk) (D.state k.device)) }
-        ensures crash_safe_back { IfErr result (λ e. D.is_lawful disk → CrashSafe Unchanged (D.state disk) (D.state e.1)) }
+        ensures crash_safe { IfOk result (λ k. D.is_lawful disk
+            → CrashSafe Unchanged (D.state disk) (D.state k.device)) }
+        ensures crash_safe_back { IfErr result (λ e. D.is_lawful disk
+            → CrashSafe Unchanged (D.state disk) (D.state e.1)) }
     {
         laws::told_in_parts();
         let mut device = disk;
@@ -142,7 +152,8 @@ impl<D: Disk, L: Law> Keeper<D, L> {
     /// The disk.
     pub fn into_disk(self) -> D
         ensures disk { result ≡ self.device }
-        ensures kept { D.is_lawful self.device → Keeps self.plan self.head self.side self.standing (D.state self.device) }
+        ensures kept { D.is_lawful self.device
+            → Keeps self.plan self.head self.side self.standing (D.state self.device) }
     {
         let Keeper {
             alloc: _,

@@ -47,12 +47,15 @@ pub fn advance_stands<L: Law>()
 
 /// Each of these standings is an advance of what was submitted, and holds what it is to hold.
 pub fn standings_advance<L: Law>()
-    ensures not_yet { (nodes : Nodes) (s : Standing) (x : List AnySubmitted) → Advance (λ b y. (run L.answers nodes b y).states) (with_more s x) s }
-    ensures submitted { (nodes : Nodes) (s : Standing) (x : List AnySubmitted) → Advance (λ b y. (run L.answers nodes b y).states) (with_more s x) (with_more s x) }
+    ensures not_yet { (nodes : Nodes) (s : Standing) (x : List AnySubmitted)
+        → Advance (λ b y. (run L.answers nodes b y).states) (with_more s x) s }
+    ensures submitted { (nodes : Nodes) (s : Standing) (x : List AnySubmitted)
+        → Advance (λ b y. (run L.answers nodes b y).states) (with_more s x) (with_more s x) }
     ensures cut { (nodes : Nodes) (s : Standing) (k : ℕ) → k ≤ length s.submitted
         → Advance (λ b y. (run L.answers nodes b y).states) s (cut_at s k (run L.answers nodes s.states (batches_of (take k s.submitted))).states) }
     ensures holds { (s : Standing) (n : ℕ) (x : List AnySubmitted) → Holds s n → Holds (with_more s x) n }
-    ensures holds_cut { (s : Standing) (n k : ℕ) (states : StateList) → k ≤ length s.submitted → Holds s n → Holds (cut_at s k states) n }
+    ensures holds_cut { (s : Standing) (n k : ℕ) (states : StateList) → k ≤ length s.submitted → Holds s n
+        → Holds (cut_at s k states) n }
 {}
 
 /// The last request number never falls: not where a disk tells an advance that holds all epochs of before, not by a
@@ -62,33 +65,43 @@ pub fn last_request_never_falls<L: Law>()
         → Advance (λ b y. (run L.answers nodes b y).states) (with_more s submitted) t
         → Holds t (last_epoch s)
         → last_request s ≤ last_request t }
-    ensures submitted { (s : Standing) (x : AnySubmitted) → (last_request s ≤ last_request (with_more s (x ∷ []))) × (x.request ≤ last_request (with_more s (x ∷ []))) }
+    ensures submitted { (s : Standing) (x : AnySubmitted)
+        → (last_request s ≤ last_request (with_more s (x ∷ []))) × (x.request ≤ last_request (with_more s (x ∷ []))) }
     ensures cut { (s : Standing) (k : ℕ) (states : StateList) → last_request (cut_at s k states) ≡ last_request s }
 {}
 
 /// The parts of a disk have no byte in common, and lie within it.
 pub fn parts_are_apart()
     ensures heads { Apart head_a head_b }
-    ensures heads_slots { (sizes : Sizes) (i : ℕ) → Apart head_a (slot (slots_of sizes) i) × Apart head_b (slot (slots_of sizes) i) }
-    ensures heads_cells { (sizes : Sizes) (kept i : ℕ) → Apart head_a (cell (ring_of sizes kept) i) × Apart head_b (cell (ring_of sizes kept) i) }
+    ensures heads_slots { (sizes : Sizes) (i : ℕ)
+        → Apart head_a (slot (slots_of sizes) i) × Apart head_b (slot (slots_of sizes) i) }
+    ensures heads_cells { (sizes : Sizes) (kept i : ℕ)
+        → Apart head_a (cell (ring_of sizes kept) i) × Apart head_b (cell (ring_of sizes kept) i) }
     ensures slots { (sizes : Sizes) → Apart (slot (slots_of sizes) 0) (slot (slots_of sizes) 1) }
-    ensures slots_cells { (sizes : Sizes) (kept i : ℕ) → Apart (slot (slots_of sizes) 0) (cell (ring_of sizes kept) i) × Apart (slot (slots_of sizes) 1) (cell (ring_of sizes kept) i) }
-    ensures cells { (sizes : Sizes) (kept i k : ℕ) → i ≢ k → Apart (cell (ring_of sizes kept) i) (cell (ring_of sizes kept) k) }
-    ensures ends { (sizes : Sizes) (kept i : ℕ) → i < sizes.n → (cell (ring_of sizes kept) i).at + (cell (ring_of sizes kept) i).len + 1 ≤ size_of sizes }
+    ensures slots_cells { (sizes : Sizes) (kept i : ℕ)
+        → Apart (slot (slots_of sizes) 0) (cell (ring_of sizes kept) i) × Apart (slot (slots_of sizes) 1) (cell (ring_of sizes kept) i) }
+    ensures cells { (sizes : Sizes) (kept i k : ℕ) → i ≢ k
+        → Apart (cell (ring_of sizes kept) i) (cell (ring_of sizes kept) k) }
+    ensures ends { (sizes : Sizes) (kept i : ℕ) → i < sizes.n
+        → (cell (ring_of sizes kept) i).at + (cell (ring_of sizes kept) i).len + 1 ≤ size_of sizes }
 {
     td_journal::laws::cells();
 }
 
 /// What an image tells is told by its parts, and the other way round. It tells one answer.
 pub fn told_in_parts()
-    ensures together { (plan : List Line) (head : AnyHead) (side : ℕ) (s : Standing) (image : List ℕ) → Tells plan head side s image → Told plan image (Ok s) }
-    ensures apart { (plan : List Line) (s : Standing) (image : List ℕ) → Told plan image (Ok s) → (head : AnyHead) × (side : ℕ) × Tells plan head side s image }
-    ensures one_answer { (plan : List Line) (image : List ℕ) (a b : Result Standing AnyError) → Told plan image a → Told plan image b → a ≡ b }
+    ensures together { (plan : List Line) (head : AnyHead) (side : ℕ) (s : Standing) (image : List ℕ)
+        → Tells plan head side s image → Told plan image (Ok s) }
+    ensures apart { (plan : List Line) (s : Standing) (image : List ℕ) → Told plan image (Ok s)
+        → (head : AnyHead) × (side : ℕ) × Tells plan head side s image }
+    ensures one_answer { (plan : List Line) (image : List ℕ) (a b : Result Standing AnyError) → Told plan image a
+        → Told plan image b → a ≡ b }
 {}
 
 /// The first refusal of the parts is what an image tells.
 pub fn told_refused()
-    ensures head { (plan : List Line) (image : List ℕ) (e : HeadError) → IsHeaded plan image (Err e) → Told plan image (Err (of_head e)) }
+    ensures head { (plan : List Line) (image : List ℕ) (e : HeadError) → IsHeaded plan image (Err e)
+        → Told plan image (Err (of_head e)) }
     ensures slots { (plan : List Line) (head : AnyHead) (image : List ℕ) (e : SlotsError)
         → IsHeaded plan image (Ok head)
         → newest head.version (folds_of plan) (slots_of head.shape) image ≡ Err e
@@ -104,12 +117,14 @@ pub fn told_refused()
 /// told a standing tells it still, or it with the batch; once it is put, it with the batch.
 pub fn next_is_submitted()
     ensures begun { (plan : List Line) (head : AnyHead) (side : ℕ) (s : Standing) (old new : List ℕ) (e : ℕ) (x : AnySubmitted)
-        → Tells plan head side s old → HasRoom head.shape s e → IsFresh head.version s x.request → IsCellBatch (inputs_of plan) head.shape.m x
+        → Tells plan head side s old → HasRoom head.shape s e → IsFresh head.version s x.request
+        → IsCellBatch (inputs_of plan) head.shape.m x
         → NothingFollows (ring_of head.shape s.epoch) old e
         → Puts (cell_of (ring_of head.shape s.epoch) e) (cell_bytes head.shape.m e x.request x.batch) old new
         → Tells plan head side s new ⊎ Tells plan head side (with_more s (x ∷ [])) new }
     ensures done { (plan : List Line) (head : AnyHead) (side : ℕ) (s : Standing) (old new : List ℕ) (e : ℕ) (x : AnySubmitted)
-        → Tells plan head side s old → HasRoom head.shape s e → IsFresh head.version s x.request → IsCellBatch (inputs_of plan) head.shape.m x
+        → Tells plan head side s old → HasRoom head.shape s e → IsFresh head.version s x.request
+        → IsCellBatch (inputs_of plan) head.shape.m x
         → NothingFollows (ring_of head.shape s.epoch) old e
         → Replaces (cell_of (ring_of head.shape s.epoch) e) (cell_bytes head.shape.m e x.request x.batch) old new
         → Tells plan head side (with_more s (x ∷ [])) new }
@@ -166,13 +181,16 @@ pub fn submit_is_safe<D: Disk>()
     ensures begun { (plan : List Line) (head : AnyHead) (side : ℕ) (s : Standing) (e : ℕ) (x : AnySubmitted) (old mid new : D)
         → HasRoom head.shape s e → IsFresh head.version s x.request → IsCellBatch (inputs_of plan) head.shape.m x
         → EachTells plan head side s (D.state old) → D.is_lawful mid
-        → CrashSafe (Clears (ring_of head.shape s.epoch) (suc e)) (D.state old) (D.state mid) → IsGone (ring_of head.shape s.epoch) (suc e) (D.state mid)
+        → CrashSafe (Clears (ring_of head.shape s.epoch) (suc e)) (D.state old) (D.state mid)
+        → IsGone (ring_of head.shape s.epoch) (suc e) (D.state mid)
         → CrashSafe (Puts (cell_of (ring_of head.shape s.epoch) e) (cell_bytes head.shape.m e x.request x.batch)) (D.state mid) (D.state new)
-        → (c : List ℕ) → (D.state new).since (D.state old).moment c → Tells plan head side s c ⊎ Tells plan head side (with_more s (x ∷ [])) c }
+        → (c : List ℕ) → (D.state new).since (D.state old).moment c → Tells plan head side s c
+        ⊎ Tells plan head side (with_more s (x ∷ [])) c }
     ensures done { (plan : List Line) (head : AnyHead) (side : ℕ) (s : Standing) (e : ℕ) (x : AnySubmitted) (old mid new : D)
         → HasRoom head.shape s e → IsFresh head.version s x.request → IsCellBatch (inputs_of plan) head.shape.m x
         → EachTells plan head side s (D.state old) → D.is_lawful mid → D.is_lawful new
-        → CrashSafe (Clears (ring_of head.shape s.epoch) (suc e)) (D.state old) (D.state mid) → IsGone (ring_of head.shape s.epoch) (suc e) (D.state mid)
+        → CrashSafe (Clears (ring_of head.shape s.epoch) (suc e)) (D.state old) (D.state mid)
+        → IsGone (ring_of head.shape s.epoch) (suc e) (D.state mid)
         → CrashSafe (Puts (cell_of (ring_of head.shape s.epoch) e) (cell_bytes head.shape.m e x.request x.batch)) (D.state mid) (D.state new)
         → IsOpen (cell_of (ring_of head.shape s.epoch) e) (cell_bytes head.shape.m e x.request x.batch) (D.state new)
         → EachTells plan head side (with_more s (x ∷ [])) (D.state new) }
@@ -184,11 +202,14 @@ pub fn submit_is_safe<D: Disk>()
 /// The same for a cut that is written, by the contract of `Slots::write`.
 pub fn write_cut_is_safe<D: Disk>()
     ensures begun { (plan : List Line) (head : AnyHead) (side : ℕ) (s : Standing) (k : ℕ) (states : StateList) (old new : D)
-        → EachTells plan head side s (D.state old) → IsCut plan head.shape s k states → greatest s.last (take k s.submitted) < 2 ^ 64
+        → EachTells plan head side s (D.state old) → IsCut plan head.shape s k states
+        → greatest s.last (take k s.submitted) < 2 ^ 64
         → CrashSafe (Puts (slot (slots_of head.shape) (1 - side)) (slot_bytes head.shape.k (s.epoch + k) (greatest s.last (take k s.submitted)) states)) (D.state old) (D.state new)
-        → (c : List ℕ) → (D.state new).since (D.state old).moment c → Tells plan head side s c ⊎ Tells plan head (side_after side k) (cut_at s k states) c }
+        → (c : List ℕ) → (D.state new).since (D.state old).moment c → Tells plan head side s c
+        ⊎ Tells plan head (side_after side k) (cut_at s k states) c }
     ensures done { (plan : List Line) (head : AnyHead) (side : ℕ) (s : Standing) (k : ℕ) (states : StateList) (old new : D)
-        → EachTells plan head side s (D.state old) → IsCut plan head.shape s k states → greatest s.last (take k s.submitted) < 2 ^ 64 → D.is_lawful new
+        → EachTells plan head side s (D.state old) → IsCut plan head.shape s k states
+        → greatest s.last (take k s.submitted) < 2 ^ 64 → D.is_lawful new
         → CrashSafe (Puts (slot (slots_of head.shape) (1 - side)) (slot_bytes head.shape.k (s.epoch + k) (greatest s.last (take k s.submitted)) states)) (D.state old) (D.state new)
         → IsOpen (slot (slots_of head.shape) (1 - side)) (slot_bytes head.shape.k (s.epoch + k) (greatest s.last (take k s.submitted)) states) (D.state new)
         → EachTells plan head (side_after side k) (cut_at s k states) (D.state new) }
@@ -204,7 +225,8 @@ pub fn recovered<D: Disk>()
 
 /// A disk as a format leaves it tells the standing of no epochs.
 pub fn formatted()
-    ensures { (plan : List Line) (sizes : Sizes) (image : List ℕ) → IsPlan plan → IsFormatted plan sizes image → Tells plan (first_head sizes) 0 nothing_told image }
+    ensures { (plan : List Line) (sizes : Sizes) (image : List ℕ) → IsPlan plan → IsFormatted plan sizes image
+        → Tells plan (first_head sizes) 0 nothing_told image }
 {
     td_head::laws::first_head_tells();
     td_slots::laws::slots_read_back();

@@ -48,8 +48,13 @@ fn folds(alloc: Global, plan: &Plan) -> Result<Vec<u8>, AllocError>
 /// What a disk tells for a plan. It refuses `NotFormatted`, `Damaged` of the head, `WrongPlan`, `Damaged` of the slots,
 /// `Damaged` of a cell, each exactly where that is the first that the disk tells, and `Memory` and `Device`. It writes
 /// nothing.
-pub fn read_parts<D: Disk>(alloc: Global, device: &mut D, plan: &Plan) -> Result<Recovered, KeeperError>
-    ensures told { IfOk result (λ r. D.is_lawful device.old → Tells plan.now r.head r.checkpoint.slot (standing_of r) (D.state device.old).bytes) }
+pub fn read_parts<D: Disk>(
+    alloc: Global,
+    device: &mut D,
+    plan: &Plan,
+) -> Result<Recovered, KeeperError>
+    ensures told { IfOk result (λ r. D.is_lawful device.old
+        → Tells plan.now r.head r.checkpoint.slot (standing_of r) (D.state device.old).bytes) }
     ensures refused { IfErr result (λ e. (e ≡ KeeperError.Device) ⊎ ((e ≡ KeeperError.Memory) ⊎ (D.is_lawful device.old
         → Told plan.now (D.state device.old).bytes (Refused e)))) }
     ensures device { IsErrOf result KeeperError.Device → Rises (D.failures device.old) (D.failures device.new) }
@@ -77,7 +82,11 @@ pub fn read_parts<D: Disk>(alloc: Global, device: &mut D, plan: &Plan) -> Result
         n: shape.cells(),
         kept: checkpoint.epoch,
     };
-    let floor = if head.version < 2 { None } else { Some(checkpoint.last) };
+    let floor = if head.version < 2 {
+        None
+    } else {
+        Some(checkpoint.last)
+    };
     let submitted = journal.read_from(alloc, device, &inputs, checkpoint.epoch, floor)?;
     Ok(Recovered {
         head,
@@ -96,7 +105,8 @@ pub(crate) fn recover_device<D: Disk>(
     ensures size { D.capacity device.new ≡ D.capacity device.old }
     ensures lawful { D.is_lawful device.old ↔ D.is_lawful device.new }
     ensures plan { IfOk result (λ r. r.0 ≡ plan.now) }
-    ensures kept { IfOk result (λ r. D.is_lawful device.old → Keeps plan.now r.1.head r.1.checkpoint.slot (standing_of r.1) (D.state device.new)) }
+    ensures kept { IfOk result (λ r. D.is_lawful device.old
+        → Keeps plan.now r.1.head r.1.checkpoint.slot (standing_of r.1) (D.state device.new)) }
     ensures refused { IfErr result (λ e. (e ≡ KeeperError.Device) ⊎ ((e ≡ KeeperError.Memory) ⊎ (D.is_lawful device.old
         → IsDurable (D.state device.new) × Told plan.now (D.state device.new).bytes (Refused e)))) }
     ensures device { IsErrOf result KeeperError.Device → Rises (D.failures device.old) (D.failures device.new) }

@@ -37,21 +37,25 @@ pub fn submit_batch<D: Disk>(
     ensures device { IsErrOf result JournalError.Device → Rises (D.failures device.old) (D.failures device.new) }
     ensures size { D.capacity device.new ≡ D.capacity device.old }
     ensures lawful { D.is_lawful device.old ↔ D.is_lawful device.new }
-    ensures unwritten { IsErrOf result JournalError.Memory → D.is_lawful device.old → CrashSafe Unchanged (D.state device.old) (D.state device.new) }
+    ensures unwritten { IsErrOf result JournalError.Memory → D.is_lawful device.old
+        → CrashSafe Unchanged (D.state device.old) (D.state device.new) }
 
     // Each image since the start of the call tells the standing, or it with the batch.
     ensures begun { D.is_lawful device.old → (plan : List Line) (head : Head) (side : ℕ) (s : Standing)
-        → journal.now ≡ ring_of head.shape s.epoch → HasRoom head.shape s epoch → IsFresh head.version s request → is_batch (inputs_of plan) batch.now ≡ true
+        → journal.now ≡ ring_of head.shape s.epoch → HasRoom head.shape s epoch → IsFresh head.version s request
+        → is_batch (inputs_of plan) batch.now ≡ true
         → Keeps plan head side s (D.state device.old)
         → SinceTells (Tells plan head side s) (Tells plan head side (with_more s (submission request batch.now ∷ []))) (D.state device.old).moment (D.state device.new) }
 
     // After want of memory each image tells the standing still.
-    ensures kept { IsErrOf result JournalError.Memory → D.is_lawful device.old → (plan : List Line) (head : Head) (side : ℕ) (s : Standing)
+    ensures kept { IsErrOf result JournalError.Memory → D.is_lawful device.old
+        → (plan : List Line) (head : Head) (side : ℕ) (s : Standing)
         → Keeps plan head side s (D.state device.old) → Keeps plan head side s (D.state device.new) }
 
     // After Ok each image tells it with the batch.
     ensures done { OnOk result (D.is_lawful device.old → (plan : List Line) (head : Head) (side : ℕ) (s : Standing)
-        → journal.now ≡ ring_of head.shape s.epoch → HasRoom head.shape s epoch → IsFresh head.version s request → is_batch (inputs_of plan) batch.now ≡ true
+        → journal.now ≡ ring_of head.shape s.epoch → HasRoom head.shape s epoch → IsFresh head.version s request
+        → is_batch (inputs_of plan) batch.now ≡ true
         → Keeps plan head side s (D.state device.old)
         → Keeps plan head side (with_more s (submission request batch.now ∷ [])) (D.state device.new)) }
 {
@@ -83,7 +87,8 @@ pub fn write_states<D: Disk>(
     requires room { slots.now.at + 2 * (slot_len slots.now.k + 1) ≤ D.capacity device.old }
     requires small { epoch < 2 ^ 63 }
     ensures too_many { IsErrOf result SlotsError.TooManyKeys ↔ (slots.now.k < length states.now) }
-    ensures refusals { IfErr result (λ e. (e ≡ SlotsError.TooManyKeys) ⊎ (e ≡ SlotsError.Memory) ⊎ (e ≡ SlotsError.Device)) }
+    ensures refusals { IfErr result (λ e. (e ≡ SlotsError.TooManyKeys) ⊎ (e ≡ SlotsError.Memory)
+        ⊎ (e ≡ SlotsError.Device)) }
     ensures untouched { IfErr result (λ e. (e ≡ SlotsError.Device) ⊎ (device.new ≡ device.old)) }
     ensures device { IsErrOf result SlotsError.Device → Rises (D.failures device.old) (D.failures device.new) }
     ensures size { D.capacity device.new ≡ D.capacity device.old }
@@ -91,13 +96,15 @@ pub fn write_states<D: Disk>(
 
     // Each image since the start of the call tells the standing, or it cut there.
     ensures begun { D.is_lawful device.old → (plan : List Line) (head : Head) (s : Standing) (k : ℕ)
-        → slots.now ≡ slots_of head.shape → epoch ≡ s.epoch + k → last ≡ greatest s.last (take k s.submitted) → IsCut plan head.shape s k states.now
+        → slots.now ≡ slots_of head.shape → epoch ≡ s.epoch + k → last ≡ greatest s.last (take k s.submitted)
+        → IsCut plan head.shape s k states.now
         → Keeps plan head newest s (D.state device.old)
         → SinceTells (Tells plan head newest s) (Tells plan head (side_after newest k) (cut_at s k states.now)) (D.state device.old).moment (D.state device.new) }
 
     // After Ok each image tells it cut there.
     ensures done { OnOk result (D.is_lawful device.old → (plan : List Line) (head : Head) (s : Standing) (k : ℕ)
-        → slots.now ≡ slots_of head.shape → epoch ≡ s.epoch + k → last ≡ greatest s.last (take k s.submitted) → IsCut plan head.shape s k states.now
+        → slots.now ≡ slots_of head.shape → epoch ≡ s.epoch + k → last ≡ greatest s.last (take k s.submitted)
+        → IsCut plan head.shape s k states.now
         → Keeps plan head newest s (D.state device.old)
         → Keeps plan head (side_after newest k) (cut_at s k states.now) (D.state device.new)) }
 {

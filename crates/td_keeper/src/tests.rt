@@ -19,7 +19,11 @@ fn batch_of(alloc: Global, val: i64) -> Result<Batch, Fail> {
 }
 
 /// Formats a disk for 4 records a cell, 2 cells and 3 states.
-fn format<D: Disk>(alloc: Global, disk: D, plan: &Plan) -> Result<Keeper<D, Stock>, (KeeperError, D)> {
+fn format<D: Disk>(
+    alloc: Global,
+    disk: D,
+    plan: &Plan,
+) -> Result<Keeper<D, Stock>, (KeeperError, D)> {
     let Some(shape) = Shape::new(4, 2, 3) else {
         return Err((KeeperError::NotFormatted, disk));
     };
@@ -77,7 +81,10 @@ fn epochs_and_a_checkpoint_are_recovered(rt: HostRuntime) -> Result<(), Fail> {
     let mut disk = keeper.into_disk();
     let parts = read_parts(rt.alloc(), &mut disk, &plan)?;
     let requests = parts.submitted.first().map(|each| each.request);
-    assert_eq!(rt; (parts.head.version, parts.checkpoint.last, requests), (2, 5, Some(9)));
+    assert_eq!(rt;
+        (parts.head.version, parts.checkpoint.last, requests),
+        (2, 5, Some(9))
+    );
     Ok(())
 }
 
@@ -95,7 +102,8 @@ fn each_write_and_sync_fails_in_turn(rt: HostRuntime) -> Result<(), Fail> {
     assert!(rt; format(rt.alloc(), fuse, &plan).is_ok());
 
     let fuse = FuseDisk::stop_at(written(rt.alloc(), &plan)?, 1);
-    let Err((KeeperError::Device, fuse)) = Keeper::<_, Stock>::recover(rt.alloc(), fuse, &plan) else {
+    let Err((KeeperError::Device, fuse)) = Keeper::<_, Stock>::recover(rt.alloc(), fuse, &plan)
+    else {
         return Err(Fail::from("recover"));
     };
     let again = Keeper::<MemoryDisk, Stock>::recover(rt.alloc(), fuse.into_inner(), &plan);
@@ -105,10 +113,20 @@ fn each_write_and_sync_fails_in_turn(rt: HostRuntime) -> Result<(), Fail> {
 
 #[test]
 fn refusals_have_numbers_and_texts(rt: HostRuntime) -> Result<(), Fail> {
-    let (head, cell) = (KeeperError::Damaged(Part::Head), KeeperError::Damaged(Part::Cell(1)));
+    let (head, cell) = (
+        KeeperError::Damaged(Part::Head),
+        KeeperError::Damaged(Part::Cell(1)),
+    );
     assert_eq!(rt; (head.number(), KeeperError::Epochs.number()), (3, 14));
-    let texts = format!(in rt.alloc(); "{head}, {cell}, {}, {}", Part::NoSlot, KeeperError::NotPassed(2))?;
-    assert_eq!(rt; texts.as_str(), "damaged: head, damaged: cell 1, no slot, epoch 2 not passed");
+    let texts = format!(in rt.alloc();
+        "{head}, {cell}, {}, {}",
+        Part::NoSlot,
+        KeeperError::NotPassed(2)
+    )?;
+    assert_eq!(rt;
+        texts.as_str(),
+        "damaged: head, damaged: cell 1, no slot, epoch 2 not passed"
+    );
     laws::advance_stands::<Stock>();
     laws::standings_advance::<Stock>();
     laws::last_request_never_falls::<Stock>();

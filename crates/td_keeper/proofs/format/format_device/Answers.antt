@@ -33,22 +33,22 @@ returns-clause-kept g c lawful =
     let payload = slot_bytes sizes.k 0 0 [] in
     let head = head_bytes 2 1 sizes (text_of plan) in
     let puts_0 : CrashSafe (Puts (slot (slots_of sizes) 0) payload) (state wiped) (state slotted) =
-        subst (λ (x : StateList). CrashSafe (Puts (slot (slots_of sizes) 0) (slot_bytes sizes.k 0 0 x)) (state wiped) (state slotted)) c.new-states.ensures
-        (subst (λ (k : ℕ). CrashSafe (Puts (slot (record { at = 8258; k = k }) 0) (slot_bytes k 0 0 c.new-states.result)) (state wiped) (state slotted)) c.states.ensures (c.in_ok-write.ensures.crash_safe l1 settled_0)) in
+    subst (λ (x : StateList). CrashSafe (Puts (slot (slots_of sizes) 0) (slot_bytes sizes.k 0 0 x)) (state wiped) (state slotted)) c.new-states.ensures
+    (subst (λ (k : ℕ). CrashSafe (Puts (slot (record { at = 8258; k = k }) 0) (slot_bytes k 0 0 c.new-states.result)) (state wiped) (state slotted)) c.states.ensures (c.in_ok-write.ensures.crash_safe l1 settled_0)) in
     let open_0 : IsOpen (slot (slots_of sizes) 0) payload (state slotted) =
-        subst (λ (x : StateList). IsOpen (slot (slots_of sizes) 0) (slot_bytes sizes.k 0 0 x) (state slotted)) c.new-states.ensures
-        (subst (λ (k : ℕ). IsOpen (slot (record { at = 8258; k = k }) 0) (slot_bytes k 0 0 c.new-states.result) (state slotted)) c.states.ensures (c.in_ok-write.ensures.open l1 settled_0)) in
+    subst (λ (x : StateList). IsOpen (slot (slots_of sizes) 0) (slot_bytes sizes.k 0 0 x) (state slotted)) c.new-states.ensures
+    (subst (λ (k : ℕ). IsOpen (slot (record { at = 8258; k = k }) 0) (slot_bytes k 0 0 c.new-states.result) (state slotted)) c.states.ensures (c.in_ok-write.ensures.open l1 settled_0)) in
     let puts_a : CrashSafe (Puts head_a head) (state slotted) (state new) = c.in_ok-put_first.ensures.crash_safe l2 settled_a in
     let open_a : IsOpen head_a head (state new) = c.in_ok-put_first.ensures.open l2 settled_a in
     let read_0 = laws.reads_image slotted l2 in
     let read_a = laws.reads_image new l3 in
     let put_0 : Puts (slot (slots_of sizes) 0) payload (state wiped).bytes (state slotted).bytes =
-        read_put (slot (slots_of sizes) 0) payload (state wiped) (state slotted) d1 puts_0 (laws.counts_now slotted (state wiped).moment (state slotted).bytes l2 puts_0.later read_0) in
+    read_put (slot (slots_of sizes) 0) payload (state wiped) (state slotted) d1 puts_0 (laws.counts_now slotted (state wiped).moment (state slotted).bytes l2 puts_0.later read_0) in
     let put_a : Puts head_a head (state slotted).bytes (state new).bytes =
-        read_put head_a head (state slotted) (state new) d2 puts_a (laws.counts_now new (state slotted).moment (state new).bytes l3 puts_a.later read_a) in
+    read_put head_a head (state slotted) (state new) d2 puts_a (laws.counts_now new (state slotted).moment (state new).bytes l3 puts_a.later read_a) in
     let room : size_of sizes ≤ length (state new).bytes =
-        subst (λ (n : ℕ). size_of sizes ≤ n)
-        (sym (laws.image_size new (state new).bytes l3 read_a ∙ c.in_ok-put_first.ensures.size ∙ c.in_ok-write.ensures.size ∙ c.in_ok-wipe.ensures.size)) c.requires in
+    subst (λ (n : ℕ). size_of sizes ≤ n)
+    (sym (laws.image_size new (state new).bytes l3 read_a ∙ c.in_ok-put_first.ensures.size ∙ c.in_ok-write.ensures.size ∙ c.in_ok-wipe.ensures.size)) c.requires in
     let is = is_formatted c.put_leaves_others.ensures plan sizes c.bytes-bytes.ensures.limits (state wiped).bytes (state slotted).bytes (state new).bytes
-        (c.in_ok-wipe.ensures.zero lawful) room put_0 open_0.read put_a open_a.read in
+    (c.in_ok-wipe.ensures.zero lawful) room put_0 open_0.read put_a open_a.read in
     record { durable = d3; tells = c.formatted.ensures plan sizes (state new).bytes c.vertices-vertices.ensures.lawful is }

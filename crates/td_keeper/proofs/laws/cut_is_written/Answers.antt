@@ -34,7 +34,9 @@ returns-clause-begun c plan head side s old new k states tells cut fits put =
     ⊎_elim
     (λ before. inl (record { canonical = tells.canonical; text = text; head_is = head_is; checkpoint = before; submitted = submitted }))
     (λ after. inr (record {
-      canonical = tells.canonical; text = text; head_is = head_is;
+      canonical = tells.canonical;
+      text = text;
+      head_is = head_is;
       checkpoint = after ∙ ap made (after_cut s states side k cut.same);
       submitted = subst (λ (f : Option ℕ). told_after (inputs_of plan) ring new f (s.epoch + k) ≡ Ok (drop k s.submitted)) (floor-after head.version s.last (take k s.submitted))
           (c.checkpoint_goes_on.ensures (inputs_of plan) ring new floor s.epoch k s.submitted some cut.most submitted);

@@ -19,9 +19,10 @@ returns-in_err-recovered-clause-refused g c =
     (λ (e : KeeperError). IsDurable (state new) × Told plan (state new).bytes (Refused e))
     c.from_residual-in_err-recovered.ensures.1
     (⊎_elim inl (λ other. ⊎_elim (λ e. inr (inl e)) (λ told. inr (inr (λ lawful.
-        let still = c.in_ok-sync.ensures.lawful.0 lawful in
-        (c.in_err-recovered.ensures.durable still (c.in_ok-sync.ensures.durable lawful),
-         subst (λ (b : List ℕ). Told plan b (Refused d)) (sym (c.in_err-recovered.ensures.same still)) (told still))))) other) c.in_err-recovered.ensures.refused)
+    let still = c.in_ok-sync.ensures.lawful.0 lawful in (
+      c.in_err-recovered.ensures.durable still (c.in_ok-sync.ensures.durable lawful),
+      subst (λ (b : List ℕ). Told plan b (Refused d)) (sym (c.in_err-recovered.ensures.same still)) (told still),
+    )))) other) c.in_err-recovered.ensures.refused)
 
 pub returns-in_default-clause-crash_safe : goal.returns-in_default-clause-crash_safe
 returns-in_default-clause-crash_safe g c lawful =
