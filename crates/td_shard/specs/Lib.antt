@@ -1,0 +1,4 @@
+pub mod Records
+pub mod Messages
+pub mod Slots
+pub mod Kept

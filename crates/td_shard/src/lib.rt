@@ -1,0 +1,10 @@
+//! A shard of a hall: what waits there for the vertices of a plan, and what they keep.
+#![tactic(auto)]
+
+mod error;
+mod lane;
+mod mailbox;
+mod slots;
+
+pub use error::ShardError;
+pub use mailbox::Mailbox;
