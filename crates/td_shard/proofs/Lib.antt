@@ -1,2 +1,5 @@
 pub mod Lanes
 pub mod Linked
+pub mod TakenUp
+pub mod Dropped
+pub mod Tasks

@@ -5,6 +5,7 @@ mod error;
 mod lane;
 mod mailbox;
 mod slots;
+mod take;
 
 pub use error::ShardError;
-pub use mailbox::Mailbox;
+pub use mailbox::{Mailbox, Taken};

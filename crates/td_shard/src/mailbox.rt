@@ -1,17 +1,27 @@
 //! The mailbox of a shard.
-ghost use Rattle.std.specs.Prelude.{◌≡◌, ◌+◌, ◌-◌, ◌<◌, ◌≤◌, ◌++◌, [], ℕ, length, max, OnOk, OnErr};
+ghost use Rattle.std.specs.Prelude.{◌≡◌, ◌+◌, ◌-◌, ◌<◌, ◌≤◌, ◌++◌, [], ℕ, length, max, IfOk, OnOk, OnErr};
 ghost use Rattle.std.specs.Option.{option_map};
 ghost use Rattle.std.specs.HashMap.{get};
-ghost use Rattle.td_shard.specs.Messages.{coming};
+ghost use Rattle.td_shard.specs.Messages.{coming, task_at, left_at};
 ghost use Rattle.td_shard.specs.Slots.{lane_eq};
 
 use crate::error::ShardError;
 use crate::lane::Lane;
 use crate::slots::{Slot, append};
+use crate::take::{TASK_SIZE, let_go, take_task};
 use std::alloc::Global;
 use std::collections::{HashMap, VecDeque};
 use std::marker::Model;
 use td_stamp::{Rec, Time};
+
+/// Messages that were taken: records that come to a port of a vertex, all at one time.
+#[derive(Debug, Drop)]
+pub struct Taken {
+    pub vertex: u8,
+    pub port: u8,
+    pub time: Time,
+    pub recs: Vec<Rec>,
+}
 
 /// The messages of a shard that wait to be taken, in the order in which they were posted (Naiad, section 2.3).
 ///
@@ -102,6 +112,27 @@ impl Mailbox {
             let time = time.copy();
             self.post_run(Lane { vertex, port, time }, recs);
         }
+    }
+
+    /// Takes a task: the message at `pick` in the order posted, and then the first of the others on its edge and of its time, 64
+    /// messages at most. With pick 0 it costs O(1) for each message; another pick walks over the messages. Refusal: `Memory`, with
+    /// the mailbox unchanged.
+    pub fn take(&mut self, pick: usize) -> Result<Taken, ShardError>
+        requires { pick < length self.old.messages }
+        ensures task { IfOk result (λ t. coming t.vertex t.port t.time t.recs.items ≡ task_at pick self.old.messages) }
+        ensures left { OnOk result (self.new ≡ record self.old { messages = left_at pick self.old.messages }) }
+        ensures err { OnErr result (self.new ≡ self.old) }
+    {
+        let mut recs = Vec::with_capacity(self.alloc, TASK_SIZE)?;
+        let Lane { vertex, port, time } = take_task(&mut self.slots, pick, &mut recs);
+        self.len -= recs.len();
+        self.first = let_go(&mut self.slots, &mut self.lasts, self.first);
+        Ok(Taken {
+            vertex,
+            port,
+            time,
+            recs,
+        })
     }
 
     /// Posts these records, of which there is one at least.
