@@ -1,5 +1,5 @@
 -- Slots that are linked, and one more at the end.
-use Rattle.std.proofs.Common.{◌≡◌, ℕ, zero, suc, ◌+◌, ◌-◌, ◌<◌, ◌≤◌, Bool, true, false, not, ◌&&◌, cond, List, [], ◌∷◌, ◌++◌, length, get_or, set, Option, Some, None, refl, sym, ap, ◌∙◌, subst, arith}
+use Rattle.std.proofs.Common.{◌≡◌, ℕ, zero, suc, ◌+◌, ◌<◌, ◌≤◌, Bool, true, false, cond, List, [], ◌∷◌, ◌++◌, length, get_or, set, Option, Some, None, refl, sym, ap, ◌∙◌, subst, arith}
 use Rattle.std.specs.Option.{option_map}
 use Rattle.std.specs.Cmp.{IsEquivalence}
 use Rattle.td_shard.specs.declared.lane.Lane.{Lane}
@@ -121,11 +121,13 @@ module _ (same : Lane → Lane → Bool) where
     stays s x true None p n i e h f = absurd (let none : p ≡ None = h refl refl in cc)
 
     linked_step : (k : Lane) (x s : Slot) (ss : List Slot) (b : Bool) (o : Option ℕ) → same k s.lane ≡ b → last_on same k ss ≡ o → same k x.lane ≡ true → s.ahead ≡ ahead_of (first_on same s.lane ss) → AreLinked same (appended o ss x) → AreLinked same (appended (last_by b o) (s ∷ ss) x)
-    linked_step k x s ss b (Some i) eb eo h f rest =
-        (subst (λ w. s.ahead ≡ ahead_of w) (sym (first-append s.lane (to_end i ss) x))
+    linked_step k x s ss b (Some i) eb eo h f rest = (
+      subst (λ w. s.ahead ≡ ahead_of w) (sym (first-append s.lane (to_end i ss) x))
           (subst (λ w. s.ahead ≡ ahead_of (or_then w (cond (same s.lane x.lane) (Some (length (to_end i ss))) None))) (sym (first-to_end s.lane i ss))
-            (stays s x (same s.lane x.lane) (first_on same s.lane ss) (last_on same k ss) (length (to_end i ss)) i eo
-              (λ none here. none_on s.lane k ss (laws.congr s.lane x.lane k here ∙ (laws.symm x.lane k ∙ h)) none) f)), rest)
+          (stays s x (same s.lane x.lane) (first_on same s.lane ss) (last_on same k ss) (length (to_end i ss)) i eo
+          (λ none here. none_on s.lane k ss (laws.congr s.lane x.lane k here ∙ (laws.symm x.lane k ∙ h)) none) f)),
+      rest,
+    )
     linked_step k x s ss true None eb eo h f rest = (linked_first, rest)
       where
         joined : same s.lane x.lane ≡ true

@@ -1,5 +1,5 @@
 -- Slots of a lane whose messages are taken.
-use Rattle.std.proofs.Common.{◌≡◌, ℕ, zero, suc, ◌+◌, ◌-◌, ◌<◌, ◌≤◌, Bool, true, false, not, ◌&&◌, cond, List, [], ◌∷◌, ◌++◌, map, filter, length, get_or, set, take, drop, Option, Some, None, refl, sym, ap, ◌∙◌, subst, arith, append_assoc, ◌⊎◌, inl, inr, length-drop, length-append}
+use Rattle.std.proofs.Common.{◌≡◌, ℕ, zero, suc, ◌+◌, ◌-◌, ◌<◌, Bool, true, false, not, ◌&&◌, cond, List, [], ◌∷◌, ◌++◌, map, filter, length, get_or, set, take, drop, Option, Some, None, refl, sym, ap, ◌∙◌, subst, arith, append_assoc, ◌⊎◌, inl, inr, length-drop, length-append}
 use Rattle.std.proofs.lemmas.List.{get_or-drop, take-append-drop, drop-drop, take_more, drop_more}
 use Rattle.td_shard.proofs.Linked.{messages-append}
 use Rattle.std.proofs.Math.Seq.{take-add}
@@ -9,7 +9,6 @@ use Rattle.td_stamp.specs.declared.values.Rec.{Rec}
 use Rattle.td_shard.specs.declared.lane.Lane.{Lane}
 use Rattle.td_shard.specs.declared.slots.Slot.{Slot}
 use Rattle.td_shard.specs.Records.{Coming}
-use Rattle.td_shard.specs.Messages.{without_first}
 use Rattle.td_shard.specs.Slots.{message, messages_of, ahead_of, last_by, taken, first_on, last_on, AreLinked, waits_on, taken_on, recs_on}
 
 -- the slots with that at a place taken

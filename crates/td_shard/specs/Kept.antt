@@ -1,5 +1,5 @@
 -- What a mailbox keeps true of what it holds.
-use Rattle.std.specs.Prelude.{◌≡◌, ℕ, ◌+◌, ◌^◌, ◌<◌, ◌≤◌, length, Some, None}
+use Rattle.std.specs.Prelude.{◌≡◌, ◌+◌, ◌^◌, ◌<◌, ◌≤◌, length}
 use Rattle.std.specs.Option.{option_map}
 use Rattle.std.specs.HashMap.{get, spare}
 use Rattle.std.specs.VecDeque.{deque_len, deque_capacity}

@@ -1,6 +1,6 @@
 -- How a mailbox keeps its messages: all in one list of slots, in the order posted. A slot says how far ahead the next slot of its lane
 -- (an edge and a time) stands. A message that is taken ahead of others leaves its slot, marked, until the slot is the first.
-use Rattle.std.specs.Prelude.{◌≡◌, ℕ, zero, suc, ◌+◌, ◌==◌, Bool, true, false, not, ◌&&◌, cond, List, [], ◌∷◌, ◌++◌, map, filter, take, reverse, Option, Some, None}
+use Rattle.std.specs.Prelude.{◌≡◌, ℕ, zero, suc, ◌==◌, Bool, true, false, not, ◌&&◌, cond, List, [], ◌∷◌, map, filter, take, Option, Some, None}
 use Rattle.std.specs.Option.{option_map}
 use Rattle.td_stamp.specs.declared.values.Rec.{Rec}
 use Rattle.td_shard.specs.declared.lane.Lane.{Lane}

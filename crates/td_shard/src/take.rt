@@ -116,7 +116,11 @@ pub(crate) fn take_task(slots: &mut VecDeque<Slot>, pick: usize, recs: &mut Vec<
 
 /// Lets go of the slots before the first that waits, and answers the number of the slot that is the first then. `first` is the
 /// number of the first slot now.
-pub(crate) fn let_go(slots: &mut VecDeque<Slot>, lasts: &mut HashMap<Lane, usize>, first: usize) -> usize
+pub(crate) fn let_go(
+    slots: &mut VecDeque<Slot>,
+    lasts: &mut HashMap<Lane, usize>,
+    first: usize,
+) -> usize
     requires linked { AreLinked lane_eq slots.old.items }
     requires lasts { (q : AnyLane) → get lane_eq lasts.old q ≡ option_map (λ i. first + i) (last_on lane_eq q slots.old.items) }
     requires fits { first + deque_len slots.old < 2 ^ 64 }

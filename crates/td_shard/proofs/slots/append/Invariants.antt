@@ -1,4 +1,4 @@
-use Rattle.std.proofs.Common.{◌≡◌, ℕ, ◌+◌, ◌-◌, ◌<◌, ◌++◌, Some, true, false, take, length}
+use Rattle.std.proofs.Common.{◌≡◌, ◌+◌, ◌-◌, ◌<◌, ◌++◌, Some, true, false, take}
 use Rattle.std.specs.VecDeque.{deque_len, deque_capacity}
 use Rattle.td_shard.specs.declared.lane.Lane.{Lane}
 use Rattle.td_shard.specs.Messages.{coming}

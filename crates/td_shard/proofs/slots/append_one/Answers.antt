@@ -1,12 +1,9 @@
-use Rattle.std.proofs.Common.{rules, arith, ◌≡◌, ◌+◌, ◌-◌, ◌<◌, ◌≤◌, ◌++◌, ◌∷◌, [], ℕ, cond, Some, None, length, set, get_or, true, false, List, Option, refl, sym, ap, ◌∙◌, subst}
-use Rattle.std.specs.VecDeque.{deque_len, deque_capacity}
-use Rattle.td_stamp.specs.declared.values.Rec.{Rec}
+use Rattle.std.proofs.Common.{arith, ◌≡◌, ◌+◌, ◌-◌, ◌<◌, ◌++◌, ◌∷◌, [], ℕ, cond, Some, length, false, List, refl, sym, ap, ◌∙◌, subst}
 use Rattle.td_shard.specs.declared.slots.Slot.{Slot}
 use Rattle.td_shard.specs.declared.lane.Lane.{Lane}
-use Rattle.td_shard.specs.Messages.{coming}
-use Rattle.td_shard.specs.Slots.{lane_eq, last_on, AreLinked, FrontWaits, messages_of, message}
+use Rattle.td_shard.specs.Slots.{lane_eq, last_on, AreLinked, FrontWaits, messages_of}
 use Rattle.td_shard.proofs.Lanes.{lane_equiv}
-use Rattle.td_shard.proofs.Linked.{appended, to_end, set-to_end, linked_appended, last-appended, messages-appended, front-appended, last-below}
+use Rattle.td_shard.proofs.Linked.{appended, set-to_end, linked_appended, last-appended, messages-appended, front-appended, last-below}
 use Rattle.td_shard.proofs.slots.append_one.Goals as goal
 use Rattle.td_shard.proofs.slots.append_one.Goals.{in-Some, in_default}
 
@@ -22,7 +19,7 @@ index_mut-slot-requires c = let h = below c.in-Some.at c.args.lane c.args.slots.
 -- the slots are the old ones with one more at the end, linked
 items-are : (c : goal.After-push_back_reserved) → c.push_back_reserved.new.self.items ≡ appended (last_on lane_eq c.args.lane c.args.slots.now.items) c.args.slots.now.items (record { lane = c.args.lane; rec = c.args.rec; ahead = 0; is_taken = false })
 items-are c = elim c.match-last.branch [
-    in-Some w ↦
+  | in-Some w ↦
       let old = c.args.slots.now.items in
       let h = below w.in-Some.at c.args.lane old (sym w.in-Some.is ∙ c.requires.last) in
       let fits : w.len.result - w.in-Some.at + w.in-Some.at ≡ length old = omega (arith, h, w.len.ensures, c.args.slots.now.ok) in
@@ -32,7 +29,7 @@ items-are c = elim c.match-last.branch [
   | in_default w ↦
       let old = c.args.slots.now.items in
       c.push_back_reserved.ensures.items ∙ (ap (λ l. l ++ record { lane = c.args.lane; rec = c.args.rec; ahead = 0; is_taken = false } ∷ []) (ap (λ q. q.items) w.slots-is) ∙ ap (λ o. appended o old (record { lane = c.args.lane; rec = c.args.rec; ahead = 0; is_taken = false })) (sym w.in_default.is ∙ c.requires.last))
-  ]
+]
 
 pub returns-clause-linked : goal.returns-clause-linked
 returns-clause-linked c = subst (AreLinked lane_eq) (sym (items-are c)) (linked_appended lane_eq lane_equiv c.args.lane _ c.args.slots.now.items (lane_equiv.refl c.args.lane) refl c.requires.linked)

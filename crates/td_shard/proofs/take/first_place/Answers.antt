@@ -1,4 +1,4 @@
-use Rattle.std.proofs.Common.{rules, arith, ◌≡◌, ◌+◌, ◌<◌, ℕ, Bool, true, false, not, refl, sym, ap, ◌∙◌}
+use Rattle.std.proofs.Common.{◌≡◌, Bool, true, false, not, refl, sym, ◌∙◌}
 use Rattle.td_shard.specs.Slots.{lane_eq}
 use Rattle.td_shard.proofs.TakenUp.{not_here, is_here, not_past}
 use Rattle.td_shard.proofs.take.first_place.Goals as goal

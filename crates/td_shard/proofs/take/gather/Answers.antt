@@ -1,10 +1,10 @@
-use Rattle.std.proofs.Common.{rules, arith, ◌≡◌, ◌+◌, ◌-◌, ◌<◌, ◌≤◌, ◌++◌, ◌∷◌, [], ◌⊎◌, inl, inr, ℕ, zero, suc, cond, false, true, Some, length, take, drop, get_or, set, vec_len, vec_capacity, Bool, List, pos, refl, sym, ap, ◌∙◌, subst, append_assoc, length-append, append-nil}
+use Rattle.std.proofs.Common.{arith, ◌≡◌, ◌+◌, ◌-◌, ◌<◌, ◌≤◌, ◌++◌, ◌∷◌, [], inl, ℕ, suc, cond, false, true, length, take, drop, get_or, set, vec_len, Bool, List, pos, refl, sym, ap, ◌∙◌, subst, append_assoc, length-append, append-nil}
 use Rattle.td_stamp.specs.declared.values.Rec.{Rec}
 use Rattle.td_shard.specs.declared.lane.Lane.{Lane}
 use Rattle.td_shard.specs.declared.slots.Slot.{Slot}
 use Rattle.td_shard.specs.Slots.{lane_eq, first_on, ahead_of, AreLinked, taken, taken_on, recs_on}
 use Rattle.td_shard.proofs.Lanes.{lane_equiv}
-use Rattle.td_shard.proofs.TakenUp.{taken_at, set-taken_at, linked-taken_at, length-taken_at, yet, given, still, skip, skip-recs, first-below, first-same, visit, visit-recs, next_ahead, Moved, moved, ended}
+use Rattle.td_shard.proofs.TakenUp.{taken_at, set-taken_at, linked-taken_at, yet, given, still, skip, skip-recs, first-below, first-same, visit, visit-recs, next_ahead, Moved, moved, ended}
 use Rattle.td_shard.proofs.take.gather.Goals as goal
 
 -- the slots and records after a slot of the lane was visited
@@ -52,8 +52,8 @@ first_visit c =
     let k = c.args.lane.now in
     let d = nothing k in
     visited k ss c.args.recs.now.items c.args.first (63 - length c.args.recs.now.items) c.take_up-ahead.new.slots.items c.take_up-ahead.new.recs.items c.take_up-ahead.result (get_or ss c.args.first d) d
-      (first-below lane_eq k ss c.args.first c.requires.first) (first-same lane_eq k ss c.args.first d c.requires.first) (omega (arith, c.requires.some, c.args.recs.now.ok)) c.requires.linked refl
-      (c.take_up-ahead.ensures.slots d) (c.take_up-ahead.ensures.recs d) (c.take_up-ahead.ensures.ahead d)
+    (first-below lane_eq k ss c.args.first c.requires.first) (first-same lane_eq k ss c.args.first d c.requires.first) (omega (arith, c.requires.some, c.args.recs.now.ok)) c.requires.linked refl
+    (c.take_up-ahead.ensures.slots d) (c.take_up-ahead.ensures.recs d) (c.take_up-ahead.ensures.ahead d)
 
 pub loop-ahead-init : goal.loop-ahead-init
 loop-ahead-init c =
@@ -101,7 +101,7 @@ loop-ahead-preserved c =
     let now = call.new.recs in
     let old = c.loop-ahead.recs in
     let v = visited k ss old.items at (63 - length old.items) call.new.slots.items now.items call.result (get_or ss at d) d
-      m.within (m.on d) (omega (arith, c.if-len-lt-TASK_SIZE.true, c.len.ensures, old.ok)) was.linked refl (call.ensures.slots d) (call.ensures.recs d) (call.ensures.ahead d) in
+    m.within (m.on d) (omega (arith, c.if-len-lt-TASK_SIZE.true, c.len.ensures, old.ok)) was.linked refl (call.ensures.slots d) (call.ensures.recs d) (call.ensures.ahead d) in
     record {
       slots = ap (λ n. take (suc at) call.new.slots.items ++ taken_on lane_eq k (64 - n) (drop (suc at) call.new.slots.items)) now.ok.0
           ∙ (sym v.slots ∙ (sym (m.slots (64 - length old.items)) ∙ (ap (λ n. take (suc c.loop-ahead.place) ss ++ taken_on lane_eq k (64 - n) (drop (suc c.loop-ahead.place) ss)) (sym old.ok.0) ∙ was.slots)));

@@ -1,6 +1,5 @@
-use Rattle.std.proofs.Common.{rules, arith, ◌≡◌, ◌+◌, ◌≤◌, [], pos, false, refl, sym, ap, ◌∙◌, subst}
+use Rattle.std.proofs.Common.{arith, ◌+◌, [], pos, false, sym, ap, ◌∙◌, subst}
 use Rattle.std.specs.Option.{option_map}
-use Rattle.td_shard.specs.declared.lane.Lane.{Lane}
 use Rattle.td_shard.specs.declared.slots.Slot.{Slot}
 use Rattle.td_shard.specs.Slots.{lane_eq, last_on, AreLinked, messages_of}
 use Rattle.td_shard.proofs.Lanes.{lane_equiv}

@@ -1,5 +1,4 @@
-use Rattle.std.proofs.Common.{rules, arith, ◌≡◌, ◌+◌, ◌<◌, ◌≤◌, ◌⊎◌, inl, inr, ℕ, cond, length, take, Bool, true, false, refl, sym, ap, ◌∙◌}
-use Rattle.td_shard.specs.Slots.{messages_of}
+use Rattle.std.proofs.Common.{arith, ◌≡◌, ◌+◌, ◌≤◌, ◌⊎◌, inl, inr, ℕ, Bool, true, false}
 use Rattle.td_shard.proofs.TakenUp.{before_next, place-below}
 use Rattle.td_shard.proofs.take.place_of.Goals as goal
 use Rattle.td_shard.proofs.take.place_of.Goals.{then-waits-2, else-waits-2}
@@ -17,11 +16,11 @@ loop-pick-preserved c =
     let was = c.loop-pick.invariant in
     let within = place-below p ss (omega (arith, was.counted, was.low, c.requires)) in
     elim c.if-waits-2.branch [
-      then-waits-2 w ↦ record {
+      | then-waits-2 w ↦ record {
         counted = omega (arith, was.counted, w.before-is, before_next ss p s s false within c.index.ensures w.if-waits-2.true);
         low = let h = lower s.is_taken c.loop-pick.before c.args.pick was.low c.else-waits.either w.if-waits-2.true in omega (arith, h, w.before-is);
       }
-    | else-waits-2 w ↦ record {
+      | else-waits-2 w ↦ record {
         counted = omega (arith, was.counted, w.before-is, before_next ss p s s true within c.index.ensures w.if-waits-2.false);
         low = omega (arith, was.low, w.before-is);
       }

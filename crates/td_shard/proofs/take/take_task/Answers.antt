@@ -1,6 +1,5 @@
-use Rattle.std.proofs.Common.{rules, arith, ◌≡◌, ◌+◌, ◌-◌, ◌<◌, ◌++◌, ◌∷◌, [], ℕ, cond, length, get_or, set, vec_len, true, false, List, refl, sym, ap, ◌∙◌, subst}
+use Rattle.std.proofs.Common.{arith, ◌≡◌, ◌-◌, ◌<◌, ◌++◌, ◌∷◌, [], ℕ, cond, length, get_or, set, vec_len, false, List, refl, sym, ap, ◌∙◌, subst}
 use Rattle.td_stamp.specs.declared.values.Rec.{Rec}
-use Rattle.td_shard.specs.declared.lane.Lane.{Lane}
 use Rattle.td_shard.specs.declared.slots.Slot.{Slot}
 use Rattle.td_shard.specs.Slots.{lane_eq, AreLinked, taken, taken_on, recs_on}
 use Rattle.td_shard.proofs.Lanes.{lane_equiv}

@@ -1,13 +1,12 @@
-use Rattle.std.proofs.Common.{rules, arith, ◌≡◌, ◌+◌, ◌-◌, ◌<◌, ◌≤◌, ◌++◌, ℕ, length, Bool, true, false, cond, List, map, Option, Some, None, Result, Ok, Err, refl, sym, ap, ◌∙◌, subst, length-append}
+use Rattle.std.proofs.Common.{arith, ◌≡◌, ◌+◌, ◌-◌, ◌≤◌, ℕ, length, Bool, true, false, cond, List, Option, Some, None, Result, Ok, Err, refl, ap, ◌∙◌, length-append}
 use Rattle.std.proofs.lemmas.List.{length-map}
 use Rattle.std.specs.Option.{option_map}
-use Rattle.std.specs.Result.{OnOk, IsOk, is_ok}
+use Rattle.std.specs.Result.{OnOk, IsOk}
 use Rattle.td_stamp.specs.declared.values.Rec.{Rec}
 use Rattle.td_shard.specs.declared.lane.Lane.{Lane}
-use Rattle.td_shard.specs.Slots.{lane_eq, last_on, messages_of}
+use Rattle.td_shard.specs.Slots.{lane_eq, messages_of}
 use Rattle.td_shard.specs.Messages.{coming}
 use Rattle.td_shard.proofs.Linked.{length-messages}
-use Rattle.td_shard.proofs.Lanes.{lane_equiv}
 use Rattle.td_shard.proofs.mailbox.Mailbox.post_run.Goals as goal
 
 -- what is numbered from f

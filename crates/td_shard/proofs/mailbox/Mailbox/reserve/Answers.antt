@@ -1,4 +1,4 @@
-use Rattle.std.proofs.Common.{rules, arith, ◌≡◌, ◌+◌, ◌<◌, ◌≤◌, ℕ, length, max, Option, refl, sym, ap, ◌∙◌, subst}
+use Rattle.std.proofs.Common.{arith, ◌+◌, length, sym, ap, ◌∙◌, subst}
 use Rattle.std.specs.Option.{option_map}
 use Rattle.td_shard.specs.Slots.{lane_eq, last_on, messages_of, AreLinked, FrontWaits}
 use Rattle.td_shard.proofs.mailbox.Mailbox.reserve.Goals as goal

@@ -1,5 +1,4 @@
-use Rattle.std.proofs.Common.{rules, arith, ◌≡◌, ◌+◌, ◌-◌, ◌<◌, ◌≤◌, length, refl, sym, ap, ◌∙◌}
-use Rattle.td_shard.specs.Slots.{messages_of}
+use Rattle.std.proofs.Common.{arith, length, ap}
 use Rattle.td_shard.proofs.mailbox.Mailbox.take.Goals as goal
 
 pub invariant_of-self : goal.invariant_of-self
