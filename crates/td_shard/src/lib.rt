@@ -6,6 +6,8 @@ mod lane;
 mod mailbox;
 mod slots;
 mod take;
+#[cfg(test)]
+mod tests;
 
 pub use error::ShardError;
 pub use mailbox::{Mailbox, Taken};
