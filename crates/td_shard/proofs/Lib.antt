@@ -3,3 +3,4 @@ pub mod Linked
 pub mod TakenUp
 pub mod Dropped
 pub mod Tasks
+pub mod Viewed

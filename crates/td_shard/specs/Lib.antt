@@ -2,3 +2,5 @@ pub mod Records
 pub mod Messages
 pub mod Slots
 pub mod Kept
+pub mod Asked
+pub mod ProvedOrders

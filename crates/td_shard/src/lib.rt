@@ -4,10 +4,14 @@
 mod error;
 mod lane;
 mod mailbox;
+mod noted;
 mod slots;
 mod take;
 #[cfg(test)]
 mod tests;
+mod waiting;
 
 pub use error::ShardError;
 pub use mailbox::{Mailbox, Taken};
+pub use noted::Noted;
+pub use waiting::Waiting;
