@@ -1,5 +1,5 @@
 -- Items that wait for a notification, and the notifications that a shard asked for (Naiad, section 2.2: NotifyAt).
-use Rattle.std.specs.Prelude.{ℕ, List, [], ◌++◌, Option, Some, None}
+use Rattle.std.specs.Prelude.{ℕ, List, ◌++◌, Option, Some, None}
 use Rattle.std.specs.declared.cmp.Ordering.{Ordering}
 use Rattle.std.specs.Ordering.{ordering_then, nat_cmp}
 use Rattle.std.specs.Map.{lookup, remove_entry, set_value}

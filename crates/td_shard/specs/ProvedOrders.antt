@@ -1,7 +1,7 @@
 -- Proofs: the order of asked notifications is total. They stand here and not in proofs/ since the impls of traits take from specs/ alone.
 use Rattle.std.specs.Prelude.{reverse}
-use Rattle.std.specs.Ordering.{nat_cmp, eq_by_cmp}
-use Rattle.std.specs.Cmp.{IsTotalOrder, IsEquivalence, then_total, on_total, nat_cmp_total, eq_by_cmp_equiv, partial_equiv_from_equiv}
+use Rattle.std.specs.Ordering.{eq_by_cmp}
+use Rattle.std.specs.Cmp.{IsTotalOrder, IsEquivalence, then_total, on_total, nat_cmp_total, eq_by_cmp_equiv}
 use Rattle.std.specs.Cmp.Lexicographic.{lists_total}
 use Rattle.td_stamp.specs.Time.{time_cmp}
 use Rattle.td_shard.specs.Asked.{noted_cmp}

@@ -61,7 +61,13 @@ impl Waiting {
 
     /// Keeps these records, of which there is one at least, as items that wait at a vertex and time. The notification is asked
     /// for at the first. Refusal: `Memory`, with nothing changed.
-    pub fn wait(&mut self, vertex: u8, time: &Time, port: u8, recs: &[Rec]) -> Result<(), ShardError>
+    pub fn wait(
+        &mut self,
+        vertex: u8,
+        time: &Time,
+        port: u8,
+        recs: &[Rec],
+    ) -> Result<(), ShardError>
         requires { 0 < length recs.now }
         ensures ok { OnOk result (self.new ≡ with_items self.old vertex time.now (map (arrival_of port) recs.now)) }
         ensures err { OnErr result (self.new ≡ self.old) }

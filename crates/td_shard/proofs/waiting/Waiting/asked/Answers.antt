@@ -1,4 +1,4 @@
-use Rattle.std.proofs.Common.{◌≡◌, ◌∙◌, map, sym, ap}
+use Rattle.std.proofs.Common.{◌∙◌, map, sym, ap}
 use Rattle.td_shard.proofs.Viewed.{keys-seen}
 use Rattle.td_shard.proofs.waiting.Waiting.asked.Goals as goal
 

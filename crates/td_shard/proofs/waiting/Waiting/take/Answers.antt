@@ -1,4 +1,4 @@
-use Rattle.std.proofs.Common.{◌≡◌, ◌∙◌, map, Some, None, refl, sym, ap}
+use Rattle.std.proofs.Common.{◌∙◌, map, Some, sym, ap}
 use Rattle.std.specs.Option.{option_map}
 use Rattle.std.specs.Map.{lookup, remove_entry}
 use Rattle.std.specs.BTreeMap.{is_at}
@@ -17,8 +17,8 @@ returns-clause-taken c =
     let found = c.remove.ensures.value ∙ ap (λ u. lookup (is_at (noted_cmp (noted_at v u))) es) c.copy-time.ensures in
     let items = ap (λ w. items_at w v t) (sym c.self.view_is) ∙ (lookup-seen (λ w. w.items) (is_at (noted_cmp (noted_at v t))) es ∙ ap (option_map (λ w. w.items)) (sym found)) in
     elim c.match-remove.branch [
-      in-Some w ↦ w.result-is ∙ (ap Some w.from_vec.ensures ∙ sym (ap (option_map (bag_of arrival_cmp)) (items ∙ ap (option_map (λ w. w.items)) w.in-Some.is)))
-    | in-None w ↦ w.result-is ∙ sym (ap (option_map (bag_of arrival_cmp)) (items ∙ ap (option_map (λ w. w.items)) w.in-None.is))
+      | in-Some w ↦ w.result-is ∙ (ap Some w.from_vec.ensures ∙ sym (ap (option_map (bag_of arrival_cmp)) (items ∙ ap (option_map (λ w. w.items)) w.in-Some.is)))
+      | in-None w ↦ w.result-is ∙ sym (ap (option_map (bag_of arrival_cmp)) (items ∙ ap (option_map (λ w. w.items)) w.in-None.is))
     ]
 
 pub returns-clause-left : goal.returns-clause-left

@@ -1,4 +1,4 @@
-use Rattle.std.proofs.Common.{◌≡◌, ◌∙◌, ◌++◌, [], List, Option, map, Some, None, refl, sym, ap}
+use Rattle.std.proofs.Common.{◌≡◌, ◌∙◌, ◌++◌, [], List, map, Some, None, sym, ap}
 use Rattle.std.specs.Option.{option_map}
 use Rattle.std.specs.Map.{lookup, set_value}
 use Rattle.std.specs.BTreeMap.{is_at, insert_entry}
@@ -39,7 +39,7 @@ returns-in-Some-clause-ok c =
     let new = c.push_items.new.items in
     on_ok_weaker c.push_items.result
     (λ h. grown (λ v. v.items) es (c.get_mut.follows.lender new).entries (noted_at c.args.vertex c.copy-time.result) more c.in-Some.items.now new c.in-Some.ensures.value (c.get_mut.follows.holds new).0 h
-        ∙ (ap (λ t. with_items (map (seen (λ v. v.items)) es) c.args.vertex t more) c.copy-time.ensures ∙ ap (λ w. with_items w c.args.vertex c.args.time.now more) c.self.view_is))
+    ∙ (ap (λ t. with_items (map (seen (λ v. v.items)) es) c.args.vertex t more) c.copy-time.ensures ∙ ap (λ w. with_items w c.args.vertex c.args.time.now more) c.self.view_is))
     c.push_items.ensures.ok
 
 pub returns-in-Some-clause-err : goal.returns-in-Some-clause-err
@@ -56,6 +56,6 @@ returns-in_ok-insert-in-None-clause-ok c =
     let more = map (arrival_of c.args.port) c.args.recs.now in
     let items = c.push_items-in-None.new.items in
     put_in (λ v. v.items) es c.insert.new.self.entries (noted_at c.args.vertex c.copy-time.result) more items c.in-None.ensures.value
-        (c.in_ok-insert-in-None.ensures.entries ∙ ap (λ m. insert_entry noted_cmp m.entries (noted_at c.args.vertex c.copy-time.result) items) c.get_mut.follows.holds-at-none)
-        (c.in_ok-push_items-in-None.ensures.ok ∙ ap (λ l. l ++ more) c.new-items.ensures.items)
+    (c.in_ok-insert-in-None.ensures.entries ∙ ap (λ m. insert_entry noted_cmp m.entries (noted_at c.args.vertex c.copy-time.result) items) c.get_mut.follows.holds-at-none)
+    (c.in_ok-push_items-in-None.ensures.ok ∙ ap (λ l. l ++ more) c.new-items.ensures.items)
     ∙ (ap (λ t. with_items (map (seen (λ v. v.items)) es) c.args.vertex t more) c.copy-time.ensures ∙ ap (λ w. with_items w c.args.vertex c.args.time.now more) c.self.view_is)
