@@ -1,0 +1,17 @@
+//! A shard of a hall: what waits there for the vertices of a plan, and what they keep.
+#![tactic(auto)]
+
+mod error;
+mod lane;
+mod mailbox;
+mod noted;
+mod slots;
+mod take;
+#[cfg(test)]
+mod tests;
+mod waiting;
+
+pub use error::ShardError;
+pub use mailbox::{Mailbox, Taken};
+pub use noted::Noted;
+pub use waiting::Waiting;

@@ -1,0 +1,164 @@
+//! The mailbox of a shard.
+ghost use Rattle.std.specs.Prelude.{◌≡◌, ◌+◌, ◌-◌, ◌<◌, ◌≤◌, ◌++◌, [], ℕ, length, max, IfOk, OnOk, OnErr};
+ghost use Rattle.std.specs.Option.{option_map};
+ghost use Rattle.std.specs.HashMap.{get};
+ghost use Rattle.td_shard.specs.Messages.{coming, task_at, left_at};
+ghost use Rattle.td_shard.specs.Slots.{lane_eq};
+
+use crate::error::ShardError;
+use crate::lane::Lane;
+use crate::slots::{Slot, append};
+use crate::take::{TASK_SIZE, let_go, take_task};
+use std::alloc::Global;
+use std::collections::{HashMap, VecDeque};
+use std::marker::Model;
+use td_stamp::{Rec, Time};
+
+/// Messages that were taken: records that come to a port of a vertex, all at one time.
+#[derive(Debug, Drop)]
+pub struct Taken {
+    pub vertex: u8,
+    pub port: u8,
+    pub time: Time,
+    pub recs: Vec<Rec>,
+}
+
+/// The messages of a shard that wait to be taken, in the order in which they were posted (Naiad, section 2.3).
+///
+/// They stand in one list of slots. Each slot knows how far ahead the next of its lane stands, and a hash map the last of each
+/// lane, so that a run of messages is posted by one look-up, and a task is taken without one.
+#[derive(Drop)]
+pub struct Mailbox {
+    slots: VecDeque<Slot>,
+    // The number of the last slot of each lane. Slots are numbered in the order posted.
+    lasts: HashMap<Lane, usize>,
+    // The number of the first slot.
+    first: usize,
+    // How many messages wait.
+    len: usize,
+    runs: usize,
+    room: usize,
+    alloc: Global,
+}
+
+impl Model for Mailbox {
+    ghost use Rattle.td_shard.specs.Messages.{Mailboxed};
+
+    ghost Value = { Mailboxed };
+
+    ghost use Rattle.td_shard.specs.Slots.{messages_of};
+    ghost use Rattle.td_shard.specs.Kept.{IsMailbox};
+
+    ghost view = { λ m. record { runs = m.runs; room = m.room; messages = messages_of m.slots.items } };
+
+    ghost invariant = { IsMailbox };
+}
+
+impl Mailbox {
+    /// A mailbox with no messages and no room, which allocates with `alloc`.
+    pub fn new(alloc: Global) -> Mailbox
+        ensures { result ≡ record { runs = 0; room = 0; messages = [] } }
+    {
+        Mailbox {
+            slots: VecDeque::new(alloc),
+            lasts: HashMap::new(alloc),
+            first: 0,
+            len: 0,
+            runs: 0,
+            room: 0,
+            alloc,
+        }
+    }
+
+    /// How many messages wait.
+    pub fn len(&self) -> usize
+        ensures { result ≡ length self.now.messages }
+    {
+        self.len
+    }
+
+    /// Makes room for `room` more messages, in `runs` runs of one edge and time. Room that there is already counts. Refusal:
+    /// `Memory`, with the mailbox unchanged.
+    pub fn reserve(&mut self, runs: usize, room: usize) -> Result<(), ShardError>
+        ensures ok { OnOk result (self.new ≡ record self.old { runs = max self.old.runs runs; room = max self.old.room room }) }
+        ensures err { OnErr result (self.new ≡ self.old) }
+    {
+        let runs = runs.max(self.runs);
+        let room = room.max(self.room);
+        let Some(slots) = self.slots.len().checked_add(room) else {
+            return Err(ShardError::Memory);
+        };
+        let Some(_end) = self.first.checked_add(slots) else {
+            return Err(ShardError::Memory);
+        };
+        self.slots.reserve(room)?;
+        self.lasts.reserve(runs)?;
+        self.runs = runs;
+        self.room = room;
+        Ok(())
+    }
+
+    /// Posts these records to a port of a vertex, at a time. Takes no memory: room was made by `reserve`.
+    pub fn post(&mut self, vertex: u8, port: u8, time: &Time, recs: &[Rec])
+        requires runs { 0 < self.old.runs }
+        requires room { length recs.now ≤ self.old.room }
+        ensures messages { self.new.messages ≡ self.old.messages ++ coming vertex port time.now recs.now }
+        ensures runs { self.new.runs ≡ self.old.runs - 1 }
+        ensures room { self.new.room ≡ self.old.room - length recs.now }
+    {
+        if recs.is_empty() {
+            self.runs -= 1;
+        } else {
+            let time = time.copy();
+            self.post_run(Lane { vertex, port, time }, recs);
+        }
+    }
+
+    /// Takes a task: the message at `pick` in the order posted, and then the first of the others on its edge and of its time, 64
+    /// messages at most. With pick 0 it costs O(1) for each message; another pick walks over the messages. Refusal: `Memory`, with
+    /// the mailbox unchanged.
+    pub fn take(&mut self, pick: usize) -> Result<Taken, ShardError>
+        requires { pick < length self.old.messages }
+        ensures task { IfOk result (λ t. coming t.vertex t.port t.time t.recs.items ≡ task_at pick self.old.messages) }
+        ensures left { OnOk result (self.new ≡ record self.old { messages = left_at pick self.old.messages }) }
+        ensures err { OnErr result (self.new ≡ self.old) }
+    {
+        let mut recs = Vec::with_capacity(self.alloc, TASK_SIZE)?;
+        let Lane { vertex, port, time } = take_task(&mut self.slots, pick, &mut recs);
+        self.len -= recs.len();
+        self.first = let_go(&mut self.slots, &mut self.lasts, self.first);
+        Ok(Taken {
+            vertex,
+            port,
+            time,
+            recs,
+        })
+    }
+
+    /// Posts these records, of which there is one at least.
+    fn post_run(&mut self, lane: Lane, recs: &[Rec])
+        requires some { 0 < length recs.now }
+        requires runs { 0 < self.old.runs }
+        requires room { length recs.now ≤ self.old.room }
+        ensures messages { self.new.messages ≡ self.old.messages ++ coming lane.vertex lane.port lane.time recs.now }
+        ensures runs { self.new.runs ≡ self.old.runs - 1 }
+        ensures room { self.new.room ≡ self.old.room - length recs.now }
+    {
+        let last = last_place(&self.lasts, self.first, &lane);
+        append(&mut self.slots, &lane, last, recs);
+        let number = self.first + (self.slots.len() - 1);
+        let _ = self.lasts.insert(lane, number);
+        self.len += recs.len();
+        self.room -= recs.len();
+        self.runs -= 1;
+    }
+}
+
+/// The place of the last slot of a lane, if any, by its number, where `first` is that of the first slot.
+fn last_place(lasts: &HashMap<Lane, usize>, first: usize, lane: &Lane) -> Option<usize>
+    requires { (number : ℕ) → get lane_eq lasts.now lane.now ≡ Some number → first ≤ number }
+    ensures { option_map (λ place. first + place) result ≡ get lane_eq lasts.now lane.now }
+{
+    let number = lasts.get(lane)?;
+    Some(*number - first)
+}

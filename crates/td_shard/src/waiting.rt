@@ -1,0 +1,111 @@
+//! What waits at the groups and folds of a shard.
+ghost use Rattle.std.specs.Prelude.{◌≡◌, ◌++◌, ◌<◌, [], length, map, is_some, OnOk, OnErr};
+ghost use Rattle.std.specs.Option.{option_map};
+ghost use Rattle.td_stamp.specs.Orders.{arrival_cmp};
+ghost use Rattle.td_stamp.specs.Bag.{bag_of};
+ghost use Rattle.td_stamp.specs.Groups.{arrival_of};
+ghost use Rattle.td_shard.specs.Asked.{items_at, with_items, without_items};
+
+use crate::error::ShardError;
+use crate::noted::Noted;
+use std::alloc::Global;
+use std::collections::BTreeMap;
+use std::collections::btree_map::Keys;
+use std::marker::Model;
+use td_stamp::{Arrival, Bag, Rec, Time};
+
+/// The items that wait for notifications, and the notifications that are asked for (Naiad, section 2.2: NotifyAt). Contracts
+/// see the notifications in their order, each with its items as they came.
+///
+/// The items of a vertex and time are pushed into one list, and sorted once, when they are taken.
+#[derive(Drop)]
+pub struct Waiting {
+    asked: BTreeMap<Noted, Vec<Arrival>>,
+    alloc: Global,
+}
+
+impl Model for Waiting {
+    ghost use Rattle.std.specs.Prelude.{map};
+    ghost use Rattle.td_shard.specs.Asked.{AskedList};
+
+    ghost Value = { AskedList };
+
+    ghost view = { λ w. map (λ e. (e.0, e.1.items)) w.asked.entries };
+}
+
+impl Waiting {
+    /// Nothing waits, in a map that allocates with `alloc`.
+    pub fn new(alloc: Global) -> Waiting
+        ensures { result ≡ [] }
+    {
+        Waiting {
+            asked: BTreeMap::new(alloc),
+            alloc,
+        }
+    }
+
+    /// Whether the notification of a vertex at a time is asked for.
+    pub fn is_asked(&self, vertex: u8, time: &Time) -> bool
+        ensures { result ≡ is_some (items_at self.now vertex time.now) }
+    {
+        let time = time.copy();
+        self.asked.contains_key(&Noted { time, vertex })
+    }
+
+    /// The notifications that are asked for, in order. Takes no memory.
+    pub fn asked(&self) -> Keys<'_, Noted, Vec<Arrival>>
+        ensures { result ≡ map (λ w. w.0) self.now }
+    {
+        self.asked.keys()
+    }
+
+    /// Keeps these records, of which there is one at least, as items that wait at a vertex and time. The notification is asked
+    /// for at the first. Refusal: `Memory`, with nothing changed.
+    pub fn wait(
+        &mut self,
+        vertex: u8,
+        time: &Time,
+        port: u8,
+        recs: &[Rec],
+    ) -> Result<(), ShardError>
+        requires { 0 < length recs.now }
+        ensures ok { OnOk result (self.new ≡ with_items self.old vertex time.now (map (arrival_of port) recs.now)) }
+        ensures err { OnErr result (self.new ≡ self.old) }
+    {
+        let time = time.copy();
+        let noted = Noted { time, vertex };
+        match self.asked.get_mut(&noted) {
+            Some(items) => push_items(items, port, recs),
+            None => {
+                let mut items = Vec::new(self.alloc);
+                push_items(&mut items, port, recs)?;
+                self.asked.insert(noted, items)?;
+                Ok(())
+            }
+        }
+    }
+
+    /// Takes the items that wait at a vertex and time, as a bag, and with them its notification. Takes no memory.
+    pub fn take(&mut self, vertex: u8, time: &Time) -> Option<Bag<Arrival>>
+        ensures taken { result ≡ option_map (bag_of arrival_cmp) (items_at self.old vertex time.now) }
+        ensures left { self.new ≡ without_items self.old vertex time.now }
+    {
+        let time = time.copy();
+        match self.asked.remove(&Noted { time, vertex }) {
+            Some(items) => Some(Bag::from_vec(self.alloc, items)),
+            None => None,
+        }
+    }
+}
+
+/// Puts records that come to a port at the end of some items. Refusal: `Memory`, with nothing changed.
+fn push_items(items: &mut Vec<Arrival>, port: u8, recs: &[Rec]) -> Result<(), ShardError>
+    ensures ok { OnOk result (items.new.items ≡ items.old.items ++ map (arrival_of port) recs.now) }
+    ensures err { OnErr result (items.new.items ≡ items.old.items) }
+{
+    items.reserve(recs.len())?;
+    for rec in recs {
+        items.push_reserved(Arrival::new(port, *rec));
+    }
+    Ok(())
+}
