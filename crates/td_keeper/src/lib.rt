@@ -9,8 +9,6 @@ mod keeper;
 pub mod laws;
 mod parts;
 mod steps;
-#[cfg(test)]
-mod tests;
 
 pub use error::{KeeperError, Part};
 pub use keeper::Keeper;
