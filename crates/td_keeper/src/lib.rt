@@ -9,6 +9,8 @@ mod keeper;
 pub mod laws;
 mod parts;
 mod steps;
+#[cfg(test)]
+mod tests;
 
 pub use error::{KeeperError, Part};
 pub use keeper::Keeper;
