@@ -62,10 +62,10 @@ same_frontier plan xs ys p same f = record {
   is_free = has-all _ ys (λ q at. all-has _ xs q f.is_free (same_members ys xs (λ r. sym (same r)) q at));
 }
 
-abbrev IsLater : ℕ → Stamp → Type 0
+abbrev pub IsLater : ℕ → Stamp → Type 0
 IsLater epoch q = nat_lt epoch q.time.epoch ≡ true
 
-passes : (xs : List Stamp) (epoch : ℕ) → AllByRecursion (IsLater epoch) xs → has_passed xs epoch ≡ true
+pub passes : (xs : List Stamp) (epoch : ℕ) → AllByRecursion (IsLater epoch) xs → has_passed xs epoch ≡ true
 passes [] epoch h = refl
 passes (x ∷ xs) epoch h = ap (λ b. b && has_passed xs epoch) h.0 ∙ passes xs epoch h.1
 

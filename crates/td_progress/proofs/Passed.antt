@@ -12,7 +12,7 @@ use Rattle.td_reach.specs.Paths.{IsOf}
 use Rattle.td_reach.specs.Frontier.{has_passed}
 use Rattle.td_progress.specs.Entries.{all_stamps, AreOpen, IsOpen, IsOfEpoch}
 use Rattle.td_progress.proofs.Epochs.{open-each}
-use Rattle.td_progress.proofs.Free.{all-append, all-if}
+use Rattle.td_progress.proofs.Free.{all-append, all-if, passes}
 
 -- epochs that rise are above the first
 rising-head : (e : ℕ × List Stamp) (es : List (ℕ × List Stamp)) → IsStrictlySortedBy nat_cmp (keys_of (e ∷ es)) → AllByRecursion (λ k. nat_cmp e.0 k ≡ Less) (keys_of es)
@@ -46,10 +46,6 @@ from_zero (e ∷ es) = (omega arith, from_zero es)
 
 pub each_of_plan : (plan : List Line) (es : List (ℕ × List Stamp)) → AreOpen plan es → AllByRecursion (IsOf plan) (all_stamps es)
 each_of_plan plan es h = all_stamps-each (IsOf plan) plan 0 es (open-each plan es h) (from_zero es) (λ epoch s low of_epoch. of_epoch.0)
-
-passes : (xs : List Stamp) (epoch : ℕ) → AllByRecursion (λ s. nat_lt epoch s.time.epoch ≡ true) xs → has_passed xs epoch ≡ true
-passes [] epoch h = refl
-passes (x ∷ xs) epoch h = ap (λ b. b && has_passed xs epoch) h.0 ∙ passes xs epoch h.1
 
 fails : (xs ys : List Stamp) (epoch : ℕ) → 0 < length xs → AllByRecursion (λ s. nat_lt epoch s.time.epoch ≡ false) xs → has_passed (xs ++ ys) epoch ≡ false
 fails [] ys epoch some h = absurd (omega (arith, some))

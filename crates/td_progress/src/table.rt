@@ -75,6 +75,23 @@ impl Table {
         self.reach.plan()
     }
 
+    /// Whether the plan has the place of a pointstamp, and its time is in as many loops as are open there.
+    pub fn has(&self, stamp: &Stamp) -> bool
+        ensures { IsTrue result ↔ IsOf self.now.plan stamp.now }
+    {
+        self.reach.has(stamp)
+    }
+
+    /// How often a pointstamp occurs, 0 where it is not active. It takes no memory.
+    pub fn occurrences(&self, stamp: &Stamp) -> u128
+        ensures { result ≡ occurrences stamp.now self.now.stamps }
+    {
+        match self.epochs.get(&stamp.time.epoch()) {
+            Some(counts) => counts.occurrences(stamp),
+            None => 0,
+        }
+    }
+
     /// One pointstamp more. Refusal: `Memory`, with the table unchanged.
     pub fn add(&mut self, stamp: &Stamp) -> Result<(), ProgressError>
         requires of_plan { IsOf self.old.plan stamp.now }
@@ -149,16 +166,6 @@ impl Table {
         match self.epochs.first_key_value() {
             Some((least, _)) => epoch < *least,
             None => true,
-        }
-    }
-
-    /// How often a pointstamp occurs.
-    fn occurrences(&self, stamp: &Stamp) -> u128
-        ensures { result ≡ occurrences stamp.now self.now.stamps }
-    {
-        match self.epochs.get(&stamp.time.epoch()) {
-            Some(counts) => counts.occurrences(stamp),
-            None => 0,
         }
     }
 
