@@ -1,7 +1,7 @@
 use Rattle.std.proofs.Common.{arith, ℕ, List, length, ap, sym, ◌∙◌, subst}
 use Rattle.td_gate.specs.CrashSafe.{CrashSafe}
 use Rattle.td_gate.specs.declared.region.Region.{Region}
-use Rattle.td_gate.specs.Region.{IsSettled, Puts}
+use Rattle.td_gate.specs.Region.{IsSettled, IsOpen, Puts}
 use Rattle.td_journal.specs.Cell.{cell_bytes}
 use Rattle.td_journal.proofs.Cells.{cell_size}
 use Rattle.td_journal.proofs.journal.Journal.append.Goals as goal
@@ -17,3 +17,21 @@ returns-in_err-put-clause-crash_safe g c lawful settled =
     subst (λ (r : Region). CrashSafe (Puts r (cell_bytes c.args.self.now.m c.args.epoch c.args.request c.args.batch.now)) (state c.args.device.now) (state c.put.new.device)) region
     (subst (λ (p : List ℕ). CrashSafe (Puts c.cell_of.result p) (state c.args.device.now) (state c.put.new.device)) payload
     (c.in_err-put.ensures.crash_safe lawful (subst (λ (r : Region). IsSettled r (state c.args.device.now)) (sym region) settled)))
+
+pub returns-clause-crash_safe : goal.returns-clause-crash_safe
+returns-clause-crash_safe g c lawful settled =
+    let state = g.D.Disk.state in
+    let region = c.cell_of.ensures.region in
+    let payload = c.deref.ensures.value ∙ c.in_ok-payload.ensures.ok in
+    subst (λ (r : Region). CrashSafe (Puts r (cell_bytes c.args.self.now.m c.args.epoch c.args.request c.args.batch.now)) (state c.args.device.now) (state c.put.new.device)) region
+    (subst (λ (p : List ℕ). CrashSafe (Puts c.cell_of.result p) (state c.args.device.now) (state c.put.new.device)) payload
+    (c.in_ok-put.ensures.crash_safe lawful (subst (λ (r : Region). IsSettled r (state c.args.device.now)) (sym region) settled)))
+
+pub returns-clause-open : goal.returns-clause-open
+returns-clause-open g c lawful settled =
+    let state = g.D.Disk.state in
+    let region = c.cell_of.ensures.region in
+    let payload = c.deref.ensures.value ∙ c.in_ok-payload.ensures.ok in
+    subst (λ (r : Region). IsOpen r (cell_bytes c.args.self.now.m c.args.epoch c.args.request c.args.batch.now) (state c.put.new.device)) region
+    (subst (λ (p : List ℕ). IsOpen c.cell_of.result p (state c.put.new.device)) payload
+    (c.in_ok-put.ensures.open lawful (subst (λ (r : Region). IsSettled r (state c.args.device.now)) (sym region) settled)))
