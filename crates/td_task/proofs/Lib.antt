@@ -1,0 +1,3 @@
+mod CutLists
+mod KeysWithItems
+mod OneMore
