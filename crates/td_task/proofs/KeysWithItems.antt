@@ -1,6 +1,6 @@
 -- Keys with states, and their items beside them.
 use Rattle.std.proofs.Common.{◌≡◌, ℕ, zero, suc, List, [], ◌∷◌, ◌++◌, length, map, refl, ap, sym, ◌∙◌, arith}
-use Rattle.std.specs.Prelude.{slice_get, Option, Some, None}
+use Rattle.std.specs.Prelude.{slice_get, Some, None}
 use Rattle.td_stamp.specs.declared.values.Item.{Item}
 use Rattle.td_machine.specs.State.{KeyItems}
 use Rattle.td_task.specs.declared.keyed.Key.{Key}

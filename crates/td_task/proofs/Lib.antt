@@ -1,3 +1,4 @@
 mod CutLists
 mod KeysWithItems
 mod OneMore
+mod SameValues

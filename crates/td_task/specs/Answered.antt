@@ -1,6 +1,6 @@
 -- What the closure of a task's vertex answers it: one answer for each record that comes to a map, and one for each key of a
 -- notification of a group or a fold. The records that come to other kinds are passed on or kept without a closure.
-use Rattle.std.specs.Prelude.{ℕ, List, [], map, Option}
+use Rattle.std.specs.Prelude.{List, [], map, Option}
 use Rattle.td_stamp.specs.declared.values.Rec.{Rec}
 use Rattle.td_stamp.specs.declared.values.State.{State}
 use Rattle.td_plan.specs.declared.vertex.Kind.{Kind}

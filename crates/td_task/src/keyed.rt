@@ -1,5 +1,5 @@
 //! What a notification is given: keys with their items and states.
-ghost use Rattle.std.specs.Prelude.{◌≡◌, ◌<◌, ◌∷◌, ◌++◌, [], OnOk, OnErr, length, slice_get, Some};
+ghost use Rattle.std.specs.Prelude.{◌≡◌, ◌↔◌, IsTrue, ◌<◌, ◌∷◌, ◌++◌, [], OnOk, OnErr, length, slice_get, Some};
 ghost use Rattle.td_task.specs.KeyAts.{key_items};
 
 use crate::error::TaskError;
@@ -89,4 +89,18 @@ impl KeyedItems {
             state: key.state,
         }
     }
+
+    /// Whether two have the same keys with the same items and states, in the same order.
+    pub fn same(&self, other: &KeyedItems) -> bool
+        ensures { IsTrue result ↔ (self.now ≡ other.now) }
+    {
+        same_keys(self.keys.as_slice(), other.keys.as_slice()) && self.items.same(&other.items)
+    }
+}
+
+/// Whether two lists have the same keys with the same states.
+fn same_keys(keys: &[Key], others: &[Key]) -> bool
+    ensures { IsTrue result ↔ (keys.now ≡ others.now) }
+{
+    keys == others
 }

@@ -1,5 +1,5 @@
 //! Lists that are kept end to end.
-ghost use Rattle.std.specs.Prelude.{◌≡◌, ◌<◌, ◌≤◌, ◌∷◌, ◌++◌, [], OnOk, OnErr, IfOk, IfErr, length, slice_get, slice_range};
+ghost use Rattle.std.specs.Prelude.{◌≡◌, ◌↔◌, IsTrue, ◌<◌, ◌≤◌, ◌∷◌, ◌++◌, [], OnOk, OnErr, IfOk, IfErr, length, slice_get, slice_range};
 ghost use Rattle.std.specs.List.{flat_map};
 ghost use Rattle.std.specs.Option.{option_map};
 ghost use Rattle.td_task.specs.Cuts.{start_of};
@@ -8,6 +8,7 @@ ghost use Rattle.td_task.specs.declared.error.TaskError.TheVariants.{Memory};
 use crate::error::TaskError;
 use std::alloc::Global;
 use std::marker::Model;
+use td_stamp::Item;
 
 /// A list of lists, in two pieces of memory whatever their number.
 #[derive(Drop)]
@@ -117,4 +118,28 @@ fn part<T>(all: &[T], start: usize, end: usize) -> &[T]
     ensures { result.now ≡ slice_range all.now start end }
 {
     &all[start..end]
+}
+
+impl Lists<Item> {
+    /// Whether two have the same lists.
+    pub(crate) fn same(&self, other: &Lists<Item>) -> bool
+        ensures { IsTrue result ↔ (self.now ≡ other.now) }
+    {
+        same_ends(self.ends.as_slice(), other.ends.as_slice())
+            && same_items(self.all.as_slice(), other.all.as_slice())
+    }
+}
+
+/// Whether two lists have the same items in the same order.
+fn same_items(items: &[Item], others: &[Item]) -> bool
+    ensures { IsTrue result ↔ (items.now ≡ others.now) }
+{
+    items == others
+}
+
+/// Whether two lists have the same ends.
+fn same_ends(ends: &[usize], others: &[usize]) -> bool
+    ensures { IsTrue result ↔ (ends.now ≡ others.now) }
+{
+    ends == others
 }

@@ -1,11 +1,11 @@
 //! Tasks.
-ghost use Rattle.std.specs.Prelude.{◌≡◌};
+ghost use Rattle.std.specs.Prelude.{◌≡◌, ◌↔◌, IsTrue};
 ghost use Rattle.td_task.specs.Contents.{content_of, IsSized};
 
 use crate::keyed::KeyedItems;
 use std::marker::Model;
 use td_plan::Kind;
-use td_stamp::{Rec, Time};
+use td_stamp::{Rec, Time, laws};
 
 /// The most records of a task.
 pub const TASK_SIZE: usize = 64;
@@ -100,4 +100,50 @@ impl Task {
     {
         &self.work
     }
+
+    /// Whether two tasks are the same: in shard, number, kind and code, place, time and what they are to do.
+    pub fn same(&self, other: &Task) -> bool
+        ensures { IsTrue result ↔ (self.now ≡ other.now) }
+    {
+        if self.number != other.number || self.shard != other.shard {
+            return false;
+        }
+        if self.vertex != other.vertex
+            || self.kind != other.kind
+            || !same_time(&self.time, &other.time)
+        {
+            return false;
+        }
+        self.work.same(&other.work)
+    }
+}
+
+impl Work {
+    /// Whether two tasks are to do the same.
+    fn same(&self, other: &Work) -> bool
+        ensures { IsTrue result ↔ (content_of self.now ≡ content_of other.now) }
+    {
+        match (self, other) {
+            (Work::Messages(port, recs), Work::Messages(other_port, others)) => {
+                port == other_port && same_recs(recs.as_slice(), others.as_slice())
+            }
+            (Work::Notification(items), Work::Notification(others)) => items.same(others),
+            _ => false,
+        }
+    }
+}
+
+/// Whether two times are the same.
+fn same_time(time: &Time, other: &Time) -> bool
+    ensures { IsTrue result ↔ (time.now ≡ other.now) }
+{
+    laws::time_list_order();
+    time.total_cmp(other).is_eq()
+}
+
+/// Whether two lists have the same records in the same order.
+fn same_recs(recs: &[Rec], others: &[Rec]) -> bool
+    ensures { IsTrue result ↔ (recs.now ≡ others.now) }
+{
+    recs == others
 }

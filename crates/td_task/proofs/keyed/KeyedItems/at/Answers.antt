@@ -2,7 +2,6 @@ use Rattle.std.proofs.Common.{◌≡◌, ◌<◌, ◌≤◌, ap, ◌∙◌, sym,
 use Rattle.std.proofs.lemmas.Grind.{common_steps}
 use Rattle.std.specs.Prelude.{slice_get, Some, None}
 use Rattle.std.specs.Option.{option_map}
-use Rattle.td_task.specs.KeyLists.{with_items}
 use Rattle.td_task.proofs.KeysWithItems.{length-with_items, with_items-get, with_items-no_items}
 use Rattle.td_task.proofs.OneMore.{some_at, none_past}
 use Rattle.td_task.proofs.keyed.KeyedItems.at.Goals as goal

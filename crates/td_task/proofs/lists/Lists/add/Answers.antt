@@ -1,6 +1,6 @@
-use Rattle.std.proofs.Common.{◌≡◌, ◌++◌, ◌∷◌, [], ◌+◌, ℕ, List, ap, ◌∙◌, sym, length, arith, length-append}
+use Rattle.std.proofs.Common.{◌≡◌, ◌++◌, ◌∷◌, [], ◌+◌, ap, ◌∙◌, length, arith, length-append}
 use Rattle.std.proofs.lemmas.Grind.{common_steps}
-use Rattle.td_task.specs.Cuts.{cut, EndsAt}
+use Rattle.td_task.specs.Cuts.{cut}
 use Rattle.td_task.proofs.CutLists.{cut-add, EndsAt-add}
 use Rattle.td_task.proofs.lists.Lists.add.Goals as goal
 

@@ -1,4 +1,4 @@
-use Rattle.std.proofs.Common.{◌≡◌, ◌≤◌, ap, ◌∙◌, sym, length, arith}
+use Rattle.std.proofs.Common.{◌≡◌, ap, ◌∙◌, sym, length, arith}
 use Rattle.std.specs.Prelude.{slice_get, slice_range, Some, None}
 use Rattle.std.specs.Option.{option_map}
 use Rattle.td_task.specs.Cuts.{start_of}
