@@ -26,7 +26,7 @@ pub struct Taken {
 /// The messages of a shard that wait to be taken, in the order in which they were posted (Naiad, section 2.3).
 ///
 /// They stand in one list of slots. Each slot knows how far ahead the next of its lane stands, and a hash map the last of each
-/// lane, so that a run of messages is posted by one look-up, and a task is taken without one.
+/// lane: a run of messages is posted by two look-ups, whatever its length, and a task's records are found without one.
 #[derive(Drop)]
 pub struct Mailbox {
     slots: VecDeque<Slot>,

@@ -1,0 +1,62 @@
+-- Keys with states, and their items beside them.
+use Rattle.std.proofs.Common.{◌≡◌, ℕ, zero, suc, List, [], ◌∷◌, ◌++◌, length, map, refl, ap, sym, ◌∙◌, arith}
+use Rattle.std.specs.Prelude.{slice_get, Some, None}
+use Rattle.td_stamp.specs.declared.values.Item.{Item}
+use Rattle.td_machine.specs.State.{KeyItems}
+use Rattle.td_task.specs.declared.keyed.Key.{Key}
+use Rattle.td_task.specs.KeyLists.{with_items}
+
+pub length-with_items : (keys : List Key) (items : List (List Item)) → length keys ≡ length items → length (with_items keys items) ≡ length keys
+length-with_items [] items h = refl
+length-with_items (k ∷ keys) [] h = absurd (omega arith)
+length-with_items (k ∷ keys) (l ∷ items) h = ap suc (length-with_items keys items (omega arith))
+
+pub with_items-add : (keys : List Key) (items : List (List Item)) (k : Key) (l : List Item) → length keys ≡ length items →
+    with_items (keys ++ k ∷ []) (items ++ l ∷ []) ≡ with_items keys items ++ record { key = k.key; items = l; state = k.state } ∷ []
+with_items-add [] [] k l h = refl
+with_items-add [] (x ∷ items) k l h = absurd (omega arith)
+with_items-add (x ∷ keys) [] k l h = absurd (omega arith)
+with_items-add (x ∷ keys) (y ∷ items) k l h = ap (λ rest. record { key = x.key; items = y; state = x.state } ∷ rest) (with_items-add keys items k l (omega arith))
+
+-- the key at a place with its items, where both are there
+pub with_items-get : (keys : List Key) (items : List (List Item)) (i : ℕ) (k : Key) (l : List Item) →
+    slice_get keys i ≡ Some k → slice_get items i ≡ Some l → slice_get (with_items keys items) i ≡ Some (record { key = k.key; items = l; state = k.state })
+with_items-get [] items i k l e f = absurd (cc)
+with_items-get (x ∷ keys) [] i k l e f = absurd (cc)
+with_items-get (x ∷ keys) (y ∷ items) zero k l e f = let a : x ≡ k = cc in let b : y ≡ l = cc in cc
+with_items-get (x ∷ keys) (y ∷ items) (suc i) k l e f = with_items-get keys items i k l e f
+
+pub with_items-no_key : (keys : List Key) (items : List (List Item)) (i : ℕ) → slice_get keys i ≡ None → slice_get (with_items keys items) i ≡ None
+with_items-no_key [] items i e = refl
+with_items-no_key (x ∷ keys) [] i e = refl
+with_items-no_key (x ∷ keys) (y ∷ items) zero e = absurd (cc)
+with_items-no_key (x ∷ keys) (y ∷ items) (suc i) e = with_items-no_key keys items i e
+
+pub with_items-no_items : (keys : List Key) (items : List (List Item)) (i : ℕ) → slice_get items i ≡ None → slice_get (with_items keys items) i ≡ None
+with_items-no_items [] items i e = refl
+with_items-no_items (x ∷ keys) [] i e = refl
+with_items-no_items (x ∷ keys) (y ∷ items) zero e = absurd (cc)
+with_items-no_items (x ∷ keys) (y ∷ items) (suc i) e = with_items-no_items keys items i e
+
+-- the keys and the items are told by what they make
+abbrev key_with : KeyItems → Key
+key_with g = record { key = g.key; state = g.state }
+
+keys_back : (keys : List Key) (items : List (List Item)) → length keys ≡ length items → map key_with (with_items keys items) ≡ keys
+keys_back [] items h = refl
+keys_back (k ∷ keys) [] h = absurd (omega arith)
+keys_back (k ∷ keys) (l ∷ items) h = ap (λ rest. k ∷ rest) (keys_back keys items (omega arith))
+
+items_back : (keys : List Key) (items : List (List Item)) → length keys ≡ length items → map (λ g. g.items) (with_items keys items) ≡ items
+items_back [] [] h = refl
+items_back [] (l ∷ items) h = absurd (omega arith)
+items_back (k ∷ keys) [] h = absurd (omega arith)
+items_back (k ∷ keys) (l ∷ items) h = ap (λ rest. l ∷ rest) (items_back keys items (omega arith))
+
+pub same_keys : (keys others : List Key) (items more : List (List Item)) → length keys ≡ length items → length others ≡ length more →
+    with_items keys items ≡ with_items others more → keys ≡ others
+same_keys keys others items more h k e = sym (keys_back keys items h) ∙ ap (map key_with) e ∙ keys_back others more k
+
+pub same_items : (keys others : List Key) (items more : List (List Item)) → length keys ≡ length items → length others ≡ length more →
+    with_items keys items ≡ with_items others more → items ≡ more
+same_items keys others items more h k e = sym (items_back keys items h) ∙ ap (map (λ g. g.items)) e ∙ items_back others more k

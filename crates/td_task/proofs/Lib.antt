@@ -1,0 +1,4 @@
+mod CutLists
+mod KeysWithItems
+mod OneMore
+mod SameValues

@@ -1,0 +1,6 @@
+pub mod Answered
+pub mod Contents
+pub mod Cuts
+pub mod KeyAts
+pub mod KeyLists
+pub mod Refusals

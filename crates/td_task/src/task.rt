@@ -1,0 +1,149 @@
+//! Tasks.
+ghost use Rattle.std.specs.Prelude.{◌≡◌, ◌↔◌, IsTrue};
+ghost use Rattle.td_task.specs.Contents.{content_of, IsSized};
+
+use crate::keyed::KeyedItems;
+use std::marker::Model;
+use td_plan::Kind;
+use td_stamp::{Rec, Time, laws};
+
+/// The most records of a task.
+pub const TASK_SIZE: usize = 64;
+
+/// What a task is to do.
+#[derive(Drop)]
+pub enum Work {
+    /// To give its vertex, at this port, the record that was picked, and then others of the same edge and time in the
+    /// order in which they were posted: 64 at most.
+    Messages(u8, Vec<Rec>),
+    /// To notify its vertex of a time: the keys that wait for it.
+    Notification(KeyedItems),
+}
+
+/// What a shard takes up at once. Contracts see it as the core machine does.
+#[derive(Drop)]
+pub struct Task {
+    shard: u8,
+    number: u64,
+    vertex: u8,
+    kind: Kind,
+    time: Time,
+    work: Work,
+}
+
+impl Model for Task {
+    ghost use Rattle.td_machine.specs.State.{Task as TaskOut};
+    ghost use Rattle.td_task.specs.Contents.{content_of, IsSized};
+
+    ghost Value = { TaskOut };
+
+    ghost view = { λ t. record { shard = t.shard; number = t.number; vertex = t.vertex; kind = t.kind; time = t.time; content = content_of t.work } };
+
+    ghost invariant = { λ t. IsSized (content_of t.work) };
+}
+
+impl Task {
+    /// The task with this number of a shard, for a vertex with its kind and a time.
+    pub fn new(shard: u8, number: u64, vertex: u8, kind: Kind, time: Time, work: Work) -> Task
+        requires sized { IsSized (content_of work) }
+        ensures { result ≡ record { shard = shard; number = number; vertex = vertex; kind = kind; time = time; content = content_of work } }
+    {
+        Task {
+            shard,
+            number,
+            vertex,
+            kind,
+            time,
+            work,
+        }
+    }
+
+    /// The shard that took it.
+    pub fn shard(&self) -> u8
+        ensures { result ≡ self.now.shard }
+    {
+        self.shard
+    }
+
+    /// Its number among the tasks of its hall, which are counted from 1.
+    pub fn number(&self) -> u64
+        ensures { result ≡ self.now.number }
+    {
+        self.number
+    }
+
+    /// Its vertex.
+    pub fn vertex(&self) -> u8
+        ensures { result ≡ self.now.vertex }
+    {
+        self.vertex
+    }
+
+    /// The kind of its vertex, with the code of its closure.
+    pub fn kind(&self) -> Kind
+        ensures { result ≡ self.now.kind }
+    {
+        self.kind
+    }
+
+    /// The time of its records, or of its notification.
+    pub fn time(&self) -> &Time
+        ensures { result.now ≡ self.now.time }
+    {
+        &self.time
+    }
+
+    /// What it is to do.
+    pub fn work(&self) -> &Work
+        ensures content { content_of result.now ≡ self.now.content }
+        ensures sized { IsSized self.now.content }
+    {
+        &self.work
+    }
+
+    /// Whether two tasks are the same: in shard, number, kind and code, place, time and what they are to do.
+    pub fn same(&self, other: &Task) -> bool
+        ensures { IsTrue result ↔ (self.now ≡ other.now) }
+    {
+        if self.number != other.number || self.shard != other.shard {
+            return false;
+        }
+        if self.vertex != other.vertex
+            || self.kind != other.kind
+            || !same_time(&self.time, &other.time)
+        {
+            return false;
+        }
+        self.work.same(&other.work)
+    }
+}
+
+impl Work {
+    /// Whether two tasks are to do the same.
+    fn same(&self, other: &Work) -> bool
+        ensures { IsTrue result ↔ (content_of self.now ≡ content_of other.now) }
+    {
+        match (self, other) {
+            (Work::Messages(port, recs), Work::Messages(other_port, others)) => {
+                port == other_port && same_recs(recs.as_slice(), others.as_slice())
+            }
+            (Work::Notification(items), Work::Notification(others)) => items.same(others),
+            _ => false,
+        }
+    }
+}
+
+/// Whether two times are the same.
+fn same_time(time: &Time, other: &Time) -> bool
+    ensures { IsTrue result ↔ (time.now ≡ other.now) }
+{
+    laws::time_list_order();
+    time.total_cmp(other).is_eq()
+}
+
+/// Whether two lists have the same records in the same order.
+fn same_recs(recs: &[Rec], others: &[Rec]) -> bool
+    ensures { IsTrue result ↔ (recs.now ≡ others.now) }
+{
+    recs == others
+}
