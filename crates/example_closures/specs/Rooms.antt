@@ -15,7 +15,7 @@ abbrev pub coldest : ℕ → List Item → List Rec
 coldest room [] = []
 coldest room (i ∷ rest) = record { key = room; val = i.val } ∷ []
 
--- every map is `in_room` and every group `coldest`, whatever the code; no fold is used
+-- every map is `in_room` and every group `coldest`, whatever the code; a fold keeps what there was and sends nothing
 abbrev pub rooms : Answers
 rooms = record {
   emit = λ code port r. in_room r;

@@ -2,8 +2,8 @@
 ghost use Rattle.std.specs.Prelude.{◌≡◌, [], ◌∷◌};
 ghost use Rattle.example_closures.specs.Rooms.{rooms, rooms_few};
 
-use td_calls::{Coded, GroupCall, Law, MapCall};
-use td_stamp::{Few, Item, Rec};
+use td_calls::{Coded, FoldCall, GroupCall, Law, MapCall};
+use td_stamp::{Few, Item, Rec, State};
 
 /// The law: a map brings a reading to its room, a group tells the coldest.
 pub struct Rooms;
@@ -50,6 +50,24 @@ impl GroupCall<Rooms> for Coldest {
             Some(item) => only(room, item.val),
             None => Few::new(),
         }
+    }
+}
+
+/// Stands for folds, of which this program has none: it keeps what there was, and sends nothing.
+#[derive(Debug, Drop)]
+pub struct NoFold;
+
+impl Coded for NoFold {
+    ghost code_of = { λ _. 0 };
+
+    fn code(&self) -> u16 {
+        0
+    }
+}
+
+impl FoldCall<Rooms> for NoFold {
+    fn call(&self, _key: u64, state: Option<State>, _items: &[Item]) -> (Option<State>, Few) {
+        (state, Few::new())
     }
 }
 

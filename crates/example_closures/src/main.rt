@@ -3,15 +3,15 @@
 
 mod closures;
 
-use crate::closures::{Coldest, InRoom, Rooms};
+use crate::closures::{Coldest, InRoom, NoFold, Rooms};
 use std::alloc::Global;
 use td_batch::evaluate;
-use td_calls::{Calls, Closures, NoCalls};
+use td_calls::{Calls, Closures};
 use td_plan::Plan;
 use td_stamp::{Bag, Batch, Entry, EpochOut, Rec, States};
 
 /// The closures of this program: no folds.
-type Own = Calls<InRoom, Coldest, NoCalls>;
+type Own = Calls<InRoom, Coldest, NoFold>;
 
 /// Sensors' readings go to their rooms; then the coldest of each room is told.
 const PLAN: &str = "0 input\n1 map 1 0\n2 group 2 1\n3 output 2\n";

@@ -7,7 +7,6 @@ mod closures;
 mod error;
 mod law;
 pub mod laws;
-mod no_calls;
 pub mod stock;
 mod stored;
 #[cfg(test)]
@@ -17,6 +16,5 @@ pub use calls::{Calls, Closures};
 pub use closures::{FoldBox, GroupBox, MapBox, StockCalls, StockFold, StockGroup, StockMap};
 pub use error::CallsError;
 pub use law::{Coded, FoldCall, GroupCall, Law, MapCall};
-pub use no_calls::NoCalls;
 pub use stock::Stock;
 pub use stored::Stored;
