@@ -22,6 +22,7 @@ loop-other-init c =
 
 pub returns-then-holds_back : goal.returns-then-holds_back
 returns-then-holds_back c =
-    let back = c.holds_back.ensures.0 c.if-holds_back.true in
-    (λ is. absurd (true≢false (sym is)),
-     λ free. absurd ((subst (LeaveFree c.args.reach.now c.args.stamp.now) c.in-Some.ensures.steps (c.loop-other.invariant.left free)).0 back.0 back.1))
+    let back = c.holds_back.ensures.0 c.if-holds_back.true in (
+      λ is. absurd (true≢false (sym is)),
+      λ free. absurd ((subst (LeaveFree c.args.reach.now c.args.stamp.now) c.in-Some.ensures.steps (c.loop-other.invariant.left free)).0 back.0 back.1),
+    )
