@@ -4,8 +4,9 @@
     bench/table.py                          needs the kit
 
 It builds bench/table.rattle in a copy of the repository's crates below it, which is proved on the way, and runs it: a line
-for each number of open epochs, with nanoseconds for whether a pointstamp of the first and of the last epoch is in the
-frontier, for whether an epoch has passed, and for a pointstamp added and taken off again."""
+for each number of open epochs, each with a notification. Nanoseconds: `first` for whether the first notification is in the
+frontier, `last` for the last, which the first holds back, `all` for the input at the last epoch, which none holds back, so
+that all are looked at, `passed` for whether an epoch has passed, `changed` for a pointstamp added and taken off again."""
 
 import pathlib
 import shutil

@@ -104,3 +104,10 @@ equal_where_same p q e = (Decides-is_stamp p q).0 (sym (same-is p q) ∙ e)
 pub not_false : (b : Bool) → not b ≡ false → b ≡ true
 not_false true e = refl
 not_false false e = absurd (true≢false e)
+
+not_true : (b : Bool) → not b ≡ true → b ≡ true → ⊥
+not_true true e same = true≢false (sym e)
+not_true false e same = true≢false (sym same)
+
+pub apart_where_not_same : (p q : Stamp) → not (same p q) ≡ true → p ≡ q → ⊥
+apart_where_not_same p q e equal = not_true (same p q) e (same-is p q ∙ (Decides-is_stamp p q).1 equal)

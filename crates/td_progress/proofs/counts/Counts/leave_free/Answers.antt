@@ -1,4 +1,4 @@
-use Rattle.std.proofs.Common.{◌<◌, sym, ◌∙◌, subst}
+use Rattle.std.proofs.Common.{◌<◌, sym, ◌∙◌, subst, true≢false}
 use Rattle.std.specs.List.{AllByRecursion}
 use Rattle.td_reach.specs.Paths.{IsOf}
 use Rattle.td_progress.proofs.Same.{is_stamp-equiv}
@@ -19,3 +19,10 @@ loop-other-init c =
       left = λ free. subst (LeaveFree plan p) (sym whole) (members-all (Leaves plan p) es some (subst (AllByRecursion (Leaves plan p)) (sym c.self.view_is) free));
       all = λ left. subst (AllByRecursion (Leaves plan p)) c.self.view_is (all-members (Leaves plan p) es (subst (LeaveFree plan p) whole left));
     }
+
+pub returns-then-holds_back : goal.returns-then-holds_back
+returns-then-holds_back c =
+    let back = c.holds_back.ensures.0 c.if-holds_back.true in (
+      λ is. absurd (true≢false (sym is)),
+      λ free. absurd ((subst (LeaveFree c.args.reach.now c.args.stamp.now) c.in-Some.ensures.steps (c.loop-other.invariant.left free)).0 back.0 back.1),
+    )
