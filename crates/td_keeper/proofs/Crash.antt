@@ -1,7 +1,7 @@
 -- What a put into a part of a disk makes of what it tells.
-use Rattle.std.proofs.Common.{◌≡◌, ◌≢◌, ◌⊎◌, inl, inr, ⊎_elim, ℕ, zero, suc, ◌+◌, ◌*◌, ◌-◌, ◌%◌, ◌<◌, ◌≤◌, Bool, true, false, nat_lt, nat_le, ◌&&◌, List, [], ◌∷◌, length, take, drop, refl, sym, ap, ◌∙◌, subst, arith, Result, Ok, Err}
+use Rattle.std.proofs.Common.{◌≡◌, inl, inr, ⊎_elim, ℕ, zero, suc, ◌+◌, ◌*◌, ◌-◌, ◌<◌, ◌≤◌, Bool, true, false, nat_lt, nat_le, ◌&&◌, List, take, refl, sym, ap, ◌∙◌, subst, arith, Result, Ok, Err}
 use Rattle.std.proofs.Math.Nat.{mul-le-mul_right}
-use Rattle.std.proofs.lemmas.Bool.{and_parts, leb-true, lt-ltb, le-ltb, cases_eq}
+use Rattle.std.proofs.lemmas.Bool.{and_parts, leb-true, lt-ltb, le-ltb}
 use Rattle.td_stamp.specs.States.{StateList}
 use Rattle.td_plan.specs.Lines.{Line}
 use Rattle.td_gate.specs.declared.region.Region.{Region}
@@ -15,18 +15,17 @@ use Rattle.td_head.specs.Images.{SameHeads}
 use Rattle.td_slots.specs.declared.error.SlotsError.{SlotsError}
 use Rattle.td_slots.specs.Slot.{slot, slot_len}
 use Rattle.td_slots.specs.declared.slots.Checkpoint.{Checkpoint}
-use Rattle.td_slots.specs.Newest.{newest, later, second_if, beside, after_write}
+use Rattle.td_slots.specs.Newest.{newest, second_if, beside, after_write}
 use Rattle.td_slots.specs.Images.{SameSlots}
 use Rattle.td_journal.specs.declared.error.JournalError.{JournalError}
 use Rattle.td_journal.specs.declared.submitted.Submitted.{Submitted}
 use Rattle.td_journal.specs.Numbers.{greatest}
-use Rattle.td_journal.specs.Cell.{cell, cell_of}
+use Rattle.td_journal.specs.Cell.{cell}
 use Rattle.td_journal.specs.Ring.{told_after}
 use Rattle.td_journal.specs.Images.{SameCells}
-use Rattle.td_keeper.specs.declared.error.KeeperError.{KeeperError}
 use Rattle.td_keeper.specs.Standing.{Standing, cut_at}
-use Rattle.td_keeper.specs.Told.{Told, told, told_in, with_batches, from_checkpoint, from_head, inputs_of, folds_of, slots_of, ring_of, floor_of}
-use Rattle.td_keeper.specs.Tells.{Tells, checkpoint_of, side_after, IsCut}
+use Rattle.td_keeper.specs.Told.{Told, with_batches, from_checkpoint, from_head, inputs_of, folds_of, slots_of, ring_of, floor_of}
+use Rattle.td_keeper.specs.Tells.{Tells, checkpoint_of, side_after}
 use Rattle.td_keeper.proofs.Places.{heads_slots, heads_cells, slots_cells}
 
 pub turned : (r s : Region) → Apart r s → Apart s r

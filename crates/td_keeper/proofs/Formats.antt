@@ -1,17 +1,17 @@
 -- What a format makes of a disk.
-use Rattle.std.proofs.Common.{◌≡◌, ◌==◌, if◌then◌else◌, ℕ, zero, suc, ◌+◌, ◌*◌, ◌-◌, ◌%◌, ◌<◌, ◌≤◌, Bool, true, nat_le, ◌&&◌, List, [], length, slice_index, Some, None, inl, refl, sym, ap, ◌∙◌, subst, arith}
+use Rattle.std.proofs.Common.{◌≡◌, ◌==◌, if◌then◌else◌, ℕ, suc, ◌+◌, ◌*◌, ◌%◌, ◌<◌, ◌≤◌, true, List, [], length, Some, None, inl, ap, ◌∙◌, subst, arith}
 use Rattle.std.proofs.Math.Nat.{mul-le-mul_right}
 use Rattle.td_plan.specs.Lines.{Line, text_of}
 use Rattle.td_disk.specs.Disk.{DiskState, IsDurable, bytes_at}
 use Rattle.td_gate.specs.CrashSafe.{CrashSafe}
 use Rattle.td_gate.specs.declared.region.Region.{Region}
-use Rattle.td_gate.specs.Region.{opened, gate_of, Puts, IsOpen}
+use Rattle.td_gate.specs.Region.{opened, Puts}
 use Rattle.td_gate.specs.Regions.{Apart}
 use Rattle.td_head.specs.Layout.{Sizes, is_shape, size_of, head_a, head_b}
 use Rattle.td_head.specs.Head.{head_bytes}
-use Rattle.td_head.specs.Images.{IsZero, IsFirstHead}
+use Rattle.td_head.specs.Images.{IsZero}
 use Rattle.td_slots.specs.Slot.{slot, slot_bytes}
-use Rattle.td_journal.specs.Cell.{cell, cell_of}
+use Rattle.td_journal.specs.Cell.{cell_of}
 use Rattle.td_keeper.specs.Told.{slots_of, ring_of}
 use Rattle.td_keeper.specs.Tells.{IsFormatted}
 use Rattle.td_keeper.proofs.Crash.{LeavesOthers, turned, some_cells}

@@ -1,6 +1,5 @@
 -- What a keeper's steps keep.
-use Rattle.std.proofs.Common.{◌≡◌, ◌⊎◌, inl, inr, ⊎_elim, ℕ, suc, ◌+◌, ◌<◌, ◌≤◌, ◌^◌, true, List, [], ◌∷◌, length, sym, ap, ◌∙◌, subst, arith}
-use Rattle.td_stamp.specs.declared.values.Entry.{Entry}
+use Rattle.std.proofs.Common.{◌≡◌, ℕ, List, sym, subst}
 use Rattle.td_plan.specs.Lines.{Line}
 use Rattle.td_disk.specs.Disk.{DiskState, IsDurable}
 use Rattle.td_head.specs.declared.head.Head.{Head}

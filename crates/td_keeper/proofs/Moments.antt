@@ -1,5 +1,5 @@
 -- What a disk tells at each moment of a call.
-use Rattle.std.proofs.Common.{◌≡◌, ◌⊎◌, inl, inr, ⊎_elim, ℕ, suc, ◌≤◌, List, [], ◌∷◌}
+use Rattle.std.proofs.Common.{◌⊎◌, inl, ⊎_elim, ℕ, suc, ◌≤◌, List, [], ◌∷◌}
 use Rattle.td_plan.specs.Lines.{Line}
 use Rattle.td_disk.specs.Disk.{DiskState}
 use Rattle.td_gate.specs.CrashSafe.{CrashSafe}

@@ -1,14 +1,12 @@
 -- The request numbers of each version of the format: before version 2 there are none.
-use Rattle.std.proofs.Common.{◌≡◌, ℕ, zero, suc, max, Bool, true, false, ◌&&◌, ◌||◌, ◌==◌, ◌^◌, nat_lt, nat_le, List, [], ◌∷◌, take, Option, Some, None, Result, Ok, Err, refl, sym, ap, ◌∙◌, subst, arith}
+use Rattle.std.proofs.Common.{◌≡◌, ℕ, zero, suc, max, Bool, true, false, ◌&&◌, ◌||◌, ◌==◌, ◌^◌, nat_lt, nat_le, List, [], ◌∷◌, take, Option, Some, None, Result, Ok, Err, refl, ap, subst, arith}
 use Rattle.std.specs.List.{list_all}
-use Rattle.std.proofs.lemmas.Bool.{and_parts, cases_eq, eqb-true}
+use Rattle.std.proofs.lemmas.Bool.{and_parts, eqb-true}
 use Rattle.td_gate.specs.Fields.{front_in, is_plain}
-use Rattle.td_gate.specs.Region.{opened}
 use Rattle.td_slots.specs.declared.error.SlotsError.{SlotsError}
-use Rattle.td_slots.specs.declared.slots.Slots.{Slots}
 use Rattle.td_slots.specs.declared.slots.Checkpoint.{Checkpoint}
-use Rattle.td_slots.specs.Slot.{slot, is_last, is_front, is_slot, are_states, states_in}
-use Rattle.td_slots.specs.Newest.{spelled, checkpoint_in, newest_in, newest_of, second_if, newest, where_valid}
+use Rattle.td_slots.specs.Slot.{is_last, is_front, is_slot, are_states, states_in}
+use Rattle.td_slots.specs.Newest.{spelled, checkpoint_in, newest_in, newest_of, second_if, where_valid}
 use Rattle.td_journal.specs.declared.submitted.Submitted.{Submitted}
 use Rattle.td_journal.specs.Numbers.{greatest, rise}
 use Rattle.td_keeper.specs.Told.{floor_of}

@@ -1,5 +1,5 @@
 -- What an image tells, part by part, and what a disk keeps.
-use Rattle.std.specs.Prelude.{◌≡◌, ◌⊎◌, ℕ, ◌+◌, ◌-◌, ◌^◌, ◌<◌, ◌≤◌, Bool, true, List, [], length, take, zero, suc, Some, None, Ok}
+use Rattle.std.specs.Prelude.{◌≡◌, ◌⊎◌, ℕ, ◌+◌, ◌^◌, ◌<◌, ◌≤◌, Bool, true, List, [], length, zero, suc, Some, None, Ok}
 use Rattle.td_stamp.specs.States.{StateList}
 use Rattle.td_plan.specs.Lines.{Line}
 use Rattle.td_disk.specs.Disk.{DiskState, IsDurable}
@@ -12,7 +12,7 @@ use Rattle.td_slots.specs.declared.slots.Checkpoint.{Checkpoint}
 use Rattle.td_slots.specs.Newest.{newest}
 use Rattle.td_slots.specs.Slot.{AreSlotStates, slot, slot_bytes}
 use Rattle.td_journal.specs.Numbers.{may_come}
-use Rattle.td_journal.specs.Cell.{IsCellBatch, cell_of}
+use Rattle.td_journal.specs.Cell.{cell_of}
 use Rattle.td_journal.specs.Ring.{told_after}
 use Rattle.td_keeper.specs.Standing.{Standing, last_epoch, last_request}
 use Rattle.td_keeper.specs.Told.{inputs_of, folds_of, slots_of, ring_of, floor_of}

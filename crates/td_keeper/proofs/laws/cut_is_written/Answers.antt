@@ -1,4 +1,4 @@
-use Rattle.std.proofs.Common.{◌%◌, ◌∙◌, ◌≡◌, ◌-◌, ◌+◌, ◌≤◌, ℕ, take, drop, Option, Ok, ap, subst, arith, inl, inr, ⊎_elim}
+use Rattle.std.proofs.Common.{◌∙◌, ◌≡◌, ◌-◌, ◌+◌, ◌≤◌, ℕ, take, drop, Option, Ok, ap, subst, arith, inl, inr, ⊎_elim}
 use Rattle.td_gate.specs.Region.{opened, Puts}
 use Rattle.td_slots.specs.Slot.{slot, slot_bytes, IsLast}
 use Rattle.td_journal.specs.Numbers.{greatest}

@@ -4,7 +4,7 @@ use Rattle.td_journal.specs.Cell.{cell_of, cell_bytes}
 use Rattle.td_journal.specs.Images.{IsNext}
 use Rattle.td_keeper.specs.Told.{inputs_of, folds_of, slots_of, ring_of, floor_of}
 use Rattle.td_keeper.proofs.Crash.{heads_by_cell, slots_by_cell}
-use Rattle.td_keeper.proofs.Requests.{floor-after, fresh_after}
+use Rattle.td_keeper.proofs.Requests.{fresh_after}
 use Rattle.td_keeper.proofs.laws.next_is_submitted.Goals as goal
 
 pub returns-clause-begun : goal.returns-clause-begun

@@ -1,4 +1,4 @@
-use Rattle.std.proofs.Common.{◌≡◌, ◌+◌, ◌-◌, [], ◌++◌, drop, length, refl, sym, arith, append-nil, length-append, length-drop}
+use Rattle.std.proofs.Common.{[], ◌++◌, drop, refl, sym, arith, append-nil, length-append, length-drop}
 use Rattle.td_keeper.proofs.laws.standings_advance.Goals as goal
 
 pub returns-clause-not_yet : goal.returns-clause-not_yet

@@ -1,4 +1,4 @@
-use Rattle.std.proofs.Common.{◌≡◌, ◌⊎◌, inl, inr, ⊎_elim, List, ℕ, sym, subst}
+use Rattle.std.proofs.Common.{inl, inr, ⊎_elim, List, ℕ, sym, subst}
 use Rattle.td_disk.specs.Disk.{IsDurable}
 use Rattle.td_keeper.specs.declared.error.KeeperError.{KeeperError}
 use Rattle.td_keeper.specs.declared.error.KeeperError.TheVariants as refusal

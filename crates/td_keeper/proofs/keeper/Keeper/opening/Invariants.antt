@@ -1,4 +1,4 @@
-use Rattle.std.proofs.Common.{◌≡◌, ◌≤◌, ◌+◌, take, length, vec_len}
+use Rattle.std.proofs.Common.{◌≡◌, take}
 use Rattle.td_keeper.specs.Standing.{batches_of}
 use Rattle.td_keeper.proofs.keeper.Keeper.opening.Given as goal
 
