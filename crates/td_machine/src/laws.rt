@@ -11,6 +11,8 @@ ghost use Rattle.td_machine.specs.Sound.{Sound, Confluence, EachIsSound, NeverSt
 ghost use Rattle.td_machine.specs.Reached.{IsReached};
 ghost use Rattle.td_machine.specs.Tally.{tally};
 ghost use Rattle.td_machine.specs.Below.{Below};
+ghost use Rattle.td_stamp.specs.BagLaws.{BagLaws, SetLaws};
+ghost use Rattle.td_machine.specs.State.{message_cmp, stamped_cmp, left_cmp, output_at_cmp, notification_cmp};
 
 use crate::records::{Message, Notification, OutputAt, Stamped, StateLeft};
 use td_calls::Law;
@@ -44,6 +46,17 @@ fn laws_below()
     td_batch::laws::one_meaning();
     td_batch::laws::turns_solve();
     td_batch::laws::one_flow();
+}
+
+/// The lists of a state are bags, and the asked notifications a set.
+pub fn bags_of_states()
+    ensures messages { BagLaws message_cmp }
+    ensures stamped { BagLaws stamped_cmp }
+    ensures left { BagLaws left_cmp }
+    ensures outputs { BagLaws output_at_cmp }
+    ensures notifications { SetLaws notification_cmp }
+{
+    laws_below();
 }
 
 /// Confluence: whatever order the takes and gives fall in, with any number of shards, the outputs that a play collects

@@ -1,0 +1,7 @@
+//! The hall: the engine itself, on one thread.
+#![tactic(auto)]
+
+mod error;
+mod outputs;
+
+pub use error::HallError;
