@@ -11,6 +11,7 @@ ghost use Rattle.td_machine.specs.Sound.{Sound, Confluence, EachIsSound, NeverSt
 ghost use Rattle.td_machine.specs.Reached.{IsReached};
 ghost use Rattle.td_machine.specs.Tally.{tally};
 ghost use Rattle.td_machine.specs.Below.{Below};
+ghost use Rattle.td_machine.specs.AtOnce.{DeliveredAtOnce};
 
 use crate::records::{Message, Notification, OutputAt, Stamped, StateLeft};
 use td_calls::Law;
@@ -110,4 +111,12 @@ pub fn reached<L: Law>()
     ensures sound { (S : HallState) → IsReached L.answers S → Sound L.answers S }
 {
     each_is_sound::<L>();
+}
+
+/// A task's records may be answered all at once: in each state where they are messages, that is the same as one after
+/// another, by callbacks that each see what the ones before kept.
+pub fn delivered_at_once<L: Law>()
+    ensures { DeliveredAtOnce L.answers }
+{
+    laws_below();
 }
