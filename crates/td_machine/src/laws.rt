@@ -12,6 +12,7 @@ ghost use Rattle.td_machine.specs.Reached.{IsReached};
 ghost use Rattle.td_machine.specs.Tally.{tally};
 ghost use Rattle.td_machine.specs.Below.{Below};
 ghost use Rattle.td_machine.specs.AtOnce.{DeliveredAtOnce};
+ghost use Rattle.td_machine.specs.InOrder.{ListsInOrder, TasksInOrder};
 
 use crate::records::{Message, Notification, OutputAt, Stamped, StateLeft};
 use td_calls::Law;
@@ -117,6 +118,15 @@ pub fn reached<L: Law>()
 /// another, by callbacks that each see what the ones before kept.
 pub fn delivered_at_once<L: Law>()
     ensures { DeliveredAtOnce L.answers }
+{
+    laws_below();
+}
+
+/// The lists of a state that is reached are bags and sets in their orders; and what the tasks took up that are out is
+/// still there, each of a shard of its own.
+pub fn reached_in_order<L: Law>()
+    ensures lists { (S : HallState) → IsReached L.answers S → ListsInOrder S }
+    ensures tasks { (S : HallState) → IsReached L.answers S → TasksInOrder S }
 {
     laws_below();
 }
