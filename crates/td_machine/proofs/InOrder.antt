@@ -41,7 +41,7 @@ use Rattle.td_machine.proofs.Played.{play_has}
 use Rattle.td_machine.specs.Below.{Below}
 
 -- each element is below all later ones
-abbrev Strict : {X : Type 0} → (X → X → Ordering) → List X → Type 0
+abbrev pub Strict : {X : Type 0} → (X → X → Ordering) → List X → Type 0
 Strict cmp [] = Unit {0}
 Strict cmp (x ∷ xs) = AllByRecursion (λ y. cmp x y ≡ Less) xs × Strict cmp xs
 
@@ -100,12 +100,12 @@ IsSized (messages port recs) = (0 < length recs) × (length recs ≤ task_size)
 IsSized (notification items) = Unit {0}
 
 -- WHAT STEPS KEEP in order by themselves
-record Ordered (S : HallState) : Type 0 where
-  seen : Strict stamped_cmp S.seen
-  asked : Strict notification_cmp S.asked
-  out : Strict task_cmp S.out
-  numbers : AllByRecursion (λ task. task.number ≤ S.taken) S.out
-  sizes : AllByRecursion (λ task. IsSized task.content) S.out
+pub record Ordered (S : HallState) : Type 0 where
+  pub seen : Strict stamped_cmp S.seen
+  pub asked : Strict notification_cmp S.asked
+  pub out : Strict task_cmp S.out
+  pub numbers : AllByRecursion (λ task. task.number ≤ S.taken) S.out
+  pub sizes : AllByRecursion (λ task. IsSized task.content) S.out
 
 -- a notification that was asked for is active
 has_contains : (a : Notification) (xs : List Notification) → has notification_cmp a xs ≡ true → Contains xs a
@@ -262,7 +262,7 @@ module _ (below : Below) (answers : Answers) where
   history_of : (S : HallState) (r : IsReached answers S) → (H : History) × Invariant answers (origin_of S r) S H
   history_of S r = let p = play_has below answers r.plan r.states r.first r.workers r.events r.replies S r.lawful (plan_facts below r.plan r.lawful) r.ordered r.from_one r.some_worker r.plays in (p.0, p.1)
 
-  ordered_of : (S : HallState) → IsReached answers S → Ordered S
+  pub ordered_of : (S : HallState) → IsReached answers S → Ordered S
   ordered_of S r = plays_ordered r.events r.replies (opened r.plan r.states r.first r.workers) S r.plays (record { seen = tt; asked = tt; out = tt; numbers = tt; sizes = tt })
 
   pub lists_in_order : (S : HallState) → IsReached answers S → ListsInOrder S

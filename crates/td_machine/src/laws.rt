@@ -13,6 +13,7 @@ ghost use Rattle.td_machine.specs.Tally.{tally};
 ghost use Rattle.td_machine.specs.Below.{Below};
 ghost use Rattle.td_machine.specs.AtOnce.{DeliveredAtOnce};
 ghost use Rattle.td_machine.specs.InOrder.{ListsInOrder, TasksInOrder};
+ghost use Rattle.td_machine.specs.Moves.{StampsMove};
 
 use crate::records::{Message, Notification, OutputAt, Stamped, StateLeft};
 use td_calls::Law;
@@ -127,6 +128,15 @@ pub fn delivered_at_once<L: Law>()
 pub fn reached_in_order<L: Law>()
     ensures lists { (S : HallState) → IsReached L.answers S → ListsInOrder S }
     ensures tasks { (S : HallState) → IsReached L.answers S → TasksInOrder S }
+{
+    laws_below();
+}
+
+/// Each step from a state that is reached changes the bag of active pointstamps by what comes with it and what goes with
+/// it: messages that are posted and answered, notifications that are asked for and given, and the inputs, which go from
+/// one epoch to the next.
+pub fn stamps_move<L: Law>()
+    ensures { StampsMove L.answers }
 {
     laws_below();
 }
