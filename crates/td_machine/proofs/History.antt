@@ -29,6 +29,7 @@ use Rattle.td_machine.specs.declared.records.Notification.{Notification}
 use Rattle.td_machine.specs.declared.records.StateLeft.{StateLeft}
 use Rattle.td_machine.specs.State.{HallState, Content, Task, KeyItems, message_cmp, stamped_cmp, notification_cmp, left_cmp, output_at_cmp, shard_of_key, is_there, arrival, asked_of, with_left}
 use Rattle.td_machine.specs.State.Content.{messages, notification}
+pub use Rattle.td_machine.specs.InOrder.{OneAShard}
 use Rattle.td_machine.specs.Active.{kind_of, stamp_of_asked, stamp_at, active, IsFree}
 use Rattle.td_machine.specs.Steps.{posts, stamped, called, coming, comes_out, notified_sends, leaves, is_asked, to_notify}
 
@@ -176,11 +177,6 @@ pub record Stands (origin : Origin) (S : HallState) : Type 0 where
   pub base : (origin.first ≤ S.base + 1) × (S.base < S.next)
   pub collected : (origin.first ≤ S.collected + 1) × (S.collected < S.next)
   pub batches : S.batches ≡ drop (S.base + 1 - origin.first) origin.batches
-
--- tasks that are out, one a shard
-abbrev pub OneAShard : List Task → Type 0
-OneAShard [] = Unit {0}
-OneAShard (task ∷ tasks) = AllByRecursion (λ other. task.shard ≡ other.shard → ⊥) tasks × OneAShard tasks
 
 pub record TasksOut (S : HallState) : Type 0 where
   pub stand : AllByRecursion (λ task. (task.kind ≡ kind_of S.plan task.vertex) × AllByRecursion (λ r. shard_of_key S.workers r.key ≡ task.shard) (recs_in task.content) × StandsOut S task task.content) S.out

@@ -35,7 +35,7 @@ use Rattle.td_machine.proofs.Given.{OutBeside, RunsOn, all_delivered_run, others
 use Rattle.td_machine.specs.Below.{Below}
 
 module _ (below : Below) where
-  at_index : (P : Task → Type 0) (xs : List Task) (i : ℕ) (x : Task) → AllByRecursion P xs → i < length xs → get_or xs i x ≡ x → P x
+  pub at_index : (P : Task → Type 0) (xs : List Task) (i : ℕ) (x : Task) → AllByRecursion P xs → i < length xs → get_or xs i x ≡ x → P x
   at_index P [] i x h l e = absurd (omega (arith, l))
   at_index P (y ∷ ys) zero x h l e = subst P e h.0
   at_index P (y ∷ ys) (suc i) x h l e = at_index P ys i x h.1 (omega (arith, l)) e

@@ -13,6 +13,9 @@ ghost use Rattle.td_machine.specs.Tally.{tally};
 ghost use Rattle.td_machine.specs.Below.{Below};
 ghost use Rattle.td_stamp.specs.BagLaws.{BagLaws, SetLaws};
 ghost use Rattle.td_machine.specs.State.{message_cmp, stamped_cmp, left_cmp, output_at_cmp, notification_cmp};
+ghost use Rattle.td_machine.specs.AtOnce.{DeliveredAtOnce};
+ghost use Rattle.td_machine.specs.InOrder.{ListsInOrder, TasksInOrder};
+ghost use Rattle.td_machine.specs.Moves.{StampsMove};
 
 use crate::records::{Message, Notification, OutputAt, Stamped, StateLeft};
 use td_calls::Law;
@@ -123,4 +126,30 @@ pub fn reached<L: Law>()
     ensures sound { (S : HallState) → IsReached L.answers S → Sound L.answers S }
 {
     each_is_sound::<L>();
+}
+
+/// A task's records may be answered all at once: in each state where they are messages, that is the same as one after
+/// another, by callbacks that each see what the ones before kept.
+pub fn delivered_at_once<L: Law>()
+    ensures { DeliveredAtOnce L.answers }
+{
+    laws_below();
+}
+
+/// The lists of a state that is reached are bags and sets in their orders; and what the tasks took up that are out is
+/// still there, each of a shard of its own.
+pub fn reached_in_order<L: Law>()
+    ensures lists { (S : HallState) → IsReached L.answers S → ListsInOrder S }
+    ensures tasks { (S : HallState) → IsReached L.answers S → TasksInOrder S }
+{
+    laws_below();
+}
+
+/// Each step from a state that is reached changes the bag of active pointstamps by what comes with it and what goes with
+/// it: messages that are posted and answered, notifications that are asked for and given, and the inputs, which go from
+/// one epoch to the next.
+pub fn stamps_move<L: Law>()
+    ensures { StampsMove L.answers }
+{
+    laws_below();
 }
