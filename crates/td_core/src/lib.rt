@@ -2,6 +2,9 @@
 #![tactic(auto)]
 
 mod error;
+mod floor;
+mod hall;
 mod outputs;
 
 pub use error::HallError;
+pub use hall::Hall;

@@ -1,4 +1,3 @@
-pub mod Records
 pub mod Messages
 pub mod Slots
 pub mod Kept

@@ -5,13 +5,19 @@ mod error;
 mod lane;
 mod mailbox;
 mod noted;
+mod seen;
+mod shard;
 mod slots;
 mod take;
 #[cfg(test)]
 mod tests;
+mod versions;
 mod waiting;
 
 pub use error::ShardError;
 pub use mailbox::{Mailbox, Taken};
 pub use noted::Noted;
+pub use seen::Seen;
+pub use shard::Shard;
+pub use versions::Versions;
 pub use waiting::Waiting;
