@@ -11,7 +11,7 @@ ghost use Rattle.td_machine.specs.Sound.{Sound, Confluence, EachIsSound, NeverSt
 ghost use Rattle.td_machine.specs.Reached.{IsReached};
 ghost use Rattle.td_machine.specs.Tally.{tally};
 ghost use Rattle.td_machine.specs.Below.{Below};
-ghost use Rattle.td_machine.specs.AtOnce.{DeliveredAtOnce};
+ghost use Rattle.td_machine.specs.AtOnce.{DeliveredAtOnce, FreshByMembers, FreshOfShard};
 ghost use Rattle.td_machine.specs.InOrder.{ListsInOrder, TasksInOrder};
 ghost use Rattle.td_machine.specs.Moves.{StampsMove};
 
@@ -119,6 +119,15 @@ pub fn reached<L: Law>()
 /// another, by callbacks that each see what the ones before kept.
 pub fn delivered_at_once<L: Law>()
     ensures { DeliveredAtOnce L.answers }
+{
+    laws_below();
+}
+
+/// What is new to a distinct depends only on which of the records it has seen at their vertex and time, and so, for the
+/// records of a shard, only on what was seen in the shard.
+pub fn new_records()
+    ensures members { FreshByMembers }
+    ensures shard { FreshOfShard }
 {
     laws_below();
 }
