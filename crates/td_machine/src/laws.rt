@@ -12,7 +12,7 @@ ghost use Rattle.td_machine.specs.Reached.{IsReached};
 ghost use Rattle.td_machine.specs.Tally.{tally};
 ghost use Rattle.td_machine.specs.Below.{Below};
 ghost use Rattle.td_machine.specs.AtOnce.{DeliveredAtOnce, FreshByMembers, FreshOfShard};
-ghost use Rattle.td_machine.specs.InOrder.{ListsInOrder, TasksInOrder};
+ghost use Rattle.td_machine.specs.InOrder.{ListsInOrder, TasksInOrder, NumbersInOrder};
 ghost use Rattle.td_machine.specs.Moves.{StampsMove};
 
 use crate::records::{Message, Notification, OutputAt, Stamped, StateLeft};
@@ -132,11 +132,12 @@ pub fn new_records()
     laws_below();
 }
 
-/// The lists of a state that is reached are bags and sets in their orders; and what the tasks took up that are out is
-/// still there, each of a shard of its own.
+/// The lists of a state that is reached are bags and sets in their orders; what the tasks took up that are out is still
+/// there, each of a shard of its own; and as many tasks were taken as were given or are out.
 pub fn reached_in_order<L: Law>()
     ensures lists { (S : HallState) → IsReached L.answers S → ListsInOrder S }
     ensures tasks { (S : HallState) → IsReached L.answers S → TasksInOrder S }
+    ensures numbers { (S : HallState) → IsReached L.answers S → NumbersInOrder S }
 {
     laws_below();
 }
