@@ -1,13 +1,15 @@
 -- A task's records, one after another, are answered as they are all at once.
-use Rattle.std.proofs.Common.{◌≡◌, ℕ, List, [], ◌∷◌, ◌++◌, map, flat_map, refl, ap, sym, ◌∙◌, Bool, true, false}
+use Rattle.std.proofs.Common.{◌≡◌, ℕ, List, [], ◌∷◌, ◌++◌, map, filter, flat_map, refl, ap, sym, ◌∙◌, Bool, true, false, ◌||◌, ◌==◌}
 use Rattle.std.proofs.lemmas.List.{map-append}
 use Rattle.std.proofs.lemmas.Grind.{flat_map-append}
 use Rattle.std.specs.declared.cmp.Ordering.{Ordering}
+use Rattle.std.specs.declared.cmp.Ordering.TheVariants.{Less, Equal, Greater}
+use Rattle.std.specs.Ordering.{is_eq}
 use Rattle.td_stamp.specs.declared.values.Rec.{Rec}
 use Rattle.td_stamp.specs.declared.values.Arrival.{Arrival}
 use Rattle.td_stamp.specs.Orders.{rec_cmp}
 use Rattle.td_stamp.specs.Time.{Timestamp}
-use Rattle.td_stamp.specs.Bag.{set_insert, join, has}
+use Rattle.td_stamp.specs.Bag.{bag_insert, set_insert, join, has}
 use Rattle.td_stamp.specs.BagLaws.{BagLaws}
 use Rattle.td_plan.specs.declared.vertex.Kind.{Kind}
 use Rattle.td_plan.specs.declared.vertex.Kind.TheVariants.{Input, Map, Distinct, Group, Fold, Enter, Feedback, Leave, Output}
@@ -17,10 +19,13 @@ use Rattle.td_calls.specs.Callbacks.{Added, only_sent}
 use Rattle.td_machine.specs.declared.records.Message.{Message}
 use Rattle.td_machine.specs.declared.records.Stamped.{Stamped}
 use Rattle.td_machine.specs.declared.records.Notification.{Notification}
-use Rattle.td_machine.specs.State.{HallState, message_cmp, stamped_cmp, notification_cmp, asked_of, local_at}
+use Rattle.td_machine.specs.State.{HallState, message_cmp, stamped_cmp, notification_cmp, shard_of_key, asked_of, local_at}
 use Rattle.td_machine.specs.Steps.{posts, posted, stamped, coming, comes_out, with_asked, waiting, called, delivered, all_delivered}
-use Rattle.td_machine.specs.AtOnce.{stamped_at, fresh, added_at_once, with_all, at_once, DeliveredAtOnce}
-use Rattle.td_machine.proofs.Bags.{join-append, join-swap}
+use Rattle.td_machine.specs.AtOnce.{FreshByMembers, FreshOfShard, stamped_at, fresh, added_at_once, with_all, at_once, DeliveredAtOnce}
+use Rattle.td_machine.proofs.Bags.{join-append, join-swap, has-bag_insert}
+use Rattle.td_machine.proofs.Lists.{all_weaken, filter_yes, filter_no}
+use Rattle.td_machine.proofs.Orders.{stamped_apart}
+use Rattle.td_machine.proofs.Plain.{eqb-same}
 use Rattle.td_machine.proofs.Told.{removed, seen_there}
 use Rattle.td_machine.specs.Below.{Below}
 
@@ -122,3 +127,44 @@ module _ (below : Below) where
 
   pub delivered_at_once : (answers : Answers) → DeliveredAtOnce answers
   delivered_at_once answers S kind v port t recs others here = all_at_once answers v port t S kind recs others here
+
+  -- WHAT IS NEW
+  pub fresh_by_members : FreshByMembers
+  fresh_by_members seen other v t [] h = refl
+  fresh_by_members seen other v t (r ∷ recs) h =
+      by (has stamped_cmp (stamped_at v t r) seen) refl (fresh_by_members seen other v t recs h.1) (fresh_by_members (bag_insert stamped_cmp (stamped_at v t r) seen) (bag_insert stamped_cmp (stamped_at v t r) other) v t recs
+      (all_weaken (λ q. has stamped_cmp (stamped_at v t q) seen ≡ has stamped_cmp (stamped_at v t q) other)
+      (λ q. has stamped_cmp (stamped_at v t q) (bag_insert stamped_cmp (stamped_at v t r) seen) ≡ has stamped_cmp (stamped_at v t q) (bag_insert stamped_cmp (stamped_at v t r) other)) more recs h.1))
+    where
+      more : (q : Rec) → has stamped_cmp (stamped_at v t q) seen ≡ has stamped_cmp (stamped_at v t q) other
+          → has stamped_cmp (stamped_at v t q) (bag_insert stamped_cmp (stamped_at v t r) seen) ≡ has stamped_cmp (stamped_at v t q) (bag_insert stamped_cmp (stamped_at v t r) other)
+      more q e =
+          has-bag_insert stamped_cmp below.stamped (stamped_at v t q) (stamped_at v t r) seen ∙ ap (λ b. is_eq (stamped_cmp (stamped_at v t q) (stamped_at v t r)) || b) e
+          ∙ sym (has-bag_insert stamped_cmp below.stamped (stamped_at v t q) (stamped_at v t r) other)
+
+      by : (b : Bool) → has stamped_cmp (stamped_at v t r) seen ≡ b → fresh seen v t recs ≡ fresh other v t recs
+          → fresh (bag_insert stamped_cmp (stamped_at v t r) seen) v t recs ≡ fresh (bag_insert stamped_cmp (stamped_at v t r) other) v t recs
+          → fresh seen v t (r ∷ recs) ≡ fresh other v t (r ∷ recs)
+      by true e same rest = let f : has stamped_cmp (stamped_at v t r) other ≡ true = sym h.0 ∙ e in rw (e, f, fresh) same
+      by false e same rest = let f : has stamped_cmp (stamped_at v t r) other ≡ false = sym h.0 ∙ e in rw (e, f, fresh) (ap (λ l. r ∷ l) rest)
+
+  -- one that passes a test is found among those that pass it
+  found_passing : (p : Stamped → Bool) (x : Stamped) → p x ≡ true → (xs : List Stamped) → has stamped_cmp x (filter p xs) ≡ has stamped_cmp x xs
+  found_passing p x passes [] = refl
+  found_passing p x passes (y ∷ ys) = by (p y) refl (found_passing p x passes ys)
+    where
+      other : p y ≡ false → (o : Ordering) → stamped_cmp x y ≡ o → is_eq (stamped_cmp x y) ≡ false
+      other e Less f = ap is_eq f
+      other e Greater f = ap is_eq f
+      other e Equal f = let no : true ≡ false = sym passes ∙ ap p (stamped_apart x y f) ∙ e in cc
+
+      by : (b : Bool) → p y ≡ b → has stamped_cmp x (filter p ys) ≡ has stamped_cmp x ys → has stamped_cmp x (filter p (y ∷ ys)) ≡ has stamped_cmp x (y ∷ ys)
+      by true e rest = ap (has stamped_cmp x) (filter_yes p y ys e) ∙ ap (λ b. is_eq (stamped_cmp x y) || b) rest
+      by false e rest = ap (has stamped_cmp x) (filter_no p y ys e) ∙ rest ∙ (λ i. sym (other e (stamped_cmp x y) refl) i || has stamped_cmp x ys)
+
+  pub fresh_of_shard : FreshOfShard
+  fresh_of_shard workers s seen v t recs h =
+      let mine : Stamped → Bool = λ x. shard_of_key workers x.rec.key == s in
+      fresh_by_members (filter mine seen) seen v t recs
+      (all_weaken (λ r. shard_of_key workers r.key ≡ s) (λ r. has stamped_cmp (stamped_at v t r) (filter mine seen) ≡ has stamped_cmp (stamped_at v t r) seen)
+      (λ r e. found_passing mine (stamped_at v t r) (ap (λ n. n == s) e ∙ eqb-same below s) seen) recs h)

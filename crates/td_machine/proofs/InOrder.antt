@@ -19,7 +19,7 @@ use Rattle.td_plan.specs.declared.vertex.Kind.TheVariants.{Distinct}
 use Rattle.td_calls.specs.Answers.{Answers}
 use Rattle.td_machine.specs.declared.records.Message.{Message}
 use Rattle.td_machine.specs.declared.records.Notification.{Notification}
-use Rattle.td_machine.specs.State.{HallState, Task, Content, message_cmp, stamped_cmp, notification_cmp, output_at_cmp, left_cmp, task_cmp, shard_of_key, arrival, asked_of, local_at}
+use Rattle.td_machine.specs.State.{HallState, Task, Content, message_cmp, stamped_cmp, notification_cmp, output_at_cmp, left_cmp, task_cmp, shard_of_key, arrival, asked_of, local_at, is_out}
 use Rattle.td_machine.specs.State.Content.{messages, notification}
 use Rattle.td_machine.specs.Active.{kind_of, active, stamp_of_message, stamp_of_asked, stamps_of_inputs, unpassed, has_passed}
 use Rattle.td_machine.specs.Steps.{opened, Event, Answer, Step, Plays, Takes, Gives, IsContent, MayTake, task_size, ends, release_by, cut_by, cut_at_by, cut_to, collect_step, close_step, with_task, with_asked, waiting, stamped, called, delivered, all_delivered, effect, is_given, coming, comes_out}
@@ -28,16 +28,18 @@ use Rattle.td_machine.specs.Steps.Takes.{is_busy, has_none, is_spent, takes}
 use Rattle.td_machine.specs.Steps.Gives.{gives, is_stranger}
 use Rattle.td_machine.specs.Sound.{batches_of}
 use Rattle.td_machine.specs.Reached.{IsReached}
-use Rattle.td_machine.specs.InOrder.{ListsInOrder, TasksInOrder, StillThere}
+use Rattle.td_machine.specs.InOrder.{ListsInOrder, TasksInOrder, NumbersInOrder, StillThere, OneAShard}
 use Rattle.td_machine.proofs.History.{Origin, History, Invariant, StandsOut, recs_in, is_distinct, has_answer}
 use Rattle.td_machine.proofs.Orders.{stamped_total, notification_total, notification_apart}
-use Rattle.td_machine.proofs.Lists.{all_weaken, all_both, all_filter, all_map, filter_yes, filter_no}
-use Rattle.td_machine.proofs.Bags.{turned_back, insert_past, insert_before_less, set_insert_past, set_insert_less, set_insert_equal, all_insert, all_set_insert, IsBag-from_Rises, bag_of-IsBag, IsBag-filter}
+use Rattle.td_machine.proofs.Lists.{all_weaken, all_both, all_filter, all_map, filter_yes, filter_no, filter_all}
+use Rattle.td_machine.proofs.Bags.{turned_back, insert_past, insert_before_less, insert_before_equal, set_insert_past, set_insert_less, set_insert_equal, all_insert, all_set_insert, IsBag-from_Rises, bag_of-IsBag, IsBag-filter}
 use Rattle.td_machine.proofs.Callings.{where_true, sees, sees_none}
 use Rattle.td_machine.proofs.Told.{seen_there, distinct_is}
 use Rattle.td_machine.proofs.StatesLeft.{InOrder, states_in_order, left_keeps}
 use Rattle.td_machine.proofs.Lawful.{plan_facts}
-use Rattle.td_machine.proofs.Played.{play_has}
+use Rattle.td_machine.proofs.Played.{play_has, at_index, fewer_shards}
+use Rattle.td_machine.proofs.Plain.{eqb-same, one_more, free_shard}
+use Rattle.std.proofs.lemmas.Bool.{eqb-true}
 use Rattle.td_machine.specs.Below.{Below}
 
 -- each element is below all later ones
@@ -106,6 +108,9 @@ pub record Ordered (S : HallState) : Type 0 where
   pub out : Strict task_cmp S.out
   pub numbers : AllByRecursion (λ task. task.number ≤ S.taken) S.out
   pub sizes : AllByRecursion (λ task. IsSized task.content) S.out
+  pub once : OneAShard S.out
+  pub many : S.given + length S.out ≡ S.taken
+  pub taken : S.taken ≤ ends
 
 -- a notification that was asked for is active
 has_contains : (a : Notification) (xs : List Notification) → has notification_cmp a xs ≡ true → Contains xs a
@@ -160,6 +165,9 @@ module _ (below : Below) (answers : Answers) where
     out = h.out;
     numbers = h.numbers;
     sizes = h.sizes;
+    once = h.once;
+    many = h.many;
+    taken = h.taken;
   }
 
   all_ordered : (cs : List Message) (S : HallState) (kind : Kind) → Ordered S → Ordered (all_delivered answers kind S cs)
@@ -168,27 +176,75 @@ module _ (below : Below) (answers : Answers) where
 
   effect_ordered : (S : HallState) (task : Task) (content : Content) → Ordered S → Ordered (effect answers S task content)
   effect_ordered S task (messages port recs) h = all_ordered (coming task.vertex port task.time recs) S task.kind h
-  effect_ordered S task (notification items) h = record { seen = h.seen; asked = strict_filter notification_cmp _ S.asked h.asked; out = h.out; numbers = h.numbers; sizes = h.sizes }
+  effect_ordered S task (notification items) h = record { seen = h.seen; asked = strict_filter notification_cmp _ S.asked h.asked; out = h.out; numbers = h.numbers; sizes = h.sizes; once = h.once; many = h.many; taken = h.taken }
 
-  given_ordered : (S : HallState) (task : Task) → Ordered S → Ordered (is_given S task)
-  given_ordered S task h = record {
+  -- one task fewer is out
+  one_less : (task : Task) (xs : List Task) → OneAShard xs → Contains xs task → length xs ≡ 1 + length (filter (λ t. not (t.shard == task.shard)) xs)
+  one_less task [] h (k, l, e) = absurd (omega (arith, l))
+  one_less task (x ∷ xs) h (zero, l, e) =
+      let mine : (x.shard == task.shard) ≡ true = ap (λ (t : Task). t.shard == task.shard) e ∙ eqb-same below task.shard in
+      let all : AllByRecursion (λ (t : Task). not (t.shard == task.shard) ≡ true) xs =
+      all_weaken (λ (t : Task). x.shard ≡ t.shard → ⊥) (λ t. not (t.shard == task.shard) ≡ true) (λ t n. other t (λ same. n (ap (λ (t : Task). t.shard) e ∙ sym same)) (t.shard == task.shard) refl) xs h.0 in
+      let rest : filter (λ t. not (t.shard == task.shard)) (x ∷ xs) ≡ xs =
+      filter_no (λ t. not (t.shard == task.shard)) x xs (ap not mine) ∙ filter_all (λ t. not (t.shard == task.shard)) xs all in
+      let n = ap length rest in omega (arith, n)
+    where
+      other : (t : Task) → ((t.shard ≡ task.shard) → ⊥) → (b : Bool) → (t.shard == task.shard) ≡ b → not (t.shard == task.shard) ≡ true
+      other t n true f = absurd (n (eqb-true t.shard task.shard f))
+      other t n false f = ap not f
+  one_less task (x ∷ xs) h (suc k, l, e) =
+      let differ : x.shard ≡ task.shard → ⊥ = at_index below (λ (t : Task). x.shard ≡ t.shard → ⊥) xs k task h.0 (omega (arith, l)) e in
+      let rest = one_less task xs h.1 (k, omega (arith, l), e) in
+      let n = ap length (filter_yes (λ t. not (t.shard == task.shard)) x xs (by differ (x.shard == task.shard) refl)) in
+      omega (arith, n, rest)
+    where
+      by : ((x.shard ≡ task.shard) → ⊥) → (b : Bool) → (x.shard == task.shard) ≡ b → not (x.shard == task.shard) ≡ true
+      by n true f = absurd (n (eqb-true x.shard task.shard f))
+      by n false f = ap not f
+
+  -- what a task does leaves the others out
+  same_outs : (cs : List Message) (kind : Kind) (S : HallState) → (all_delivered answers kind S cs).out ≡ S.out
+  same_outs [] kind S = refl
+  same_outs (c ∷ cs) kind S = same_outs cs kind (delivered answers S kind c)
+
+  same_out : (S : HallState) (task : Task) (content : Content) → (effect answers S task content).out ≡ S.out
+  same_out S task (messages port recs) = same_outs (coming task.vertex port task.time recs) task.kind S
+  same_out S task (notification items) = refl
+
+  given_ordered : (S : HallState) (task : Task) → Contains S.out task → Ordered S → Ordered (is_given S task)
+  given_ordered S task out h = record {
     seen = h.seen;
     asked = h.asked;
     out = strict_filter task_cmp (λ t. not (t.shard == task.shard)) S.out h.out;
     numbers = filtered (λ task. task.number ≤ S.taken) h.numbers;
     sizes = filtered (λ task. IsSized task.content) h.sizes;
+    once = fewer_shards below (λ t. not (t.shard == task.shard)) S.out h.once;
+    many = let n = one_less task S.out h.once out in let m = h.many in omega (arith, n, m);
+    taken = h.taken;
   }
     where
       filtered : (P : Task → Type 0) → AllByRecursion P S.out → AllByRecursion P (filter (λ t. not (t.shard == task.shard)) S.out)
       filtered P k = all_weaken (λ t. P t × (not (t.shard == task.shard) ≡ true)) P (λ t q. q.0) (filter (λ t. not (t.shard == task.shard)) S.out) (all_filter P (λ t. not (t.shard == task.shard)) S.out k)
 
-  taken_ordered : (S : HallState) (s : ℕ) (task : Task) → MayTake S s task → Ordered S → Ordered (with_task S task)
-  taken_ordered S s task may h = record {
+  length_more : (x : Task) (ys : List Task) → length (bag_insert task_cmp x ys) ≡ 1 + length ys
+  length_more x [] = refl
+  length_more x (y ∷ ys) = by (task_cmp x y) refl (length_more x ys)
+    where
+      by : (o : Ordering) → task_cmp x y ≡ o → length (bag_insert task_cmp x ys) ≡ 1 + length ys → length (bag_insert task_cmp x (y ∷ ys)) ≡ 1 + length (y ∷ ys)
+      by Less e rest = let n = ap length (insert_before_less task_cmp x y ys e) in omega (arith, n)
+      by Equal e rest = let n = ap length (insert_before_equal task_cmp x y ys e) in omega (arith, n)
+      by Greater e rest = let n = ap length (insert_past task_cmp x y ys e) in omega (arith, n, rest)
+
+  taken_ordered : (S : HallState) (s : ℕ) (task : Task) → is_out S s ≡ false → MayTake S s task → S.taken < ends → Ordered S → Ordered (with_task S task)
+  taken_ordered S s task free may room h = record {
     seen = h.seen;
     asked = h.asked;
     out = strict_bag_insert task_cmp task_total task S.out (all_weaken (λ (t : Task). t.number ≤ S.taken) (λ t. task_cmp task t ≡ Equal → ⊥) (λ t l e. let same = nat_cmp-IsAntisymmetric task.number t.number e in let n = may.number in omega (arith, l, same, n)) S.out h.numbers) h.out;
     numbers = all_insert task_cmp (λ (t : Task). t.number ≤ S.taken + 1) task S.out (let n = may.number in omega (arith, n)) (all_weaken (λ (t : Task). t.number ≤ S.taken) (λ t. t.number ≤ S.taken + 1) (λ t l. omega (arith, l)) S.out h.numbers);
     sizes = all_insert task_cmp (λ (t : Task). IsSized t.content) task S.out (sized task.content may.content) h.sizes;
+    once = one_more below task S.out (all_weaken (λ (t : Task). t.shard ≡ s → ⊥) (λ t. t.shard ≡ task.shard → ⊥) (λ t n e. n (e ∙ may.shard)) S.out (free_shard below s S.out free)) h.once;
+    many = let n = length_more task S.out in let m = h.many in omega (arith, n, m);
+    taken = omega (arith, room);
   }
     where
       sized : (content : Content) → IsContent S s task.vertex task.time content → IsSized content
@@ -199,29 +255,32 @@ module _ (below : Below) (answers : Answers) where
   takes_ordered S s _ _ (is_busy e) h = h
   takes_ordered S s _ _ (has_none e n) h = h
   takes_ordered S s _ _ (is_spent e task may l) h = h
-  takes_ordered S s _ _ (takes e task may l) h = taken_ordered S s task may h
+  takes_ordered S s _ _ (takes e task may l) h = taken_ordered S s task e may l h
 
   gives_ordered : (S : HallState) (task : Task) (answer : Answer) (after : HallState) → Gives answers S task answer after → Ordered S → Ordered after
-  gives_ordered S task _ _ (gives out) h = given_ordered (effect answers S task task.content) task (effect_ordered S task task.content h)
+  gives_ordered S task _ _ (gives out) h = given_ordered (effect answers S task task.content) task (subst (λ l. Contains l task) (sym (same_out S task task.content)) out) (effect_ordered S task task.content h)
   gives_ordered S task _ _ (is_stranger n) h = h
 
-  -- what changes no list of these
-  alike : (S T : HallState) → Ordered S → T.seen ≡ S.seen → T.asked ≡ S.asked → T.out ≡ S.out → T.taken ≡ S.taken → Ordered T
-  alike S T h a b c d = record {
+  -- what changes nothing of these
+  alike : (S T : HallState) → Ordered S → T.seen ≡ S.seen → T.asked ≡ S.asked → T.out ≡ S.out → T.taken ≡ S.taken → T.given ≡ S.given → Ordered T
+  alike S T h a b c d e = record {
     seen = subst (Strict stamped_cmp) (sym a) h.seen;
     asked = subst (Strict notification_cmp) (sym b) h.asked;
     out = subst (Strict task_cmp) (sym c) h.out;
     numbers = subst (λ l. AllByRecursion (λ (t : Task). t.number ≤ T.taken) l) (sym c) (subst (λ n. AllByRecursion (λ (t : Task). t.number ≤ n) S.out) (sym d) h.numbers);
     sizes = subst (AllByRecursion (λ (t : Task). IsSized t.content)) (sym c) h.sizes;
+    once = subst OneAShard (sym c) h.once;
+    many = (λ i. e i + length (c i)) ∙ h.many ∙ sym d;
+    taken = subst (λ n. n ≤ ends) (sym d) h.taken;
   }
 
   cut_ordered : (S : HallState) (e : ℕ) → Ordered S → Ordered (cut_to S e)
-  cut_ordered S e h = record { seen = strict_filter stamped_cmp (λ x. nat_lt e x.time.epoch) S.seen h.seen; asked = h.asked; out = h.out; numbers = h.numbers; sizes = h.sizes }
+  cut_ordered S e h = record { seen = strict_filter stamped_cmp (λ x. nat_lt e x.time.epoch) S.seen h.seen; asked = h.asked; out = h.out; numbers = h.numbers; sizes = h.sizes; once = h.once; many = h.many; taken = h.taken }
 
   releases_ordered : (S : HallState) (batch : List Entry) (b c : Bool) → Ordered S → Ordered (release_by S b c batch).1
   releases_ordered S batch true c h = h
   releases_ordered S batch false true h = h
-  releases_ordered S batch false false h = alike S _ h refl refl refl refl
+  releases_ordered S batch false false h = alike S _ h refl refl refl refl refl
 
   cuts_ordered : (S : HallState) (o : Option ℕ) (last : ℕ) → Ordered S → Ordered (cut_by S o last).1
   cuts_ordered S (Some e) last h = h
@@ -235,10 +294,10 @@ module _ (below : Below) (answers : Answers) where
   step_ordered S (release batch) answer after h k = subst (λ (p : Answer × HallState). Ordered p.1) h.1 (releases_ordered S batch S.closed (S.next == ends) k)
   step_ordered S (taking s) answer after h k = takes_ordered S s answer after h k
   step_ordered S (give task) answer after h k = gives_ordered S task answer after h k
-  step_ordered S collect answer after h k = subst (λ (p : Answer × HallState). Ordered p.1) h (alike S (collect_step S).1 k refl refl refl refl)
+  step_ordered S collect answer after h k = subst (λ (p : Answer × HallState). Ordered p.1) h (alike S (collect_step S).1 k refl refl refl refl refl)
   step_ordered S cut answer after h k = subst (λ (p : Answer × HallState). Ordered p.1) h (cuts_ordered S (unpassed S) _ k)
   step_ordered S (cut_at e) answer after h k = subst (λ (p : Answer × HallState). Ordered p.1) h.2 (cuts_at_ordered S (has_passed S e) e k)
-  step_ordered S close answer after h k = subst (λ (p : Answer × HallState). Ordered p.1) h (alike S (close_step S).1 k refl refl refl refl)
+  step_ordered S close answer after h k = subst (λ (p : Answer × HallState). Ordered p.1) h (alike S (close_step S).1 k refl refl refl refl refl)
 
   plays_ordered : (events : List Event) (replies : List Answer) (S after : HallState) → Plays answers S events replies after → Ordered S → Ordered after
   plays_ordered [] [] S after p h = subst Ordered (sym p) h
@@ -263,7 +322,7 @@ module _ (below : Below) (answers : Answers) where
   history_of S r = let p = play_has below answers r.plan r.states r.first r.workers r.events r.replies S r.lawful (plan_facts below r.plan r.lawful) r.ordered r.from_one r.some_worker r.plays in (p.0, p.1)
 
   pub ordered_of : (S : HallState) → IsReached answers S → Ordered S
-  ordered_of S r = plays_ordered r.events r.replies (opened r.plan r.states r.first r.workers) S r.plays (record { seen = tt; asked = tt; out = tt; numbers = tt; sizes = tt })
+  ordered_of S r = plays_ordered r.events r.replies (opened r.plan r.states r.first r.workers) S r.plays (record { seen = tt; asked = tt; out = tt; numbers = tt; sizes = tt; once = tt; many = refl; taken = omega arith })
 
   pub lists_in_order : (S : HallState) → IsReached answers S → ListsInOrder S
   lists_in_order S r =
@@ -293,3 +352,9 @@ module _ (below : Below) (answers : Answers) where
         one_a_shard = h.1.tasks.once;
         in_order = strictly task_cmp S.out o.out;
       }
+
+  pub numbers_in_order : (S : HallState) → IsReached answers S → NumbersInOrder S
+  numbers_in_order S r =
+      let stands = (history_of S r).1.stands in
+      let o = ordered_of S r in
+      record { plan = stands.plan; workers = stands.workers; base = stands.base.1; collected = stands.collected.1; given = o.many; taken = o.taken }

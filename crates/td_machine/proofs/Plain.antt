@@ -34,7 +34,7 @@ module _ (below : Below) where
       by Equal e rest = rw (e, bag_insert) (h, k)
       by Greater e rest = rw (e, bag_insert) (k.0, rest)
 
-  one_more : (x : Task) (ys : List Task) → AllByRecursion (λ (other : Task). other.shard ≡ x.shard → ⊥) ys → OneAShard ys → OneAShard (bag_insert task_cmp x ys)
+  pub one_more : (x : Task) (ys : List Task) → AllByRecursion (λ (other : Task). other.shard ≡ x.shard → ⊥) ys → OneAShard ys → OneAShard (bag_insert task_cmp x ys)
   one_more x [] h k = (tt, tt)
   one_more x (y ∷ ys) h k = by (task_cmp x y) refl (one_more x ys h.1 k.1)
     where
@@ -46,7 +46,7 @@ module _ (below : Below) where
       by Equal e rest = rw (e, bag_insert) (first, k)
       by Greater e rest = rw (e, bag_insert) (all_task (λ (other : Task). y.shard ≡ other.shard → ⊥) x ys h.0 k.0, rest)
 
-  free_shard : (s : ℕ) (xs : List Task) → list_any (λ (t : Task). t.shard == s) xs ≡ false → AllByRecursion (λ (t : Task). t.shard ≡ s → ⊥) xs
+  pub free_shard : (s : ℕ) (xs : List Task) → list_any (λ (t : Task). t.shard == s) xs ≡ false → AllByRecursion (λ (t : Task). t.shard ≡ s → ⊥) xs
   free_shard s [] e = tt
   free_shard s (x ∷ xs) e = by (x.shard == s) refl e (free_shard s xs)
     where

@@ -40,7 +40,7 @@ module _ (below : Below) where
   at_index P (y ∷ ys) zero x h l e = subst P e h.0
   at_index P (y ∷ ys) (suc i) x h l e = at_index P ys i x h.1 (omega (arith, l)) e
 
-  fewer_shards : (p : Task → Bool) (xs : List Task) → OneAShard xs → OneAShard (filter p xs)
+  pub fewer_shards : (p : Task → Bool) (xs : List Task) → OneAShard xs → OneAShard (filter p xs)
   fewer_shards p [] h = tt
   fewer_shards p (x ∷ xs) h = by (p x) refl (fewer_shards p xs h.1)
     where

@@ -1,5 +1,6 @@
 -- What a task does all at once, in place of one record after another.
-use Rattle.std.specs.Prelude.{◌≡◌, ℕ, true, false, List, [], ◌∷◌, map, flat_map}
+use Rattle.std.specs.Prelude.{◌≡◌, ◌==◌, ℕ, true, false, List, [], ◌∷◌, map, filter, flat_map}
+use Rattle.std.specs.List.{AllByRecursion}
 use Rattle.td_stamp.specs.declared.values.Rec.{Rec}
 use Rattle.td_stamp.specs.Bag.{bag_insert, join, has}
 use Rattle.td_stamp.specs.Groups.{arrival_of}
@@ -10,7 +11,7 @@ use Rattle.td_calls.specs.Answers.{Answers}
 use Rattle.td_calls.specs.Callbacks.{Added, only_sent}
 use Rattle.td_machine.specs.declared.records.Message.{Message}
 use Rattle.td_machine.specs.declared.records.Stamped.{Stamped}
-use Rattle.td_machine.specs.State.{HallState, message_cmp, stamped_cmp, output_at_cmp, asked_of}
+use Rattle.td_machine.specs.State.{HallState, message_cmp, stamped_cmp, output_at_cmp, shard_of_key, asked_of}
 use Rattle.td_machine.specs.Steps.{posts, stamped, coming, comes_out, with_asked, waiting, all_delivered}
 
 -- a record at a vertex and a time
@@ -51,3 +52,15 @@ abbrev pub DeliveredAtOnce : Answers → Type 0
 DeliveredAtOnce answers = (S : HallState) (kind : Kind) (v port : ℕ) (t : Timestamp) (recs : List Rec) (others : List Message)
     → S.messages ≡ join message_cmp (coming v port t recs) others
     → all_delivered answers kind S (coming v port t recs) ≡ at_once answers S kind v port t recs others
+
+-- what is new depends only on which of these records were seen at the vertex and time
+abbrev pub FreshByMembers : Type 0
+FreshByMembers = (seen other : List Stamped) (v : ℕ) (t : Timestamp) (recs : List Rec)
+    → AllByRecursion (λ r. has stamped_cmp (stamped_at v t r) seen ≡ has stamped_cmp (stamped_at v t r) other) recs
+    → fresh seen v t recs ≡ fresh other v t recs
+
+-- so for the records of a shard what was seen in the shard will do
+abbrev pub FreshOfShard : Type 0
+FreshOfShard = (workers s : ℕ) (seen : List Stamped) (v : ℕ) (t : Timestamp) (recs : List Rec)
+    → AllByRecursion (λ r. shard_of_key workers r.key ≡ s) recs
+    → fresh (filter (λ x. shard_of_key workers x.rec.key == s) seen) v t recs ≡ fresh seen v t recs

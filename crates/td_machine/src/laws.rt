@@ -15,6 +15,8 @@ ghost use Rattle.td_stamp.specs.BagLaws.{BagLaws, SetLaws};
 ghost use Rattle.td_machine.specs.State.{message_cmp, stamped_cmp, left_cmp, output_at_cmp, notification_cmp};
 ghost use Rattle.td_machine.specs.AtOnce.{DeliveredAtOnce};
 ghost use Rattle.td_machine.specs.InOrder.{ListsInOrder, TasksInOrder};
+ghost use Rattle.td_machine.specs.AtOnce.{DeliveredAtOnce, FreshByMembers, FreshOfShard};
+ghost use Rattle.td_machine.specs.InOrder.{ListsInOrder, TasksInOrder, NumbersInOrder};
 ghost use Rattle.td_machine.specs.Moves.{StampsMove};
 
 use crate::records::{Message, Notification, OutputAt, Stamped, StateLeft};
@@ -136,11 +138,21 @@ pub fn delivered_at_once<L: Law>()
     laws_below();
 }
 
-/// The lists of a state that is reached are bags and sets in their orders; and what the tasks took up that are out is
-/// still there, each of a shard of its own.
+/// What is new to a distinct depends only on which of the records it has seen at their vertex and time, and so, for the
+/// records of a shard, only on what was seen in the shard.
+pub fn new_records()
+    ensures members { FreshByMembers }
+    ensures shard { FreshOfShard }
+{
+    laws_below();
+}
+
+/// The lists of a state that is reached are bags and sets in their orders; what the tasks took up that are out is still
+/// there, each of a shard of its own; and as many tasks were taken as were given or are out.
 pub fn reached_in_order<L: Law>()
     ensures lists { (S : HallState) → IsReached L.answers S → ListsInOrder S }
     ensures tasks { (S : HallState) → IsReached L.answers S → TasksInOrder S }
+    ensures numbers { (S : HallState) → IsReached L.answers S → NumbersInOrder S }
 {
     laws_below();
 }
