@@ -1,1 +1,4 @@
 pub mod CameLists
+pub mod Passing
+pub mod Taken
+pub mod CollectSteps

@@ -1,8 +1,12 @@
 -- What came to the outputs of a plan, epoch by epoch.
-use Rattle.std.specs.Prelude.{ℕ, ◌==◌, List, map, filter, flat_map}
+use Rattle.std.specs.Prelude.{ℕ, ◌+◌, ◌-◌, ◌==◌, nat_lt, List, map, filter, flat_map, length}
 use Rattle.td_stamp.specs.declared.values.Rec.{Rec}
 use Rattle.td_stamp.specs.declared.values.Output.{Output}
+use Rattle.td_stamp.specs.declared.epoch_out.EpochOut.{EpochOut}
 use Rattle.td_stamp.specs.Bag.{bag_of}
+use Rattle.td_batch.specs.Flow.{numbers_from}
+use Rattle.td_reach.specs.declared.stamp.Stamp.{Stamp}
+use Rattle.td_reach.specs.Frontier.{has_passed}
 use Rattle.td_machine.specs.declared.records.OutputAt.{OutputAt}
 use Rattle.td_machine.specs.State.{output_at_cmp}
 
@@ -29,3 +33,15 @@ came f epochs = bag_of output_at_cmp (listed f epochs)
 -- those of one epoch
 abbrev pub came_at : ℕ → List OutputAt → List Output
 came_at epoch outputs = map (λ o. o.output) (filter (λ o. o.epoch == epoch) outputs)
+
+-- what comes out of an epoch
+abbrev pub out_of : List OutputAt → ℕ → EpochOut
+out_of outputs epoch = record { epoch = epoch; recs = came_at epoch outputs }
+
+-- the epochs after one, and before the next that is released, that have passed
+abbrev pub passed_since : List Stamp → ℕ → ℕ → List ℕ
+passed_since active after next = filter (has_passed active) (numbers_from (after + 1) (next - (after + 1)))
+
+-- the outputs of later epochs
+abbrev pub later_than : ℕ → List OutputAt → List OutputAt
+later_than epoch outputs = filter (λ o. nat_lt epoch o.epoch) outputs

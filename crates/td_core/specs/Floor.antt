@@ -1,6 +1,6 @@
 -- How a hall keeps its state, and what is true of it. Messages stand in the mailboxes of shards, or with the task that took them up;
 -- what waits for a notification, and what is asked for, stands with its shard until the notification is given.
-use Rattle.std.specs.Prelude.{◌≡◌, ℕ, ◌+◌, ◌<◌, ◌≤◌, ◌^◌, List, [], ◌++◌, map, flat_map, length}
+use Rattle.std.specs.Prelude.{◌≡◌, ℕ, ◌≤◌, List, [], ◌++◌, map, flat_map, length}
 use Rattle.std.specs.List.{AllByRecursion, enumerate_from}
 use Rattle.std.specs.List.Sorted.{IsStrictlySortedBy}
 use Rattle.std.specs.Map.{keys_of}
@@ -85,5 +85,3 @@ pub record IsHall (answers : Answers) (h : Floor) : Type 0 where
   pub shards : AllByRecursion (IsShard (length h.shards.items)) (enumerate_from 0 h.shards.items)
   pub few : length h.shards.items ≤ 16
   pub next : h.next ≤ ends
-  pub taken : h.taken ≤ ends
-  pub out : h.given + length h.out.items ≡ h.taken

@@ -1,3 +1,4 @@
 pub mod Refusals
 pub mod Came
 pub mod Floor
+pub mod Collected

@@ -1,6 +1,7 @@
 //! The hall: the engine itself, on one thread.
 #![tactic(auto)]
 
+mod collect;
 mod error;
 mod floor;
 mod hall;

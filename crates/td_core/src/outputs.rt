@@ -1,8 +1,8 @@
 //! What came to the outputs.
-ghost use Rattle.std.specs.Prelude.{◌≡◌, ◌==◌, ◌++◌, [], not, filter, map, nat_lt, OnOk, OnErr};
+ghost use Rattle.std.specs.Prelude.{◌≡◌, ◌==◌, ◌++◌, [], not, filter, map, OnOk, OnErr};
 ghost use Rattle.td_stamp.specs.Bag.{join};
 ghost use Rattle.td_machine.specs.State.{output_at_cmp};
-ghost use Rattle.td_core.specs.Came.{output_of, output_at, came_at};
+ghost use Rattle.td_core.specs.Came.{output_of, output_at, came_at, later_than};
 
 use crate::error::HallError;
 use std::alloc::Global;
@@ -81,6 +81,14 @@ impl Outputs {
             epoch,
             recs: Bag::from_vec(self.alloc, outputs),
         }
+    }
+
+    /// Lets go what came in epochs up to this one. Takes no memory.
+    pub fn let_go(&mut self, epoch: u64)
+        ensures { self.new ≡ later_than epoch self.old }
+    {
+        bags_of_states();
+        self.epochs.retain(|came_in, _outputs| epoch < *came_in);
     }
 }
 

@@ -1,0 +1,54 @@
+-- A hall that is collected takes the machine's step.
+use Rattle.std.proofs.Common.{◌≡◌, ℕ, ◌+◌, ◌-◌, List, map, filter, length, true, Result, Ok, Err, IfOk, OnOk, OnErr, Vec, Global, refl, ap, sym, ◌∙◌, subst}
+use Rattle.td_stamp.specs.declared.epoch_out.EpochOut.{EpochOut}
+use Rattle.td_calls.specs.Answers.{Answers}
+use Rattle.td_batch.specs.Flow.{numbers_from}
+use Rattle.td_reach.specs.declared.stamp.Stamp.{Stamp}
+use Rattle.td_reach.specs.Frontier.{has_passed}
+use Rattle.td_progress.specs.Bag.{IsSameBag}
+use Rattle.td_machine.specs.State.{HallState}
+use Rattle.td_machine.specs.Active.{active}
+use Rattle.td_machine.specs.Steps.{Event, Answer, Step, collect_step, collected_to, to_collect}
+use Rattle.td_machine.specs.Steps.Event.{collect}
+use Rattle.td_machine.specs.Steps.Answer.{has_collected}
+use Rattle.td_machine.specs.Reached.{IsReached}
+use Rattle.td_core.specs.declared.floor.Floor.{Floor}
+use Rattle.td_core.specs.declared.error.HallError.{HallError}
+use Rattle.td_core.specs.Floor.{state_of, IsHall}
+use Rattle.td_core.specs.Came.{out_of, passed_since}
+use Rattle.td_core.specs.Collected.{last_of, without_passed}
+
+-- passed epochs are those of any list with the same pointstamps
+abbrev pub PassedAlike : Type 0
+PassedAlike = (xs ys : List Stamp) (epoch : ℕ) → IsSameBag xs ys → has_passed xs epoch ≡ has_passed ys epoch
+
+-- each step leads to a state that plays reach
+abbrev pub ReachedByStep : Answers → Type 0
+ReachedByStep answers = (S T : HallState) (event : Event) (answer : Answer) → IsReached answers S → Step answers S event answer T → IsReached answers T
+
+module _ (alike : PassedAlike) (floor : Floor) (counted : IsSameBag floor.table.stamps (active (state_of floor))) where
+  passed_here : passed_since floor.table.stamps floor.collected floor.next ≡ to_collect (state_of floor)
+  passed_here = λ i. filter (λ e. alike floor.table.stamps (active (state_of floor)) e counted i) (numbers_from (floor.collected + 1) (floor.next - (floor.collected + 1)))
+
+  pub stepped : collect_step (state_of floor) ≡ (has_collected (map (out_of floor.outputs) (passed_since floor.table.stamps floor.collected floor.next)), state_of (without_passed floor))
+  stepped = sym (λ i. (has_collected (map (out_of floor.outputs) (passed_here i)), collected_to (state_of floor) (floor.collected + length (passed_here i))))
+
+module _ (answers : Answers) (alike : PassedAlike) (steps : ReachedByStep answers) (floor new : Floor) (inv : IsHall answers floor) where
+  kept : IsHall answers (without_passed floor)
+  kept = record {
+    reached = steps (state_of floor) (state_of (without_passed floor)) collect _ inv.reached (stepped alike floor inv.counted);
+    counted = inv.counted;
+    inputs = inv.inputs;
+    shards = inv.shards;
+    few = inv.few;
+    next = inv.next;
+  }
+
+  pub still_hall : (r : Result (Vec EpochOut Global) HallError) → OnOk r (new ≡ without_passed floor) → OnErr r (new ≡ floor) → IsHall answers new
+  still_hall (Ok outs) e f = subst (IsHall answers) (sym e) kept
+  still_hall (Err why) e f = subst (IsHall answers) (sym f) inv
+
+  pub answered : (r : Result (Vec EpochOut Global) HallError) → IfOk r (λ outs. outs.items ≡ map (out_of floor.outputs) (passed_since floor.table.stamps floor.collected floor.next))
+      → OnOk r (new ≡ without_passed floor) → (S : HallState) → state_of floor ≡ S → IfOk r (λ outs. collect_step S ≡ (has_collected outs.items, state_of new))
+  answered (Ok outs) e f S is = ap collect_step (sym is) ∙ (stepped alike floor inv.counted ∙ sym (λ i. (has_collected (e i), state_of (f i))))
+  answered (Err why) e f S is = tt
