@@ -14,6 +14,7 @@ ghost use Rattle.td_machine.specs.Below.{Below};
 ghost use Rattle.td_machine.specs.AtOnce.{DeliveredAtOnce, FreshByMembers, FreshOfShard};
 ghost use Rattle.td_machine.specs.InOrder.{ListsInOrder, TasksInOrder, NumbersInOrder};
 ghost use Rattle.td_machine.specs.Moves.{StampsMove};
+ghost use Rattle.td_machine.specs.ByEdge.{PostsByEdge, StampsByEdge, StampsOfTask, OutputsAtOnce, AsksOnce};
 
 use crate::records::{Message, Notification, OutputAt, Stamped, StateLeft};
 use td_calls::Law;
@@ -147,6 +148,19 @@ pub fn reached_in_order<L: Law>()
 /// one epoch to the next.
 pub fn stamps_move<L: Law>()
     ensures { StampsMove L.answers }
+{
+    laws_below();
+}
+
+/// What a task does, in the parts in which it is done: the messages that a vertex sends, edge by edge, and their
+/// pointstamps; the pointstamps of the task's own records; what it leaves at an output; and the one notification for
+/// which its records ask.
+pub fn in_parts()
+    ensures posts { PostsByEdge }
+    ensures stamps { StampsByEdge }
+    ensures own_stamps { StampsOfTask }
+    ensures outputs { OutputsAtOnce }
+    ensures asked { AsksOnce }
 {
     laws_below();
 }
