@@ -14,6 +14,7 @@ ghost use Rattle.td_machine.specs.Below.{Below};
 ghost use Rattle.td_machine.specs.AtOnce.{DeliveredAtOnce, FreshByMembers, FreshOfShard};
 ghost use Rattle.td_machine.specs.InOrder.{ListsInOrder, TasksInOrder, NumbersInOrder};
 ghost use Rattle.td_machine.specs.Moves.{StampsMove};
+ghost use Rattle.td_machine.specs.Waits.{WaitsByPlace, WhatWaits, AskedPassing};
 ghost use Rattle.td_machine.specs.ByEdge.{PostsByEdge, StampsByEdge, StampsOfTask, OutputsAtOnce, AsksOnce};
 
 use crate::records::{Message, Notification, OutputAt, Stamped, StateLeft};
@@ -161,6 +162,16 @@ pub fn in_parts()
     ensures own_stamps { StampsOfTask }
     ensures outputs { OutputsAtOnce }
     ensures asked { AsksOnce }
+{
+    laws_below();
+}
+
+/// What a notification is taken with is what waits for it in its shard, group by group, and when it is given, what waits
+/// for others is left; of what is asked for, those that pass a test are the set of those that pass.
+pub fn what_waits()
+    ensures place { WaitsByPlace }
+    ensures items { WhatWaits }
+    ensures asked { AskedPassing }
 {
     laws_below();
 }
