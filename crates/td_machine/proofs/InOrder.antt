@@ -65,7 +65,7 @@ strict_filter cmp p (x ∷ xs) h = by (p x) refl (strict_filter cmp p xs h.1)
     by false e rest = subst (Strict cmp) (sym (filter_no p x xs e)) rest
 
 module _ {X : Type 0} (cmp : X → X → Ordering) (total : IsTotalOrder cmp) where
-  strict_set_insert : (x : X) (ys : List X) → Strict cmp ys → Strict cmp (set_insert cmp x ys)
+  pub strict_set_insert : (x : X) (ys : List X) → Strict cmp ys → Strict cmp (set_insert cmp x ys)
   strict_set_insert x [] h = (tt, tt)
   strict_set_insert x (y ∷ ys) h = by (cmp x y) refl (strict_set_insert x ys h.1)
     where

@@ -58,7 +58,7 @@ module _ {X : Type 0} (of : X → Stamp) (test : Stamp → Bool) where
         by Equal e rest = ap many (insert_before_equal cmp x y ys e) ∙ one_more x (y ∷ ys)
         by Greater e rest = let a = one_more y (bag_insert cmp x ys) in let b = one_more y ys in ap many (insert_past cmp x y ys e) ∙ omega (arith, a, b, rest)
 
-    many_joined : (xs ys : List X) → many (join cmp xs ys) ≡ many xs + many ys
+    pub many_joined : (xs ys : List X) → many (join cmp xs ys) ≡ many xs + many ys
     many_joined [] ys = omega arith
     many_joined (x ∷ xs) ys = let a = more_inserted x (join cmp xs ys) in let b = one_more x xs in let c = many_joined xs ys in omega (arith, a, b, c)
 
@@ -153,7 +153,7 @@ module _ (S : HallState) (s v port : ℕ) (t : Timestamp) where
   asked_once r [] h = ap (λ a. set_insert notification_cmp a S.asked) (asks_same r h.0)
   asked_once r (q ∷ recs) h = (λ i. set_insert notification_cmp (asks_same r h.0 i) (asked_once q recs h.1 i)) ∙ put_twice (asked_at S s v t) S.asked
 
-  some_asked : (recs : List Rec) → 0 < length recs → OfShard recs → with_asked (map asks (map (arrival_of port) recs)) S.asked ≡ set_insert notification_cmp (asked_at S s v t) S.asked
+  pub some_asked : (recs : List Rec) → 0 < length recs → OfShard recs → with_asked (map asks (map (arrival_of port) recs)) S.asked ≡ set_insert notification_cmp (asked_at S s v t) S.asked
   some_asked [] l h = absurd (omega (arith, l))
   some_asked (r ∷ recs) l h = asked_once r recs h
 

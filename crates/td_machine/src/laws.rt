@@ -18,6 +18,8 @@ ghost use Rattle.td_machine.specs.InOrder.{ListsInOrder, TasksInOrder};
 ghost use Rattle.td_machine.specs.AtOnce.{DeliveredAtOnce, FreshByMembers, FreshOfShard};
 ghost use Rattle.td_machine.specs.InOrder.{ListsInOrder, TasksInOrder, NumbersInOrder};
 ghost use Rattle.td_machine.specs.Moves.{StampsMove};
+ghost use Rattle.td_machine.specs.Waits.{WaitsByPlace, WhatWaits, AskedPassing};
+ghost use Rattle.td_machine.specs.ByEdge.{PostsByEdge, StampsByEdge, StampsOfTask, OutputsAtOnce, AsksOnce};
 
 use crate::records::{Message, Notification, OutputAt, Stamped, StateLeft};
 use td_calls::Law;
@@ -162,6 +164,29 @@ pub fn reached_in_order<L: Law>()
 /// one epoch to the next.
 pub fn stamps_move<L: Law>()
     ensures { StampsMove L.answers }
+{
+    laws_below();
+}
+
+/// What a task does, in the parts in which it is done: the messages that a vertex sends, edge by edge, and their
+/// pointstamps; the pointstamps of the task's own records; what it leaves at an output; and the one notification for
+/// which its records ask.
+pub fn in_parts()
+    ensures posts { PostsByEdge }
+    ensures stamps { StampsByEdge }
+    ensures own_stamps { StampsOfTask }
+    ensures outputs { OutputsAtOnce }
+    ensures asked { AsksOnce }
+{
+    laws_below();
+}
+
+/// What a notification is taken with is what waits for it in its shard, group by group, and when it is given, what waits
+/// for others is left; of what is asked for, those that pass a test are the set of those that pass.
+pub fn what_waits()
+    ensures place { WaitsByPlace }
+    ensures items { WhatWaits }
+    ensures asked { AskedPassing }
 {
     laws_below();
 }

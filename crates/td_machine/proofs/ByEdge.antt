@@ -1,0 +1,100 @@
+-- What a vertex sends, edge by edge.
+use Rattle.std.proofs.Common.{◌≡◌, ℕ, List, [], ◌∷◌, ◌++◌, map, flat_map, replicate, length, count_by, refl, ap, sym, ◌∙◌, arith}
+use Rattle.td_stamp.specs.declared.values.Rec.{Rec}
+use Rattle.td_stamp.specs.Time.{Timestamp}
+use Rattle.td_stamp.specs.Bag.{join, bag_of}
+use Rattle.td_plan.specs.declared.vertex.Edge.{Edge}
+use Rattle.td_plan.specs.declared.vertex.Kind.TheVariants.{Input, Map, Distinct, Group, Fold, Enter, Feedback, Leave, Output}
+use Rattle.td_plan.specs.Lines.{Line}
+use Rattle.td_machine.specs.declared.records.Message.{Message}
+use Rattle.td_machine.specs.declared.records.OutputAt.{OutputAt}
+use Rattle.td_machine.specs.State.{message_cmp}
+use Rattle.td_machine.specs.Active.{stamp_of_message}
+use Rattle.td_machine.specs.Steps.{posts, posted, stamped, coming, comes_out, on_edge, edges_from}
+use Rattle.td_machine.specs.AtOnce.{stamped_at}
+use Rattle.td_machine.specs.ByEdge.{times_from, on_edges, posts_by_edge, PostsByEdge, stamp_on, StampsByEdge, StampsOfTask, OutputsAtOnce, AsksOnce}
+use Rattle.td_machine.proofs.Bags.{join-bag_of}
+use Rattle.td_machine.proofs.Exchanges.{parts_alike, exchanged}
+use Rattle.td_machine.proofs.Moves.{many, many_joined, some_asked}
+use Rattle.td_machine.proofs.Passed.{map_flat}
+use Rattle.td_machine.specs.Below.{Below}
+
+-- lists that maps and parts give
+flat_of_map : {A B C : Type 0} (g : B → List C) (f : A → B) (xs : List A) → flat_map g (map f xs) ≡ flat_map (λ x. g (f x)) xs
+flat_of_map g f [] = refl
+flat_of_map g f (x ∷ xs) = ap (λ l. g (f x) ++ l) (flat_of_map g f xs)
+
+map_is_flat : {A B : Type 0} (f : A → B) (xs : List A) → map f xs ≡ flat_map (λ x. f x ∷ []) xs
+map_is_flat f [] = refl
+map_is_flat f (x ∷ xs) = ap (λ l. f x ∷ l) (map_is_flat f xs)
+
+same_parts : {A B : Type 0} (f g : A → List B) → ((x : A) → f x ≡ g x) → (xs : List A) → flat_map f xs ≡ flat_map g xs
+same_parts f g h [] = refl
+same_parts f g h (x ∷ xs) = λ i. h x i ++ same_parts f g h xs i
+
+nothing_comes : {A B : Type 0} (xs : List A) → flat_map (λ (x : A). let l : List B = [] in l) xs ≡ []
+nothing_comes [] = refl
+nothing_comes (x ∷ xs) = nothing_comes xs
+
+module _ (below : Below) (plan : List Line) (v : ℕ) (t : Timestamp) (recs : List Rec) where
+  abbrev out : List Edge
+  out = edges_from plan v
+
+  abbrev later_ones : List Timestamp
+  later_ones = times_from plan v t
+
+  -- at one time: edge by edge
+  at_time : (later : Timestamp) → bag_of message_cmp (flat_map (λ r. map (on_edge later r) out) recs) ≡ bag_of message_cmp (on_edges plan v recs later)
+  at_time later =
+      ap (bag_of message_cmp) (same_parts (λ r. map (on_edge later r) out) (λ r. flat_map (λ e. on_edge later r e ∷ []) out) (λ r. map_is_flat (on_edge later r) out) recs)
+      ∙ exchanged message_cmp below.messages (λ r e. on_edge later r e ∷ []) recs out
+      ∙ ap (bag_of message_cmp) (same_parts (λ e. flat_map (λ r. on_edge later r e ∷ []) recs) (λ e. coming e.reader e.port later recs) (λ e. sym (map_is_flat (λ r. on_edge later r e) recs)) out)
+
+  bags_alike : bag_of message_cmp (posts plan (stamped v t recs)) ≡ bag_of message_cmp (posts_by_edge plan v t recs)
+  bags_alike =
+      ap (bag_of message_cmp) (flat_of_map (posted plan) (stamped_at v t) recs)
+      ∙ exchanged message_cmp below.messages (λ r later. map (on_edge later r) out) recs later_ones
+      ∙ parts_alike message_cmp below.messages (λ later. flat_map (λ r. map (on_edge later r) out) recs) (on_edges plan v recs) at_time later_ones
+
+pub posts_are_by_edge : Below → PostsByEdge
+posts_are_by_edge below plan v t recs others =
+    sym (join-bag_of message_cmp below.messages (posts plan (stamped v t recs)) others) ∙ ap (λ l. join message_cmp l others) (bags_alike below plan v t recs)
+    ∙ join-bag_of message_cmp below.messages (posts_by_edge plan v t recs) others
+
+pub stamps_of_task : StampsOfTask
+stamps_of_task plan v port t [] = refl
+stamps_of_task plan v port t (r ∷ recs) = ap (λ l. stamp_of_message plan (record { vertex = v; port = port; time = t; rec = r }) ∷ l) (stamps_of_task plan v port t recs)
+
+pub stamps_are_by_edge : Below → StampsByEdge
+stamps_are_by_edge below plan v t recs test =
+    let f = stamp_of_message plan in
+    let a : many f test (bag_of message_cmp (posts plan (stamped v t recs))) ≡ many f test (bag_of message_cmp (posts_by_edge plan v t recs)) = ap (many f test) (bags_alike below plan v t recs) in
+    let b = many_joined f test message_cmp (posts plan (stamped v t recs)) [] in
+    let c = many_joined f test message_cmp (posts_by_edge plan v t recs) [] in
+    let d : many f test (posts plan (stamped v t recs)) ≡ many f test (posts_by_edge plan v t recs) = omega (arith, a, b, c) in
+    d ∙ ap (count_by test) (map_flat below f (on_edges plan v recs) (times_from plan v t)
+    ∙ same_parts (λ later. map f (on_edges plan v recs later)) (λ later. flat_map (λ e. replicate (length recs) (stamp_on plan later e)) (edges_from plan v)) (λ later. at_one later) (times_from plan v t))
+  where
+    at_one : (later : Timestamp) → map (stamp_of_message plan) (on_edges plan v recs later) ≡ flat_map (λ e. replicate (length recs) (stamp_on plan later e)) (edges_from plan v)
+    at_one later =
+        map_flat below (stamp_of_message plan) (λ e. coming e.reader e.port later recs) (edges_from plan v)
+        ∙ same_parts (λ e. map (stamp_of_message plan) (coming e.reader e.port later recs)) (λ e. replicate (length recs) (stamp_on plan later e)) (λ e. stamps_of_task plan e.reader e.port later recs) (edges_from plan v)
+
+-- WHAT COMES OUT
+none_out : (v port : ℕ) (t : Timestamp) (recs : List Rec) → flat_map (λ (c : Message). let l : List OutputAt = [] in l) (coming v port t recs) ≡ []
+none_out v port t recs = nothing_comes (coming v port t recs)
+
+pub outputs_at_once : OutputsAtOnce
+outputs_at_once Input v port t recs = none_out v port t recs
+outputs_at_once (Map code) v port t recs = none_out v port t recs
+outputs_at_once Distinct v port t recs = none_out v port t recs
+outputs_at_once (Group code) v port t recs = none_out v port t recs
+outputs_at_once (Fold code) v port t recs = none_out v port t recs
+outputs_at_once Enter v port t recs = none_out v port t recs
+outputs_at_once Feedback v port t recs = none_out v port t recs
+outputs_at_once Leave v port t recs = none_out v port t recs
+outputs_at_once Output v port t recs =
+    flat_of_map (comes_out Output) (λ r. record { vertex = v; port = port; time = t; rec = r }) recs ∙ sym (map_is_flat (λ r. record { epoch = t.epoch; output = record { vertex = v; rec = r } }) recs)
+
+pub asks_once : AsksOnce
+asks_once S s v port t recs some of_shard = some_asked S s v port t recs some of_shard
