@@ -1,12 +1,12 @@
 -- Lists that are kept end to end.
-use Rattle.std.proofs.Common.{◌≡◌, ℕ, zero, suc, ◌+◌, ◌-◌, ◌<◌, ◌≤◌, List, [], ◌∷◌, ◌++◌, length, take, drop, get_or, refl, ap, sym, ◌∙◌, arith}
+use Rattle.std.proofs.Common.{◌≡◌, ℕ, zero, suc, ◌+◌, ◌-◌, ◌<◌, ◌≤◌, List, [], ◌∷◌, ◌++◌, length, take, drop, get_or, set, refl, ap, sym, ◌∙◌, arith, length-append}
 use Rattle.std.specs.Prelude.{slice_get, slice_range, Some}
 use Rattle.std.specs.List.{flat_map}
 use Rattle.std.specs.Option.{option_map}
 use Rattle.std.proofs.lemmas.List.{drop-append-le, take-append-le, length-drop, length-take-le, drop_all, take_all}
 use Rattle.std.proofs.lemmas.List.Folds.{drop_split}
 use Rattle.std.proofs.Math.Seq.{drop-append_seam}
-use Rattle.td_task.specs.Cuts.{cut, EndsAt, start_of}
+use Rattle.td_task.specs.Cuts.{cut, EndsAt, start_of, with_last}
 
 -- what begins somewhere ends before the end of all
 pub ends_within : (start n : ℕ) (ends : List ℕ) → EndsAt start ends n → start ≤ n
@@ -35,6 +35,37 @@ cut-add start [] all xs h = ap (λ l. l ∷ []) (slice_range-last all xs start h
 cut-add start (e ∷ ends) all xs h =
     ap (λ l. l ∷ cut e (ends ++ (length all + length xs) ∷ []) (all ++ xs)) (slice_range-append all xs start e h.0 (ends_within e (length all) ends h.1))
     ∙ ap (λ ls. slice_range all start e ∷ ls) (cut-add e ends all xs h.1)
+
+-- ONE MORE MEMBER of the last list
+slice_range-longer : {X : Type 0} (all : List X) (x : X) (a : ℕ) → a ≤ length all → slice_range (all ++ x ∷ []) a (length all + 1) ≡ slice_range all a (length all) ++ x ∷ []
+slice_range-longer all x a h =
+    let short : length (drop a all) ≤ length all - a = omega (arith, length-drop a all) in
+    let long : length (drop a (all ++ x ∷ [])) ≤ (length all + 1) - a = omega (arith, length-drop a (all ++ x ∷ []), length-append all (x ∷ [])) in
+    take_all _ (drop a (all ++ x ∷ [])) long ∙ drop-append-le a all (x ∷ []) h ∙ ap (λ l. l ++ x ∷ []) (sym (take_all _ (drop a all) short))
+
+pub EndsAt-longer : (start n i : ℕ) (ends : List ℕ) → suc i ≡ length ends → EndsAt start ends n → EndsAt start (set ends i (n + 1)) (n + 1)
+EndsAt-longer start n i [] last h = absurd (omega (arith, last))
+EndsAt-longer start n zero (e ∷ []) last h = let k : start ≤ e = h.0 in let l : e ≡ n = h.1 in (omega (arith, k, l), refl)
+EndsAt-longer start n zero (e ∷ f ∷ ends) last h = absurd (omega (arith, last))
+EndsAt-longer start n (suc i) (e ∷ ends) last h = (h.0, EndsAt-longer e n i ends (omega (arith, last)) h.1)
+
+pub cut-longer : {X : Type 0} (start i : ℕ) (ends : List ℕ) (all : List X) (x : X) → suc i ≡ length ends → EndsAt start ends (length all) →
+    cut start (set ends i (length all + 1)) (all ++ x ∷ []) ≡ with_last (cut start ends all) x
+cut-longer start i [] all x last h = absurd (omega (arith, last))
+cut-longer start zero (e ∷ []) all x last h =
+    let k : start ≤ e = h.0 in
+    let l : e ≡ length all = h.1 in
+    ap (λ l. l ∷ []) (slice_range-longer all x start (omega (arith, k, l)) ∙ ap (λ n. slice_range all start n ++ x ∷ []) (sym l))
+cut-longer start zero (e ∷ f ∷ ends) all x last h = absurd (omega (arith, last))
+cut-longer start (suc i) (e ∷ []) all x last h = absurd (omega (arith, last))
+cut-longer start (suc i) (e ∷ f ∷ ends) all x last h =
+    ap (λ l. l ∷ cut e (set (f ∷ ends) i (length all + 1)) (all ++ x ∷ [])) (slice_range-append all (x ∷ []) start e h.0 (ends_within e (length all) (f ∷ ends) h.1))
+    ∙ ap (λ ls. slice_range all start e ∷ ls) (cut-longer e i (f ∷ ends) all x (omega (arith, last)) h.1)
+
+pub length-with_last : {X : Type 0} (lists : List (List X)) (x : X) → length (with_last lists x) ≡ length lists
+length-with_last [] x = refl
+length-with_last (l ∷ []) x = refl
+length-with_last (l ∷ m ∷ lists) x = ap suc (length-with_last (m ∷ lists) x)
 
 -- ALL MEMBERS
 pub all_of_cut : {X : Type 0} (start : ℕ) (ends : List ℕ) (all : List X) → EndsAt start ends (length all) →

@@ -1,10 +1,13 @@
 -- Keys with states, and their items beside them.
-use Rattle.std.proofs.Common.{◌≡◌, ℕ, zero, suc, List, [], ◌∷◌, ◌++◌, length, map, refl, ap, sym, ◌∙◌, arith}
-use Rattle.std.specs.Prelude.{slice_get, Some, None}
+use Rattle.std.proofs.Common.{◌≡◌, ℕ, zero, suc, List, [], ◌∷◌, ◌++◌, length, map, set, refl, ap, sym, ◌∙◌, arith}
+use Rattle.std.specs.Prelude.{slice_get, Option, Some, None}
 use Rattle.td_stamp.specs.declared.values.Item.{Item}
+use Rattle.td_stamp.specs.declared.values.State.{State}
 use Rattle.td_machine.specs.State.{KeyItems}
 use Rattle.td_task.specs.declared.keyed.Key.{Key}
-use Rattle.td_task.specs.KeyLists.{with_items}
+use Rattle.td_task.specs.KeyLists.{with_items, with_state}
+use Rattle.td_task.specs.Cuts.{with_last}
+use Rattle.td_task.specs.Arriving.{into_last}
 
 pub length-with_items : (keys : List Key) (items : List (List Item)) → length keys ≡ length items → length (with_items keys items) ≡ length keys
 length-with_items [] items h = refl
@@ -37,6 +40,28 @@ with_items-no_items [] items i e = refl
 with_items-no_items (x ∷ keys) [] i e = refl
 with_items-no_items (x ∷ keys) (y ∷ items) zero e = absurd (cc)
 with_items-no_items (x ∷ keys) (y ∷ items) (suc i) e = with_items-no_items keys items i e
+
+-- another state for the key at a place
+pub with_items-set : (keys : List Key) (items : List (List Item)) (i : ℕ) (q : Key) (k : KeyItems) (state : Option State) → slice_get keys i ≡ Some q → slice_get (with_items keys items) i ≡ Some k →
+    with_items (set keys i (record { key = q.key; state = state })) items ≡ set (with_items keys items) i (with_state k state)
+with_items-set [] items i q k state e f = absurd (cc)
+with_items-set (x ∷ keys) [] i q k state e f = absurd (cc)
+with_items-set (x ∷ keys) (y ∷ items) zero q k state e f =
+    let a : x ≡ q = cc in
+    let b : record { key = x.key; items = y; state = x.state } ≡ k = cc in
+    ap (λ (z : Key). record { key = z.key; items = y; state = state } ∷ with_items keys items) (sym a)
+    ∙ ap (λ (z : KeyItems). with_state z state ∷ with_items keys items) b
+with_items-set (x ∷ keys) (y ∷ items) (suc i) q k state e f = ap (λ rest. record { key = x.key; items = y; state = x.state } ∷ rest) (with_items-set keys items i q k state e f)
+
+-- one more item of the last key
+pub with_items-last : (keys : List Key) (items : List (List Item)) (i : Item) → length keys ≡ length items → with_items keys (with_last items i) ≡ into_last (with_items keys items) i
+with_items-last [] [] i h = refl
+with_items-last [] (l ∷ items) i h = absurd (omega (arith, h))
+with_items-last (k ∷ keys) [] i h = absurd (omega (arith, h))
+with_items-last (k ∷ []) (l ∷ []) i h = refl
+with_items-last (k ∷ []) (l ∷ m ∷ items) i h = absurd (omega (arith, h))
+with_items-last (k ∷ n ∷ keys) (l ∷ []) i h = absurd (omega (arith, h))
+with_items-last (k ∷ n ∷ keys) (l ∷ m ∷ items) i h = ap (λ rest. record { key = k.key; items = l; state = k.state } ∷ rest) (with_items-last (n ∷ keys) (m ∷ items) i (omega (arith, h)))
 
 -- the keys and the items are told by what they make
 abbrev key_with : KeyItems → Key

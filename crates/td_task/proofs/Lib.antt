@@ -1,4 +1,6 @@
 mod CutLists
+mod Grouping
 mod KeysWithItems
 mod OneMore
 mod SameValues
+mod Sends

@@ -1,12 +1,13 @@
 -- What the closure of a task's vertex answers it: one answer for each record that comes to a map, and one for each key of a
 -- notification of a group or a fold. The records that come to other kinds are passed on or kept without a closure.
-use Rattle.std.specs.Prelude.{List, [], map, Option}
+use Rattle.std.specs.Prelude.{ℕ, List, [], ◌∷◌, length, map, Option}
 use Rattle.td_stamp.specs.declared.values.Rec.{Rec}
 use Rattle.td_stamp.specs.declared.values.State.{State}
 use Rattle.td_plan.specs.declared.vertex.Kind.{Kind}
 use Rattle.td_plan.specs.declared.vertex.Kind.TheVariants.{Map, Group, Fold}
 use Rattle.td_calls.specs.Answers.{Answers}
 use Rattle.td_calls.specs.Callbacks.{on_notification}
+use Rattle.td_machine.specs.declared.records.StateLeft.{StateLeft}
 use Rattle.td_machine.specs.State.{KeyItems, Content, Task}
 use Rattle.td_machine.specs.State.Content.{messages, notification}
 
@@ -36,3 +37,19 @@ answers_of answers task = sent_of answers task.kind task.content
 
 abbrev pub states_for : Answers → Task → List (Option State)
 states_for answers task = states_of answers task.kind task.content
+
+-- how many answers there are, and how many states
+abbrev pub answer_count : Kind → Content → ℕ
+answer_count (Map code) (messages port recs) = length recs
+answer_count (Group code) (notification items) = length items
+answer_count (Fold code) (notification items) = length items
+answer_count _ _ = 0
+
+abbrev pub state_count : Kind → Content → ℕ
+state_count (Fold code) (notification items) = length items
+state_count _ _ = 0
+
+-- states that are left for keys, one after another, at an epoch and a vertex
+abbrev pub left_for : ℕ → ℕ → List KeyItems → List (Option State) → List StateLeft
+left_for e v (k ∷ keys) (state ∷ states) = record { epoch = e; vertex = v; key = k.key; state = state } ∷ left_for e v keys states
+left_for e v _ _ = []

@@ -1,4 +1,5 @@
 pub mod Answered
+pub mod Arriving
 pub mod Contents
 pub mod Cuts
 pub mod KeyAts

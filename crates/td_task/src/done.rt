@@ -7,7 +7,7 @@ ghost use Rattle.td_task.specs.Answered.{answers_of, states_for};
 ghost use Rattle.td_task.specs.Refusals.{refusal};
 
 use crate::error::TaskError;
-use crate::run::{Answers, answered};
+use crate::run::{Answers, answer};
 use crate::task::Task;
 use std::alloc::Global;
 use std::marker::{Model, PhantomData};
@@ -16,8 +16,8 @@ use td_stamp::{Rec, State};
 
 impl Task {
     /// Runs the task: calls the closure of its vertex for each record, where that is a map, or for each key of a
-    /// notification, where it is a group or a fold. The records that come to other kinds have no answers. It takes memory
-    /// once, before the first call of a closure. Refusals, with the task handed back: `NoCall` with the vertex and the
+    /// notification, where it is a group or a fold. The records that come to other kinds have no answers. It takes all
+    /// memory before the first call of a closure: two allocations, three for a fold. Refusals, with the task handed back: `NoCall` with the vertex and the
     /// code where a map, a group or a fold lacks its closure, and `Memory`.
     pub fn run<L: Law, C: Closures<L>>(
         self,
@@ -32,12 +32,15 @@ impl Task {
         if let Some(code) = calls.lacking_code(self.kind()) {
             return Err((TaskError::NoCall(self.vertex(), code), self));
         }
-        match answered::<L, C>(alloc, calls, self.kind(), self.work()) {
-            Ok(answers) => Ok(Done {
-                task: self,
-                answers,
-                law: PhantomData,
-            }),
+        match Answers::room(alloc, self.kind(), self.work()) {
+            Ok(mut answers) => {
+                answer::<L, C>(calls, self.kind(), self.work(), &mut answers);
+                Ok(Done {
+                    task: self,
+                    answers,
+                    law: PhantomData,
+                })
+            }
             Err(error) => Err((error, self)),
         }
     }
@@ -61,7 +64,7 @@ impl<L: Law> Model for Done<L> {
 
     ghost view = { λ d. d.task };
 
-    ghost invariant = { λ d. (d.answers.sent ≡ answers_of L.answers d.task) × (d.answers.states.items ≡ states_for L.answers d.task) };
+    ghost invariant = { λ d. (d.answers.sent.lists ≡ answers_of L.answers d.task) × (d.answers.states.items ≡ states_for L.answers d.task) };
 }
 
 impl<L: Law> Done<L> {

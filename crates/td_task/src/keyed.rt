@@ -1,12 +1,17 @@
 //! What a notification is given: keys with their items and states.
-ghost use Rattle.std.specs.Prelude.{◌≡◌, ◌↔◌, IsTrue, ◌<◌, ◌∷◌, ◌++◌, [], OnOk, OnErr, length, slice_get, Some};
+ghost use Rattle.std.specs.Prelude.{◌≡◌, ◌↔◌, IsTrue, ◌<◌, ◌^◌, ◌∷◌, ◌++◌, ◌+◌, ◌≤◌, [], false, map, OnOk, OnErr, IfOk, IfErr, Option, length, slice_get, slice_set, Some, None, true, vec_len, vec_capacity};
+ghost use Rattle.td_stamp.specs.Groups.{groups};
+ghost use Rattle.td_machine.specs.State.{KeyItems as AnyKey};
+ghost use Rattle.td_task.specs.Arriving.{is_key, keys_after, with_arrival_by};
 ghost use Rattle.td_task.specs.KeyAts.{key_items};
+ghost use Rattle.td_task.specs.KeyLists.{with_items, with_state, without_state};
+ghost use Rattle.td_task.specs.declared.error.TaskError.TheVariants.{Memory};
 
 use crate::error::TaskError;
 use crate::lists::Lists;
 use std::alloc::Global;
 use std::marker::Model;
-use td_stamp::{Item, State};
+use td_stamp::{Arrival, Bag, Item, State, laws};
 
 /// A key, and the state that is kept for it.
 #[derive(Clone, Copy, Debug, PartialEq, Eq)]
@@ -40,9 +45,9 @@ impl Model for KeyedItems {
 
     ghost Value = { List KeyItems };
 
-    ghost view = { λ k. with_items k.keys.items k.items };
+    ghost view = { λ k. with_items k.keys.items k.items.lists };
 
-    ghost invariant = { λ k. length k.keys.items ≡ length k.items };
+    ghost invariant = { λ k. length k.keys.items ≡ length k.items.lists };
 }
 
 impl KeyedItems {
@@ -56,6 +61,25 @@ impl KeyedItems {
         }
     }
 
+    /// The keys of some arrivals in order, each with its sorted items and no state. It goes over the arrivals twice, and
+    /// takes memory three times whatever their number: the keys are counted first. Refusal: `Memory`.
+    pub fn grouped(alloc: Global, arrivals: &Bag<Arrival>) -> Result<KeyedItems, TaskError>
+        ensures keys { IfOk result (λ made. made ≡ map without_state (groups arrivals.now)) }
+        ensures memory { IfErr result (λ e. e ≡ Memory) }
+    {
+        laws::groups_are_runs();
+        let members = arrivals.len();
+        let count = key_count(arrivals);
+        let mut keys = Vec::with_capacity(alloc, count)?;
+        let mut items = Lists::with_capacity(alloc, count, members)?;
+        let mut last = None;
+        for arrival in arrivals.list() {
+            put(&mut keys, &mut items, is_key(last, arrival.key), arrival);
+            last = Some(arrival.key);
+        }
+        Ok(KeyedItems { keys, items })
+    }
+
     /// How many keys there are.
     pub fn len(&self) -> usize
         ensures { result ≡ length self.now }
@@ -63,14 +87,15 @@ impl KeyedItems {
         self.keys.len()
     }
 
-    /// One more key, after the others. Refusal: `Memory`, with nothing changed.
+    /// One more key, after the others. Refusal: `Memory`, with no key changed.
     pub fn add(&mut self, key: u64, items: &[Item], state: Option<State>) -> Result<(), TaskError>
         ensures ok { OnOk result (self.new ≡ self.old ++ record { key = key; items = items.now; state = state } ∷ []) }
         ensures err { OnErr result (self.new ≡ self.old) }
+        ensures memory { IfErr result (λ e. e ≡ Memory) }
     {
         self.keys.reserve(1)?;
         self.items.add(items)?;
-        self.keys.push(Key { key, state })?;
+        self.keys.push_reserved(Key { key, state });
         Ok(())
     }
 
@@ -90,6 +115,14 @@ impl KeyedItems {
         }
     }
 
+    /// Keeps another state for the key at a place. Takes no memory.
+    pub fn set_state(&mut self, index: usize, state: Option<State>)
+        requires { index < length self.old }
+        ensures { (k : AnyKey) → slice_get self.old index ≡ Some k → self.new ≡ slice_set self.old index (with_state k state) }
+    {
+        self.keys[index].state = state;
+    }
+
     /// Whether two have the same keys with the same items and states, in the same order.
     pub fn same(&self, other: &KeyedItems) -> bool
         ensures { IsTrue result ↔ (self.now ≡ other.now) }
@@ -103,4 +136,54 @@ fn same_keys(keys: &[Key], others: &[Key]) -> bool
     ensures { IsTrue result ↔ (keys.now ≡ others.now) }
 {
     keys == others
+}
+
+/// How many keys some arrivals have, of which there are few enough to be counted.
+fn key_count(arrivals: &Bag<Arrival>) -> usize
+    requires { length arrivals.now < 2 ^ 64 }
+    ensures { result ≡ keys_after None arrivals.now }
+{
+    let mut count = 0;
+    let mut last = None;
+    for arrival in arrivals.list() {
+        if !is_key(last, arrival.key) {
+            count += 1;
+        }
+        last = Some(arrival.key);
+    }
+    count
+}
+
+/// Whether a key is the last one.
+fn is_key(last: Option<u64>, key: u64) -> bool
+    ensures { result ≡ is_key last key }
+{
+    match last {
+        Some(last) => last == key,
+        None => false,
+    }
+}
+
+/// One more arrival: under the last key, if that is its key, or else under one of its own. Takes no memory.
+fn put(keys: &mut Vec<Key>, items: &mut Lists<Item>, is_last: bool, arrival: Arrival)
+    requires same { length keys.old.items ≡ length items.old.lists }
+    requires some { is_last ≡ true → 0 < length items.old.lists }
+    requires key { is_last ≡ false → vec_len keys.old < vec_capacity keys.old }
+    requires list { is_last ≡ false → 0 < items.old.more_lists }
+    requires member { 0 < items.old.more_members }
+    ensures keys { with_items keys.new.items items.new.lists ≡ with_arrival_by is_last (with_items keys.old.items items.old.lists) arrival }
+    ensures same { length keys.new.items ≡ length items.new.lists }
+    ensures capacity { vec_capacity keys.new ≡ vec_capacity keys.old }
+    ensures lists { length items.old.lists + items.old.more_lists ≤ length items.new.lists + items.new.more_lists }
+    ensures members { items.old.more_members ≤ items.new.more_members + 1 }
+{
+    if is_last {
+        items.put_into_last(arrival.item);
+    } else {
+        keys.push_reserved(Key {
+            key: arrival.key,
+            state: None,
+        });
+        items.put(&[arrival.item]);
+    }
 }

@@ -4,6 +4,7 @@
 mod done;
 mod error;
 mod keyed;
+pub mod laws;
 mod lists;
 mod run;
 mod task;

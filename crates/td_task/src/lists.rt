@@ -1,8 +1,8 @@
 //! Lists that are kept end to end.
-ghost use Rattle.std.specs.Prelude.{◌≡◌, ◌↔◌, IsTrue, ◌<◌, ◌≤◌, ◌∷◌, ◌++◌, [], OnOk, OnErr, IfOk, IfErr, length, slice_get, slice_range};
+ghost use Rattle.std.specs.Prelude.{◌≡◌, ◌↔◌, IsTrue, ◌+◌, ◌<◌, ◌≤◌, ◌∷◌, ◌++◌, [], OnOk, OnErr, IfOk, IfErr, length, slice_get, slice_range, vec_len, vec_capacity};
 ghost use Rattle.std.specs.List.{flat_map};
 ghost use Rattle.std.specs.Option.{option_map};
-ghost use Rattle.td_task.specs.Cuts.{start_of};
+ghost use Rattle.td_task.specs.Cuts.{start_of, with_last};
 ghost use Rattle.td_task.specs.declared.error.TaskError.TheVariants.{Memory};
 
 use crate::error::TaskError;
@@ -19,12 +19,12 @@ pub(crate) struct Lists<T: Copy + Drop> {
 }
 
 impl<T: Copy + Drop> Model for Lists<T> {
-    ghost use Rattle.std.specs.Prelude.{List, length};
-    ghost use Rattle.td_task.specs.Cuts.{cut, EndsAt};
+    ghost use Rattle.std.specs.Prelude.{◌-◌, length, vec_len, vec_capacity};
+    ghost use Rattle.td_task.specs.Cuts.{cut, EndsAt, Roomy};
 
-    ghost Value = { List (List T) };
+    ghost Value = { Roomy T };
 
-    ghost view = { λ l. cut 0 l.ends.items l.all.items };
+    ghost view = { λ l. record { lists = cut 0 l.ends.items l.all.items; more_lists = vec_capacity l.ends - vec_len l.ends; more_members = vec_capacity l.all - vec_len l.all } };
 
     ghost invariant = { λ l. EndsAt 0 l.ends.items (length l.all.items) };
 }
@@ -36,7 +36,9 @@ impl<T: Copy + Drop> Lists<T> {
         lists: usize,
         members: usize,
     ) -> Result<Lists<T>, TaskError>
-        ensures empty { IfOk result (λ made. made ≡ []) }
+        ensures empty { IfOk result (λ made. made.lists ≡ []) }
+        ensures lists { IfOk result (λ made. made.more_lists ≡ lists) }
+        ensures members { IfOk result (λ made. made.more_members ≡ members) }
         ensures memory { IfErr result (λ e. e ≡ Memory) }
     {
         Ok(Lists {
@@ -47,7 +49,7 @@ impl<T: Copy + Drop> Lists<T> {
 
     /// No lists, and no memory for any.
     pub(crate) fn new(alloc: Global) -> Lists<T>
-        ensures { result ≡ [] }
+        ensures { result.lists ≡ [] }
     {
         Lists {
             all: Vec::new(alloc),
@@ -57,33 +59,58 @@ impl<T: Copy + Drop> Lists<T> {
 
     /// How many lists there are.
     pub(crate) fn len(&self) -> usize
-        ensures { result ≡ length self.now }
+        ensures { result ≡ length self.now.lists }
     {
         self.ends.len()
     }
 
     /// The members of all lists, one list after another.
     pub(crate) fn all(&self) -> &[T]
-        ensures { result.now ≡ flat_map (λ list. list) self.now }
+        ensures { result.now ≡ flat_map (λ list. list) self.now.lists }
     {
         self.all.as_slice()
     }
 
-    /// One more list, after the others. Refusal: `Memory`, with nothing changed.
+    /// One more list, after the others. Refusal: `Memory`, with no list changed.
     pub(crate) fn add(&mut self, members: &[T]) -> Result<(), TaskError>
-        ensures ok { OnOk result (self.new ≡ self.old ++ members.now ∷ []) }
-        ensures err { OnErr result (self.new ≡ self.old) }
+        ensures ok { OnOk result (self.new.lists ≡ self.old.lists ++ members.now ∷ []) }
+        ensures err { OnErr result (self.new.lists ≡ self.old.lists) }
         ensures memory { IfErr result (λ e. e ≡ Memory) }
     {
         self.ends.reserve(1)?;
-        self.all.extend_from_slice(members)?;
-        self.ends.push(self.all.len())?;
+        self.all.reserve(members.len())?;
+        self.put(members);
         Ok(())
+    }
+
+    /// One more list, after the others, where there is room for it. Takes no memory.
+    pub(crate) fn put(&mut self, members: &[T])
+        requires list { 0 < self.old.more_lists }
+        requires members { length members.now ≤ self.old.more_members }
+        ensures lists { self.new.lists ≡ self.old.lists ++ members.now ∷ [] }
+        ensures more_lists { self.old.more_lists ≤ self.new.more_lists + 1 }
+        ensures more_members { self.old.more_members ≤ self.new.more_members + length members.now }
+    {
+        append(&mut self.all, members);
+        self.ends.push_reserved(self.all.len());
+    }
+
+    /// One more member of the last list, where there is room for it. Takes no memory.
+    pub(crate) fn put_into_last(&mut self, member: T)
+        requires some { 0 < length self.old.lists }
+        requires room { 0 < self.old.more_members }
+        ensures lists { self.new.lists ≡ with_last self.old.lists member }
+        ensures more_lists { self.new.more_lists ≡ self.old.more_lists }
+        ensures more_members { self.old.more_members ≡ self.new.more_members + 1 }
+    {
+        self.all.push_reserved(member);
+        let last = self.ends.len() - 1;
+        self.ends[last] = self.all.len();
     }
 
     /// The list at a place, if there is one.
     pub(crate) fn get(&self, index: usize) -> Option<&[T]>
-        ensures { option_map (λ list. list.now) result ≡ slice_get self.now index }
+        ensures { option_map (λ list. list.now) result ≡ slice_get self.now.lists index }
     {
         let ends = self.ends.as_slice();
         match end_of(ends, index) {
@@ -91,6 +118,17 @@ impl<T: Copy + Drop> Lists<T> {
             None => None,
         }
     }
+}
+
+/// Puts members at the end of a list, where there is room for them.
+fn append<T: Copy + Drop>(all: &mut Vec<T>, members: &[T])
+    requires { vec_len all.old + length members.now ≤ vec_capacity all.old }
+    ensures items { all.new.items ≡ all.old.items ++ members.now }
+    ensures capacity { vec_capacity all.old ≤ vec_capacity all.new }
+{
+    let Ok(()) = all.extend_from_slice(members) else {
+        unreachable!();
+    };
 }
 
 /// Where the list at a place ends, if there is one.
@@ -123,7 +161,7 @@ fn part<T>(all: &[T], start: usize, end: usize) -> &[T]
 impl Lists<Item> {
     /// Whether two have the same lists.
     pub(crate) fn same(&self, other: &Lists<Item>) -> bool
-        ensures { IsTrue result ↔ (self.now ≡ other.now) }
+        ensures { IsTrue result ↔ (self.now.lists ≡ other.now.lists) }
     {
         same_ends(self.ends.as_slice(), other.ends.as_slice())
             && same_items(self.all.as_slice(), other.all.as_slice())

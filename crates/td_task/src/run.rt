@@ -1,8 +1,8 @@
 //! What closures answer tasks.
-ghost use Rattle.std.specs.Prelude.{◌≡◌, [], None, IsTrue, IfOk, IfErr, map};
+ghost use Rattle.std.specs.Prelude.{◌≡◌, ◌*◌, ◌≤◌, [], None, IsTrue, IfOk, IfErr, map, length, vec_capacity};
 ghost use Rattle.td_calls.specs.Fits.{lacking_code};
 ghost use Rattle.td_plan.specs.declared.vertex.Kind.TheVariants.{Group, Fold};
-ghost use Rattle.td_task.specs.Answered.{sent_of, states_of, sent_for_keys, kept_for_keys};
+ghost use Rattle.td_task.specs.Answered.{sent_of, states_of, sent_for_keys, kept_for_keys, answer_count, state_count};
 ghost use Rattle.td_task.specs.Contents.{content_of};
 ghost use Rattle.td_task.specs.declared.error.TaskError.TheVariants.{Memory};
 
@@ -22,117 +22,146 @@ pub(crate) struct Answers {
     pub states: Vec<Option<State>>,
 }
 
-/// The answers to this work at a vertex of this kind. All memory is taken before the first closure is called. Refusal:
-/// `Memory`.
-pub(crate) fn answered<L: Law, C: Closures<L>>(
-    alloc: Global,
+impl Answers {
+    /// No answers, and the room for those to this work at a vertex of this kind: all the memory that they take. Refusal:
+    /// `Memory`.
+    pub(crate) fn room(alloc: Global, kind: Kind, work: &Work) -> Result<Answers, TaskError>
+        ensures sent { IfOk result (λ room. room.sent.lists ≡ []) }
+        ensures states { IfOk result (λ room. room.states.items ≡ []) }
+        ensures answers { IfOk result (λ room. answer_count kind (content_of work.now) ≤ room.sent.more_lists) }
+        ensures records { IfOk result (λ room. answer_count kind (content_of work.now) * 8 ≤ room.sent.more_members) }
+        ensures kept { IfOk result (λ room. state_count kind (content_of work.now) ≤ vec_capacity room.states) }
+        ensures memory { IfErr result (λ e. e ≡ Memory) }
+    {
+        let answers = answer_count(kind, work);
+        let Some(records) = answers.checked_mul(FEW) else {
+            return Err(TaskError::Memory);
+        };
+        Ok(Answers {
+            sent: Lists::with_capacity(alloc, answers, records)?,
+            states: Vec::with_capacity(alloc, state_count(kind, work))?,
+        })
+    }
+}
+
+/// How many answers there are to this work at a vertex of this kind.
+fn answer_count(kind: Kind, work: &Work) -> usize
+    ensures { result ≡ answer_count kind (content_of work.now) }
+{
+    match (kind, work) {
+        (Kind::Map(_), Work::Messages(_, recs)) => recs.len(),
+        (Kind::Group(_) | Kind::Fold(_), Work::Notification(items)) => items.len(),
+        _ => 0,
+    }
+}
+
+/// How many states are kept with them.
+fn state_count(kind: Kind, work: &Work) -> usize
+    ensures { result ≡ state_count kind (content_of work.now) }
+{
+    match (kind, work) {
+        (Kind::Fold(_), Work::Notification(items)) => items.len(),
+        _ => 0,
+    }
+}
+
+/// The answers to this work at a vertex of this kind, in the room that was taken for them. Takes no memory.
+pub(crate) fn answer<L: Law, C: Closures<L>>(
     calls: &C,
     kind: Kind,
     work: &Work,
-) -> Result<Answers, TaskError>
+    answers: &mut Answers,
+)
     requires stored { lacking_code (C.has_map calls.now) (C.has_group calls.now) (C.has_fold calls.now) kind ≡ None }
-    ensures sent { IfOk result (λ a. a.sent ≡ sent_of L.answers kind (content_of work.now)) }
-    ensures states { IfOk result (λ a. a.states.items ≡ states_of L.answers kind (content_of work.now)) }
-    ensures memory { IfErr result (λ e. e ≡ Memory) }
+    requires sent { answers.old.sent.lists ≡ [] }
+    requires states { answers.old.states.items ≡ [] }
+    requires lists { answer_count kind (content_of work.now) ≤ answers.old.sent.more_lists }
+    requires records { answer_count kind (content_of work.now) * 8 ≤ answers.old.sent.more_members }
+    requires kept { state_count kind (content_of work.now) ≤ vec_capacity answers.old.states }
+    ensures sent { answers.new.sent.lists ≡ sent_of L.answers kind (content_of work.now) }
+    ensures states { answers.new.states.items ≡ states_of L.answers kind (content_of work.now) }
 {
     match (kind, work) {
         (Kind::Map(code), Work::Messages(port, recs)) => {
-            let sent = mapped::<L, C>(alloc, calls, code, *port, recs.as_slice())?;
-            Ok(sent_alone(alloc, sent))
+            run_map::<L, C>(calls, code, *port, recs.as_slice(), &mut answers.sent);
         }
         (Kind::Group(code), Work::Notification(items)) => {
-            let sent = grouped::<L, C>(alloc, calls, code, items)?;
-            Ok(sent_alone(alloc, sent))
+            run_group::<L, C>(calls, code, items, &mut answers.sent);
         }
-        (Kind::Fold(code), Work::Notification(items)) => folded::<L, C>(alloc, calls, code, items),
-        _ => Ok(sent_alone(alloc, Lists::new(alloc))),
+        (Kind::Fold(code), Work::Notification(items)) => {
+            run_fold::<L, C>(calls, code, items, &mut answers.sent, &mut answers.states);
+        }
+        _ => {}
     }
 }
 
-/// Answers that keep no state.
-fn sent_alone(alloc: Global, sent: Lists<Rec>) -> Answers
-    ensures sent { result.sent ≡ sent }
-    ensures states { result.states.items ≡ [] }
-{
-    Answers {
-        sent,
-        states: Vec::new(alloc),
-    }
-}
-
-/// Room for what so many answers send. Refusal: `Memory`.
-fn room(alloc: Global, answers: usize) -> Result<Lists<Rec>, TaskError>
-    ensures empty { IfOk result (λ sent. sent ≡ []) }
-    ensures memory { IfErr result (λ e. e ≡ Memory) }
-{
-    Lists::with_capacity(alloc, answers, answers.saturating_mul(FEW))
-}
-
-/// What a map sends for each record that comes to a port. Refusal: `Memory`.
-fn mapped<L: Law, C: Closures<L>>(
-    alloc: Global,
+/// What a map sends for each record that comes to a port. Takes no memory.
+fn run_map<L: Law, C: Closures<L>>(
     calls: &C,
     code: u16,
     port: u8,
     recs: &[Rec],
-) -> Result<Lists<Rec>, TaskError>
+    sent: &mut Lists<Rec>,
+)
     requires stored { IsTrue (C.has_map calls.now code) }
-    ensures sent { IfOk result (λ sent. sent ≡ map (L.answers.emit code port) recs.now) }
-    ensures memory { IfErr result (λ e. e ≡ Memory) }
+    requires none { sent.old.lists ≡ [] }
+    requires lists { length recs.now ≤ sent.old.more_lists }
+    requires records { length recs.now * 8 ≤ sent.old.more_members }
+    ensures { sent.new.lists ≡ map (L.answers.emit code port) recs.now }
 {
-    let mut sent = room(alloc, recs.len())?;
     for rec in recs {
         let Some(few) = calls.map(code, port, *rec) else {
             unreachable!();
         };
-        sent.add(few.as_slice())?;
+        sent.put(few.as_slice());
     }
-    Ok(sent)
 }
 
-/// What a group sends for each key. Refusal: `Memory`.
-fn grouped<L: Law, C: Closures<L>>(
-    alloc: Global,
+/// What a group sends for each key. Takes no memory.
+fn run_group<L: Law, C: Closures<L>>(
     calls: &C,
     code: u16,
     items: &KeyedItems,
-) -> Result<Lists<Rec>, TaskError>
+    sent: &mut Lists<Rec>,
+)
     requires stored { IsTrue (C.has_group calls.now code) }
-    ensures sent { IfOk result (λ sent. sent ≡ sent_for_keys L.answers (Group code) items.now) }
-    ensures memory { IfErr result (λ e. e ≡ Memory) }
+    requires none { sent.old.lists ≡ [] }
+    requires lists { length items.now ≤ sent.old.more_lists }
+    requires records { length items.now * 8 ≤ sent.old.more_members }
+    ensures { sent.new.lists ≡ sent_for_keys L.answers (Group code) items.now }
 {
-    let mut sent = room(alloc, items.len())?;
     for index in 0..items.len() {
         let at = items.at(index);
         let Some(few) = calls.group(code, at.key, at.items) else {
             unreachable!();
         };
-        sent.add(few.as_slice())?;
+        sent.put(few.as_slice());
     }
-    Ok(sent)
 }
 
-/// What a fold keeps and sends for each key. Refusal: `Memory`.
-fn folded<L: Law, C: Closures<L>>(
-    alloc: Global,
+/// What a fold sends and keeps for each key. Takes no memory.
+fn run_fold<L: Law, C: Closures<L>>(
     calls: &C,
     code: u16,
     items: &KeyedItems,
-) -> Result<Answers, TaskError>
+    sent: &mut Lists<Rec>,
+    states: &mut Vec<Option<State>>,
+)
     requires stored { IsTrue (C.has_fold calls.now code) }
-    ensures sent { IfOk result (λ a. a.sent ≡ sent_for_keys L.answers (Fold code) items.now) }
-    ensures states { IfOk result (λ a. a.states.items ≡ kept_for_keys L.answers (Fold code) items.now) }
-    ensures memory { IfErr result (λ e. e ≡ Memory) }
+    requires none { sent.old.lists ≡ [] }
+    requires no_states { states.old.items ≡ [] }
+    requires lists { length items.now ≤ sent.old.more_lists }
+    requires records { length items.now * 8 ≤ sent.old.more_members }
+    requires states { length items.now ≤ vec_capacity states.old }
+    ensures sent { sent.new.lists ≡ sent_for_keys L.answers (Fold code) items.now }
+    ensures states { states.new.items ≡ kept_for_keys L.answers (Fold code) items.now }
 {
-    let mut sent = room(alloc, items.len())?;
-    let mut states = Vec::with_capacity(alloc, items.len())?;
     for index in 0..items.len() {
         let at = items.at(index);
         let Some((state, few)) = calls.fold(code, at.key, at.state, at.items) else {
             unreachable!();
         };
-        sent.add(few.as_slice())?;
-        states.push(state)?;
+        sent.put(few.as_slice());
+        states.push_reserved(state);
     }
-    Ok(Answers { sent, states })
 }

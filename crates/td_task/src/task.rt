@@ -1,9 +1,13 @@
 //! Tasks.
-ghost use Rattle.std.specs.Prelude.{◌≡◌, ◌↔◌, IsTrue};
+ghost use Rattle.std.specs.Prelude.{◌≡◌, ◌↔◌, IsTrue, IfOk, IfErr};
+ghost use Rattle.std.specs.Arc.{arc_value};
 ghost use Rattle.td_task.specs.Contents.{content_of, IsSized};
+ghost use Rattle.td_task.specs.declared.error.TaskError.TheVariants.{Memory};
 
+use crate::error::TaskError;
 use crate::keyed::KeyedItems;
 use std::marker::Model;
+use std::sync::Arc;
 use td_plan::Kind;
 use td_stamp::{Rec, Time, laws};
 
@@ -20,7 +24,8 @@ pub enum Work {
     Notification(KeyedItems),
 }
 
-/// What a shard takes up at once. Contracts see it as the core machine does.
+/// What a shard takes up at once. Contracts see it as the core machine does. What it is to do may have several owners, so that
+/// the one that keeps a task to compare and the one that runs it have its records and items once.
 #[derive(Drop)]
 pub struct Task {
     shard: u8,
@@ -28,25 +33,26 @@ pub struct Task {
     vertex: u8,
     kind: Kind,
     time: Time,
-    work: Work,
+    work: Arc<Work>,
 }
 
 impl Model for Task {
+    ghost use Rattle.std.specs.Arc.{arc_value};
     ghost use Rattle.td_machine.specs.State.{Task as TaskOut};
     ghost use Rattle.td_task.specs.Contents.{content_of, IsSized};
 
     ghost Value = { TaskOut };
 
-    ghost view = { λ t. record { shard = t.shard; number = t.number; vertex = t.vertex; kind = t.kind; time = t.time; content = content_of t.work } };
+    ghost view = { λ t. record { shard = t.shard; number = t.number; vertex = t.vertex; kind = t.kind; time = t.time; content = content_of (arc_value t.work) } };
 
-    ghost invariant = { λ t. IsSized (content_of t.work) };
+    ghost invariant = { λ t. IsSized (content_of (arc_value t.work)) };
 }
 
 impl Task {
     /// The task with this number of a shard, for a vertex with its kind and a time.
-    pub fn new(shard: u8, number: u64, vertex: u8, kind: Kind, time: Time, work: Work) -> Task
-        requires sized { IsSized (content_of work) }
-        ensures { result ≡ record { shard = shard; number = number; vertex = vertex; kind = kind; time = time; content = content_of work } }
+    pub fn new(shard: u8, number: u64, vertex: u8, kind: Kind, time: Time, work: Arc<Work>) -> Task
+        requires sized { IsSized (content_of (arc_value work)) }
+        ensures { result ≡ record { shard = shard; number = number; vertex = vertex; kind = kind; time = time; content = content_of (arc_value work) } }
     {
         Task {
             shard,
@@ -56,6 +62,22 @@ impl Task {
             time,
             work,
         }
+    }
+
+    /// The same task once more: what it is to do is shared and not copied. Takes no memory. Refusal: `Memory`, where what it
+    /// is to do has 2^63 owners.
+    pub fn copy(&self) -> Result<Task, TaskError>
+        ensures same { IfOk result (λ task. task ≡ self.now) }
+        ensures memory { IfErr result (λ e. e ≡ Memory) }
+    {
+        Ok(Task {
+            shard: self.shard,
+            number: self.number,
+            vertex: self.vertex,
+            kind: self.kind,
+            time: self.time.copy(),
+            work: Arc::try_clone(&self.work)?,
+        })
     }
 
     /// The shard that took it.

@@ -11,7 +11,7 @@ returns-in-None g c =
     let ends = c.self.inside.ends.items in
     let none : slice_get ends c.args.index ≡ None =
     sym (c.end_of.ensures ∙ ap (λ l. slice_get l c.args.index) c.as_slice-ends.ensures.value) ∙ c.in-None.is in
-    sym (ap (λ l. slice_get l c.args.index) (sym c.self.view_is) ∙ get_of_cut 0 ends all c.args.index
+    sym (ap (λ v. slice_get v.lists c.args.index) (sym c.self.view_is) ∙ get_of_cut 0 ends all c.args.index
     ∙ ap (option_map (λ end. slice_range all (start_of 0 c.args.index ends) end)) none)
 
 pub part-requires-clause-begins : goal.part-requires-clause-begins
@@ -40,5 +40,5 @@ returns-in-Some g c =
     let made : c.part.result.now ≡ slice_range all (start_of 0 c.args.index ends) c.in-Some.end =
     c.part.ensures ∙ ap (λ l. slice_range l c.start_of.result c.in-Some.end) c.as_slice.ensures.value ∙ ap (λ s. slice_range all s c.in-Some.end) start in
     ap Some made
-    ∙ sym (ap (λ l. slice_get l c.args.index) (sym c.self.view_is) ∙ get_of_cut 0 ends all c.args.index
+    ∙ sym (ap (λ v. slice_get v.lists c.args.index) (sym c.self.view_is) ∙ get_of_cut 0 ends all c.args.index
     ∙ ap (option_map (λ end. slice_range all (start_of 0 c.args.index ends) end)) some)

@@ -5,6 +5,6 @@ use Rattle.td_task.proofs.lists.Lists.len.Goals as goal
 
 pub returns : goal.returns
 returns g c =
-    let same : length c.self.inside.ends.items ≡ length c.args.self.now =
-    sym (length-cut 0 c.self.inside.ends.items c.self.inside.all.items) ∙ ap length c.self.view_is in
+    let same : length c.self.inside.ends.items ≡ length c.args.self.now.lists =
+    sym (length-cut 0 c.self.inside.ends.items c.self.inside.all.items) ∙ ap (λ v. length v.lists) c.self.view_is in
     grind (arith, common_steps, same)

@@ -1,9 +1,0 @@
-use Rattle.std.proofs.Common.{◌≡◌, take}
-use Rattle.td_plan.specs.declared.vertex.Kind.TheVariants.{Fold}
-use Rattle.td_task.specs.Answered.{sent_for_keys, kept_for_keys}
-use Rattle.td_task.proofs.run.folded.Given as goal
-
-abbrev pub invariant-loop-index : goal.invariant-loop-index
-invariant-loop-index g l =
-    (l.sent ≡ sent_for_keys g.L.Law.answers (Fold l.code) (take l.index l.items))
-    × (l.states.items ≡ kept_for_keys g.L.Law.answers (Fold l.code) (take l.index l.items))
