@@ -9,9 +9,12 @@ mod slots;
 mod take;
 #[cfg(test)]
 mod tests;
+mod version;
+mod versions;
 mod waiting;
 
 pub use error::ShardError;
 pub use mailbox::{Mailbox, Taken};
 pub use noted::Noted;
+pub use versions::Versions;
 pub use waiting::Waiting;
