@@ -4,3 +4,8 @@ pub mod TakenUp
 pub mod Dropped
 pub mod Tasks
 pub mod Viewed
+pub mod LeftOrders
+pub mod LeftBags
+pub mod KeptStates
+pub mod LeftStates
+pub mod KeptVersions

@@ -3,3 +3,4 @@ pub mod Slots
 pub mod Kept
 pub mod Asked
 pub mod ProvedOrders
+pub mod Versions

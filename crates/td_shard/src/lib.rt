@@ -11,6 +11,7 @@ mod slots;
 mod take;
 #[cfg(test)]
 mod tests;
+mod version;
 mod versions;
 mod waiting;
 

@@ -1,27 +1,184 @@
-//! Stub.
-ghost use Rattle.std.specs.Prelude.{◌≡◌, []};
-use std::alloc::Global;
-use std::marker::Model;
+//! What folds left for their keys above the base of a hall.
+ghost use Rattle.std.specs.Prelude.{◌≡◌, [], filter, nat_le, nat_lt, OnOk, OnErr, IfOk};
+ghost use Rattle.td_stamp.specs.Bag.{bag_insert, bag_remove, join};
+ghost use Rattle.td_stamp.specs.BagLaws.{BagLaws};
+ghost use Rattle.td_stamp.specs.States.{state_of};
+ghost use Rattle.td_batch.specs.Meaning.{with_kept};
+ghost use Rattle.td_machine.specs.State.{left_cmp, with_left};
+ghost use Rattle.td_shard.specs.Versions.{taken_back};
 
+use crate::error::ShardError;
+use crate::version::{Version, keep_after, latest, take_out};
+use std::alloc::Global;
+use std::collections::BTreeMap;
+use std::marker::Model;
+use td_machine::StateLeft;
+use td_stamp::{State, States};
+
+/// What folds left for their keys, above a base. Contracts see it as the core machine has it: in the order of epochs.
+///
+/// It is kept by vertex and key, each with its few versions as they came: a look-up finds the last of them up to its epoch.
 #[derive(Drop)]
 pub struct Versions {
+    versions: BTreeMap<(u8, u64), Vec<Version>>,
     alloc: Global,
 }
 
 impl Model for Versions {
-    ghost use Rattle.std.specs.Prelude.{List, []};
+    ghost use Rattle.std.specs.Prelude.{List, map};
+    ghost use Rattle.std.specs.BTreeMap.{IsOrdered};
+    ghost use Rattle.td_stamp.specs.Orders.{state_key_cmp};
     ghost use Rattle.td_machine.specs.declared.records.StateLeft.{StateLeft};
+    ghost use Rattle.td_shard.specs.Versions.{left_in};
 
     ghost Value = { List StateLeft };
 
-    ghost view = { λ s. [] };
+    ghost view = { λ v. left_in (map (λ e. (e.0, e.1.items)) v.versions.entries) };
+
+    ghost invariant = { λ v. IsOrdered state_key_cmp v.versions };
 }
 
 impl Versions {
-    /// Stub.
+    /// Nothing was left yet, in a map that allocates with `alloc`.
     pub fn new(alloc: Global) -> Versions
         ensures { result ≡ [] }
     {
-        Versions { alloc }
+        Versions {
+            versions: BTreeMap::new(alloc),
+            alloc,
+        }
     }
+
+    /// The state of a key after an epoch: what was left last up to it, or else that of the base. Costs O(log n), and a look at
+    /// each version of the key. Takes no memory.
+    pub fn state_at(&self, epoch: u64, vertex: u8, key: u64, base: &States) -> Option<State>
+        ensures { result ≡ state_of (with_left base.now (filter (λ k. nat_le k.epoch epoch) self.now)) vertex key }
+    {
+        version_laws();
+        let _in_order = base.list();
+        let Some(versions) = self.versions.get(&(vertex, key)) else {
+            return base.get(vertex, key);
+        };
+        match latest(versions.as_slice(), epoch) {
+            Some(version) => version.state,
+            None => base.get(vertex, key),
+        }
+    }
+
+    /// Keeps what folds left. Refusal: `Memory`, with nothing changed.
+    pub fn leave(&mut self, left: &[StateLeft]) -> Result<(), ShardError>
+        ensures ok { OnOk result (self.new ≡ join left_cmp left.now self.old) }
+        ensures err { OnErr result (self.new ≡ self.old) }
+    {
+        version_laws();
+        for (count, one) in left.iter().enumerate() {
+            if let Err(refused) = self.put(one) {
+                self.take_back(&left[..count]);
+                return Err(refused);
+            }
+        }
+        Ok(())
+    }
+
+    /// The states after an epoch, made of those of the base, with one change for each key. Refusal: `Memory`.
+    pub fn states_at(&self, epoch: u64, base: States) -> Result<States, ShardError>
+        ensures { IfOk result (λ states. states ≡ with_left base (filter (λ k. nat_le k.epoch epoch) self.now)) }
+    {
+        version_laws();
+        let mut states = base;
+        let _in_order = states.list();
+        for ((vertex, key), versions) in self.versions.iter() {
+            if let Some(version) = latest(versions.as_slice(), epoch) {
+                keep(&mut states, *vertex, *key, version.state)?;
+            }
+        }
+        Ok(states)
+    }
+
+    /// Lets go what was left up to an epoch. Takes no memory.
+    pub fn let_go(&mut self, epoch: u64)
+        ensures { self.new ≡ filter (λ k. nat_lt epoch k.epoch) self.old }
+    {
+        version_laws();
+        self.versions
+            .retain(|_, versions| keep_after(versions, epoch));
+    }
+
+    /// Keeps one version. Refusal: `Memory`, with nothing changed.
+    fn put(&mut self, left: &StateLeft) -> Result<(), ShardError>
+        ensures ok { OnOk result (self.new ≡ bag_insert left_cmp left.now self.old) }
+        ensures err { OnErr result (self.new ≡ self.old) }
+    {
+        version_laws();
+        let (place, version) = placed(left);
+        match self.versions.get_mut(&place) {
+            Some(versions) => {
+                versions.push(version)?;
+                Ok(())
+            }
+            None => {
+                let mut versions = Vec::new(self.alloc);
+                versions.push(version)?;
+                self.versions.insert(place, versions)?;
+                Ok(())
+            }
+        }
+    }
+
+    /// Takes one version out, if it is there, and its key with the last. Takes no memory.
+    fn take_one_back(&mut self, left: &StateLeft)
+        ensures { self.new ≡ bag_remove left_cmp left.now self.old }
+    {
+        version_laws();
+        let (place, version) = placed(left);
+        let Some(versions) = self.versions.get_mut(&place) else {
+            return;
+        };
+        if take_out(versions, version) {
+            self.versions.remove(&place);
+        }
+    }
+
+    /// Takes these versions out. Takes no memory.
+    fn take_back(&mut self, left: &[StateLeft])
+        ensures { self.new ≡ taken_back self.old left.now }
+    {
+        for one in left {
+            self.take_one_back(one);
+        }
+    }
+}
+
+/// The vertex and key for which something was left, and the version.
+fn placed(left: &StateLeft) -> ((u8, u64), Version)
+    ensures place { result.0 ≡ (left.now.vertex, left.now.key) }
+    ensures version { result.1 ≡ record { epoch = left.now.epoch; state = left.now.state } }
+{
+    let version = Version {
+        epoch: left.epoch,
+        state: left.state,
+    };
+    ((left.vertex, left.key), version)
+}
+
+/// Has a vertex keep for a key what was left for it: a state, or none. Refusal: `Memory`.
+fn keep(states: &mut States, vertex: u8, key: u64, state: Option<State>) -> Result<(), ShardError>
+    ensures { OnOk result (states.new ≡ with_kept states.old vertex key state) }
+{
+    match state {
+        Some(state) => states
+            .set(vertex, key, state)
+            .map_err(|_| ShardError::Memory),
+        None => {
+            states.remove(vertex, key);
+            Ok(())
+        }
+    }
+}
+
+/// The laws of what was left, as a bag.
+fn version_laws()
+    ensures { BagLaws left_cmp }
+{
+    td_stamp::laws::bags_by_any_order::<StateLeft>();
 }

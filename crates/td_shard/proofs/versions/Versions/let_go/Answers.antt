@@ -1,0 +1,8 @@
+use Rattle.std.proofs.Common.{◌∙◌, ap, filter, nat_lt, rules}
+use Rattle.td_shard.proofs.KeptVersions.{let_go-left}
+use Rattle.td_shard.proofs.versions.Versions.let_go.Goals as goal
+
+pub returns : goal.returns
+returns c =
+    let_go-left (λ v. v.items) c.version_laws.ensures c.args.epoch _ _ (λ k v b w after t. search rules) c.self.inside.versions.entries c.retain.new.self.entries c.retain.ensures.filtered
+    ∙ ap (filter (λ x. nat_lt c.args.epoch x.epoch)) c.self.view_is

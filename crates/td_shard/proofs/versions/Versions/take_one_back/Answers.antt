@@ -1,0 +1,30 @@
+use Rattle.std.proofs.Common.{◌∙◌, ap}
+use Rattle.td_stamp.specs.Bag.{bag_remove}
+use Rattle.td_machine.specs.State.{left_cmp}
+use Rattle.td_shard.specs.Versions.{left_at}
+use Rattle.td_shard.proofs.KeptVersions.{none_out, one_out, last_out}
+use Rattle.td_shard.proofs.versions.Versions.take_one_back.Goals as goal
+use Rattle.td_shard.proofs.versions.Versions.take_one_back.Goals.{in-Some-1, in-None-1}
+
+pub returns-in_default : goal.returns-in_default
+returns-in_default c =
+    none_out (λ v. v.items) c.placed.result.0 c.self.inside.versions.entries c.get_mut.follows.lender-at-none.entries c.version_laws.ensures c.placed.result.1
+    c.in_default.ensures.value (ap (λ m. m.entries) c.get_mut.follows.holds-at-none)
+    ∙ (λ i. bag_remove left_cmp (left_at (c.placed.ensures.place i) (c.placed.ensures.version i)) (c.self.view_is i))
+
+pub returns-then-take_out : goal.returns-then-take_out
+returns-then-take_out c =
+    let es = c.self.inside.versions.entries in
+    let new = c.take_out.new.versions in
+    let out =
+        last_out (λ v. v.items) c.placed.result.0 es (c.get_mut.follows.lender new).entries c.version_laws.ensures c.placed.result.1 c.in-Some.versions.now new c.remove.new.self.entries
+        c.self.invariant c.in-Some.ensures.value (c.get_mut.follows.holds new).0 c.take_out.ensures.left (c.take_out.ensures.none.0 c.if-take_out.true) c.remove.ensures.entries
+        ∙ (λ i. bag_remove left_cmp (left_at (c.placed.ensures.place i) (c.placed.ensures.version i)) (c.self.view_is i)) in
+    elim c.match-remove.branch [ in-Some-1 w ↦ w.self-is ∙ out | in-None-1 w ↦ w.self-is ∙ out ]
+
+pub returns-else-take_out : goal.returns-else-take_out
+returns-else-take_out c =
+    let new = c.take_out.new.versions in
+    one_out (λ v. v.items) c.placed.result.0 c.self.inside.versions.entries (c.get_mut.follows.lender new).entries c.version_laws.ensures c.placed.result.1 c.in-Some.versions.now new
+    c.self.invariant c.in-Some.ensures.value (c.get_mut.follows.holds new).0 c.take_out.ensures.left
+    ∙ (λ i. bag_remove left_cmp (left_at (c.placed.ensures.place i) (c.placed.ensures.version i)) (c.self.view_is i))

@@ -1,0 +1,55 @@
+-- What folds left for their keys above a base: the versions, each kept with its vertex and key.
+use Rattle.std.specs.Prelude.{ℕ, cond, List, [], ◌∷◌, map, filter, fold, nat_le, Option, Some, None}
+use Rattle.std.specs.declared.cmp.Ordering.{Ordering}
+use Rattle.std.specs.Ordering.{ordering_then, nat_cmp, is_gt}
+use Rattle.std.specs.Option.{option_cmp}
+use Rattle.td_stamp.specs.Bag.{bag_remove, join}
+use Rattle.td_stamp.specs.States.{StateList}
+use Rattle.td_batch.specs.Meaning.{with_kept}
+use Rattle.td_machine.specs.declared.records.StateLeft.{StateLeft}
+use Rattle.td_machine.specs.State.{state_cmp, left_cmp}
+use Rattle.td_shard.specs.declared.version.Version.{Version}
+
+-- vertices and keys in order, each with its versions
+abbrev pub VersionList : Type 0
+VersionList = List ((ℕ × ℕ) × List Version)
+
+-- a version, as what was left for a vertex and key
+abbrev pub left_at : ℕ × ℕ → Version → StateLeft
+left_at place version = record { epoch = version.epoch; vertex = place.0; key = place.1; state = version.state }
+
+-- all that was left, in the order of epochs
+abbrev pub left_in : VersionList → List StateLeft
+left_in [] = []
+left_in (e ∷ es) = join left_cmp (map (left_at e.0) e.1) (left_in es)
+
+-- the order of the versions of one vertex and key: that in which they were left
+abbrev pub version_cmp : Version → Version → Ordering
+version_cmp x y = ordering_then (nat_cmp x.epoch y.epoch) (option_cmp state_cmp x.state y.state)
+
+-- the later of two versions
+abbrev pub later : Option Version → Version → Option Version
+later None y = Some y
+later (Some x) y = Some (cond (is_gt (version_cmp y x)) y x)
+
+-- the last of some versions
+abbrev pub latest : List Version → Option Version
+latest versions = fold later None versions
+
+-- those up to an epoch
+abbrev pub up_to : ℕ → List Version → List Version
+up_to epoch versions = filter (λ k. nat_le k.epoch epoch) versions
+
+-- states in which a vertex keeps for a key what a version says, if there is one
+abbrev pub with_version : StateList → ℕ × ℕ → Option Version → StateList
+with_version states place None = states
+with_version states place (Some version) = with_kept states place.0 place.1 version.state
+
+-- states with the last versions up to an epoch, one key after another
+abbrev pub with_latest : ℕ → StateList → VersionList → StateList
+with_latest epoch states [] = states
+with_latest epoch states (e ∷ es) = with_latest epoch (with_version states e.0 (latest (up_to epoch e.1))) es
+
+-- what was left, without some of it
+abbrev pub taken_back : List StateLeft → List StateLeft → List StateLeft
+taken_back left some = fold (λ rest one. bag_remove left_cmp one rest) left some
