@@ -4,3 +4,7 @@ pub mod TakenUp
 pub mod Dropped
 pub mod Tasks
 pub mod Viewed
+pub mod Between
+pub mod Fresh
+pub mod Orders
+pub mod Cut

@@ -8,7 +8,7 @@ use Rattle.std.specs.Cmp.{IsEquivalence}
 use Rattle.td_stamp.specs.declared.values.Rec.{Rec}
 use Rattle.td_shard.specs.declared.lane.Lane.{Lane}
 use Rattle.td_shard.specs.declared.slots.Slot.{Slot}
-use Rattle.td_shard.specs.Records.{Coming}
+use Rattle.td_machine.specs.declared.records.Message.{Message}
 use Rattle.td_shard.specs.Slots.{message, messages_of, ahead_of, last_by, taken, first_on, last_on, AreLinked, waits_on, taken_on, recs_on}
 
 -- the slots with that at a place taken
@@ -230,7 +230,7 @@ before_next ss p s d false h e f =
     let x : get_or ss p d ≡ s = sym e in
     ap (λ l. length (messages_of l)) (take_more ss p d h) ∙ (ap length (messages-append (take p ss) (get_or ss p d) (ap (λ (t : Slot). t.is_taken) x ∙ f)) ∙ length-append (messages_of (take p ss)) (message (get_or ss p d) ∷ []))
 
-fewer : (b : Bool) (m : Coming) (xs ys : List Coming) → length (cond b xs (m ∷ xs)) < length (cond b ys (m ∷ ys)) → length xs < length ys
+fewer : (b : Bool) (m : Message) (xs ys : List Message) → length (cond b xs (m ∷ xs)) < length (cond b ys (m ∷ ys)) → length xs < length ys
 fewer true m xs ys h = h
 fewer false m xs ys h = omega (arith, h)
 

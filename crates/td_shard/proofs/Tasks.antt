@@ -6,8 +6,9 @@ use Rattle.std.proofs.lemmas.List.{take-map, length-map}
 use Rattle.td_stamp.specs.declared.values.Rec.{Rec}
 use Rattle.td_shard.specs.declared.lane.Lane.{Lane}
 use Rattle.td_shard.specs.declared.slots.Slot.{Slot}
-use Rattle.td_shard.specs.Records.{Coming}
-use Rattle.td_shard.specs.Messages.{same_edge, without_first, coming, task_by, left_by, task_at, left_at}
+use Rattle.td_machine.specs.declared.records.Message.{Message}
+use Rattle.td_shard.specs.Messages.{same_edge, without_first, task_by, left_by, task_at, left_at}
+use Rattle.td_machine.specs.Steps.{coming}
 use Rattle.td_shard.specs.Slots.{message, messages_of, lane_eq, taken, ahead_of, last_by, first_on, last_on, AreLinked, waits_on, taken_on, recs_on}
 use Rattle.td_shard.proofs.Lanes.{lane_eq-sound}
 use Rattle.td_shard.proofs.TakenUp.{taken_at, linked-taken_at, last-taken_at}
@@ -51,7 +52,7 @@ module _ (s : Slot) where
   left-by n t ts false true e more less = less
   left-by n t ts false false e more less = rw e (ap (λ l. message t ∷ l) more)
 
-  move_cond : (n : ℕ) (b : Bool) (m : Coming) (ms : List Coming) → cond b (without_first (same_edge (message s)) (suc n) ms) (cond (same_edge (message s) m) (without_first (same_edge (message s)) n ms) (m ∷ without_first (same_edge (message s)) (suc n) ms)) ≡ without_first (same_edge (message s)) (suc n) (cond b ms (m ∷ ms))
+  move_cond : (n : ℕ) (b : Bool) (m : Message) (ms : List Message) → cond b (without_first (same_edge (message s)) (suc n) ms) (cond (same_edge (message s) m) (without_first (same_edge (message s)) n ms) (m ∷ without_first (same_edge (message s)) (suc n) ms)) ≡ without_first (same_edge (message s)) (suc n) (cond b ms (m ∷ ms))
   move_cond n true m ms = refl
   move_cond n false m ms = refl
 
@@ -61,37 +62,37 @@ module _ (s : Slot) where
   left_on (suc n) [] = refl
   left_on (suc n) (t ∷ ts) = left-by n t ts t.is_taken (lane_eq s.lane t.lane) refl (left_on (suc n) ts) (left_on n ts) ∙ move_cond n t.is_taken (message t) (messages_of ts)
 
-  recs-by : (t : Slot) (b c : Bool) (xs : List Slot) (ms : List Coming) → lane_eq s.lane t.lane ≡ c → map (λ x. x.rec) xs ≡ map (λ m. m.rec) (filter (same_edge (message s)) ms)
-      → map (λ (x : Slot). x.rec) (cond (not b && c) (t ∷ xs) xs) ≡ map (λ (m : Coming). m.rec) (filter (same_edge (message s)) (cond b ms (message t ∷ ms)))
+  recs-by : (t : Slot) (b c : Bool) (xs : List Slot) (ms : List Message) → lane_eq s.lane t.lane ≡ c → map (λ x. x.rec) xs ≡ map (λ m. m.rec) (filter (same_edge (message s)) ms)
+      → map (λ (x : Slot). x.rec) (cond (not b && c) (t ∷ xs) xs) ≡ map (λ (m : Message). m.rec) (filter (same_edge (message s)) (cond b ms (message t ∷ ms)))
   recs-by t true c xs ms e h = h
   recs-by t false true xs ms e h = rw e (ap (λ l. t.rec ∷ l) h)
   recs-by t false false xs ms e h = rw e h
 
-  recs_of : (ts : List Slot) → map (λ (x : Slot). x.rec) (filter (waits_on lane_eq s.lane) ts) ≡ map (λ (m : Coming). m.rec) (filter (same_edge (message s)) (messages_of ts))
+  recs_of : (ts : List Slot) → map (λ (x : Slot). x.rec) (filter (waits_on lane_eq s.lane) ts) ≡ map (λ (m : Message). m.rec) (filter (same_edge (message s)) (messages_of ts))
   recs_of [] = refl
   recs_of (t ∷ ts) = recs-by t t.is_taken (lane_eq s.lane t.lane) (filter (waits_on lane_eq s.lane) ts) (messages_of ts) refl (recs_of ts)
 
   -- the records that are taken are those of the first n messages on the edge
-  pub recs-are : (n : ℕ) (ts : List Slot) → recs_on lane_eq s.lane n ts ≡ map (λ (m : Coming). m.rec) (take n (filter (same_edge (message s)) (messages_of ts)))
-  recs-are n ts = ap (take n) (recs_of ts) ∙ take-map (λ (m : Coming). m.rec) n (filter (same_edge (message s)) (messages_of ts))
+  pub recs-are : (n : ℕ) (ts : List Slot) → recs_on lane_eq s.lane n ts ≡ map (λ (m : Message). m.rec) (take n (filter (same_edge (message s)) (messages_of ts)))
+  recs-are n ts = ap (take n) (recs_of ts) ∙ take-map (λ (m : Message). m.rec) n (filter (same_edge (message s)) (messages_of ts))
 
-  back-by : (b : Bool) (m : Coming) (ms : List Coming) → same_edge (message s) m ≡ b → coming s.lane.vertex s.lane.port s.lane.time (map (λ (x : Coming). x.rec) ms) ≡ ms
-      → coming s.lane.vertex s.lane.port s.lane.time (map (λ (x : Coming). x.rec) (cond b (m ∷ ms) ms)) ≡ cond b (m ∷ ms) ms
+  back-by : (b : Bool) (m : Message) (ms : List Message) → same_edge (message s) m ≡ b → coming s.lane.vertex s.lane.port s.lane.time (map (λ (x : Message). x.rec) ms) ≡ ms
+      → coming s.lane.vertex s.lane.port s.lane.time (map (λ (x : Message). x.rec) (cond b (m ∷ ms) ms)) ≡ cond b (m ∷ ms) ms
   back-by false m ms e h = h
   back-by true m ms e h =
       let lane : s.lane ≡ record { vertex = m.vertex; port = m.port; time = m.time } = lane_eq-sound s.lane (record { vertex = m.vertex; port = m.port; time = m.time }) e in
       let one : record { vertex = s.lane.vertex; port = s.lane.port; time = s.lane.time; rec = m.rec } ≡ m = ap (λ (l : Lane). record { vertex = l.vertex; port = l.port; time = l.time; rec = m.rec }) lane in
       cc
 
-  back : (ms : List Coming) → coming s.lane.vertex s.lane.port s.lane.time (map (λ (m : Coming). m.rec) (filter (same_edge (message s)) ms)) ≡ filter (same_edge (message s)) ms
+  back : (ms : List Message) → coming s.lane.vertex s.lane.port s.lane.time (map (λ (m : Message). m.rec) (filter (same_edge (message s)) ms)) ≡ filter (same_edge (message s)) ms
   back [] = refl
   back (m ∷ ms) = back-by (same_edge (message s) m) m (filter (same_edge (message s)) ms) refl (back ms)
 
   -- messages of one edge and time are known by their records
-  pub come_back : (n : ℕ) (ms : List Coming) → coming s.lane.vertex s.lane.port s.lane.time (map (λ (m : Coming). m.rec) (take n (filter (same_edge (message s)) ms))) ≡ take n (filter (same_edge (message s)) ms)
+  pub come_back : (n : ℕ) (ms : List Message) → coming s.lane.vertex s.lane.port s.lane.time (map (λ (m : Message). m.rec) (take n (filter (same_edge (message s)) ms))) ≡ take n (filter (same_edge (message s)) ms)
   come_back n ms =
-      ap (coming s.lane.vertex s.lane.port s.lane.time) (sym (take-map (λ (m : Coming). m.rec) n (filter (same_edge (message s)) ms)))
-      ∙ (sym (take-map (λ r. record { vertex = s.lane.vertex; port = s.lane.port; time = s.lane.time; rec = r }) n (map (λ (m : Coming). m.rec) (filter (same_edge (message s)) ms)))
+      ap (coming s.lane.vertex s.lane.port s.lane.time) (sym (take-map (λ (m : Message). m.rec) n (filter (same_edge (message s)) ms)))
+      ∙ (sym (take-map (λ r. record { vertex = s.lane.vertex; port = s.lane.port; time = s.lane.time; rec = r }) n (map (λ (m : Message). m.rec) (filter (same_edge (message s)) ms)))
       ∙ ap (take n) (back ms))
 
 -- HOW MANY
@@ -168,7 +169,7 @@ task_of ss p s d h e w below l =
     let waits : (get_or ss p d).is_taken ≡ false = ap (λ (t : Slot). t.is_taken) e ∙ w in
     let first : slice_get ms n ≡ Some (message s) = picked ss p d h waits ∙ ap (λ t. Some (message t)) e in
     let rest : messages_of (taken_at p ss) ≡ remove ms n = others ss p d h waits in
-    let recs : recs_on lane_eq s.lane 63 (taken_at p ss) ≡ map (λ (m : Coming). m.rec) (take 63 (filter (same_edge (message s)) (remove ms n))) = recs-are s 63 (taken_at p ss) ∙ ap (λ l. map (λ (m : Coming). m.rec) (take 63 (filter (same_edge (message s)) l))) rest in
+    let recs : recs_on lane_eq s.lane 63 (taken_at p ss) ≡ map (λ (m : Message). m.rec) (take 63 (filter (same_edge (message s)) (remove ms n))) = recs-are s 63 (taken_at p ss) ∙ ap (λ l. map (λ (m : Message). m.rec) (take 63 (filter (same_edge (message s)) l))) rest in
     let after : messages_of (taken_on lane_eq s.lane 63 (taken_at p ss)) ≡ without_first (same_edge (message s)) 63 (remove ms n) = left_on s 63 (taken_at p ss) ∙ ap (without_first (same_edge (message s)) 63) rest in
     let long : length (recs_on lane_eq s.lane 63 (taken_at p ss)) ≡ length (take 63 (filter (same_edge (message s)) (remove ms n))) = ap length recs ∙ length-map (take 63 (filter (same_edge (message s)) (remove ms n))) _ in
     record {

@@ -1,6 +1,6 @@
-pub mod Records
 pub mod Messages
 pub mod Slots
 pub mod Kept
 pub mod Asked
+pub mod Seen
 pub mod ProvedOrders

@@ -1,33 +1,24 @@
 -- The messages of a shard, in the order in which they were posted, and the tasks that are taken of them.
-use Rattle.std.specs.Prelude.{ℕ, zero, suc, ◌==◌, Bool, ◌&&◌, cond, List, [], ◌∷◌, map, filter, take, reverse, Option, Some, None}
+use Rattle.std.specs.Prelude.{ℕ, zero, suc, ◌==◌, Bool, ◌&&◌, cond, List, [], ◌∷◌, filter, take, reverse, Option, Some, None}
 use Rattle.std.specs.List.{remove, slice_get}
 use Rattle.std.specs.Cmp.Lexicographic.{pointwise}
-use Rattle.td_stamp.specs.declared.values.Rec.{Rec}
 use Rattle.td_stamp.specs.Time.{Timestamp}
-use Rattle.td_shard.specs.Records.{Coming}
+use Rattle.td_machine.specs.declared.records.Message.{Message}
 
 -- What a mailbox holds: how many more runs of messages, and how many more messages in all, may be posted without memory; and the
 -- messages that were posted and not taken, in the order posted
 pub record Mailboxed : Type 0 where
   pub runs : ℕ
   pub room : ℕ
-  pub messages : List Coming
-
--- how many messages a task has at most
-abbrev pub task_size : ℕ
-task_size = 64
+  pub messages : List Message
 
 -- whether two times are the same
 abbrev pub same_time : Timestamp → Timestamp → Bool
 same_time t u = (t.epoch == u.epoch) && pointwise (λ i j. i == j) (reverse t.turns) (reverse u.turns)
 
 -- whether two messages are on one edge, and bear one time
-abbrev pub same_edge : Coming → Coming → Bool
+abbrev pub same_edge : Message → Message → Bool
 same_edge c d = (c.vertex == d.vertex) && ((c.port == d.port) && same_time c.time d.time)
-
--- records that come to a port at a time, as messages
-abbrev pub coming : ℕ → ℕ → Timestamp → List Rec → List Coming
-coming v port t recs = map (λ r. record { vertex = v; port = port; time = t; rec = r }) recs
 
 -- a list without the first n of its elements that pass a test
 abbrev pub without_first : {X : Type 0} → (X → Bool) → ℕ → List X → List X
@@ -36,18 +27,18 @@ without_first p (suc n) [] = []
 without_first p (suc n) (x ∷ xs) = cond (p x) (without_first p n xs) (x ∷ without_first p (suc n) xs)
 
 -- a task that begins with a message: of the others the first 63 on its edge and of its time come with it
-abbrev pub task_by : Option Coming → List Coming → List Coming
+abbrev pub task_by : Option Message → List Message → List Message
 task_by None others = []
 task_by (Some c) others = c ∷ take 63 (filter (same_edge c) others)
 
 -- what stays of the others
-abbrev pub left_by : Option Coming → List Coming → List Coming
+abbrev pub left_by : Option Message → List Message → List Message
 left_by None others = others
 left_by (Some c) others = without_first (same_edge c) 63 others
 
 -- the task that begins with the message at a place, and the messages that are left then
-abbrev pub task_at : ℕ → List Coming → List Coming
+abbrev pub task_at : ℕ → List Message → List Message
 task_at pick messages = task_by (slice_get messages pick) (remove messages pick)
 
-abbrev pub left_at : ℕ → List Coming → List Coming
+abbrev pub left_at : ℕ → List Message → List Message
 left_at pick messages = left_by (slice_get messages pick) (remove messages pick)

@@ -5,15 +5,15 @@ use Rattle.std.specs.Option.{option_map}
 use Rattle.td_stamp.specs.declared.values.Rec.{Rec}
 use Rattle.td_shard.specs.declared.lane.Lane.{Lane}
 use Rattle.td_shard.specs.declared.slots.Slot.{Slot}
-use Rattle.td_shard.specs.Records.{Coming}
+use Rattle.td_machine.specs.declared.records.Message.{Message}
 use Rattle.td_shard.specs.Messages.{same_time}
 
 -- the message of a slot
-abbrev pub message : Slot → Coming
+abbrev pub message : Slot → Message
 message s = record { vertex = s.lane.vertex; port = s.lane.port; time = s.lane.time; rec = s.rec }
 
 -- the messages that wait, in the order posted
-abbrev pub messages_of : List Slot → List Coming
+abbrev pub messages_of : List Slot → List Message
 messages_of [] = []
 messages_of (s ∷ ss) = cond s.is_taken (messages_of ss) (message s ∷ messages_of ss)
 

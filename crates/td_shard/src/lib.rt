@@ -5,6 +5,8 @@ mod error;
 mod lane;
 mod mailbox;
 mod noted;
+mod place;
+mod seen;
 mod slots;
 mod take;
 #[cfg(test)]
@@ -14,4 +16,5 @@ mod waiting;
 pub use error::ShardError;
 pub use mailbox::{Mailbox, Taken};
 pub use noted::Noted;
+pub use seen::Seen;
 pub use waiting::Waiting;

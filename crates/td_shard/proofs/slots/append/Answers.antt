@@ -3,8 +3,8 @@ use Rattle.std.proofs.lemmas.List.{take_more, map-append}
 use Rattle.std.specs.VecDeque.{deque_len}
 use Rattle.td_stamp.specs.declared.values.Rec.{Rec}
 use Rattle.td_shard.specs.declared.lane.Lane.{Lane}
-use Rattle.td_shard.specs.Records.{Coming}
-use Rattle.td_shard.specs.Messages.{coming}
+use Rattle.td_machine.specs.declared.records.Message.{Message}
+use Rattle.td_machine.specs.Steps.{coming}
 use Rattle.td_shard.specs.Slots.{lane_eq}
 use Rattle.td_shard.proofs.Lanes.{lane_equiv}
 use Rattle.td_shard.proofs.slots.append.Goals as goal
@@ -15,7 +15,7 @@ at_end j k q n m o p e f h t = h ∙ (ap (λ l. cond (lane_eq l q) (Some m) o) e
 elsewhere : (j k q : Lane) (m : ℕ) (o p : Option ℕ) → j ≡ k → p ≡ cond (lane_eq j q) (Some m) o → lane_eq k q ≡ false → p ≡ o
 elsewhere j k q m o p e h t = h ∙ (ap (λ l. cond (lane_eq l q) (Some m) o) e ∙ ap (λ b. cond b (Some m) o) t)
 
-one_more : (b m n : List Coming) (j k : Lane) (rs ss : List Rec) (r : Rec) → m ≡ b ++ coming k.vertex k.port k.time rs → n ≡ m ++ coming j.vertex j.port j.time (r ∷ []) → j ≡ k → ss ≡ rs ++ r ∷ [] → n ≡ b ++ coming k.vertex k.port k.time ss
+one_more : (b m n : List Message) (j k : Lane) (rs ss : List Rec) (r : Rec) → m ≡ b ++ coming k.vertex k.port k.time rs → n ≡ m ++ coming j.vertex j.port j.time (r ∷ []) → j ≡ k → ss ≡ rs ++ r ∷ [] → n ≡ b ++ coming k.vertex k.port k.time ss
 one_more b m n j k rs ss r e f g h =
     f ∙ (ap (λ l. m ++ coming l.vertex l.port l.time (r ∷ [])) g
     ∙ (ap (λ l. l ++ coming k.vertex k.port k.time (r ∷ [])) e
