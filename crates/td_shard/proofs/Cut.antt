@@ -11,6 +11,7 @@ use Rattle.std.specs.Map.{keys_of, lookup, set_value}
 use Rattle.std.specs.BTreeMap.{is_at, insert_entry}
 use Rattle.std.specs.BTreeSet.{BTreeSet}
 use Rattle.std.proofs.lemmas.Cmp.{tied_itself}
+use Rattle.std.proofs.lemmas.List.Elements.{filter-append}
 use Rattle.std.proofs.lemmas.Map.Keys.{sorted_head, sorted_tail}
 use Rattle.td_stamp.specs.declared.values.Rec.{Rec}
 use Rattle.td_stamp.specs.Orders.{rec_cmp}
@@ -199,20 +200,12 @@ filter_set epoch v t [] false e = refl
 filter_set epoch v t (k ∷ ks) true e = rw e (ap (λ l. at v t k ∷ l) (filter_set epoch v t ks true e))
 filter_set epoch v t (k ∷ ks) false e = rw e (filter_set epoch v t ks false e)
 
-filter_two : {X : Type 0} (p : X → Bool) (xs ys : List X) → filter p (xs ++ ys) ≡ filter p xs ++ filter p ys
-filter_two p [] ys = refl
-filter_two p (x ∷ xs) ys = by (p x) (filter_two p xs ys)
-  where
-    by : (b : Bool) → filter p (xs ++ ys) ≡ filter p xs ++ filter p ys → cond b (x ∷ filter p (xs ++ ys)) (filter p (xs ++ ys)) ≡ cond b (x ∷ filter p xs) (filter p xs) ++ filter p ys
-    by true h = ap (λ l. x ∷ l) h
-    by false h = h
-
 -- the sets of later epochs have the records of later epochs
 pub filter_seen : (epoch : ℕ) (es : List (Place × BTreeSet Rec)) → seen_of (filter (λ e. nat_lt epoch e.0.time.epoch) es) ≡ filter (λ x. nat_lt epoch x.time.epoch) (seen_of es)
 filter_seen epoch [] = refl
 filter_seen epoch (e ∷ es) =
     by (nat_lt epoch e.0.time.epoch) refl (filter_seen epoch es)
-    ∙ sym (filter_two (λ x. nat_lt epoch x.time.epoch) (seen_at e) (seen_of es))
+    ∙ sym (filter-append (λ x. nat_lt epoch x.time.epoch) (seen_at e) (seen_of es))
   where
     by : (b : Bool) → nat_lt epoch e.0.time.epoch ≡ b → seen_of (filter (λ e. nat_lt epoch e.0.time.epoch) es) ≡ filter (λ x. nat_lt epoch x.time.epoch) (seen_of es)
         → seen_of (cond b (e ∷ filter (λ e. nat_lt epoch e.0.time.epoch) es) (filter (λ e. nat_lt epoch e.0.time.epoch) es)) ≡ filter (λ x. nat_lt epoch x.time.epoch) (seen_at e) ++ filter (λ x. nat_lt epoch x.time.epoch) (seen_of es)

@@ -8,3 +8,4 @@ pub mod Between
 pub mod Fresh
 pub mod Orders
 pub mod Cut
+pub mod Parted

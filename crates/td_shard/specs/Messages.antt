@@ -1,5 +1,5 @@
 -- The messages of a shard, in the order in which they were posted, and the tasks that are taken of them.
-use Rattle.std.specs.Prelude.{ℕ, zero, suc, ◌==◌, Bool, ◌&&◌, cond, List, [], ◌∷◌, filter, take, reverse, Option, Some, None}
+use Rattle.std.specs.Prelude.{◌≡◌, ℕ, zero, suc, ◌==◌, Bool, ◌&&◌, cond, List, [], ◌∷◌, filter, take, reverse, Option, Some, None}
 use Rattle.std.specs.List.{remove, slice_get}
 use Rattle.std.specs.Cmp.Lexicographic.{pointwise}
 use Rattle.td_stamp.specs.Time.{Timestamp}
@@ -19,6 +19,10 @@ same_time t u = (t.epoch == u.epoch) && pointwise (λ i j. i == j) (reverse t.tu
 -- whether two messages are on one edge, and bear one time
 abbrev pub same_edge : Message → Message → Bool
 same_edge c d = (c.vertex == d.vertex) && ((c.port == d.port) && same_time c.time d.time)
+
+-- a message is on the edge of another, and bears its time
+abbrev pub IsBeside : Message → Message → Type 0
+IsBeside c d = (d.vertex ≡ c.vertex) × (d.port ≡ c.port) × (d.time ≡ c.time)
 
 -- a list without the first n of its elements that pass a test
 abbrev pub without_first : {X : Type 0} → (X → Bool) → ℕ → List X → List X

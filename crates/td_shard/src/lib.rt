@@ -3,6 +3,7 @@
 
 mod error;
 mod lane;
+pub mod laws;
 mod mailbox;
 mod noted;
 mod place;
