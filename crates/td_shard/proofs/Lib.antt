@@ -9,3 +9,8 @@ pub mod LeftBags
 pub mod KeptStates
 pub mod LeftStates
 pub mod KeptVersions
+pub mod Between
+pub mod Fresh
+pub mod Orders
+pub mod Cut
+pub mod Parted

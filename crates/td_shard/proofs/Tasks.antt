@@ -7,7 +7,8 @@ use Rattle.td_stamp.specs.declared.values.Rec.{Rec}
 use Rattle.td_shard.specs.declared.lane.Lane.{Lane}
 use Rattle.td_shard.specs.declared.slots.Slot.{Slot}
 use Rattle.td_machine.specs.declared.records.Message.{Message}
-use Rattle.td_shard.specs.Messages.{same_edge, without_first, coming, task_by, left_by, task_at, left_at}
+use Rattle.td_shard.specs.Messages.{same_edge, without_first, task_by, left_by, task_at, left_at}
+use Rattle.td_machine.specs.Steps.{coming}
 use Rattle.td_shard.specs.Slots.{message, messages_of, lane_eq, taken, ahead_of, last_by, first_on, last_on, AreLinked, waits_on, taken_on, recs_on}
 use Rattle.td_shard.proofs.Lanes.{lane_eq-sound}
 use Rattle.td_shard.proofs.TakenUp.{taken_at, linked-taken_at, last-taken_at}

@@ -1,8 +1,7 @@
 -- The messages of a shard, in the order in which they were posted, and the tasks that are taken of them.
-use Rattle.std.specs.Prelude.{ℕ, zero, suc, ◌==◌, Bool, ◌&&◌, cond, List, [], ◌∷◌, map, filter, take, reverse, Option, Some, None}
+use Rattle.std.specs.Prelude.{◌≡◌, ℕ, zero, suc, ◌==◌, Bool, ◌&&◌, cond, List, [], ◌∷◌, filter, take, reverse, Option, Some, None}
 use Rattle.std.specs.List.{remove, slice_get}
 use Rattle.std.specs.Cmp.Lexicographic.{pointwise}
-use Rattle.td_stamp.specs.declared.values.Rec.{Rec}
 use Rattle.td_stamp.specs.Time.{Timestamp}
 use Rattle.td_machine.specs.declared.records.Message.{Message}
 
@@ -13,10 +12,6 @@ pub record Mailboxed : Type 0 where
   pub room : ℕ
   pub messages : List Message
 
--- how many messages a task has at most
-abbrev pub task_size : ℕ
-task_size = 64
-
 -- whether two times are the same
 abbrev pub same_time : Timestamp → Timestamp → Bool
 same_time t u = (t.epoch == u.epoch) && pointwise (λ i j. i == j) (reverse t.turns) (reverse u.turns)
@@ -25,9 +20,9 @@ same_time t u = (t.epoch == u.epoch) && pointwise (λ i j. i == j) (reverse t.tu
 abbrev pub same_edge : Message → Message → Bool
 same_edge c d = (c.vertex == d.vertex) && ((c.port == d.port) && same_time c.time d.time)
 
--- records that come to a port at a time, as messages
-abbrev pub coming : ℕ → ℕ → Timestamp → List Rec → List Message
-coming v port t recs = map (λ r. record { vertex = v; port = port; time = t; rec = r }) recs
+-- a message is on the edge of another, and bears its time
+abbrev pub IsBeside : Message → Message → Type 0
+IsBeside c d = (d.vertex ≡ c.vertex) × (d.port ≡ c.port) × (d.time ≡ c.time)
 
 -- a list without the first n of its elements that pass a test
 abbrev pub without_first : {X : Type 0} → (X → Bool) → ℕ → List X → List X

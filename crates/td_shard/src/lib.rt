@@ -3,8 +3,10 @@
 
 mod error;
 mod lane;
+pub mod laws;
 mod mailbox;
 mod noted;
+mod place;
 mod seen;
 mod shard;
 mod slots;

@@ -2,7 +2,8 @@
 ghost use Rattle.std.specs.Prelude.{◌≡◌, ◌+◌, ◌-◌, ◌<◌, ◌≤◌, ◌++◌, [], ℕ, length, max, IfOk, OnOk, OnErr};
 ghost use Rattle.std.specs.Option.{option_map};
 ghost use Rattle.std.specs.HashMap.{get};
-ghost use Rattle.td_shard.specs.Messages.{coming, task_at, left_at};
+ghost use Rattle.td_shard.specs.Messages.{task_at, left_at};
+ghost use Rattle.td_machine.specs.Steps.{coming};
 ghost use Rattle.td_shard.specs.Slots.{lane_eq};
 
 use crate::error::ShardError;

@@ -1,7 +1,7 @@
 //! The slots of a mailbox.
 ghost use Rattle.std.specs.Prelude.{◌≡◌, ◌+◌, ◌-◌, ◌<◌, ◌≤◌, ◌++◌, ◌∷◌, [], ℕ, cond, false, IsTrue, Some, length};
 ghost use Rattle.std.specs.VecDeque.{deque_len, deque_capacity};
-ghost use Rattle.td_shard.specs.Messages.{coming};
+ghost use Rattle.td_machine.specs.Steps.{coming};
 ghost use Rattle.td_shard.specs.Slots.{lane_eq, last_on, AreLinked, FrontWaits, messages_of};
 ghost use Rattle.td_shard.specs.declared.lane.Lane.{Lane as AnyLane};
 

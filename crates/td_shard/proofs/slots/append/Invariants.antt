@@ -1,7 +1,7 @@
 use Rattle.std.proofs.Common.{◌≡◌, ◌+◌, ◌-◌, ◌<◌, ◌++◌, Some, true, false, take}
 use Rattle.std.specs.VecDeque.{deque_len, deque_capacity}
 use Rattle.td_shard.specs.declared.lane.Lane.{Lane}
-use Rattle.td_shard.specs.Messages.{coming}
+use Rattle.td_machine.specs.Steps.{coming}
 use Rattle.td_shard.specs.Slots.{lane_eq, last_on, AreLinked, FrontWaits, messages_of}
 use Rattle.td_shard.proofs.slots.append.Given as goal
 

@@ -5,7 +5,7 @@ use Rattle.std.specs.Result.{OnOk, IsOk}
 use Rattle.td_stamp.specs.declared.values.Rec.{Rec}
 use Rattle.td_shard.specs.declared.lane.Lane.{Lane}
 use Rattle.td_shard.specs.Slots.{lane_eq, messages_of}
-use Rattle.td_shard.specs.Messages.{coming}
+use Rattle.td_machine.specs.Steps.{coming}
 use Rattle.td_shard.proofs.Linked.{length-messages}
 use Rattle.td_shard.proofs.mailbox.Mailbox.post_run.Goals as goal
 
