@@ -1,5 +1,5 @@
 -- What came to the outputs of a plan, epoch by epoch.
-use Rattle.std.specs.Prelude.{ℕ, ◌+◌, ◌-◌, ◌==◌, nat_lt, List, map, filter, flat_map, length}
+use Rattle.std.specs.Prelude.{ℕ, ◌+◌, ◌-◌, ◌==◌, nat_lt, List, map, filter, flat_map, length, cond, Option, Some, None}
 use Rattle.td_stamp.specs.declared.values.Rec.{Rec}
 use Rattle.td_stamp.specs.declared.values.Output.{Output}
 use Rattle.td_stamp.specs.declared.epoch_out.EpochOut.{EpochOut}
@@ -45,3 +45,7 @@ passed_since active after next = filter (has_passed active) (numbers_from (after
 -- the outputs of later epochs
 abbrev pub later_than : ℕ → List OutputAt → List OutputAt
 later_than epoch outputs = filter (λ o. nat_lt epoch o.epoch) outputs
+
+-- a number, where it is below another
+abbrev pub next_below : ℕ → ℕ → Option ℕ
+next_below n end = cond (nat_lt n end) (Some n) None

@@ -1,5 +1,5 @@
 //! Collecting what came to the outputs.
-ghost use Rattle.std.specs.Prelude.{◌≡◌, ◌-◌, ◌+◌, ◌≤◌, ◌<◌, map, length, IfOk, IfErr, OnOk, OnErr};
+ghost use Rattle.std.specs.Prelude.{◌≡◌, ◌-◌, ◌+◌, ◌≤◌, ◌<◌, map, IfOk, IfErr, OnOk, OnErr};
 ghost use Rattle.td_batch.specs.Flow.{numbers_from};
 ghost use Rattle.td_machine.specs.Steps.{collect_step};
 ghost use Rattle.td_machine.specs.Steps.Answer.{has_collected};
@@ -11,10 +11,10 @@ use crate::error::HallError;
 use crate::floor::Floor;
 use crate::hall::Hall;
 use crate::outputs::Outputs;
+use crate::passed::last_passed;
 use std::alloc::Global;
 use td_calls::Law;
 use td_machine::laws::{reached, reached_in_order};
-use td_progress::Table;
 use td_progress::laws::in_any_order;
 use td_stamp::EpochOut;
 
@@ -66,21 +66,4 @@ fn take_after(
     }
     outputs.let_go(last);
     Ok(outs)
-}
-
-/// The last of the epochs after one, and before the next that is released, up to which all have passed; or that one.
-fn last_passed(table: &Table, after: u64, next: u64) -> u64
-    requires { after < next }
-    ensures after { after ≤ result }
-    ensures before { result < next }
-    ensures passed { passed_since table.now.stamps after next ≡ numbers_from (after + 1) (result - after) }
-{
-    let mut last = after;
-    for epoch in after + 1..next {
-        if !table.passed(epoch) {
-            return last;
-        }
-        last = epoch;
-    }
-    last
 }

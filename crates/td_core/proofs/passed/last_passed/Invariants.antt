@@ -1,6 +1,6 @@
 use Rattle.std.proofs.Common.{◌≡◌, ◌+◌, ◌≤◌, ◌<◌, true}
 use Rattle.td_reach.specs.Frontier.{has_passed}
-use Rattle.td_core.proofs.collect.last_passed.Given as goal
+use Rattle.td_core.proofs.passed.last_passed.Given as goal
 
 abbrev pub invariant-loop-epoch : goal.invariant-loop-epoch
 invariant-loop-epoch l = record {
