@@ -14,6 +14,7 @@ ghost use Rattle.td_machine.specs.Below.{Below};
 ghost use Rattle.td_machine.specs.AtOnce.{DeliveredAtOnce, FreshByMembers, FreshOfShard};
 ghost use Rattle.td_machine.specs.InOrder.{ListsInOrder, TasksInOrder, NumbersInOrder};
 ghost use Rattle.td_machine.specs.Moves.{StampsMove};
+ghost use Rattle.td_machine.specs.NoneLeft.{NoneToTake, FirstUnpassed};
 ghost use Rattle.td_machine.specs.Waits.{WaitsByPlace, WhatWaits, AskedPassing};
 ghost use Rattle.td_machine.specs.ByEdge.{PostsByEdge, StampsByEdge, BatchByEdge, BatchStampsByEdge, StampsOfTask, OutputsAtOnce, AsksOnce};
 
@@ -177,3 +178,10 @@ pub fn what_waits()
 {
     laws_below();
 }
+
+/// A shard of which no message is there, and none of whose notifications is in the frontier, has no task; and where the
+/// first so many epochs after the base have passed, and no other, the next one is the least that has not.
+pub fn none_left()
+    ensures task { NoneToTake }
+    ensures epoch { FirstUnpassed }
+{}
