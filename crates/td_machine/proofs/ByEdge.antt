@@ -85,12 +85,14 @@ stamps_are_by_edge below plan v t recs test =
     let c = many_joined f test message_cmp (posts_by_edge plan v t recs) [] in
     let d : many f test (posts plan (stamped v t recs)) ≡ many f test (posts_by_edge plan v t recs) = omega (arith, a, b, c) in
     d ∙ ap (count_by test) (map_flat below f (on_edges plan v recs) (times_from plan v t)
-    ∙ same_parts (λ later. map f (on_edges plan v recs later)) (λ later. flat_map (λ e. replicate (length recs) (stamp_on plan later e)) (edges_from plan v)) (λ later. at_one later) (times_from plan v t))
+    ∙ same_parts (λ later. map f (on_edges plan v recs later)) (λ later. flat_map (λ e. replicate (length recs) (stamp_on plan later e)) (edges_from plan v)) (λ later. at_one later)
+    (times_from plan v t))
   where
     at_one : (later : Timestamp) → map (stamp_of_message plan) (on_edges plan v recs later) ≡ flat_map (λ e. replicate (length recs) (stamp_on plan later e)) (edges_from plan v)
     at_one later =
         map_flat below (stamp_of_message plan) (λ e. coming e.reader e.port later recs) (edges_from plan v)
-        ∙ same_parts (λ e. map (stamp_of_message plan) (coming e.reader e.port later recs)) (λ e. replicate (length recs) (stamp_on plan later e)) (λ e. stamps_of_task plan e.reader e.port later recs) (edges_from plan v)
+        ∙ same_parts (λ e. map (stamp_of_message plan) (coming e.reader e.port later recs)) (λ e. replicate (length recs) (stamp_on plan later e))
+        (λ e. stamps_of_task plan e.reader e.port later recs) (edges_from plan v)
 
 -- A BATCH
 eqb_swap : Below → (a b : ℕ) → (a == b) ≡ (b == a)
@@ -122,13 +124,15 @@ module _ (below : Below) (plan : List Line) (epoch : ℕ) where
       ap (λ kind. flat_map (λ later. map (on_edge later entry.rec) (edges_from plan entry.input)) (sending_times kind (bound_of plan entry.input) then)) k
       ∙ append-nil (map (on_edge then entry.rec) (edges_from plan entry.input)) ∙ passing_parts (λ e. e.source == entry.input) (on_edge then entry.rec) (edges plan)
 
-  each_entry : (batch : List Entry) → AllByRecursion (λ entry. kind_of plan entry.input ≡ Input) batch → posts plan (map (entered epoch) batch) ≡ flat_map (λ entry. flat_map (sent_on entry) (edges plan)) batch
+  each_entry : (batch : List Entry) → AllByRecursion (λ entry. kind_of plan entry.input ≡ Input) batch
+      → posts plan (map (entered epoch) batch) ≡ flat_map (λ entry. flat_map (sent_on entry) (edges plan)) batch
   each_entry [] h = refl
   each_entry (entry ∷ batch) h = λ i. one_entry entry h.0 i ++ each_entry batch h.1 i
 
   on_one_edge : (e : Edge) (batch : List Entry) → flat_map (λ entry. sent_on entry e) batch ≡ coming e.reader e.port then (records_for e.source batch)
   on_one_edge e batch =
-      same_parts (λ entry. sent_on entry e) (λ entry. cond (entry.input == e.source) (on_edge then entry.rec e ∷ []) []) (λ entry. ap (λ b. cond b (on_edge then entry.rec e ∷ []) []) (eqb_swap below e.source entry.input)) batch
+      same_parts (λ entry. sent_on entry e) (λ entry. cond (entry.input == e.source) (on_edge then entry.rec e ∷ []) [])
+      (λ entry. ap (λ b. cond b (on_edge then entry.rec e ∷ []) []) (eqb_swap below e.source entry.input)) batch
       ∙ sym (passing_parts (λ entry. entry.input == e.source) (λ entry. on_edge then entry.rec e) batch) ∙ maps_twice (filter (λ entry. entry.input == e.source) batch)
     where
       maps_twice : (xs : List Entry) → map (λ entry. on_edge then entry.rec e) xs ≡ coming e.reader e.port then (map (λ entry. entry.rec) xs)
@@ -155,12 +159,14 @@ batches_are_by_edge below plan epoch batch others lawful a =
 pub batch_stamps_are_by_edge : Below → BatchStampsByEdge
 batch_stamps_are_by_edge below plan epoch batch lawful h test =
     let f = stamp_of_message plan in
-    let a : many f test (bag_of message_cmp (posts plan (map (entered epoch) batch))) ≡ many f test (bag_of message_cmp (batch_by_edge plan epoch batch)) = ap (many f test) (batch_alike below plan epoch batch lawful h) in
+    let a : many f test (bag_of message_cmp (posts plan (map (entered epoch) batch))) ≡ many f test (bag_of message_cmp (batch_by_edge plan epoch batch)) = ap (many f test)
+    (batch_alike below plan epoch batch lawful h) in
     let b = many_joined f test message_cmp (posts plan (map (entered epoch) batch)) [] in
     let c = many_joined f test message_cmp (batch_by_edge plan epoch batch) [] in
     let d : many f test (posts plan (map (entered epoch) batch)) ≡ many f test (batch_by_edge plan epoch batch) = omega (arith, a, b, c) in
     d ∙ ap (count_by test) (map_flat below f (λ e. coming e.reader e.port (then below plan epoch) (records_for e.source batch)) (edges plan)
-    ∙ same_parts (λ e. map f (coming e.reader e.port (then below plan epoch) (records_for e.source batch))) (λ e. replicate (length (records_for e.source batch)) (stamp_on plan (then below plan epoch) e))
+    ∙ same_parts (λ e. map f (coming e.reader e.port (then below plan epoch) (records_for e.source batch)))
+    (λ e. replicate (length (records_for e.source batch)) (stamp_on plan (then below plan epoch) e))
     (λ e. stamps_of_task plan e.reader e.port (then below plan epoch) (records_for e.source batch)) (edges plan))
 
 -- WHAT COMES OUT

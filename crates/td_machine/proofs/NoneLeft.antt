@@ -47,17 +47,20 @@ first_other p k (suc n) many h = by (p k) refl many h (first_other p (suc k) n)
     found b e = ap (λ b. cond (not b) (Some k) (find (λ e. not (p e)) (numbers_from (suc k) n))) e
 
     by : (b : Bool) → p k ≡ b → (many : ℕ) → filter p (numbers_from k (suc n)) ≡ numbers_from k many
-        → ((many : ℕ) → filter p (numbers_from (suc k) n) ≡ numbers_from (suc k) many → find (λ e. not (p e)) (numbers_from (suc k) n) ≡ elim (nat_lt (suc k + many) (suc k + n)) [ true ↦ Some (suc k + many) | false ↦ None ])
+        → ((many : ℕ) → filter p (numbers_from (suc k) n) ≡ numbers_from (suc k) many
+        → find (λ e. not (p e)) (numbers_from (suc k) n) ≡ elim (nat_lt (suc k + many) (suc k + n)) [ true ↦ Some (suc k + many) | false ↦ None ])
         → find (λ e. not (p e)) (numbers_from k (suc n)) ≡ elim (nat_lt (k + many) (k + suc n)) [ true ↦ Some (k + many) | false ↦ None ]
     by true e zero h rest = absurd (let no : k ∷ filter p (numbers_from (suc k) n) ≡ [] = sym (filter_yes p k (numbers_from (suc k) n) e) ∙ h in cc)
     by true e (suc many) h rest =
-        let tails : filter p (numbers_from (suc k) n) ≡ numbers_from (suc k) many = let both : k ∷ filter p (numbers_from (suc k) n) ≡ k ∷ numbers_from (suc k) many = sym (filter_yes p k (numbers_from (suc k) n) e) ∙ h in cc in
+        let tails : filter p (numbers_from (suc k) n) ≡ numbers_from (suc k) many = let both : k ∷ filter p (numbers_from (suc k) n) ≡ k ∷ numbers_from (suc k) many = sym
+        (filter_yes p k (numbers_from (suc k) n) e) ∙ h in cc in
         let a : suc k + many ≡ k + suc many = omega arith in
         let b : suc k + n ≡ k + suc n = omega arith in
         found true e ∙ rest many tails ∙ (λ i. elim (nat_lt (a i) (b i)) [ true ↦ Some (a i) | false ↦ None ])
     by false e many h rest =
         let others : AllByRecursion (λ (x : ℕ). suc k ≤ x) (filter p (numbers_from (suc k) n)) =
-        all_weaken (λ (x : ℕ). (suc k ≤ x) × (p x ≡ true)) (λ x. suc k ≤ x) (λ x l. l.0) (filter p (numbers_from (suc k) n)) (all_filter (λ (x : ℕ). suc k ≤ x) p (numbers_from (suc k) n) (from_above (suc k) n)) in
+        all_weaken (λ (x : ℕ). (suc k ≤ x) × (p x ≡ true)) (λ x. suc k ≤ x) (λ x l. l.0) (filter p (numbers_from (suc k) n))
+        (all_filter (λ (x : ℕ). suc k ≤ x) p (numbers_from (suc k) n) (from_above (suc k) n)) in
         let none : many ≡ 0 = heads k many (filter p (numbers_from (suc k) n)) (sym (filter_no p k (numbers_from (suc k) n) e) ∙ h) others in
         let here : k ≡ k + many = omega (arith, none) in
         let below_end : nat_lt (k + many) (k + suc n) ≡ true = lt-ltb (k + many) (k + suc n) (omega (arith, none)) in
