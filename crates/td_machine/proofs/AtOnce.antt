@@ -120,7 +120,8 @@ module _ (below : Below) where
         let now : HallState = delivered answers S kind (comes r) in
         let sent : List Message = posts S.plan (stamped v t first.sent) in
         let here_now : now.messages ≡ join message_cmp (coming v port t recs) (join message_cmp sent others) =
-        ap (join message_cmp sent) (removed below (comes r) S.messages (join message_cmp (coming v port t recs) others) here) ∙ join-swap message_cmp below.messages sent (coming v port t recs) others in
+        ap (join message_cmp sent) (removed below (comes r) S.messages (join message_cmp (coming v port t recs) others) here)
+        ∙ join-swap message_cmp below.messages sent (coming v port t recs) others in
         all_at_once now kind recs (join message_cmp sent others) here_now
         ∙ then_others S kind r recs others (added_at_once answers now.seen kind v port t recs)
         ∙ ap (with_all S kind v port t (r ∷ recs) others) (sym (split S kind r recs))
@@ -132,7 +133,8 @@ module _ (below : Below) where
   pub fresh_by_members : FreshByMembers
   fresh_by_members seen other v t [] h = refl
   fresh_by_members seen other v t (r ∷ recs) h =
-      by (has stamped_cmp (stamped_at v t r) seen) refl (fresh_by_members seen other v t recs h.1) (fresh_by_members (bag_insert stamped_cmp (stamped_at v t r) seen) (bag_insert stamped_cmp (stamped_at v t r) other) v t recs
+      by (has stamped_cmp (stamped_at v t r) seen) refl (fresh_by_members seen other v t recs h.1)
+      (fresh_by_members (bag_insert stamped_cmp (stamped_at v t r) seen) (bag_insert stamped_cmp (stamped_at v t r) other) v t recs
       (all_weaken (λ q. has stamped_cmp (stamped_at v t q) seen ≡ has stamped_cmp (stamped_at v t q) other)
       (λ q. has stamped_cmp (stamped_at v t q) (bag_insert stamped_cmp (stamped_at v t r) seen) ≡ has stamped_cmp (stamped_at v t q) (bag_insert stamped_cmp (stamped_at v t r) other)) more recs h.1))
     where

@@ -61,7 +61,8 @@ strict_filter cmp p [] h = tt
 strict_filter cmp p (x ∷ xs) h = by (p x) refl (strict_filter cmp p xs h.1)
   where
     by : (b : Bool) → p x ≡ b → Strict cmp (filter p xs) → Strict cmp (filter p (x ∷ xs))
-    by true e rest = subst (Strict cmp) (sym (filter_yes p x xs e)) (all_weaken (λ y. (cmp x y ≡ Less) × (p y ≡ true)) (λ y. cmp x y ≡ Less) (λ y k. k.0) (filter p xs) (all_filter (λ y. cmp x y ≡ Less) p xs h.0), rest)
+    by true e rest = subst (Strict cmp) (sym (filter_yes p x xs e))
+        (all_weaken (λ y. (cmp x y ≡ Less) × (p y ≡ true)) (λ y. cmp x y ≡ Less) (λ y k. k.0) (filter p xs) (all_filter (λ y. cmp x y ≡ Less) p xs h.0), rest)
     by false e rest = subst (Strict cmp) (sym (filter_no p x xs e)) rest
 
 module _ {X : Type 0} (cmp : X → X → Ordering) (total : IsTotalOrder cmp) where
@@ -148,15 +149,21 @@ task_total : IsTotalOrder task_cmp
 task_total = on_total (λ t. t.number) nat_cmp_total
 
 module _ (below : Below) (answers : Answers) where
-  seen_ordered : (S : HallState) (kind : Kind) (c : Message) → Strict stamped_cmp S.seen → (b : Bool) → is_distinct kind ≡ b → Strict stamped_cmp (join stamped_cmp (stamped c.vertex c.time (called answers S kind c).seen) S.seen)
-  seen_ordered S kind c h false e = subst (λ l. Strict stamped_cmp (join stamped_cmp (stamped c.vertex c.time l) S.seen)) (sym (sees_none below answers kind (local_at S c.vertex c.time) (arrival c) e)) h
-  seen_ordered S kind c h true e = subst (λ k. Strict stamped_cmp (join stamped_cmp (stamped c.vertex c.time (called answers S k c).seen) S.seen)) (sym (distinct_is below kind e)) (by (has rec_cmp c.rec (local_at S c.vertex c.time).seen) refl)
+  seen_ordered : (S : HallState) (kind : Kind) (c : Message) → Strict stamped_cmp S.seen → (b : Bool) → is_distinct kind ≡ b
+      → Strict stamped_cmp (join stamped_cmp (stamped c.vertex c.time (called answers S kind c).seen) S.seen)
+  seen_ordered S kind c h false e = subst (λ l. Strict stamped_cmp (join stamped_cmp (stamped c.vertex c.time l) S.seen))
+      (sym (sees_none below answers kind (local_at S c.vertex c.time) (arrival c) e)) h
+  seen_ordered S kind c h true e = subst (λ k. Strict stamped_cmp (join stamped_cmp (stamped c.vertex c.time (called answers S k c).seen) S.seen)) (sym (distinct_is below kind e))
+      (by (has rec_cmp c.rec (local_at S c.vertex c.time).seen) refl)
     where
       by : (b : Bool) → has rec_cmp c.rec (local_at S c.vertex c.time).seen ≡ b → Strict stamped_cmp (join stamped_cmp (stamped c.vertex c.time (called answers S Distinct c).seen) S.seen)
-      by true f = subst (λ l. Strict stamped_cmp (join stamped_cmp (stamped c.vertex c.time l) S.seen)) (sym (sees below answers (local_at S c.vertex c.time) (arrival c) ∙ ap (λ b. where_true below (not b) c.rec) f)) h
+      by true f = subst (λ l. Strict stamped_cmp (join stamped_cmp (stamped c.vertex c.time l) S.seen))
+          (sym (sees below answers (local_at S c.vertex c.time) (arrival c) ∙ ap (λ b. where_true below (not b) c.rec) f)) h
       by false f =
-          subst (λ l. Strict stamped_cmp (join stamped_cmp (stamped c.vertex c.time l) S.seen)) (sym (sees below answers (local_at S c.vertex c.time) (arrival c) ∙ ap (λ b. where_true below (not b) c.rec) f))
-          (strict_bag_insert stamped_cmp stamped_total _ S.seen (not_tied stamped_cmp (record { vertex = c.vertex; time = c.time; rec = c.rec }) S.seen (sym (seen_there below c.vertex c.time c.rec S.seen) ∙ f)) h)
+          subst (λ l. Strict stamped_cmp (join stamped_cmp (stamped c.vertex c.time l) S.seen))
+          (sym (sees below answers (local_at S c.vertex c.time) (arrival c) ∙ ap (λ b. where_true below (not b) c.rec) f))
+          (strict_bag_insert stamped_cmp stamped_total _ S.seen
+          (not_tied stamped_cmp (record { vertex = c.vertex; time = c.time; rec = c.rec }) S.seen (sym (seen_there below c.vertex c.time c.rec S.seen) ∙ f)) h)
 
   delivered_ordered : (S : HallState) (kind : Kind) (c : Message) → Ordered S → Ordered (delivered answers S kind c)
   delivered_ordered S kind c h = record {
@@ -176,7 +183,8 @@ module _ (below : Below) (answers : Answers) where
 
   effect_ordered : (S : HallState) (task : Task) (content : Content) → Ordered S → Ordered (effect answers S task content)
   effect_ordered S task (messages port recs) h = all_ordered (coming task.vertex port task.time recs) S task.kind h
-  effect_ordered S task (notification items) h = record { seen = h.seen; asked = strict_filter notification_cmp _ S.asked h.asked; out = h.out; numbers = h.numbers; sizes = h.sizes; once = h.once; many = h.many; taken = h.taken }
+  effect_ordered S task (notification items) h =
+      record { seen = h.seen; asked = strict_filter notification_cmp _ S.asked h.asked; out = h.out; numbers = h.numbers; sizes = h.sizes; once = h.once; many = h.many; taken = h.taken }
 
   -- one task fewer is out
   one_less : (task : Task) (xs : List Task) → OneAShard xs → Contains xs task → length xs ≡ 1 + length (filter (λ t. not (t.shard == task.shard)) xs)
@@ -184,7 +192,8 @@ module _ (below : Below) (answers : Answers) where
   one_less task (x ∷ xs) h (zero, l, e) =
       let mine : (x.shard == task.shard) ≡ true = ap (λ (t : Task). t.shard == task.shard) e ∙ eqb-same below task.shard in
       let all : AllByRecursion (λ (t : Task). not (t.shard == task.shard) ≡ true) xs =
-      all_weaken (λ (t : Task). x.shard ≡ t.shard → ⊥) (λ t. not (t.shard == task.shard) ≡ true) (λ t n. other t (λ same. n (ap (λ (t : Task). t.shard) e ∙ sym same)) (t.shard == task.shard) refl) xs h.0 in
+      all_weaken (λ (t : Task). x.shard ≡ t.shard → ⊥) (λ t. not (t.shard == task.shard) ≡ true)
+      (λ t n. other t (λ same. n (ap (λ (t : Task). t.shard) e ∙ sym same)) (t.shard == task.shard) refl) xs h.0 in
       let rest : filter (λ t. not (t.shard == task.shard)) (x ∷ xs) ≡ xs =
       filter_no (λ t. not (t.shard == task.shard)) x xs (ap not mine) ∙ filter_all (λ t. not (t.shard == task.shard)) xs all in
       let n = ap length rest in omega (arith, n)
@@ -224,7 +233,8 @@ module _ (below : Below) (answers : Answers) where
   }
     where
       filtered : (P : Task → Type 0) → AllByRecursion P S.out → AllByRecursion P (filter (λ t. not (t.shard == task.shard)) S.out)
-      filtered P k = all_weaken (λ t. P t × (not (t.shard == task.shard) ≡ true)) P (λ t q. q.0) (filter (λ t. not (t.shard == task.shard)) S.out) (all_filter P (λ t. not (t.shard == task.shard)) S.out k)
+      filtered P k = all_weaken (λ t. P t × (not (t.shard == task.shard) ≡ true)) P (λ t q. q.0) (filter (λ t. not (t.shard == task.shard)) S.out)
+          (all_filter P (λ t. not (t.shard == task.shard)) S.out k)
 
   length_more : (x : Task) (ys : List Task) → length (bag_insert task_cmp x ys) ≡ 1 + length ys
   length_more x [] = refl
@@ -239,8 +249,11 @@ module _ (below : Below) (answers : Answers) where
   taken_ordered S s task free may room h = record {
     seen = h.seen;
     asked = h.asked;
-    out = strict_bag_insert task_cmp task_total task S.out (all_weaken (λ (t : Task). t.number ≤ S.taken) (λ t. task_cmp task t ≡ Equal → ⊥) (λ t l e. let same = nat_cmp-IsAntisymmetric task.number t.number e in let n = may.number in omega (arith, l, same, n)) S.out h.numbers) h.out;
-    numbers = all_insert task_cmp (λ (t : Task). t.number ≤ S.taken + 1) task S.out (let n = may.number in omega (arith, n)) (all_weaken (λ (t : Task). t.number ≤ S.taken) (λ t. t.number ≤ S.taken + 1) (λ t l. omega (arith, l)) S.out h.numbers);
+    out = strict_bag_insert task_cmp task_total task S.out
+        (all_weaken (λ (t : Task). t.number ≤ S.taken) (λ t. task_cmp task t ≡ Equal → ⊥)
+        (λ t l e. let same = nat_cmp-IsAntisymmetric task.number t.number e in let n = may.number in omega (arith, l, same, n)) S.out h.numbers) h.out;
+    numbers = all_insert task_cmp (λ (t : Task). t.number ≤ S.taken + 1) task S.out (let n = may.number in omega (arith, n))
+        (all_weaken (λ (t : Task). t.number ≤ S.taken) (λ t. t.number ≤ S.taken + 1) (λ t l. omega (arith, l)) S.out h.numbers);
     sizes = all_insert task_cmp (λ (t : Task). IsSized t.content) task S.out (sized task.content may.content) h.sizes;
     once = one_more below task S.out (all_weaken (λ (t : Task). t.shard ≡ s → ⊥) (λ t. t.shard ≡ task.shard → ⊥) (λ t n e. n (e ∙ may.shard)) S.out (free_shard below s S.out free)) h.once;
     many = let n = length_more task S.out in let m = h.many in omega (arith, n, m);
@@ -258,7 +271,8 @@ module _ (below : Below) (answers : Answers) where
   takes_ordered S s _ _ (takes e task may l) h = taken_ordered S s task e may l h
 
   gives_ordered : (S : HallState) (task : Task) (answer : Answer) (after : HallState) → Gives answers S task answer after → Ordered S → Ordered after
-  gives_ordered S task _ _ (gives out) h = given_ordered (effect answers S task task.content) task (subst (λ l. Contains l task) (sym (same_out S task task.content)) out) (effect_ordered S task task.content h)
+  gives_ordered S task _ _ (gives out) h = given_ordered (effect answers S task task.content) task (subst (λ l. Contains l task) (sym (same_out S task task.content)) out)
+      (effect_ordered S task task.content h)
   gives_ordered S task _ _ (is_stranger n) h = h
 
   -- what changes nothing of these
@@ -275,7 +289,17 @@ module _ (below : Below) (answers : Answers) where
   }
 
   cut_ordered : (S : HallState) (e : ℕ) → Ordered S → Ordered (cut_to S e)
-  cut_ordered S e h = record { seen = strict_filter stamped_cmp (λ x. nat_lt e x.time.epoch) S.seen h.seen; asked = h.asked; out = h.out; numbers = h.numbers; sizes = h.sizes; once = h.once; many = h.many; taken = h.taken }
+  cut_ordered S e h = record {
+    seen = strict_filter stamped_cmp
+        (λ x. nat_lt e x.time.epoch) S.seen h.seen;
+    asked = h.asked;
+    out = h.out;
+    numbers = h.numbers;
+    sizes = h.sizes;
+    once = h.once;
+    many = h.many;
+    taken = h.taken;
+  }
 
   releases_ordered : (S : HallState) (batch : List Entry) (b c : Bool) → Ordered S → Ordered (release_by S b c batch).1
   releases_ordered S batch true c h = h
@@ -311,7 +335,8 @@ module _ (below : Below) (answers : Answers) where
   states_are [] h = tt
   states_are (e ∷ es) h = (all_map (λ k. state_key_cmp e.0 k ≡ Less) (λ (d : (ℕ × ℕ) × State). d.0) es h.0, states_are es h.1)
 
-  still_content : (S : HallState) (task : Task) (content : Content) → IsSized content → AllByRecursion (λ r. shard_of_key S.workers r.key ≡ task.shard) (recs_in content) → StandsOut S task content → IsContent S task.shard task.vertex task.time content
+  still_content : (S : HallState) (task : Task) (content : Content) → IsSized content → AllByRecursion (λ r. shard_of_key S.workers r.key ≡ task.shard) (recs_in content)
+      → StandsOut S task content → IsContent S task.shard task.vertex task.time content
   still_content S task (messages port recs) sized of_shard h = (sized.0, sized.1, of_shard, h)
   still_content S task (notification items) sized of_shard h = (h.0, record { is_active = asked_active S _ h.0; is_free = h.1 }, h.2)
 
@@ -319,10 +344,12 @@ module _ (below : Below) (answers : Answers) where
   origin_of S r = record { states = r.states; first = r.first; batches = batches_of r.events r.replies }
 
   history_of : (S : HallState) (r : IsReached answers S) → (H : History) × Invariant answers (origin_of S r) S H
-  history_of S r = let p = play_has below answers r.plan r.states r.first r.workers r.events r.replies S r.lawful (plan_facts below r.plan r.lawful) r.ordered r.from_one r.some_worker r.plays in (p.0, p.1)
+  history_of S r = let p = play_has below answers r.plan r.states r.first r.workers r.events r.replies S r.lawful (plan_facts below r.plan r.lawful) r.ordered r.from_one r.some_worker r.plays in
+      (p.0, p.1)
 
   pub ordered_of : (S : HallState) → IsReached answers S → Ordered S
-  ordered_of S r = plays_ordered r.events r.replies (opened r.plan r.states r.first r.workers) S r.plays (record { seen = tt; asked = tt; out = tt; numbers = tt; sizes = tt; once = tt; many = refl; taken = omega arith })
+  ordered_of S r = plays_ordered r.events r.replies (opened r.plan r.states r.first r.workers) S r.plays
+      (record { seen = tt; asked = tt; out = tt; numbers = tt; sizes = tt; once = tt; many = refl; taken = omega arith })
 
   pub lists_in_order : (S : HallState) → IsReached answers S → ListsInOrder S
   lists_in_order S r =
@@ -336,7 +363,8 @@ module _ (below : Below) (answers : Answers) where
         seen_once = strictly stamped_cmp S.seen o.seen;
         left = subst (IsBag left_cmp) (sym told.left) (IsBag-filter left_cmp below.left (λ k. nat_lt S.base k.epoch) h.0.left told.left_bag);
         asked = strictly notification_cmp S.asked o.asked;
-        outputs = subst (IsBag output_at_cmp) (sym told.outputs) (bag_of-IsBag output_at_cmp below.outputs_at (filter (λ o. nat_lt S.collected o.epoch) (flat_map (λ c. comes_out (kind_of S.plan c.vertex) c) h.0.arrived)));
+        outputs = subst (IsBag output_at_cmp) (sym told.outputs)
+            (bag_of-IsBag output_at_cmp below.outputs_at (filter (λ o. nat_lt S.collected o.epoch) (flat_map (λ c. comes_out (kind_of S.plan c.vertex) c) h.0.arrived)));
         base_states = states_are S.base_states (subst InOrder (sym told.base_states) (left_keeps (filter (λ k. nat_le k.epoch S.base) h.0.left) r.states (states_in_order r.states r.ordered)));
       }
 
@@ -344,11 +372,13 @@ module _ (below : Below) (answers : Answers) where
   tasks_in_order S r =
       let h = history_of S r in
       let o = ordered_of S r in
-      let Stand : Task → Type 0 = λ task. (task.kind ≡ kind_of S.plan task.vertex) × AllByRecursion (λ r. shard_of_key S.workers r.key ≡ task.shard) (recs_in task.content) × StandsOut S task task.content in
+      let Stand : Task → Type 0 = λ task. (task.kind ≡ kind_of S.plan task.vertex) × AllByRecursion (λ r. shard_of_key S.workers r.key ≡ task.shard)
+      (recs_in task.content) × StandsOut S task task.content in
       let Rest : Task → Type 0 = λ task. (task.number ≤ S.taken) × IsSized task.content in
       let rest : AllByRecursion Rest S.out = all_both (λ (task : Task). task.number ≤ S.taken) (λ task. IsSized task.content) S.out o.numbers o.sizes in
       record {
-        there = all_weaken (λ task. Stand task × Rest task) (StillThere S) (λ task k. (k.0.0, k.1.0, still_content S task task.content k.1.1 k.0.1 k.0.2)) S.out (all_both Stand Rest S.out h.1.tasks.stand rest);
+        there = all_weaken (λ task. Stand task × Rest task) (StillThere S) (λ task k. (k.0.0, k.1.0, still_content S task task.content k.1.1 k.0.1 k.0.2)) S.out
+            (all_both Stand Rest S.out h.1.tasks.stand rest);
         one_a_shard = h.1.tasks.once;
         in_order = strictly task_cmp S.out o.out;
       }

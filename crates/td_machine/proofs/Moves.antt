@@ -97,7 +97,8 @@ put_twice a (y ∷ ys) = by (notification_cmp a y) refl (put_twice a ys)
   where
     by : (o : Ordering) → notification_cmp a y ≡ o → set_insert notification_cmp a (set_insert notification_cmp a ys) ≡ set_insert notification_cmp a ys
         → set_insert notification_cmp a (set_insert notification_cmp a (y ∷ ys)) ≡ set_insert notification_cmp a (y ∷ ys)
-    by Less e rest = ap (set_insert notification_cmp a) (set_insert_less notification_cmp a y ys e) ∙ set_insert_equal notification_cmp a a (y ∷ ys) (tied_itself notification_total a) ∙ sym (set_insert_less notification_cmp a y ys e)
+    by Less e rest = ap (set_insert notification_cmp a) (set_insert_less notification_cmp a y ys e) ∙ set_insert_equal notification_cmp a a (y ∷ ys) (tied_itself notification_total a)
+        ∙ sym (set_insert_less notification_cmp a y ys e)
     by Equal e rest = ap (set_insert notification_cmp a) (set_insert_equal notification_cmp a y ys e)
     by Greater e rest =
         ap (set_insert notification_cmp a) (set_insert_past notification_cmp a y ys e) ∙ set_insert_past notification_cmp a y (set_insert notification_cmp a ys) e ∙ ap (λ l. y ∷ l) rest
@@ -191,7 +192,8 @@ module _ (below : Below) (answers : Answers) (S : HallState) where
     notes_now test = by (is_notified task.kind) refl (is_asked S task.shard task.vertex task.time) refl
       where
         asked_is : (b : Bool) → is_notified task.kind ≡ b → now.asked ≡ with_asked (map (asks S task.shard task.vertex port task.time) (cond b (map (arrival_of port) recs) [])) S.asked
-        asked_is b e = ap (λ l. with_asked (map (asks S task.shard task.vertex port task.time) l) S.asked) (waits answers S.seen task.kind task.vertex port task.time recs ∙ ap (λ b. cond b (map (arrival_of port) recs) []) e)
+        asked_is b e = ap (λ l. with_asked (map (asks S task.shard task.vertex port task.time) l) S.asked)
+            (waits answers S.seen task.kind task.vertex port task.time recs ∙ ap (λ b. cond b (map (arrival_of port) recs) []) e)
 
         newly_is : (b d : Bool) → is_notified task.kind ≡ b → is_asked S task.shard task.vertex task.time ≡ d
             → newly_asked S task ≡ elim (b && not d) [ true ↦ asked_at S task.shard task.vertex task.time ∷ [] | false ↦ [] ]
@@ -204,11 +206,13 @@ module _ (below : Below) (answers : Answers) (S : HallState) where
             omega (arith, n, m)
         by true e true f =
             let n : notes test (newly_asked S task) ≡ 0 = ap (notes test) (newly_is true true e f) in
-            let m = ap (notes test) (asked_is true e ∙ some_asked S task.shard task.vertex port task.time recs some of_shard) ∙ put_in test below (asked_at S task.shard task.vertex task.time) S.asked set true f in
+            let m = ap (notes test) (asked_is true e ∙ some_asked S task.shard task.vertex port task.time recs some of_shard)
+            ∙ put_in test below (asked_at S task.shard task.vertex task.time) S.asked set true f in
             omega (arith, n, m)
         by true e false f =
             let n = ap (notes test) (newly_is true false e f) ∙ one_more stamp_of_asked test (asked_at S task.shard task.vertex task.time) [] in
-            let m = ap (notes test) (asked_is true e ∙ some_asked S task.shard task.vertex port task.time recs some of_shard) ∙ put_in test below (asked_at S task.shard task.vertex task.time) S.asked set false f in
+            let m = ap (notes test) (asked_is true e ∙ some_asked S task.shard task.vertex port task.time recs some of_shard)
+            ∙ put_in test below (asked_at S task.shard task.vertex task.time) S.asked set false f in
             omega (arith, n, m)
 
     records_move : Moves S (is_given now task) (come_given answers S task (messages port recs)) (gone_given S task (messages port recs))

@@ -42,7 +42,8 @@ module _ {X : Type 0} (cmp : X → X → Ordering) (total : IsTotalOrder cmp) (a
       past : (c : Bool) → p y ≡ c → (b : Bool) → cmp x y ≡ Greater → filter p (set_insert cmp x ys) ≡ cond b (set_insert cmp x (filter p ys)) (filter p ys)
           → filter p (set_insert cmp x (y ∷ ys)) ≡ cond b (set_insert cmp x (filter p (y ∷ ys))) (filter p (y ∷ ys))
       past true f true g rest =
-          ap (filter p) (set_insert_past cmp x y ys g) ∙ filter_yes p y (set_insert cmp x ys) f ∙ ap (λ l. y ∷ l) rest ∙ sym (set_insert_past cmp x y (filter p ys) g) ∙ ap (set_insert cmp x) (sym (filter_yes p y ys f))
+          ap (filter p) (set_insert_past cmp x y ys g) ∙ filter_yes p y (set_insert cmp x ys) f ∙ ap (λ l. y ∷ l) rest ∙ sym (set_insert_past cmp x y (filter p ys) g)
+          ∙ ap (set_insert cmp x) (sym (filter_yes p y ys f))
       past true f false g rest = ap (filter p) (set_insert_past cmp x y ys g) ∙ filter_yes p y (set_insert cmp x ys) f ∙ ap (λ l. y ∷ l) rest ∙ sym (filter_yes p y ys f)
       past false f b g rest =
           ap (filter p) (set_insert_past cmp x y ys g) ∙ filter_no p y (set_insert cmp x ys) f ∙ rest ∙ (λ i. cond b (set_insert cmp x (sym (filter_no p y ys f) i)) (sym (filter_no p y ys f) i))
@@ -51,7 +52,8 @@ module _ {X : Type 0} (cmp : X → X → Ordering) (total : IsTotalOrder cmp) (a
           → filter p (set_insert cmp x (y ∷ ys)) ≡ cond b (set_insert cmp x (filter p (y ∷ ys))) (filter p (y ∷ ys))
       by Less g true e rest =
           ap (filter p) (set_insert_less cmp x y ys g) ∙ filter_yes p x (y ∷ ys) e
-          ∙ sym (put_first x (filter p (y ∷ ys)) (all_weaken (λ z. (cmp x z ≡ Less) × (p z ≡ true)) (λ z. cmp x z ≡ Less) (λ z k. k.0) (filter p (y ∷ ys)) (all_filter (λ z. cmp x z ≡ Less) p (y ∷ ys) (first g))))
+          ∙ sym (put_first x (filter p (y ∷ ys))
+          (all_weaken (λ z. (cmp x z ≡ Less) × (p z ≡ true)) (λ z. cmp x z ≡ Less) (λ z k. k.0) (filter p (y ∷ ys)) (all_filter (λ z. cmp x z ≡ Less) p (y ∷ ys) (first g))))
       by Less g false e rest = ap (filter p) (set_insert_less cmp x y ys g) ∙ filter_no p x (y ∷ ys) e
       by Equal g true e rest =
           let f : p y ≡ true = ap p (sym (apart x y g)) ∙ e in

@@ -1,14 +1,17 @@
 -- What a vertex sends in answer to a time, edge by edge in place of record by record, and other parts of a task at once.
-use Rattle.std.specs.Prelude.{◌≡◌, ℕ, ◌<◌, List, [], map, flat_map, replicate, length}
+use Rattle.std.specs.Prelude.{◌≡◌, true, ℕ, ◌<◌, List, [], map, flat_map, replicate, length}
 use Rattle.std.specs.List.{AllByRecursion}
 use Rattle.td_stamp.specs.declared.values.Rec.{Rec}
+use Rattle.td_stamp.specs.declared.values.Entry.{Entry}
+use Rattle.td_stamp.specs.Batch.{records_for}
 use Rattle.td_stamp.specs.Bag.{join, set_insert}
 use Rattle.td_stamp.specs.Groups.{arrival_of}
 use Rattle.td_stamp.specs.Time.{Timestamp}
 use Rattle.td_plan.specs.declared.vertex.Edge.{Edge}
 use Rattle.td_plan.specs.declared.vertex.Kind.{Kind}
 use Rattle.td_plan.specs.declared.vertex.Kind.TheVariants.{Output as output}
-use Rattle.td_plan.specs.Blocks.{edge_at}
+use Rattle.td_plan.specs.Blocks.{edges, edge_at}
+use Rattle.td_plan.specs.Faults.{IsPlan}
 use Rattle.td_plan.specs.Lines.{Line}
 use Rattle.td_reach.specs.declared.stamp.Place.TheVariants as places
 use Rattle.td_reach.specs.declared.stamp.Stamp.{Stamp}
@@ -16,7 +19,7 @@ use Rattle.td_machine.specs.declared.records.Message.{Message}
 use Rattle.td_machine.specs.declared.records.OutputAt.{OutputAt}
 use Rattle.td_machine.specs.State.{HallState, message_cmp, notification_cmp, shard_of_key, asked_of}
 use Rattle.td_machine.specs.Active.{kind_of, bound_of}
-use Rattle.td_machine.specs.Steps.{posts, stamped, coming, comes_out, edges_from, sending_times, asked_at, with_asked, waiting}
+use Rattle.td_machine.specs.Steps.{accepts, entered, posts, stamped, coming, comes_out, edges_from, sending_times, asked_at, with_asked, waiting}
 use Rattle.td_machine.specs.Moves.{AreAlike, stamps_of}
 
 -- the times at which a vertex sends what it was given at a time
@@ -48,6 +51,24 @@ stamps_by_edge plan v t many = flat_map (λ later. flat_map (λ e. replicate man
 abbrev pub StampsByEdge : Type 0
 StampsByEdge = (plan : List Line) (v : ℕ) (t : Timestamp) (recs : List Rec)
     → AreAlike (stamps_of plan (posts plan (stamped v t recs))) (stamps_by_edge plan v t (length recs))
+
+-- THE MESSAGES OF A BATCH at its epoch, edge by edge
+abbrev pub batch_by_edge : List Line → ℕ → List Entry → List Message
+batch_by_edge plan epoch batch = flat_map (λ e. coming e.reader e.port (record { epoch = epoch; turns = [] }) (records_for e.source batch)) (edges plan)
+
+-- they are those of its entries, one by one
+abbrev pub BatchByEdge : Type 0
+BatchByEdge = (plan : List Line) (epoch : ℕ) (batch : List Entry) (others : List Message) → IsPlan plan → accepts plan batch ≡ true
+    → join message_cmp (posts plan (map (entered epoch) batch)) others ≡ join message_cmp (batch_by_edge plan epoch batch) others
+
+-- their pointstamps, edge by edge
+abbrev pub batch_stamps : List Line → ℕ → List Entry → List Stamp
+batch_stamps plan epoch batch = flat_map (λ e. replicate (length (records_for e.source batch)) (stamp_on plan (record { epoch = epoch; turns = [] }) e)) (edges plan)
+
+-- they are those of its entries, one by one
+abbrev pub BatchStampsByEdge : Type 0
+BatchStampsByEdge = (plan : List Line) (epoch : ℕ) (batch : List Entry) → IsPlan plan → accepts plan batch ≡ true
+    → AreAlike (stamps_of plan (posts plan (map (entered epoch) batch))) (batch_stamps plan epoch batch)
 
 -- those of a task's records are all the same
 abbrev pub StampsOfTask : Type 0

@@ -18,8 +18,9 @@ ghost use Rattle.td_machine.specs.InOrder.{ListsInOrder, TasksInOrder};
 ghost use Rattle.td_machine.specs.AtOnce.{DeliveredAtOnce, FreshByMembers, FreshOfShard};
 ghost use Rattle.td_machine.specs.InOrder.{ListsInOrder, TasksInOrder, NumbersInOrder};
 ghost use Rattle.td_machine.specs.Moves.{StampsMove};
+ghost use Rattle.td_machine.specs.NoneLeft.{NoneToTake, FirstUnpassed};
 ghost use Rattle.td_machine.specs.Waits.{WaitsByPlace, WhatWaits, AskedPassing};
-ghost use Rattle.td_machine.specs.ByEdge.{PostsByEdge, StampsByEdge, StampsOfTask, OutputsAtOnce, AsksOnce};
+ghost use Rattle.td_machine.specs.ByEdge.{PostsByEdge, StampsByEdge, BatchByEdge, BatchStampsByEdge, StampsOfTask, OutputsAtOnce, AsksOnce};
 
 use crate::records::{Message, Notification, OutputAt, Stamped, StateLeft};
 use td_calls::Law;
@@ -168,12 +169,14 @@ pub fn stamps_move<L: Law>()
     laws_below();
 }
 
-/// What a task does, in the parts in which it is done: the messages that a vertex sends, edge by edge, and their
-/// pointstamps; the pointstamps of the task's own records; what it leaves at an output; and the one notification for
-/// which its records ask.
+/// What steps do, in the parts in which it is done: the messages that a vertex sends, and those of a batch, edge by edge,
+/// and their pointstamps; the pointstamps of a task's own records; what these leave at an output; and the one
+/// notification for which they ask.
 pub fn in_parts()
     ensures posts { PostsByEdge }
     ensures stamps { StampsByEdge }
+    ensures batch { BatchByEdge }
+    ensures batch_stamps { BatchStampsByEdge }
     ensures own_stamps { StampsOfTask }
     ensures outputs { OutputsAtOnce }
     ensures asked { AsksOnce }
@@ -190,3 +193,10 @@ pub fn what_waits()
 {
     laws_below();
 }
+
+/// A shard of which no message is there, and none of whose notifications is in the frontier, has no task; and where the
+/// first so many epochs after the base have passed, and no other, the next one is the least that has not.
+pub fn none_left()
+    ensures task { NoneToTake }
+    ensures epoch { FirstUnpassed }
+{}

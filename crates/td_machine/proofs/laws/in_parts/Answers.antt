@@ -1,4 +1,4 @@
-use Rattle.td_machine.proofs.ByEdge.{posts_are_by_edge, stamps_are_by_edge, stamps_of_task, outputs_at_once, asks_once}
+use Rattle.td_machine.proofs.ByEdge.{posts_are_by_edge, stamps_are_by_edge, batches_are_by_edge, batch_stamps_are_by_edge, stamps_of_task, outputs_at_once, asks_once}
 use Rattle.td_machine.proofs.laws.in_parts.Goals as goal
 
 pub returns-clause-posts : goal.returns-clause-posts
@@ -15,3 +15,9 @@ returns-clause-outputs c = outputs_at_once
 
 pub returns-clause-asked : goal.returns-clause-asked
 returns-clause-asked c = asks_once
+
+pub returns-clause-batch : goal.returns-clause-batch
+returns-clause-batch c = batches_are_by_edge c.laws_below.ensures
+
+pub returns-clause-batch_stamps : goal.returns-clause-batch_stamps
+returns-clause-batch_stamps c = batch_stamps_are_by_edge c.laws_below.ensures
