@@ -2,3 +2,5 @@ pub mod CameLists
 pub mod Passing
 pub mod Taken
 pub mod CollectSteps
+pub mod CloseSteps
+pub mod Unpassed

@@ -13,8 +13,6 @@ ghost use Rattle.td_machine.specs.Tally.{tally};
 ghost use Rattle.td_machine.specs.Below.{Below};
 ghost use Rattle.td_stamp.specs.BagLaws.{BagLaws, SetLaws};
 ghost use Rattle.td_machine.specs.State.{message_cmp, stamped_cmp, left_cmp, output_at_cmp, notification_cmp};
-ghost use Rattle.td_machine.specs.AtOnce.{DeliveredAtOnce};
-ghost use Rattle.td_machine.specs.InOrder.{ListsInOrder, TasksInOrder};
 ghost use Rattle.td_machine.specs.AtOnce.{DeliveredAtOnce, FreshByMembers, FreshOfShard};
 ghost use Rattle.td_machine.specs.InOrder.{ListsInOrder, TasksInOrder, NumbersInOrder};
 ghost use Rattle.td_machine.specs.Moves.{StampsMove};
