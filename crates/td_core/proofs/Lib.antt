@@ -4,3 +4,4 @@ pub mod Taken
 pub mod CollectSteps
 pub mod CloseSteps
 pub mod Unpassed
+pub mod CutSteps

@@ -2,3 +2,4 @@ pub mod Refusals
 pub mod Came
 pub mod Floor
 pub mod Collected
+pub mod Cuts

@@ -3,11 +3,13 @@
 
 mod close;
 mod collect;
+mod cut;
 mod error;
 mod floor;
 mod hall;
 mod outputs;
 mod passed;
 
+pub use cut::Cut;
 pub use error::HallError;
 pub use hall::Hall;

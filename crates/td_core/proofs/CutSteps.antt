@@ -1,0 +1,76 @@
+-- A hall that is cut takes the machine's step.
+use Rattle.std.proofs.Common.{◌≡◌, ℕ, zero, suc, ◌+◌, ◌-◌, ◌≤◌, ◌<◌, Bool, true, false, not, List, [], ◌∷◌, drop, filter, nat_lt, Option, Some, None, unwrap_or, Result, Ok, Err, IfOk, IfErr, OnOk, OnErr, refl, ap, sym, ◌∙◌, subst, arith, inl, inr}
+use Rattle.td_calls.specs.Answers.{Answers}
+use Rattle.td_machine.specs.State.{HallState, states_at}
+use Rattle.td_machine.specs.Active.{unpassed}
+use Rattle.td_machine.specs.Active as machine
+use Rattle.td_machine.specs.Steps.{Event, Answer, Step, cut_by, cut_at_by, cut_to}
+use Rattle.td_machine.specs.Steps.Answer.{has_cut, refused}
+use Rattle.td_machine.specs.Steps.Refusal.{not_passed}
+use Rattle.td_core.specs.declared.floor.Floor.{Floor}
+use Rattle.td_core.specs.declared.cut.Cut.{Cut}
+use Rattle.td_core.specs.declared.error.HallError.{HallError}
+use Rattle.td_core.specs.declared.error.HallError.TheVariants.{Memory, NotPassed}
+use Rattle.td_core.specs.Floor.{state_of, IsHall}
+use Rattle.td_core.specs.Cuts.{IsCutAt, states_after, IsRefused}
+use Rattle.td_core.proofs.CollectSteps.{ReachedByStep}
+
+drop_suc : {X : Type 0} (n : ℕ) (xs : List X) → drop 1 (drop n xs) ≡ drop (suc n) xs
+drop_suc zero [] = refl
+drop_suc zero (x ∷ xs) = refl
+drop_suc (suc n) [] = refl
+drop_suc (suc n) (x ∷ xs) = drop_suc n xs
+
+pub drop_next : {X : Type 0} (n : ℕ) (xs : List X) → drop 1 (drop n xs) ≡ drop (n + 1) xs
+drop_next n xs = let one : suc n ≡ n + 1 = omega arith in drop_suc n xs ∙ ap (λ m. drop m xs) one
+
+module _ (floor new : Floor) (epoch : ℕ) where
+  -- the parts of a hall that was cut
+  abbrev pub then : Floor
+  then = record floor {
+    base = epoch;
+    states = states_after floor epoch;
+    batches = new.batches;
+    seen = filter (λ x. nat_lt epoch x.time.epoch) floor.seen;
+    versions = filter (λ k. nat_lt epoch k.epoch) floor.versions;
+  }
+
+  state_then : IsCutAt epoch floor new → state_of then ≡ cut_to (state_of floor) epoch
+  state_then is = λ i. record (state_of then) { batches = is.batches i }
+
+  -- the answer of the step that cut it
+  pub cut_answered : (step : Answer × HallState) → step ≡ (has_cut epoch (states_after floor epoch), cut_to (state_of floor) epoch) → (r : Result Cut HallError)
+      → IfOk r (λ made. made.epoch ≡ epoch) → IfOk r (λ made. made.states ≡ states_after floor epoch) → OnOk r (IsCutAt epoch floor new)
+      → IfOk r (λ made. step ≡ (has_cut made.epoch made.states, state_of new))
+  cut_answered step here (Ok made) e s is = here ∙ sym (λ i. (has_cut (e i) (s i), (ap state_of is.parts ∙ state_then is) i))
+  cut_answered step here (Err why) e s is = tt
+
+  pub cut_refused : (step : Answer × HallState) (S : HallState) (r : Result Cut HallError) → IfErr r (λ e. e ≡ Memory) → IfErr r (IsRefused step S)
+  cut_refused step S (Ok made) m = tt
+  cut_refused step S (Err why) m = inl m
+
+  module _ (answers : Answers) (steps : ReachedByStep answers) (inv : IsHall answers floor) (event : Event) where
+    still : Step answers (state_of floor) event (has_cut epoch (states_after floor epoch)) (cut_to (state_of floor) epoch) → IsCutAt epoch floor new → IsHall answers then
+    still step is = record {
+      reached = steps (state_of floor) (state_of then) event _ inv.reached (subst (Step answers (state_of floor) event (has_cut epoch (states_after floor epoch))) (sym (state_then is)) step);
+      counted = inv.counted;
+      inputs = inv.inputs;
+      shards = inv.shards;
+      few = inv.few;
+      next = inv.next;
+    }
+
+    pub cut_hall : Step answers (state_of floor) event (has_cut epoch (states_after floor epoch)) (cut_to (state_of floor) epoch) → (r : Result Cut HallError)
+        → OnOk r (IsCutAt epoch floor new) → OnErr r (new ≡ floor) → IsHall answers new
+    cut_hall step (Ok made) is same = subst (IsHall answers) (sym is.parts) (still step is)
+    cut_hall step (Err why) is same = subst (IsHall answers) (sym same) inv
+
+-- the steps
+pub cuts : (S : HallState) → unpassed S ≡ None → cut_by S (unpassed S) (S.next - 1) ≡ (has_cut (S.next - 1) (states_at S (S.next - 1)), cut_to S (S.next - 1))
+cuts S none = ap (λ o. cut_by S o (S.next - 1)) none
+
+pub cuts_at : (S : HallState) (e : ℕ) → machine.has_passed S e ≡ true → cut_at_by S (machine.has_passed S e) e ≡ (has_cut e (states_at S e), cut_to S e)
+cuts_at S e passed = ap (λ b. cut_at_by S b e) passed
+
+pub refuses_at : (S : HallState) (e : ℕ) → machine.has_passed S e ≡ false → cut_at_by S (machine.has_passed S e) e ≡ (refused (not_passed (unwrap_or (unpassed S) e)), S)
+refuses_at S e passed = ap (λ b. cut_at_by S b e) passed

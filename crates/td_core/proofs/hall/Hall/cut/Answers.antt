@@ -1,0 +1,20 @@
+use Rattle.std.proofs.Common.{◌≡◌, ◌-◌, ap, sym, ◌∙◌, subst, arith, None}
+use Rattle.td_machine.specs.Active.{unpassed}
+use Rattle.td_machine.specs.Steps.{cut_by}
+use Rattle.td_machine.specs.Steps.Event.{cut}
+use Rattle.td_core.specs.Floor.{state_of}
+use Rattle.td_core.proofs.CutSteps.{cut_hall, cut_answered, cut_refused, cuts}
+use Rattle.td_core.proofs.hall.Hall.cut.Goals as goal
+
+pub overflow_sub-last : goal.overflow_sub-last
+overflow_sub-last g c = let more = (c.reached_in_order.ensures.numbers _ c.self.invariant.reached).base in omega (arith, more)
+
+pub cut_floor-requires : goal.cut_floor-requires
+cut_floor-requires g c = let more = (c.reached_in_order.ensures.numbers _ c.self.invariant.reached).base in omega (arith, more)
+
+pub invariant_of-self : goal.invariant_of-self
+invariant_of-self g c =
+    let floor = c.self.inside.floor in
+    let none : unpassed (state_of floor) ≡ None = ap unpassed c.self.view_is ∙ (sym c.unpassed.ensures ∙ c.in-None.is) in
+    cut_hall floor c.cut_floor.new.floor (floor.next - 1) g.L.Law.answers c.reached.ensures.step c.self.invariant cut (cuts (state_of floor) none) c.cut_floor.result
+    c.cut_floor.ensures.ok c.cut_floor.ensures.err

@@ -1,0 +1,95 @@
+//! Cutting: the states after an epoch become the base, and what belongs to the epochs up to it is let go.
+ghost use Rattle.std.specs.Prelude.{◌≡◌, ◌-◌, ◌≤◌, ◌<◌, ◌⊎◌, ℕ, drop, filter, nat_le, nat_lt, IfOk, IfErr, OnOk, OnErr};
+ghost use Rattle.td_machine.specs.State.{with_left};
+ghost use Rattle.td_machine.specs.Active.{has_passed, unpassed};
+ghost use Rattle.td_machine.specs.Steps.{cut_by, cut_at_by};
+ghost use Rattle.td_machine.specs.Steps.Answer.{has_cut, refused};
+ghost use Rattle.td_machine.specs.Steps.Refusal.{not_passed};
+ghost use Rattle.td_core.specs.Cuts.{IsCutAt, states_after, IsRefused};
+ghost use Rattle.td_core.specs.declared.error.HallError.TheVariants.{Memory, NotPassed};
+
+use crate::error::HallError;
+use crate::floor::Floor;
+use crate::hall::Hall;
+use std::collections::VecDeque;
+use td_calls::Law;
+use td_machine::laws::{reached, reached_in_order};
+use td_progress::laws::in_any_order;
+use td_stamp::{Batch, States};
+
+/// The states that folds keep after an epoch.
+#[derive(Debug, Drop)]
+pub struct Cut {
+    pub epoch: u64,
+    pub states: States,
+}
+
+impl<L: Law> Hall<L> {
+    /// Cuts at the last released epoch: the states after it become the base, and the batches, what folds left and what
+    /// distincts have seen in the epochs up to it are let go (Naiad, section 3.4, Checkpoint). It costs the states, twice
+    /// copied. Refusals, with nothing changed: `NotPassed` with the least released epoch that has not passed, and `Memory`.
+    pub fn cut(&mut self) -> Result<Cut, HallError>
+        ensures cut { IfOk result (λ cut. cut_by self.old (unpassed self.old) (self.old.next - 1) ≡ (has_cut cut.epoch cut.states, self.new)) }
+        ensures refused { IfErr result (IsRefused (cut_by self.old (unpassed self.old) (self.old.next - 1)) self.old) }
+        ensures err { OnErr result (self.new ≡ self.old) }
+    {
+        reached::<L>();
+        reached_in_order::<L>();
+        match self.unpassed() {
+            Some(epoch) => Err(HallError::NotPassed(epoch)),
+            None => {
+                let last = self.floor.next - 1;
+                cut_floor(&mut self.floor, last)
+            }
+        }
+    }
+
+    /// Cuts at an epoch that is released, and not before the base. Refusals, with nothing changed: `NotPassed` with the least
+    /// released epoch that has not passed, where the epoch has not, and `Memory`.
+    pub fn cut_at(&mut self, epoch: u64) -> Result<Cut, HallError>
+        requires after { self.old.base ≤ epoch }
+        requires released { epoch < self.old.next }
+        ensures cut { IfOk result (λ cut. cut_at_by self.old (has_passed self.old epoch) epoch ≡ (has_cut cut.epoch cut.states, self.new)) }
+        ensures refused { IfErr result (IsRefused (cut_at_by self.old (has_passed self.old epoch) epoch) self.old) }
+        ensures err { OnErr result (self.new ≡ self.old) }
+    {
+        reached::<L>();
+        in_any_order();
+        if self.floor.table.passed(epoch) {
+            cut_floor(&mut self.floor, epoch)
+        } else {
+            Err(HallError::NotPassed(self.unpassed().unwrap_or(epoch)))
+        }
+    }
+}
+
+/// Cuts a hall's parts at an epoch. Refusal: `Memory`, with nothing changed.
+fn cut_floor(floor: &mut Floor, epoch: u64) -> Result<Cut, HallError>
+    requires { floor.old.base ≤ epoch }
+    ensures epoch { IfOk result (λ cut. cut.epoch ≡ epoch) }
+    ensures states { IfOk result (λ cut. cut.states ≡ states_after floor.old epoch) }
+    ensures ok { OnOk result (IsCutAt epoch floor.old floor.new) }
+    ensures err { OnErr result (floor.new ≡ floor.old) }
+    ensures memory { IfErr result (λ e. e ≡ Memory) }
+{
+    let states = floor.versions.states_at(epoch, floor.states.copy()?)?;
+    let handed_out = states.copy()?;
+    drop_first(&mut floor.batches, epoch - floor.base);
+    floor.seen.let_go(epoch);
+    floor.versions.let_go(epoch);
+    floor.states = states;
+    floor.base = epoch;
+    Ok(Cut {
+        epoch,
+        states: handed_out,
+    })
+}
+
+/// Lets go so many of the first batches.
+fn drop_first(batches: &mut VecDeque<Batch>, count: u64)
+    ensures { batches.new.items ≡ drop count batches.old.items }
+{
+    for _each in 0..count {
+        batches.pop_front();
+    }
+}
