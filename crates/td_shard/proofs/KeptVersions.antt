@@ -130,7 +130,7 @@ module _ {V : Type 0} (f : V → List Version) where
 
   -- WHAT IS LET GO: each place keeps the versions after an epoch, and stays where there are some
   module _ (laws : BagLaws left_cmp) (epoch : ℕ) {F : Type 0} (T : F → (ℕ × ℕ) → V → Bool → V → F → Type 0) (call : F)
-        (calls : (k : ℕ × ℕ) (v : V) (b : Bool) (w : V) (after : F) → T call k v b w after → (f w ≡ filter (λ x. nat_lt epoch x.epoch) (f v)) × ((b ≡ true) ↔ (f w ≢ [])) × (after ≡ call)) where
+      (calls : (k : ℕ × ℕ) (v : V) (b : Bool) (w : V) (after : F) → T call k v b w after → (f w ≡ filter (λ x. nat_lt epoch x.epoch) (f v)) × ((b ≡ true) ↔ (f w ≢ [])) × (after ≡ call)) where
     later_left : (e : (ℕ × ℕ) × V) (es : List ((ℕ × ℕ) × V)) (w : V) (kept rest : List ((ℕ × ℕ) × V)) (b : Bool) → f w ≡ filter (λ x. nat_lt epoch x.epoch) (f e.1) → (b ≡ true) ↔ (f w ≢ [])
         → left_in (told rest) ≡ filter (λ x. nat_lt epoch x.epoch) (left_in (told es)) → kept ≡ cond b ((e.0, w) ∷ rest) rest
         → left_in (told kept) ≡ filter (λ x. nat_lt epoch x.epoch) (left_in (told (e ∷ es)))

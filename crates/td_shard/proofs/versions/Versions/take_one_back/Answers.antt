@@ -17,9 +17,9 @@ returns-then-take_out c =
     let es = c.self.inside.versions.entries in
     let new = c.take_out.new.versions in
     let out =
-        last_out (λ v. v.items) c.placed.result.0 es (c.get_mut.follows.lender new).entries c.version_laws.ensures c.placed.result.1 c.in-Some.versions.now new c.remove.new.self.entries
-        c.self.invariant c.in-Some.ensures.value (c.get_mut.follows.holds new).0 c.take_out.ensures.left (c.take_out.ensures.none.0 c.if-take_out.true) c.remove.ensures.entries
-        ∙ (λ i. bag_remove left_cmp (left_at (c.placed.ensures.place i) (c.placed.ensures.version i)) (c.self.view_is i)) in
+    last_out (λ v. v.items) c.placed.result.0 es (c.get_mut.follows.lender new).entries c.version_laws.ensures c.placed.result.1 c.in-Some.versions.now new c.remove.new.self.entries
+    c.self.invariant c.in-Some.ensures.value (c.get_mut.follows.holds new).0 c.take_out.ensures.left (c.take_out.ensures.none.0 c.if-take_out.true) c.remove.ensures.entries
+    ∙ (λ i. bag_remove left_cmp (left_at (c.placed.ensures.place i) (c.placed.ensures.version i)) (c.self.view_is i)) in
     elim c.match-remove.branch [ in-Some-1 w ↦ w.self-is ∙ out | in-None-1 w ↦ w.self-is ∙ out ]
 
 pub returns-else-take_out : goal.returns-else-take_out
