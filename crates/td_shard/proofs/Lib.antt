@@ -9,3 +9,4 @@ pub mod LeftBags
 pub mod KeptStates
 pub mod LeftStates
 pub mod KeptVersions
+pub mod NoneEmpty

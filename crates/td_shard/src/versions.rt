@@ -29,13 +29,13 @@ impl Model for Versions {
     ghost use Rattle.std.specs.BTreeMap.{IsOrdered};
     ghost use Rattle.td_stamp.specs.Orders.{state_key_cmp};
     ghost use Rattle.td_machine.specs.declared.records.StateLeft.{StateLeft};
-    ghost use Rattle.td_shard.specs.Versions.{left_in};
+    ghost use Rattle.td_shard.specs.Versions.{left_in, HaveSome};
 
     ghost Value = { List StateLeft };
 
     ghost view = { λ v. left_in (map (λ e. (e.0, e.1.items)) v.versions.entries) };
 
-    ghost invariant = { λ v. IsOrdered state_key_cmp v.versions };
+    ghost invariant = { λ v. IsOrdered state_key_cmp v.versions × HaveSome (map (λ e. (e.0, e.1.items)) v.versions.entries) };
 }
 
 impl Versions {
