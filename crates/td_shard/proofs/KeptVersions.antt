@@ -91,18 +91,20 @@ module _ {V : Type 0} (f : V → List Version) where
     not_found : None ≡ lookup here es → lookup here (told es) ≡ None
     not_found e = lookup-seen f here es ∙ ap (option_map f) (sym e)
 
-    written : (y : V) → es2 ≡ set_value here es y → told es2 ≡ set_value here (told es) (f y)
-    written y e = ap told e ∙ sym (set-seen f here es y)
+    pub told-written : (y : V) → es2 ≡ set_value here es y → told es2 ≡ set_value here (told es) (f y)
+    told-written y e = ap told e ∙ sym (set-seen f here es y)
 
     -- the same versions are written back
+    pub told-as_before : (x y : V) → Some x ≡ lookup here es → es2 ≡ set_value here es y → f y ≡ f x → told es2 ≡ told es
+    told-as_before x y e g h = told-written y g ∙ (ap (set_value here (told es)) h ∙ set_value_same here (told es) (f x) (found x e))
+
     pub as_before : (x y : V) → Some x ≡ lookup here es → es2 ≡ set_value here es y → f y ≡ f x → left_in (told es2) ≡ left_in (told es)
-    as_before x y e g h =
-        ap left_in (written y g ∙ (ap (set_value here (told es)) h ∙ set_value_same here (told es) (f x) (found x e)))
+    as_before x y e g h = ap left_in (told-as_before x y e g h)
 
     module _ (laws : BagLaws left_cmp) (v : Version) where
       -- a place has one version more
       pub one_more : (x y : V) → Some x ≡ lookup here es → es2 ≡ set_value here es y → f y ≡ f x ++ v ∷ [] → left_in (told es2) ≡ bag_insert left_cmp (left_at place v) (left_in (told es))
-      one_more x y e g h = ap left_in (written y g ∙ ap (set_value here (told es)) h) ∙ left_in-more laws place v (f x) (told es) (found x e)
+      one_more x y e g h = ap left_in (told-written y g ∙ ap (set_value here (told es)) h) ∙ left_in-more laws place v (f x) (told es) (found x e)
 
       -- or its first
       pub first_one : (y : V) → None ≡ lookup here es → es2 ≡ insert_entry state_key_cmp es place y → f y ≡ v ∷ [] → left_in (told es2) ≡ bag_insert left_cmp (left_at place v) (left_in (told es))
@@ -117,20 +119,20 @@ module _ {V : Type 0} (f : V → List Version) where
       pub one_out : (x y : V) → IsStrictlySortedBy state_key_cmp (keys_of es) → Some x ≡ lookup here es → es2 ≡ set_value here es y → f y ≡ bag_remove version_cmp v (f x)
           → left_in (told es2) ≡ bag_remove left_cmp (left_at place v) (left_in (told es))
       one_out x y s e g h =
-          ap left_in (written y g ∙ ap (set_value here (told es)) h)
+          ap left_in (told-written y g ∙ ap (set_value here (told es)) h)
           ∙ left_in-out laws place v (f x) (told es) (subst (IsStrictlySortedBy state_key_cmp) (sym (keys-seen f es)) s) (found x e)
 
       -- and the place with the last
       pub last_out : (x y : V) (es3 : List ((ℕ × ℕ) × V)) → IsStrictlySortedBy state_key_cmp (keys_of es) → Some x ≡ lookup here es → es2 ≡ set_value here es y → f y ≡ bag_remove version_cmp v (f x) → f y ≡ []
           → es3 ≡ remove_entry here es2 → left_in (told es3) ≡ bag_remove left_cmp (left_at place v) (left_in (told es))
       last_out x y es3 s e g h none r =
-          let emptied = written y g ∙ ap (set_value here (told es)) none in
+          let emptied = told-written y g ∙ ap (set_value here (told es)) none in
           ap left_in (ap told r ∙ (sym (remove-seen f here es2) ∙ ap (remove_entry here) emptied))
           ∙ (left_in-emptied laws place (told es) ∙ (ap left_in (sym emptied) ∙ one_out x y s e g h))
 
   -- WHAT IS LET GO: each place keeps the versions after an epoch, and stays where there are some
   module _ (laws : BagLaws left_cmp) (epoch : ℕ) {F : Type 0} (T : F → (ℕ × ℕ) → V → Bool → V → F → Type 0) (call : F)
-        (calls : (k : ℕ × ℕ) (v : V) (b : Bool) (w : V) (after : F) → T call k v b w after → (f w ≡ filter (λ x. nat_lt epoch x.epoch) (f v)) × ((b ≡ true) ↔ (f w ≢ [])) × (after ≡ call)) where
+      (calls : (k : ℕ × ℕ) (v : V) (b : Bool) (w : V) (after : F) → T call k v b w after → (f w ≡ filter (λ x. nat_lt epoch x.epoch) (f v)) × ((b ≡ true) ↔ (f w ≢ [])) × (after ≡ call)) where
     later_left : (e : (ℕ × ℕ) × V) (es : List ((ℕ × ℕ) × V)) (w : V) (kept rest : List ((ℕ × ℕ) × V)) (b : Bool) → f w ≡ filter (λ x. nat_lt epoch x.epoch) (f e.1) → (b ≡ true) ↔ (f w ≢ [])
         → left_in (told rest) ≡ filter (λ x. nat_lt epoch x.epoch) (left_in (told es)) → kept ≡ cond b ((e.0, w) ∷ rest) rest
         → left_in (told kept) ≡ filter (λ x. nat_lt epoch x.epoch) (left_in (told (e ∷ es)))

@@ -14,3 +14,4 @@ pub mod Fresh
 pub mod Orders
 pub mod Cut
 pub mod Parted
+pub mod NoneEmpty

@@ -1,5 +1,5 @@
 -- What folds left for their keys above a base: the versions, each kept with its vertex and key.
-use Rattle.std.specs.Prelude.{ℕ, cond, List, [], ◌∷◌, map, filter, fold, nat_le, Option, Some, None}
+use Rattle.std.specs.Prelude.{◌≢◌, ℕ, cond, List, [], ◌∷◌, map, filter, fold, nat_le, Option, Some, None}
 use Rattle.std.specs.declared.cmp.Ordering.{Ordering}
 use Rattle.std.specs.Ordering.{ordering_then, nat_cmp, is_gt}
 use Rattle.std.specs.Option.{option_cmp}
@@ -13,6 +13,11 @@ use Rattle.td_shard.specs.declared.version.Version.{Version}
 -- vertices and keys in order, each with its versions
 abbrev pub VersionList : Type 0
 VersionList = List ((ℕ × ℕ) × List Version)
+
+-- each of them has some
+abbrev pub HaveSome : VersionList → Type 0
+HaveSome [] = Unit {0}
+HaveSome (e ∷ es) = (e.1 ≢ []) × HaveSome es
 
 -- a version, as what was left for a vertex and key
 abbrev pub left_at : ℕ × ℕ → Version → StateLeft

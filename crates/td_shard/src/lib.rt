@@ -15,6 +15,8 @@ mod take;
 mod tests;
 mod version;
 mod versions;
+#[cfg(test)]
+mod versions_tests;
 mod waiting;
 
 pub use error::ShardError;

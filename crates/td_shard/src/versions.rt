@@ -29,13 +29,13 @@ impl Model for Versions {
     ghost use Rattle.std.specs.BTreeMap.{IsOrdered};
     ghost use Rattle.td_stamp.specs.Orders.{state_key_cmp};
     ghost use Rattle.td_machine.specs.declared.records.StateLeft.{StateLeft};
-    ghost use Rattle.td_shard.specs.Versions.{left_in};
+    ghost use Rattle.td_shard.specs.Versions.{left_in, HaveSome};
 
     ghost Value = { List StateLeft };
 
     ghost view = { λ v. left_in (map (λ e. (e.0, e.1.items)) v.versions.entries) };
 
-    ghost invariant = { λ v. IsOrdered state_key_cmp v.versions };
+    ghost invariant = { λ v. IsOrdered state_key_cmp v.versions × HaveSome (map (λ e. (e.0, e.1.items)) v.versions.entries) };
 }
 
 impl Versions {
@@ -55,6 +55,7 @@ impl Versions {
         ensures { result ≡ state_of (with_left base.now (filter (λ k. nat_le k.epoch epoch) self.now)) vertex key }
     {
         version_laws();
+        // Its contract says that the states stand in order.
         let _in_order = base.list();
         let Some(versions) = self.versions.get(&(vertex, key)) else {
             return base.get(vertex, key);
@@ -65,7 +66,7 @@ impl Versions {
         }
     }
 
-    /// Keeps what folds left. Refusal: `Memory`, with nothing changed.
+    /// Keeps what folds left. Costs O(log n) for each. Refusal: `Memory`, with nothing changed.
     pub fn leave(&mut self, left: &[StateLeft]) -> Result<(), ShardError>
         ensures ok { OnOk result (self.new ≡ join left_cmp left.now self.old) }
         ensures err { OnErr result (self.new ≡ self.old) }
@@ -80,12 +81,14 @@ impl Versions {
         Ok(())
     }
 
-    /// The states after an epoch, made of those of the base, with one change for each key. Refusal: `Memory`.
+    /// The states after an epoch, made of those of the base, with one change for each key. Costs a look at each version, and
+    /// O(log n) for each key. Refusal: `Memory`.
     pub fn states_at(&self, epoch: u64, base: States) -> Result<States, ShardError>
         ensures { IfOk result (λ states. states ≡ with_left base (filter (λ k. nat_le k.epoch epoch) self.now)) }
     {
         version_laws();
         let mut states = base;
+        // Its contract says that the states stand in order.
         let _in_order = states.list();
         for ((vertex, key), versions) in self.versions.iter() {
             if let Some(version) = latest(versions.as_slice(), epoch) {
@@ -95,7 +98,7 @@ impl Versions {
         Ok(states)
     }
 
-    /// Lets go what was left up to an epoch. Takes no memory.
+    /// Lets go what was left up to an epoch, and each key that has nothing left. Costs a look at each version. Takes no memory.
     pub fn let_go(&mut self, epoch: u64)
         ensures { self.new ≡ filter (λ k. nat_lt epoch k.epoch) self.old }
     {

@@ -25,19 +25,19 @@ module _ {V : Type 0} (f : V → List Version) (es : List ((ℕ × ℕ) × V)) (
 pub returns-in_default : goal.returns-in_default
 returns-in_default c =
     c.get-in_default.ensures
-    ∙ sym (by_look (λ v. v.items) c.self.inside.versions.entries c.args.base.now c.args.epoch c.args.vertex c.args.key c.args.self.now c.version_laws.ensures c.self.invariant c.list-in_order.ensures.ordered c.self.view_is
+    ∙ sym (by_look (λ v. v.items) c.self.inside.versions.entries c.args.base.now c.args.epoch c.args.vertex c.args.key c.args.self.now c.version_laws.ensures c.self.invariant.0 c.list-in_order.ensures.ordered c.self.view_is
     None c.in_default.ensures.value)
 
 pub returns-in-Some-latest : goal.returns-in-Some-latest
 returns-in-Some-latest c =
     let before = state_of c.args.base.now c.args.vertex c.args.key in
     ap (λ o. version_or o before) c.in-Some-latest.ensures ∙ (ap (λ l. version_or (latest (up_to c.args.epoch l)) before) c.as_slice.ensures.value
-    ∙ sym (by_look (λ v. v.items) c.self.inside.versions.entries c.args.base.now c.args.epoch c.args.vertex c.args.key c.args.self.now c.version_laws.ensures c.self.invariant c.list-in_order.ensures.ordered c.self.view_is
+    ∙ sym (by_look (λ v. v.items) c.self.inside.versions.entries c.args.base.now c.args.epoch c.args.vertex c.args.key c.args.self.now c.version_laws.ensures c.self.invariant.0 c.list-in_order.ensures.ordered c.self.view_is
     (Some c.in-Some.versions.now) c.in-Some.ensures.value))
 
 pub returns-in-None : goal.returns-in-None
 returns-in-None c =
     let before = state_of c.args.base.now c.args.vertex c.args.key in
     c.get-in-None.ensures ∙ (ap (λ o. version_or o before) c.in-None.ensures ∙ (ap (λ l. version_or (latest (up_to c.args.epoch l)) before) c.as_slice.ensures.value
-    ∙ sym (by_look (λ v. v.items) c.self.inside.versions.entries c.args.base.now c.args.epoch c.args.vertex c.args.key c.args.self.now c.version_laws.ensures c.self.invariant c.list-in_order.ensures.ordered c.self.view_is
+    ∙ sym (by_look (λ v. v.items) c.self.inside.versions.entries c.args.base.now c.args.epoch c.args.vertex c.args.key c.args.self.now c.version_laws.ensures c.self.invariant.0 c.list-in_order.ensures.ordered c.self.view_is
     (Some c.in-Some.versions.now) c.in-Some.ensures.value)))

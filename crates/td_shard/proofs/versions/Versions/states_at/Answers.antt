@@ -32,5 +32,5 @@ returns c =
     let whole = c.into_iter-vertex-iterator.ensures.into_iter_gives ∙ c.iter-vertex-items.ensures.rest in
     ap (λ l. with_latest e c.loop-vertex.states (map (λ d. (d.0, d.1.items)) l)) (sym c.in-None.ensures.steps.0)
     ∙ (c.loop-vertex.invariant ∙ (ap (λ l. with_latest e c.args.base (map (λ d. (d.0, d.1.items)) l)) whole
-    ∙ (all_states c.version_laws.ensures e (map (seen (λ v. v.items)) es) c.args.base (subst (IsStrictlySortedBy state_key_cmp) (sym (keys-seen (λ v. v.items) es)) c.self.invariant) c.list-in_order.ensures.ordered
+    ∙ (all_states c.version_laws.ensures e (map (seen (λ v. v.items)) es) c.args.base (subst (IsStrictlySortedBy state_key_cmp) (sym (keys-seen (λ v. v.items) es)) c.self.invariant.0) c.list-in_order.ensures.ordered
     ∙ ap (λ l. with_left c.args.base (filter (λ k. nat_le k.epoch e) l)) c.self.view_is)))

@@ -1,8 +1,9 @@
-use Rattle.std.proofs.Common.{◌∙◌, ap}
+use Rattle.std.proofs.Common.{◌≡◌, ◌∙◌, ap, sym, rules, true, false}
 use Rattle.td_stamp.specs.Bag.{bag_remove}
 use Rattle.td_machine.specs.State.{left_cmp}
 use Rattle.td_shard.specs.Versions.{left_at}
 use Rattle.td_shard.proofs.KeptVersions.{none_out, one_out, last_out}
+use Rattle.td_shard.proofs.NoneEmpty.{some-written, some-out}
 use Rattle.td_shard.proofs.versions.Versions.take_one_back.Goals as goal
 use Rattle.td_shard.proofs.versions.Versions.take_one_back.Goals.{in-Some-1, in-None-1}
 
@@ -17,14 +18,28 @@ returns-then-take_out c =
     let es = c.self.inside.versions.entries in
     let new = c.take_out.new.versions in
     let out =
-        last_out (λ v. v.items) c.placed.result.0 es (c.get_mut.follows.lender new).entries c.version_laws.ensures c.placed.result.1 c.in-Some.versions.now new c.remove.new.self.entries
-        c.self.invariant c.in-Some.ensures.value (c.get_mut.follows.holds new).0 c.take_out.ensures.left (c.take_out.ensures.none.0 c.if-take_out.true) c.remove.ensures.entries
-        ∙ (λ i. bag_remove left_cmp (left_at (c.placed.ensures.place i) (c.placed.ensures.version i)) (c.self.view_is i)) in
+    last_out (λ v. v.items) c.placed.result.0 es (c.get_mut.follows.lender new).entries c.version_laws.ensures c.placed.result.1 c.in-Some.versions.now new c.remove.new.self.entries
+    c.self.invariant.0 c.in-Some.ensures.value (c.get_mut.follows.holds new).0 c.take_out.ensures.left (c.take_out.ensures.none.0 c.if-take_out.true) c.remove.ensures.entries
+    ∙ (λ i. bag_remove left_cmp (left_at (c.placed.ensures.place i) (c.placed.ensures.version i)) (c.self.view_is i)) in
     elim c.match-remove.branch [ in-Some-1 w ↦ w.self-is ∙ out | in-None-1 w ↦ w.self-is ∙ out ]
 
 pub returns-else-take_out : goal.returns-else-take_out
 returns-else-take_out c =
     let new = c.take_out.new.versions in
     one_out (λ v. v.items) c.placed.result.0 c.self.inside.versions.entries (c.get_mut.follows.lender new).entries c.version_laws.ensures c.placed.result.1 c.in-Some.versions.now new
-    c.self.invariant c.in-Some.ensures.value (c.get_mut.follows.holds new).0 c.take_out.ensures.left
+    c.self.invariant.0 c.in-Some.ensures.value (c.get_mut.follows.holds new).0 c.take_out.ensures.left
     ∙ (λ i. bag_remove left_cmp (left_at (c.placed.ensures.place i) (c.placed.ensures.version i)) (c.self.view_is i))
+
+pub invariant_of-self-then-take_out : goal.invariant_of-self-then-take_out
+invariant_of-self-then-take_out c = (
+  search rules,
+  some-out (λ v. v.items) c.placed.result.0 c.self.inside.versions.entries (c.get_mut.follows.lender c.take_out.new.versions).entries c.self.invariant.1 c.take_out.new.versions
+      c.remove.new.self.entries (c.get_mut.follows.holds c.take_out.new.versions).0 c.remove.ensures.entries,
+)
+
+pub invariant_of-self-else-take_out : goal.invariant_of-self-else-take_out
+invariant_of-self-else-take_out c = (
+  search rules,
+  some-written (λ v. v.items) c.placed.result.0 c.self.inside.versions.entries (c.get_mut.follows.lender c.take_out.new.versions).entries c.self.invariant.1 c.take_out.new.versions
+      (c.get_mut.follows.holds c.take_out.new.versions).0 (λ e. let no : true ≡ false = sym (c.take_out.ensures.none.1 e) ∙ c.if-take_out.false in cc),
+)
