@@ -8,6 +8,7 @@ mod mailbox;
 mod noted;
 mod place;
 mod seen;
+mod shard;
 mod slots;
 mod take;
 #[cfg(test)]
@@ -18,4 +19,5 @@ pub use error::ShardError;
 pub use mailbox::{Mailbox, Taken};
 pub use noted::Noted;
 pub use seen::Seen;
+pub use shard::Shard;
 pub use waiting::Waiting;
