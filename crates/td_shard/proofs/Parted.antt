@@ -1,14 +1,13 @@
 -- A task and what is left.
-use Rattle.std.proofs.Common.{◌≡◌, ℕ, zero, suc, ◌+◌, ◌<◌, ◌≤◌, ◌⊎◌, inl, inr, ◌↔◌, List, [], ◌∷◌, ◌++◌, length, filter, take, Bool, true, false, cond, Option, Some, None, refl, ap, sym, ◌∙◌, arith}
+use Rattle.std.proofs.Common.{◌≡◌, ℕ, zero, suc, ◌<◌, ◌≤◌, ◌⊎◌, inl, inr, List, [], ◌∷◌, ◌++◌, length, filter, take, Bool, true, false, cond, Option, Some, None, refl, ap, sym, ◌∙◌, arith}
 use Rattle.std.specs.declared.cmp.Ordering.{Ordering}
 use Rattle.std.specs.List.{AllByRecursion, slice_get, remove}
 use Rattle.td_stamp.specs.Bag.{bag_insert, bag_of}
 use Rattle.td_stamp.specs.BagLaws.{BagLaws}
 use Rattle.td_machine.specs.declared.records.Message.{Message}
-use Rattle.td_machine.specs.State.{message_cmp}
 use Rattle.td_machine.specs.Steps.{task_size}
 use Rattle.td_shard.specs.declared.lane.Lane.{Lane}
-use Rattle.td_shard.specs.Messages.{IsBeside, same_edge, without_first, task_by, left_by, task_at, left_at}
+use Rattle.td_shard.specs.Messages.{IsBeside, same_edge, without_first, task_by, task_at}
 use Rattle.td_shard.specs.Slots.{lane_eq}
 use Rattle.td_shard.proofs.Lanes.{lane_equiv, lane_eq-sound}
 

@@ -1,13 +1,30 @@
-//! A shard.
+//! A shard of a hall.
+ghost use Rattle.std.specs.Prelude.{◌≡◌, []};
+
 use crate::mailbox::Mailbox;
 use crate::waiting::Waiting;
+use std::alloc::Global;
 
-/// What is of one shard alone: the messages that wait to be taken, and the items that wait for its notifications.
+/// What stands with a shard, of the records whose keys are its own (Naiad, section 3.1): those that wait to be taken, and
+/// those that wait for its notifications.
 ///
-/// What distincts have seen (`Seen`) and what folds left (`Versions`) is told by records and keys, of which each is of one
+/// What distincts have seen (`Seen`) and what folds left (`Versions`) is found by record and by key, each of which is of one
 /// shard: a hall keeps them once for all of its shards.
 #[derive(Drop)]
 pub struct Shard {
     pub mailbox: Mailbox,
     pub waiting: Waiting,
+}
+
+impl Shard {
+    /// A shard with nothing in it, which allocates with `alloc`.
+    pub fn new(alloc: Global) -> Shard
+        ensures mailbox { result.mailbox ≡ record { runs = 0; room = 0; messages = [] } }
+        ensures waiting { result.waiting ≡ [] }
+    {
+        Shard {
+            mailbox: Mailbox::new(alloc),
+            waiting: Waiting::new(alloc),
+        }
+    }
 }

@@ -1,6 +1,6 @@
 //! What waits at the groups and folds of a shard.
 ghost use Rattle.std.specs.Prelude.{◌≡◌, ◌++◌, ◌<◌, [], length, map, is_some, OnOk, OnErr};
-ghost use Rattle.std.specs.Option.{option_map};
+ghost use Rattle.std.specs.Option.{option_copied, option_map};
 ghost use Rattle.td_stamp.specs.Orders.{arrival_cmp};
 ghost use Rattle.td_stamp.specs.Bag.{bag_of};
 ghost use Rattle.td_stamp.specs.Groups.{arrival_of};
@@ -57,6 +57,17 @@ impl Waiting {
         ensures { result ≡ map (λ w. w.0) self.now }
     {
         self.asked.keys()
+    }
+
+    /// The items that wait at a vertex and time, as they came, where its notification is asked for. Takes no memory.
+    pub fn items(&self, vertex: u8, time: &Time) -> Option<&[Arrival]>
+        ensures { option_copied result ≡ items_at self.now vertex time.now }
+    {
+        let time = time.copy();
+        match self.asked.get(&Noted { time, vertex }) {
+            Some(items) => Some(items.as_slice()),
+            None => None,
+        }
     }
 
     /// Keeps these records, of which there is one at least, as items that wait at a vertex and time. The notification is asked

@@ -1,4 +1,4 @@
-use Rattle.std.proofs.Common.{◌≡◌, ◌<◌, ◌++◌, ◌⊎◌, List, filter, length, Some, sym, ap, ◌∙◌, subst, arith, refl}
+use Rattle.std.proofs.Common.{◌≡◌, ◌<◌, ◌++◌, ◌⊎◌, length, sym, ap, ◌∙◌, subst, arith, refl}
 use Rattle.std.specs.List.{AllByRecursion, slice_get, remove}
 use Rattle.td_stamp.specs.Bag.{bag_of}
 use Rattle.td_machine.specs.State.{message_cmp}
