@@ -1,16 +1,26 @@
 #!/usr/bin/env python3
 """Asks td_keeper what it recovers of many disks, and compares each answer with a reading of the format in this file.
 
-    bench/recover.py                    needs the kit
+    bench/recover.py [PROGRAM]          needs the kit, or a PROGRAM that an earlier run built
 
-It builds bench/recover.rattle in a copy of the repository's crates below it, which is proved on the way. The reading shares
-nothing with the crates. The disks are: one that the keeper itself formats and writes, which is compared byte for byte with
-one that is written here; the named cases below; and of a disk with two epochs and a checkpoint, in version 1 and in version
-2, each beginning of its bytes, and each single byte of it changed to 00, 01, 5a, a5 and ff. Last, with a C compiler, one disk
-is recovered with each allocation refused in turn, alone and with all that follow: the answer is what is told, or `memory`."""
+It builds bench/recover.rattle in a copy of the repository's crates below it, which is proved on the way: that takes minutes,
+and all that comes after it half a minute. With `--keep FOLDER` the copy is made there and stays. The reading shares nothing
+with the crates. The disks are:
+
+- one that the keeper itself formats and writes, which is compared byte for byte with one that is written here;
+- the named cases below, the parts that the documents print byte by byte among them;
+- of a disk with two epochs and a checkpoint, in version 1 and in version 2, each beginning of its bytes, and each single
+  byte of it changed to 00, 01, 5a, a5 and ff;
+- crafted ones, of the seeds 1, 2, ..: other shapes, and in each field now and then what should not stand there.
+
+Last, with a C compiler: one disk is recovered with each allocation refused in turn, alone and with all that follow, and the
+answer is what is told, or `memory`; and a file is formatted and recovered with each read, write and sync failing in turn:
+the answer is then `device`, and the disk that comes back is of use, but after a sync that failed. The last line says what was
+compared; at a difference the status is 1."""
 
 import os
 import pathlib
+import random
 import shutil
 import struct
 import subprocess
@@ -25,6 +35,7 @@ COUNT = b"0 input\n1 group 20 0\n2 output 1\n"
 M, N, K = 4, 2, 3
 OPEN = 0xA5
 CHANGED = (0x00, 0x01, 0x5A, 0xA5, 0xFF)
+CRAFTED = 4000
 TOP = 1 << 63
 # So many runs in a row that meet no refusal end the count.
 UNTOUCHED = 40
@@ -224,8 +235,38 @@ def named_cases():
         yield "cell 1 closed", one.changed((8741, 0)), start
         yield "zeros", bytes(8742), "not formatted"
         yield "another plan", bytes(Disk(version, COUNT).bytes), "another plan"
+    yield from cases_of_parts()
     yield from cases_of_requests()
     yield from cases_of_heads()
+
+
+def cases_of_parts():
+    """Parts as they are printed, byte by byte, in the place in which they stand."""
+    less, more = "0000000000000000 0000000000000007 fffffffffffffffe", "0000000000000000 0000000000000007 0000000000000005"
+    cells = [(1, 0, f"0000000000000001 0000000000000000 00000002 00000000 {less} {more}", "0:0 7 -2,0 7 5"),
+             (2, 5, f"0000000000000001 0000000000000005 00000002 00000000 {less} {more}", "5:0 7 -2,0 7 5"),
+             (2, 5, f"0000000000000001 0000000000000005 00000001 00000000 {more}", "5:0 7 5")]
+    for version, request, printed, wanted in cells:
+        disk, same = Disk(version), Disk(version)
+        place(disk, 8621, 120, printed)
+        same.cell(1, request, [(0, 7, -2), (0, 7, 5)] if "-2" in wanted else [(0, 7, 5)])
+        yield f"cell 1 as it is printed, version {version}", same_bytes(disk, same), f"{version} 0 0||{wanted}"
+    for version, last in ((1, 0), (2, 5)):
+        disk, same = Disk(version), Disk(version)
+        place(disk, 8379, 120, f"0000000000000001 {last:016x} 00000001 00000000"
+                               "0000000000000001 0000000000000007 0000000000000005 0000000000000001")
+        same.slot(1, 1, last, [(1, 7, 5, 1)])
+        yield f"slot 1 as it is printed, version {version}", same_bytes(disk, same), f"{version} 1 {last}|1 7 5 1|"
+
+
+def place(disk, at, length, printed):
+    disk.bytes[at:at + length + 1] = bytes.fromhex(printed).ljust(length, b"\0") + bytes([OPEN])
+
+
+def same_bytes(disk, same):
+    if disk.bytes != same.bytes:
+        sys.exit("this file writes other bytes than are printed")
+    return bytes(disk.bytes)
 
 
 def cases_of_requests():
@@ -255,6 +296,52 @@ def cases_of_heads():
     yield "a tie of slots", bytes(disk.bytes), "2 0 0||"
     disk.cell(2, 0, [])
     yield "a gap", bytes(disk.bytes), "2 0 0||"
+
+
+# Crafted disks
+
+
+def crafted(seed):
+    """A disk's bytes: a good disk in most fields, with another shape, and now and then a field that no keeper writes."""
+    draw = random.Random(seed)
+    def either(usual, *others, one_in=12):
+        return draw.choice(others) if draw.randrange(one_in) == 0 else usual
+    m, n, k = (draw.randint(1, most) for most in (3, 4, 3))
+    layout, size = parts(m, n, k)
+    image = bytearray(draw.choice((b"\0", b"\xff", b"\xa5")) * size) if draw.randrange(4) == 0 else bytearray(size)
+
+    def put(name, payload):
+        at, length = layout[name]
+        image[at:at + length + 1] = payload[:length].ljust(length, bytes([either(0, 0x5A)])) + bytes([either(OPEN, 0x5A, 0)])
+
+    version = draw.choice((1, 2, 2))
+    for side in "AB":
+        if side == "A" or draw.randrange(3) == 0:
+            plan = either(TOTAL, COUNT, TOTAL.upper(), TOTAL[:-1], b"")
+            put(f"head {side}", struct.pack(">4sIQIIII", either(b"TDFL", b"TDFM"), either(version, 0, 1, 2, 3, one_in=20),
+                                            draw.randint(1, 2) if draw.randrange(20) else 0, either(m, 0, m + 1, 65537, one_in=40),
+                                            either(n, 0, n + 1, 65537, one_in=40), either(k, 0, k + 1, 1048577, one_in=40),
+                                            either(len(plan), len(plan) - 1 if plan else 1, 4097, one_in=40)) + plan)
+    epoch, last = draw.randint(0, 3), draw.choice((0, 0, 4)) if version == 2 else 0
+    for side in (0, 1):
+        if side == epoch % 2 or draw.randrange(2) == 0:
+            count = draw.randint(0, k)
+            states = sorted((either(1, 0, 2), draw.randint(0, 3), draw.randint(-2, 2), draw.randint(0, 9)) for _ in range(count))
+            if draw.randrange(20):
+                states = list({state[:2]: state for state in states}.values())
+            put(f"slot {side}", struct.pack(">QQII", either(epoch if side == epoch % 2 else draw.randint(0, 4), TOP - 1, TOP, one_in=30), last,
+                                            either(len(states), k + 1, one_in=30), either(0, 1, one_in=40))
+                + b"".join(struct.pack(">QQqq", *state) for state in states))
+    request = last
+    for after in range(1, draw.randint(0, n) + 1):
+        request += draw.randint(1, 3)
+        records = [(either(0, 1, one_in=40), draw.randint(0, 3), draw.randint(-2, 2)) for _ in range(draw.randint(0, m))]
+        records = sorted(records) if draw.randrange(20) else records
+        number = 0 if version == 1 else either(request, 0, request - 3 if request > 3 else 0, one_in=4)
+        put(f"cell {(epoch + after) % n}", struct.pack(">QQII", either(epoch + after, epoch + after + n, one_in=20), either(number, 7, one_in=30),
+                                                       either(len(records), m + 1, one_in=30), either(0, 1, one_in=40))
+            + b"".join(struct.pack(">QQq", *record) for record in records))
+    return bytes(image[:either(size, size - 1, one_in=40)]) + b"\xa5" * either(0, 3)
 
 
 # The program
@@ -308,16 +395,25 @@ def compare(program, name, lines, images, wanted=None):
         kind = answer if answer[0].isalpha() else "told"
         kinds[kind] = kinds.get(kind, 0) + 1
     print(f"{name}: {len(wanted)} images, no difference;", ", ".join(f"{kinds[kind]} {kind}" for kind in sorted(kinds)))
+    return len(wanted)
+
+
+def library_of(folder, source):
+    """A library to stand before the C library's calls, or None where no compiler is."""
+    compiler = next(filter(None, map(shutil.which, ("cc", "gcc", "clang"))), None)
+    if compiler is None:
+        print(f"{source}: skipped, no C compiler is here")
+        return None
+    library = folder / f"{source}.so"
+    subprocess.run([compiler, "-O2", "-shared", "-fPIC", "-o", library, ROOT / f"bench/{source}.c"], check=True)
+    return library
 
 
 def refuse_each(program, folder, image):
-    """Where a run ends with a status, it is the driver that had no memory."""
-    compiler = next(filter(None, map(shutil.which, ("cc", "gcc", "clang"))), None)
-    if compiler is None:
-        print("allocations: skipped, no C compiler is here")
-        return
-    library = folder / "refuse.so"
-    subprocess.run([compiler, "-O2", "-shared", "-fPIC", "-o", library, ROOT / "bench/refuse_allocation.c"], check=True)
+    """The number of allocations. Where a run ends with a status, it is the driver that had no memory."""
+    library = library_of(folder, "refuse_allocation")
+    if library is None:
+        return 0
     wanted, refused, untouched, number = told(image) + "\n", 0, 0, 0
     while untouched < UNTOUCHED:
         number, untouched = number + 1, untouched + 1
@@ -329,32 +425,72 @@ def refuse_each(program, folder, image):
             elif done.stdout != wanted:
                 sys.exit(f"with allocation {number} refused: {done.stdout}")
     print(f"allocations: {number - UNTOUCHED}, {refused} runs answered memory, no other answer")
+    return number - UNTOUCHED
+
+
+def fail_each(program, folder, image):
+    """A file is formatted and recovered with each of its calls failing in turn; the number of these."""
+    library = library_of(folder, "fail_call")
+    if library is None:
+        return 0
+    file, fresh, failed, final = folder / "disk", told(bytes(Disk(2).bytes)), 0, 0
+    for words, before, wanted, after in [("format", image, "formatted", fresh), ("format", bytes(len(image)), "formatted", fresh),
+                                         ("recover", image, told(image), told(image))]:
+        number, said = 0, "device"
+        while said.startswith("device"):
+            number += 1
+            file.write_bytes(before)
+            said = ask_file(program, words, file, {"LD_PRELOAD": str(library), "FAILED": str(number)})
+            # After a sync that failed each later call of the disk fails, and a call that comes late is one of the second answer.
+            if said not in (f"device, {wanted}", "device, device", f"{wanted}, device"):
+                sys.exit(f"{words} with call {number} failed: {said}")
+            failed, final = failed + said.startswith("device"), final + (said == "device, device")
+            found = ask_file(program, "recover", file, {})
+            if words == "recover" and found != f"{after}, {after}" or said == f"device, {wanted}" and found != f"{after}, {after}":
+                sys.exit(f"{words} with call {number} failed: the disk tells {found}")
+    print(f"calls on a file: {failed} failed in turn, each answered device; the disk that came back was of use but for {final} syncs")
+    return failed
+
+
+def ask_file(program, words, file, more):
+    done = subprocess.run([program], input=f"{words} {file}\n", capture_output=True, text=True, check=True, env={**os.environ, **more})
+    return done.stdout.rstrip("\n")
 
 
 def main():
     for name, image, wanted in named_cases():
         if told(image) != wanted:
             sys.exit(f"{name}: wanted {wanted}, and this file tells {told(image)}")
+    words = sys.argv[1:]
+    if len(words) > 2 or words[:1] == ["--keep"] and len(words) != 2:
+        sys.exit(__doc__)
     with tempfile.TemporaryDirectory() as folder:
-        program = build(pathlib.Path(folder))
+        if words[:1] == ["--keep"]:
+            program = build(pathlib.Path(words[1]))
+        else:
+            program = pathlib.Path(words[0]).resolve() if words else build(pathlib.Path(folder))
         start = time.monotonic()
         full, _ = disks(2)
         made = asked(program, ["make"])
         if made != [bytes(full.bytes).hex()]:
             sys.exit("the keeper writes other bytes")
         cases = list(named_cases())
-        compare(program, "named", [f"image {image.hex()}" for _, image, _ in cases], [], [wanted for _, _, wanted in cases])
+        images = compare(program, "named", [f"image {image.hex()}" for _, image, _ in cases], [], [wanted for _, _, wanted in cases])
         for version in (1, 2):
             full, _ = disks(version)
             base = bytes(full.bytes)
             beginnings = range(len(base) + 1)
-            compare(program, f"version {version}, beginnings", [f"base {base.hex()}", *[f"cut {n}" for n in beginnings]],
-                    [base[:n] for n in beginnings])
+            images += compare(program, f"version {version}, beginnings", [f"base {base.hex()}", *[f"cut {n}" for n in beginnings]],
+                              [base[:n] for n in beginnings])
             changes = [(at, value) for at in range(len(base)) for value in CHANGED]
-            compare(program, f"version {version}, single bytes", [f"base {base.hex()}", *[f"set {at} {value}" for at, value in changes]],
-                    [full.changed(change) for change in changes])
-        refuse_each(program, pathlib.Path(folder), bytes(disks(2)[0].bytes))
-        print(f"{time.monotonic() - start:.0f} s after the build")
+            images += compare(program, f"version {version}, single bytes", [f"base {base.hex()}", *[f"set {at} {value}" for at, value in changes]],
+                              [full.changed(change) for change in changes])
+        crafts = [crafted(seed) for seed in range(1, CRAFTED + 1)]
+        images += compare(program, "crafted", [f"image {image.hex()}" for image in crafts], crafts)
+        image = bytes(disks(2)[0].bytes)
+        refused, failed = refuse_each(program, pathlib.Path(folder), image), fail_each(program, pathlib.Path(folder), image)
+        print(f"{images} images read alike; {refused} allocations refused and {failed} calls failed in turn; "
+              f"{time.monotonic() - start:.0f} s after the build")
 
 
 if __name__ == "__main__":

@@ -3,14 +3,13 @@ use std::alloc::Global;
 use std::fs::{self, OpenOptions};
 use std::test::Fail;
 use std::{env, process};
-use td_disk::{Disk, FileDisk, FuseDisk, MemoryDisk};
+use td_disk::{Disk, FileDisk, MemoryDisk};
 use td_plan::Plan;
 
 /// How large a disk with M = 4, N = 2 and K = 3 is.
 const SIZE: u64 = 8_742;
-
-/// A head with its gate.
-const LEN: usize = 4_129;
+/// What the heads of a disk tell that was formatted for TOTAL.
+const FRESH: &str = "version 2, head 0, generation 1, 4 2 3";
 
 const TOTAL: &str = "0 input\n1 fold 40 0\n2 output 1\n";
 
@@ -58,13 +57,9 @@ fn change<D: Disk>(disk: &mut D, at: u64, byte: u8) -> Result<(), Fail> {
 #[test]
 fn heads_with_a_changed_byte(rt: HostRuntime) -> Result<(), Fail> {
     let mut disk = MemoryDisk::new(rt.alloc(), SIZE)?;
-    assert_eq!(rt;
-        told(rt.alloc(), &mut disk, TOTAL)?.as_str(),
-        "1 not formatted"
-    );
-    let fresh = "version 2, head 0, generation 1, 4 2 3";
+    let zeros = told(rt.alloc(), &mut disk, TOTAL)?;
+    assert_eq!(rt; zeros.as_str(), "1 not formatted");
     let rows = [
-        (0, 0x54, fresh),
         (0, 0, "1 not formatted"),
         (4_128, 0, "1 not formatted"),
         (7, 1, "version 1, head 0, generation 1, 4 2 3"),
@@ -78,21 +73,16 @@ fn heads_with_a_changed_byte(rt: HostRuntime) -> Result<(), Fail> {
         (31, 30, "2 damaged: head"),
         (42, 0x32, "2 damaged: head"),
         (48, 0x31, "3 another plan"),
-        (63, 1, fresh),
+        (63, 1, FRESH),
     ];
     for (at, byte, want) in rows {
         format(rt.alloc(), &mut disk)?;
         change(&mut disk, at, byte)?;
-        assert_eq!(rt;
-            told(rt.alloc(), &mut disk, TOTAL)?.as_str(),
-            want,
-            "byte {at} is {byte}"
-        );
+        let got = told(rt.alloc(), &mut disk, TOTAL)?;
+        assert_eq!(rt; got.as_str(), want, "byte {at} is {byte}");
     }
-    assert_eq!(rt;
-        told(rt.alloc(), &mut disk, COUNT)?.as_str(),
-        "3 another plan"
-    );
+    let another = told(rt.alloc(), &mut disk, COUNT)?;
+    assert_eq!(rt; another.as_str(), "3 another plan");
     Ok(())
 }
 
@@ -101,18 +91,16 @@ fn heads_with_a_changed_byte(rt: HostRuntime) -> Result<(), Fail> {
 fn the_greater_generation_counts(rt: HostRuntime) -> Result<(), Fail> {
     let mut disk = MemoryDisk::new(rt.alloc(), SIZE)?;
     format(rt.alloc(), &mut disk)?;
-    let mut head = [0; LEN];
+    let mut head = [0; 4_129];
     if disk.size() == SIZE {
         disk.read(0, &mut head)?;
         disk.write(4_129, &head)?;
     }
-    for (generation, side) in [(1, 0), (2, 1), (0, 0)] {
+    let second = "version 2, head 1, generation 2, 4 2 3";
+    for (generation, want) in [(1, FRESH), (2, second), (0, FRESH)] {
         change(&mut disk, 4_129 + 15, generation)?;
-        let want = format!(in rt.alloc();
-            "version 2, head {side}, generation {}, 4 2 3",
-            generation.max(1)
-        )?;
-        assert_eq!(rt; told(rt.alloc(), &mut disk, TOTAL)?, want);
+        let got = told(rt.alloc(), &mut disk, TOTAL)?;
+        assert_eq!(rt; got.as_str(), want);
     }
     laws::heads_are_apart();
     laws::heads_tell();
@@ -121,36 +109,9 @@ fn the_greater_generation_counts(rt: HostRuntime) -> Result<(), Fail> {
     Ok(())
 }
 
-// Of zeros three blocks are written and synced; where a gate is closed first, that is a write and a sync more. The head
-// is put by four.
-#[test]
-fn writes_and_syncs_of_a_format(rt: HostRuntime) -> Result<(), Fail> {
-    for (is_formatted, count) in [(false, 8), (true, 10)] {
-        for stop in 1..=count + 1 {
-            let mut disk = MemoryDisk::new(rt.alloc(), SIZE)?;
-            if is_formatted {
-                format(rt.alloc(), &mut disk)?;
-            }
-            let mut fuse = FuseDisk::stop_at(disk, stop);
-            let answer = format(rt.alloc(), &mut fuse);
-            assert_eq!(rt; answer.is_ok(), stop > count, "stopped at {stop}");
-        }
-    }
-    Ok(())
-}
-
 // The file is cut short within head B, after head A is read.
 #[test]
-fn small_disks_and_a_read_that_fails(rt: HostRuntime) -> Result<(), Fail> {
-    for (size, want) in [
-        (0, "1 not formatted"),
-        (8_257, "1 not formatted"),
-        (8_258, "1 not formatted"),
-    ] {
-        let mut disk = MemoryDisk::new(rt.alloc(), size)?;
-        assert_eq!(rt; told(rt.alloc(), &mut disk, TOTAL)?.as_str(), want);
-    }
-    assert!(rt; Shape::new(0, 1, 1).is_none() && Shape::new(1, 65_537, 1).is_none());
+fn a_read_that_fails(rt: HostRuntime) -> Result<(), Fail> {
     let name = format!(in rt.alloc(); "td_head-{}", process::id(rt.process()))?;
     let path = env::temp_dir(&rt)?
         .join(rt.alloc(), name.as_str())?
@@ -162,5 +123,23 @@ fn small_disks_and_a_read_that_fails(rt: HostRuntime) -> Result<(), Fail> {
     options.open(&rt, path.as_str())?.set_len(5_000)?;
     assert_eq!(rt; told(rt.alloc(), &mut disk, TOTAL)?.as_str(), "4 device");
     fs::remove_file(&rt, path.as_str())?;
+    Ok(())
+}
+
+// Run with each allocation refused in turn: want of memory is said, and the call may be made again.
+#[test]
+fn a_refused_allocation_is_memory(rt: HostRuntime) -> Result<(), Fail> {
+    let mut disk = MemoryDisk::new(rt.alloc(), SIZE)?;
+    if let Err(refusal) = format(rt.alloc(), &mut disk) {
+        // The disk's record of its calls grows too.
+        assert!(rt; matches!(refusal, HeadError::Memory | HeadError::Device));
+        format(rt.alloc(), &mut disk)?;
+    }
+    let got = told(rt.alloc(), &mut disk, TOTAL)?;
+    if got.as_str() != FRESH {
+        assert_eq!(rt; got.as_str(), "5 memory");
+        let again = told(rt.alloc(), &mut disk, TOTAL)?;
+        assert_eq!(rt; again.as_str(), FRESH);
+    }
     Ok(())
 }

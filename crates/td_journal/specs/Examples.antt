@@ -39,6 +39,14 @@ written_numbered : cell_bytes 4 1 5 two_records ≡ written_with 5
 unfolding number_at number_bytes
 written_numbered = refl
 
+-- cell 1 after epoch 1 = (input 0: (7, 5)) with the request number 5
+written_one : cell_bytes 4 1 5 (entry 7 (pos 5) ∷ [])
+    ≡ 0 ∷ 0 ∷ 0 ∷ 0 ∷ 0 ∷ 0 ∷ 0 ∷ 1 ∷ 0 ∷ 0 ∷ 0 ∷ 0 ∷ 0 ∷ 0 ∷ 0 ∷ 5 ∷ 0 ∷ 0 ∷ 0 ∷ 1 ∷ 0 ∷ 0 ∷ 0 ∷ 0
+    ∷ 0 ∷ 0 ∷ 0 ∷ 0 ∷ 0 ∷ 0 ∷ 0 ∷ 0 ∷ 0 ∷ 0 ∷ 0 ∷ 0 ∷ 0 ∷ 0 ∷ 0 ∷ 7 ∷ 0 ∷ 0 ∷ 0 ∷ 0 ∷ 0 ∷ 0 ∷ 0 ∷ 5
+    ∷ replicate 72 0
+unfolding number_at number_bytes
+written_one = refl
+
 whole : length (cell_bytes 4 1 0 two_records) ≡ 120
 unfolding number_at number_bytes
 whole = refl

@@ -1,5 +1,5 @@
 //! A ring of cells.
-ghost use Rattle.std.specs.Prelude.{◌≡◌, ◌⊎◌, ◌↔◌, ◌+◌, ◌-◌, ◌^◌, ◌<◌, ◌≤◌, length, OnOk, IfOk, IfErr, IsErrOf};
+ghost use Rattle.std.specs.Prelude.{◌≡◌, ◌⊎◌, ◌↔◌, ◌+◌, ◌-◌, ◌^◌, ◌<◌, ◌≤◌, length, OnOk, IfOk, IfErr, IsErrOf, IsTrue};
 ghost use Rattle.td_disk.specs.Disk.{IsDurable, Rises};
 ghost use Rattle.td_gate.specs.CrashSafe.{CrashSafe, Unchanged};
 ghost use Rattle.td_gate.specs.Reading.{Each};
@@ -205,6 +205,14 @@ impl Journal {
         Ok(told)
     }
 
+    /// Whether as many epochs as there are cells stand after the kept one, before this epoch.
+    fn is_full(&self, epoch: u64) -> bool
+        requires { self.now.kept < epoch }
+        ensures { IsTrue result ↔ (self.now.n < epoch - self.now.kept) }
+    {
+        u64::from(self.n) < epoch - self.kept
+    }
+
     /// Puts an epoch's request number (0 for none) and batch into its cell. It refuses `Full` where as many epochs as
     /// there are cells stand after the kept one, then `TooManyRecords` where the batch has more than `m`, then
     /// `Memory`, and in these cases has not called the disk; then `Device`.
@@ -238,7 +246,7 @@ impl Journal {
             → IsOpen (cell_of self.now epoch) (cell_bytes self.now.m epoch request batch.now) (D.state device.new)) }
         ensures durable { OnOk result (D.is_lawful device.old → IsDurable (D.state device.new)) }
     {
-        if u64::from(self.n) < epoch - self.kept {
+        if self.is_full(epoch) {
             return Err(JournalError::Full);
         }
         if (self.m as usize) < batch.len() {
