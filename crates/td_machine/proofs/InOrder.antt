@@ -340,10 +340,10 @@ module _ (below : Below) (answers : Answers) where
   still_content S task (messages port recs) sized of_shard h = (sized.0, sized.1, of_shard, h)
   still_content S task (notification items) sized of_shard h = (h.0, record { is_active = asked_active S _ h.0; is_free = h.1 }, h.2)
 
-  abbrev origin_of : (S : HallState) → IsReached answers S → Origin
+  abbrev pub origin_of : (S : HallState) → IsReached answers S → Origin
   origin_of S r = record { states = r.states; first = r.first; batches = batches_of r.events r.replies }
 
-  history_of : (S : HallState) (r : IsReached answers S) → (H : History) × Invariant answers (origin_of S r) S H
+  pub history_of : (S : HallState) (r : IsReached answers S) → (H : History) × Invariant answers (origin_of S r) S H
   history_of S r = let p = play_has below answers r.plan r.states r.first r.workers r.events r.replies S r.lawful (plan_facts below r.plan r.lawful) r.ordered r.from_one r.some_worker r.plays in
       (p.0, p.1)
 

@@ -75,7 +75,7 @@ module _ (below : Below) where
   sent_in_turn Output loops there t around some is h = absurd (cc)
   sent_in_turn _ loops there t around some is h = let home : loops ≡ there = cc in (subst (λ ls. AreBelow t.turns (bounds ls)) home h, tt)
 
-  input_kind : (kind : Kind) → is_input kind ≡ true → kind ≡ Input
+  pub input_kind : (kind : Kind) → is_input kind ≡ true → kind ≡ Input
   input_kind Input e = refl
   input_kind (Map code) e = absurd (cc)
   input_kind Distinct e = absurd (cc)

@@ -1,33 +1,27 @@
 -- Where no task may be taken, every released epoch has passed.
-use Rattle.std.proofs.Common.{◌≡◌, ℕ, zero, suc, ◌+◌, ◌<◌, Bool, true, false, List, [], ◌∷◌, ◌++◌, length, map, filter, refl, ap, sym, ◌∙◌, subst, arith}
-use Rattle.std.specs.Prelude.{Some, None, Contains, not, ◌||◌}
+use Rattle.std.proofs.Common.{◌≡◌, ℕ, zero, suc, ◌+◌, ◌<◌, Bool, true, false, List, [], ◌∷◌, ◌++◌, length, map, refl, ap, sym, ◌∙◌, subst, arith}
+use Rattle.std.specs.Prelude.{Some, None, Contains}
 use Rattle.std.specs.List.{AllByRecursion, slice_get}
-use Rattle.std.specs.Ordering.{is_eq}
-use Rattle.std.proofs.Math.Nat.{mod-lt}
 use Rattle.std.proofs.lemmas.List.{length-map}
-use Rattle.td_stamp.specs.Bag.{bag_of, has}
-use Rattle.std.proofs.lemmas.Cmp.{tied_itself}
+use Rattle.td_stamp.specs.Bag.{bag_of}
 use Rattle.td_plan.specs.Lines.{Line}
-use Rattle.td_plan.specs.Blocks.{bounds, reading_loops_at}
 use Rattle.td_calls.specs.Answers.{Answers}
-use Rattle.td_calls.specs.Callbacks.{is_notified}
 use Rattle.td_reach.specs.declared.stamp.Stamp.{Stamp}
 use Rattle.td_reach.specs.Paths.{Could, IsOf}
 use Rattle.td_reach.specs.Laws.{IsLeast}
 use Rattle.td_machine.specs.declared.records.Message.{Message}
 use Rattle.td_machine.specs.declared.records.Notification.{Notification}
-use Rattle.td_machine.specs.State.{HallState, Task, notification_cmp, message_cmp, asked_of, shard_of_key}
+use Rattle.td_machine.specs.State.{HallState, Task, message_cmp, shard_of_key}
 use Rattle.td_machine.specs.State.Content.{messages, notification}
 use Rattle.td_machine.specs.Active.{kind_of, inputs_of, active, has_passed, IsFree, stamp_of_message, stamp_of_asked, stamp_of_input, stamps_of_inputs}
 use Rattle.td_machine.specs.Steps.{Answer, MayTake, Takes, to_notify}
 use Rattle.td_machine.specs.Steps.Answer.{has_taken}
 use Rattle.td_machine.specs.Steps.Takes.{is_busy, has_none, is_spent, takes}
-use Rattle.td_machine.proofs.History.{Origin, History, Invariant, IsTime, has_answer}
-use Rattle.td_machine.proofs.Orders.{notification_total}
-use Rattle.td_machine.proofs.Lists.{get_left, all_app, all_map, all_everywhere, all_weaken, all_filter}
-use Rattle.td_machine.proofs.Delivered.{all_has, to_active}
+use Rattle.td_machine.proofs.History.{Origin, History, Invariant}
+use Rattle.td_machine.proofs.Lists.{get_left, all_app, all_map, all_everywhere, all_weaken}
+use Rattle.td_machine.proofs.Delivered.{to_active}
 use Rattle.td_machine.proofs.Plain.{passed_from}
-use Rattle.td_machine.proofs.Away.{as_many, grouping_within}
+use Rattle.td_machine.proofs.OfPlan.{has_at, own_shard, good}
 use Rattle.td_machine.specs.Below.{Below}
 
 module _ (below : Below) where
@@ -42,18 +36,6 @@ module _ (below : Below) where
   contains_at [] i x h = absurd (cc)
   contains_at (y ∷ xs) zero x h = (0, omega arith, (let same : y ≡ x = cc in same))
   contains_at (y ∷ xs) (suc i) x h = let r = contains_at xs i x h in (suc r.0, (let l = r.1 in omega (arith, l)), r.2)
-
-  asked_itself : (a : Notification) → is_eq (notification_cmp a a) ≡ true
-  asked_itself a = ap is_eq (tied_itself notification_total a)
-
-  or_true : (b : Bool) → (b || true) ≡ true
-  or_true true = refl
-  or_true false = refl
-
-  has_at : (xs : List Notification) (i : ℕ) (a : Notification) → slice_get xs i ≡ Some a → has notification_cmp a xs ≡ true
-  has_at [] i a h = absurd (cc)
-  has_at (x ∷ xs) zero a h = let same : x ≡ a = cc in ap (λ y. is_eq (notification_cmp a y) || has notification_cmp a xs) same ∙ ap (λ b. b || has notification_cmp a xs) (asked_itself a)
-  has_at (x ∷ xs) (suc i) a h = ap (λ b. is_eq (notification_cmp a x) || b) (has_at xs i a h) ∙ or_true (is_eq (notification_cmp a x))
 
   -- an element of a list that was mapped
   record FromMap (xs : List Notification) (i : ℕ) (p : Stamp) : Type 0 where
@@ -74,51 +56,23 @@ module _ (below : Below) where
   inputs_next plan next true = tt
   inputs_next plan next false = all_map (λ (p : Stamp). p.time.epoch ≡ next) (stamp_of_input next) (inputs_of plan) (all_everywhere (λ v. next ≡ next) (λ v. refl) (inputs_of plan))
 
-  waits_for : (b c : Bool) → not (not b || c) ≡ true → b ≡ true
-  waits_for true c e = refl
-  waits_for false c e = absurd (cc)
-
   module _ (answers : Answers) (origin : Origin) (S : HallState) (H : History) (inv : Invariant answers origin S H) (idle : (s : ℕ) → s < S.workers → (task : Task) → MayTake S s task → ⊥) where
-    own_shard : (key : ℕ) → shard_of_key S.workers key < S.workers
-    own_shard key = mod-lt key inv.stands.workers
-
     -- no message is left
     no_messages : S.messages ≡ []
     no_messages = by S.messages refl
       where
         by : (ms : List Message) → S.messages ≡ ms → S.messages ≡ []
         by [] e = e
-        by (c ∷ ms) e = absurd (idle (shard_of_key S.workers c.rec.key) (own_shard c.rec.key)
+        by (c ∷ ms) e = absurd (idle (shard_of_key S.workers c.rec.key) (own_shard below answers origin S H inv c.rec.key)
             (record { shard = shard_of_key S.workers c.rec.key; number = S.taken + 1; vertex = c.vertex; time = c.time; kind = kind_of S.plan c.vertex; content = messages c.port (c.rec ∷ []) })
             (record { shard = refl; number = refl; kind = refl; content = (omega arith, omega arith, (refl, tt), (bag_of message_cmp ms, sym inv.running.messages_bag ∙ ap (bag_of message_cmp) e)) }))
-
-    -- each notification that is asked is of the plan, in a released epoch
-    abbrev IsGood : Notification → Type 0
-    IsGood a = IsOf S.plan (stamp_of_asked a) × (a.time.epoch < S.next) × (a.shard < S.workers)
-
-    abbrev waits : Message → Bool
-    waits c = not (has_answer S.plan S.workers H.notified c)
-
-    good : (a : Notification) → has notification_cmp a S.asked ≡ true → IsGood a
-    good a h = all_has below IsGood a (map (asked_of S.workers) (filter waits H.arrived)) (all_map IsGood (asked_of S.workers) (filter waits H.arrived) (all_weaken (λ c. IsTime origin S.next S.plan c.vertex c.time × (waits c ≡ true)) (λ c. IsGood (asked_of S.workers c)) of_one (filter waits H.arrived)
-        (all_filter (λ c. IsTime origin S.next S.plan c.vertex c.time) waits H.arrived inv.running.answered.arrived_times))) (sym (inv.running.told.asked a) ∙ h)
-      where
-        of_one : (c : Message) → IsTime origin S.next S.plan c.vertex c.time × (waits c ≡ true) → IsGood (asked_of S.workers c)
-        of_one c h = (
-          (
-            grouping_within below S.plan c.vertex (waits_for (is_notified (kind_of S.plan c.vertex)) (has notification_cmp (asked_of S.workers c) H.notified) h.1),
-            as_many below c.time.turns (bounds (reading_loops_at S.plan c.vertex)) h.0.2 ∙ length-map (reading_loops_at S.plan c.vertex) (λ l. l.bound),
-          ),
-          h.0.1,
-          own_shard c.rec.key,
-        )
 
     -- none is asked
     none_asked : S.asked ≡ []
     none_asked = by S.asked refl
       where
         stuck : 0 < length S.asked → ⊥
-        stuck some = idle a.shard (good a (has_at S.asked l.place a f.at)).2
+        stuck some = idle a.shard (good below answers origin S H inv a (has_at S.asked l.place a f.at)).2
             (record { shard = a.shard; number = S.taken + 1; vertex = a.vertex; time = a.time; kind = kind_of S.plan a.vertex; content = notification (to_notify S a.shard a.vertex a.time) })
             (record { shard = refl; number = refl; kind = refl; content = (has_at S.asked l.place a f.at, record { is_active = is_active; is_free = is_free }, refl) })
           where
@@ -126,7 +80,7 @@ module _ (below : Below) where
             all = map stamp_of_asked S.asked
 
             of_plan : (i : ℕ) (p : Stamp) → slice_get all i ≡ Some p → IsOf S.plan p
-            of_plan i p at = let r = from_mapped S.asked i p at in subst (IsOf S.plan) r.is (good r.of (has_at S.asked i r.of r.at)).0
+            of_plan i p at = let r = from_mapped S.asked i p at in subst (IsOf S.plan) r.is (good below answers origin S H inv r.of (has_at S.asked i r.of r.at)).0
 
             least : (p : Stamp) × IsLeast S.plan all p
             least = below.some_least S.plan inv.stands.plan all (let n = length-map S.asked stamp_of_asked in omega (arith, some, n)) of_plan
@@ -151,7 +105,7 @@ module _ (below : Below) where
             Is q = ((q ≡ stamp_of_asked a) → ⊥) → Could S.plan q (stamp_of_asked a) → ⊥
 
             soon : a.time.epoch < S.next
-            soon = (good a (has_at S.asked l.place a f.at)).1
+            soon = (good below answers origin S H inv a (has_at S.asked l.place a f.at)).1
 
             is_free : IsFree S (stamp_of_asked a)
             is_free = subst (λ ms. AllByRecursion Is (map (stamp_of_message S.plan) ms ++ (map stamp_of_asked S.asked ++ stamps_of_inputs S.plan S.next S.closed))) (sym no_messages)

@@ -1,10 +1,13 @@
 //! Laws of the definitions. Each is the contract of a function that does nothing, or calls the laws that it follows
 //! from.
 ghost use Rattle.std.specs.Prelude.{◌≡◌, ◌+◌, ◌≤◌, ◌++◌, ℕ, List};
+ghost use Rattle.std.specs.List.{AllByRecursion};
 ghost use Rattle.td_stamp.specs.States.{StateList, AreStates};
 ghost use Rattle.td_plan.specs.Lines.{Line};
 ghost use Rattle.td_plan.specs.Faults.{IsPlan};
+ghost use Rattle.td_reach.specs.Paths.{IsOf};
 ghost use Rattle.td_machine.specs.State.{HallState, Content};
+ghost use Rattle.td_machine.specs.Active.{active};
 ghost use Rattle.td_machine.specs.Steps.{Event, Answer, Step, Plays, opened};
 ghost use Rattle.td_machine.specs.Exact.{ExactWork, ExactWorkDrained};
 ghost use Rattle.td_machine.specs.Sound.{Sound, Confluence, EachIsSound, NeverStuck, batches_of};
@@ -198,3 +201,11 @@ pub fn none_left()
     ensures task { NoneToTake }
     ensures epoch { FirstUnpassed }
 {}
+
+/// Each active pointstamp of a state that is reached is of the plan: its place is one of the plan's, and its time is in as
+/// many loops as are open there.
+pub fn active_of_plan<L: Law>()
+    ensures { (S : HallState) → IsReached L.answers S → AllByRecursion (IsOf S.plan) (active S) }
+{
+    laws_below();
+}
