@@ -2,3 +2,4 @@ pub mod CameLists
 pub mod Passing
 pub mod Taken
 pub mod CollectSteps
+pub mod Opening

@@ -6,6 +6,7 @@ mod collect;
 mod error;
 mod floor;
 mod hall;
+mod open;
 mod outputs;
 mod passed;
 
