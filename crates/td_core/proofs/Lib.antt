@@ -5,3 +5,4 @@ pub mod CollectSteps
 pub mod CloseSteps
 pub mod Unpassed
 pub mod CutSteps
+pub mod Opening

@@ -77,6 +77,10 @@ pub record IsShard (workers : ℕ) (p : ℕ × Shard) : Type 0 where
   pub items : AllByRecursion (λ w. AllByRecursion (λ a. shard_of_key workers a.key ≡ p.0) w.1) p.1.waiting
   pub once : IsStrictlySortedBy noted_cmp (keys_of p.1.waiting)
 
+-- a shard in which nothing waits
+abbrev pub empty_shard : Shard
+empty_shard = record { mailbox = record { runs = 0; room = 0; messages = [] }; waiting = [] }
+
 -- WHAT A HALL KEEPS TRUE: its state is one that plays reach, and its table has the active pointstamps of that state
 pub record IsHall (answers : Answers) (h : Floor) : Type 0 where
   pub reached : IsReached answers (state_of h)

@@ -4,6 +4,8 @@ ghost use Rattle.td_core.specs.Refusals.{number_of};
 ghost use Rattle.td_core.specs.declared.error.HallError.TheVariants.{Memory};
 
 use std::alloc::{AllocError, AllocFailed};
+use td_progress::ProgressError;
+use td_reach::ReachError;
 use td_shard::ShardError;
 use td_stamp::StampError;
 use thiserror::Error;
@@ -67,10 +69,18 @@ impl<T: Drop> From<AllocFailed<T>> for HallError {
     }
 }
 
-impl From<StampError> for HallError {
+impl From<ProgressError> for HallError {
     ghost from_gives = { λ _ e. e ≡ Memory };
 
-    fn from(_error: StampError) -> HallError {
+    fn from(_error: ProgressError) -> HallError {
+        HallError::Memory
+    }
+}
+
+impl From<ReachError> for HallError {
+    ghost from_gives = { λ _ e. e ≡ Memory };
+
+    fn from(_error: ReachError) -> HallError {
         HallError::Memory
     }
 }
@@ -79,6 +89,14 @@ impl From<ShardError> for HallError {
     ghost from_gives = { λ _ e. e ≡ Memory };
 
     fn from(_error: ShardError) -> HallError {
+        HallError::Memory
+    }
+}
+
+impl From<StampError> for HallError {
+    ghost from_gives = { λ _ e. e ≡ Memory };
+
+    fn from(_error: StampError) -> HallError {
         HallError::Memory
     }
 }

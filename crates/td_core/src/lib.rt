@@ -7,6 +7,7 @@ mod cut;
 mod error;
 mod floor;
 mod hall;
+mod open;
 mod outputs;
 mod passed;
 
