@@ -10,6 +10,8 @@ mod hall;
 mod open;
 mod outputs;
 mod passed;
+#[cfg(test)]
+mod tests;
 
 pub use cut::Cut;
 pub use error::HallError;
