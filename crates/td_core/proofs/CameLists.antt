@@ -189,9 +189,10 @@ module _ {V : Type 0} where
   kept_all k [] none = (refl, refl)
   kept_all k (e ∷ es) none =
       let rest = kept_all k es none.1 in
-      let apart = same_tests k e.0 ∙ none.0 in
-      (ap (λ b. cond (not b) (e ∷ filter (λ e. not (e.0 == k)) es) (filter (λ e. not (e.0 == k)) es)) apart ∙ ap (λ l. e ∷ l) rest.0,
-       ap (λ b. cond b (e ∷ filter (λ e. e.0 == k) es) (filter (λ e. e.0 == k) es)) apart ∙ rest.1)
+      let apart = same_tests k e.0 ∙ none.0 in (
+        ap (λ b. cond (not b) (e ∷ filter (λ e. not (e.0 == k)) es) (filter (λ e. not (e.0 == k)) es)) apart ∙ ap (λ l. e ∷ l) rest.0,
+        ap (λ b. cond b (e ∷ filter (λ e. e.0 == k) es) (filter (λ e. e.0 == k) es)) apart ∙ rest.1,
+      )
 
   -- what a look-up finds
   abbrev pub found_at : ℕ → Option V → List (ℕ × V)
@@ -208,13 +209,15 @@ module _ {V : Type 0} where
           → (cond b es (e ∷ remove_entry (is_at (nat_cmp k)) es) ≡ filter (λ e. not (e.0 == k)) (e ∷ es)) × (filter (λ e. e.0 == k) (e ∷ es) ≡ found_at k (cond b (Some e.1) (lookup (is_at (nat_cmp k)) es)))
       by true same later =
           let none = kept_all k es (none_past_head epochs-equiv k e es once same) in
-          let here = same_tests k e.0 ∙ same in
-          (sym (ap (λ b. cond (not b) (e ∷ filter (λ e. not (e.0 == k)) es) (filter (λ e. not (e.0 == k)) es)) here ∙ none.0),
-           ap (λ b. cond b (e ∷ filter (λ e. e.0 == k) es) (filter (λ e. e.0 == k) es)) here ∙ (ap (λ l. e ∷ l) none.1 ∙ ap (λ n. (n, e.1) ∷ []) (same_is k e.0 same)))
+          let here = same_tests k e.0 ∙ same in (
+            sym (ap (λ b. cond (not b) (e ∷ filter (λ e. not (e.0 == k)) es) (filter (λ e. not (e.0 == k)) es)) here ∙ none.0),
+            ap (λ b. cond b (e ∷ filter (λ e. e.0 == k) es) (filter (λ e. e.0 == k) es)) here ∙ (ap (λ l. e ∷ l) none.1 ∙ ap (λ n. (n, e.1) ∷ []) (same_is k e.0 same)),
+          )
       by false other later =
-          let apart = same_tests k e.0 ∙ other in
-          (sym (ap (λ b. cond (not b) (e ∷ filter (λ e. not (e.0 == k)) es) (filter (λ e. not (e.0 == k)) es)) apart ∙ ap (λ l. e ∷ l) (sym later.0)),
-           ap (λ b. cond b (e ∷ filter (λ e. e.0 == k) es) (filter (λ e. e.0 == k) es)) apart ∙ later.1)
+          let apart = same_tests k e.0 ∙ other in (
+            sym (ap (λ b. cond (not b) (e ∷ filter (λ e. not (e.0 == k)) es) (filter (λ e. not (e.0 == k)) es)) apart ∙ ap (λ l. e ∷ l) (sym later.0)),
+            ap (λ b. cond b (e ∷ filter (λ e. e.0 == k) es) (filter (λ e. e.0 == k) es)) apart ∙ later.1,
+          )
 
   pub removed : (k : ℕ) (es : List (ℕ × V)) → IsStrictlySortedBy nat_cmp (keys_of es) → remove_entry (is_at (nat_cmp k)) es ≡ filter (λ e. not (e.0 == k)) es
   removed k es h = (parted k es (IsDistinct-from_sorted nat_cmp (keys_of es) h)).0

@@ -13,7 +13,7 @@ take_off-requires c =
     let x = slice_index_or c.args.inputs.now i 0 in
     subst (λ t. 0 < occurrences (record { time = t; place = places.Vertex x }) c.loop-input.table.stamps) (sym c.new.ensures)
     (is_there c.counted.ensures.append c.args.epoch (λ p. (c.counted.ensures.contains p (p ∷ [])).0 (0, omega arith, refl)) c.args.inputs.now i c.loop-input-test.true c.args.table.now.stamps c.loop-input.table.stamps
-        c.requires c.loop-input.invariant.stamps)
+    c.requires c.loop-input.invariant.stamps)
 
 pub loop-input-preserved : goal.loop-input-preserved
 loop-input-preserved c =
