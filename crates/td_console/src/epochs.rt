@@ -4,6 +4,7 @@ ghost use Rattle.std.specs.Prelude.{Some, None, Ok, Err, length};
 ghost use Rattle.std.specs.Bool.{OnTrue};
 ghost use Rattle.std.specs.List.{list_all};
 ghost use Rattle.td_plan.specs.Text.{text_lines};
+ghost use Rattle.td_plan.specs.Faults.{most_vertices};
 ghost use Rattle.td_plan.specs.Inputs.{is_input_of};
 ghost use Rattle.td_console.specs.Data.{data_line_of, batches_of, data_fault};
 ghost use Rattle.td_console.specs.CodeSteps.{Gives, no_epochs, with_data_line, closed_batches, read_from, IsOfInput};
@@ -119,7 +120,7 @@ impl Epochs {
 /// Whether a number is that of an input vertex.
 fn is_input(plan: &Plan, number: u32) -> bool
     ensures exact { result ≡ is_input_of plan.now number }
-    ensures small { OnTrue result (number < 64) }
+    ensures small { OnTrue result (number < most_vertices) }
 {
     match plan.vertices().get(number as usize) {
         Some(vertex) => vertex.is_input(),

@@ -8,6 +8,10 @@ use Rattle.td_plan.specs.Lines.{Line, has_form}
 use Rattle.td_plan.specs.Lines.Line.{vertex, loop, end}
 use Rattle.td_plan.specs.Blocks.{PlacedVertex, Scope, no_scope, scope_after, scope_of, reading_loops, is_source_on, edge_count, vertices}
 
+-- The most vertices of a plan
+abbrev pub most_vertices : ℕ
+most_vertices = 64
+
 -- The faults that the first pass tells
 pub data Fault : Type 0 where
   syntax : Fault
@@ -82,7 +86,7 @@ has_fault scope (vertex v) nest =
 has_fault scope (loop n) bound = not (nat_le 1 n && nat_le n 1000)
 has_fault scope (vertex v) fold_in_loop = is_fold v.kind && is_in_loop scope.loops
 has_fault scope (vertex v) again = is_feedback v.kind && not (length v.sources == 1)
-has_fault scope (vertex v) too_many = nat_le 64 (length scope.vertices) || nat_lt 8 (length v.sources) || nat_lt 128 (edge_count scope.vertices + length v.sources)
+has_fault scope (vertex v) too_many = nat_le most_vertices (length scope.vertices) || nat_lt 8 (length v.sources) || nat_lt 128 (edge_count scope.vertices + length v.sources)
 has_fault scope (loop n) too_many = nat_le 3 (length scope.loops)
 has_fault scope line fault = false
 

@@ -1,5 +1,6 @@
 //! The blocks of a plan's loops.
 ghost use Rattle.std.specs.Prelude.{◌+◌, ◌≤◌, ◌∷◌, ◌≡◌, [], ℕ, length, IfOk, IfErr};
+ghost use Rattle.td_plan.specs.Faults.{most_vertices};
 ghost use Rattle.td_plan.specs.Marks.{lines_of_marks, AreMarked};
 ghost use Rattle.td_plan.specs.Tree.{Rest, opened, rest_of};
 ghost use Rattle.td_plan.specs.Tree.Nodes.{done};
@@ -46,7 +47,7 @@ impl Found {
         vertices: &[Vertex],
     ) -> Result<Found, PlanError>
         requires marked { AreMarked marks.now vertices.now }
-        requires few { before + length vertices.now ≤ 64 }
+        requires few { before + length vertices.now ≤ most_vertices }
         ensures ok { IfOk result (IsFound before (rest_of (lines_of_marks marks.now vertices.now))) }
         ensures err { IfErr result (λ e. e ≡ PlanError.Memory) }
     {

@@ -4,7 +4,7 @@ ghost use Rattle.std.specs.Bool.{OnTrue};
 ghost use Rattle.std.specs.List.{list_all};
 ghost use Rattle.td_plan.specs.Lines.{text_of};
 ghost use Rattle.td_plan.specs.Blocks.{vertices, edges, edges_to, loops};
-ghost use Rattle.td_plan.specs.Faults.{IsPlan};
+ghost use Rattle.td_plan.specs.Faults.{most_vertices, IsPlan};
 ghost use Rattle.td_plan.specs.Inputs.{is_input_of};
 ghost use Rattle.td_plan.specs.Texts.{PlanText, PlanFault};
 ghost use Rattle.td_plan.specs.Extents.{blocks_of};
@@ -84,7 +84,7 @@ impl Plan {
     pub fn vertices(&self) -> &[Vertex]
         ensures all { result.now ≡ vertices self.now }
         ensures lawful { IsPlan self.now }
-        ensures few { length result.now ≤ 64 }
+        ensures few { length result.now ≤ most_vertices }
     {
         self.vertices.as_slice()
     }

@@ -4,7 +4,7 @@ ghost use Rattle.std.specs.List.{list_all};
 ghost use Rattle.std.specs.Option.{option_copied};
 ghost use Rattle.std.specs.Str.{bytes_eq};
 ghost use Rattle.td_plan.specs.Blocks.{edges_to, reading_loops, read_loops, firsts};
-ghost use Rattle.td_plan.specs.Faults.{is_input, is_output, is_fold, is_feedback, is_of_loops, is_of_outermost};
+ghost use Rattle.td_plan.specs.Faults.{most_vertices, is_input, is_output, is_fold, is_feedback, is_of_loops, is_of_outermost};
 
 use arrayvec::ArrayVec;
 use std::alloc::AllocError;
@@ -183,7 +183,7 @@ pub(crate) fn copy_loops(loops: &[Loop]) -> ArrayVec<Loop, LEVELS>
 /// The same numbers, each of which is that of a vertex.
 fn narrow_sources(sources: &[u32]) -> ArrayVec<u8, SOURCES>
     requires few { length sources.now ≤ 8 }
-    requires small { list_all (λ s. nat_lt s 64) sources.now ≡ true }
+    requires small { list_all (λ s. nat_lt s most_vertices) sources.now ≡ true }
     ensures { result.items ≡ sources.now }
 {
     let mut narrow = ArrayVec::new();
@@ -298,7 +298,7 @@ impl Vertex {
     /// A vertex in these loops.
     pub(crate) fn new(number: u8, kind: Kind, sources: &[u32], loops: &[Loop]) -> Vertex
         requires few_sources { length sources.now ≤ 8 }
-        requires small { list_all (λ s. nat_lt s 64) sources.now ≡ true }
+        requires small { list_all (λ s. nat_lt s most_vertices) sources.now ≡ true }
         requires few_loops { length loops.now ≤ 3 }
         ensures { result ≡ record { vertex = record { number = number; kind = kind; sources = sources.now }; loops = reverse loops.now } }
     {

@@ -7,16 +7,16 @@ use Rattle.td_plan.specs.declared.mark.Mark.{Mark}
 use Rattle.td_plan.specs.Lines.{Line, has_form}
 use Rattle.td_plan.specs.Marks.{AreMarked}
 use Rattle.td_plan.specs.Blocks.{PlacedVertex, Scope, no_scope, scope_of, vertices, edges, edge_count, loops}
-use Rattle.td_plan.specs.Faults.{is_faultless, IsPlan}
+use Rattle.td_plan.specs.Faults.{most_vertices, is_faultless, IsPlan}
 
 -- the number of a vertex and those of its sources are those of vertices, and the sources are few
 abbrev pub is_narrow : PlacedVertex → Bool
-is_narrow p = nat_lt p.vertex.number 64 && nat_le (length p.vertex.sources) 8 && list_all (λ s. nat_lt s 64) p.vertex.sources
+is_narrow p = nat_lt p.vertex.number most_vertices && nat_le (length p.vertex.sources) 8 && list_all (λ s. nat_lt s most_vertices) p.vertex.sources
 
 -- so many edges lead to these vertices, and neither are too many
 pub record IsCounted (placed : List PlacedVertex) (count : ℕ) : Type 0 where
   pub counted : count ≡ edge_count placed
-  pub few_vertices : length placed ≤ 64
+  pub few_vertices : length placed ≤ most_vertices
   pub few_edges : count ≤ 128
 
 -- lines without a fault, and their scope and loops
@@ -34,4 +34,4 @@ pub record IsKept (plan : List Line) (marks : List Mark) (placed : List PlacedVe
   pub edges_are : kept_edges ≡ edges plan
   pub loops_are : kept_loops ≡ loops plan
   pub lawful : IsPlan plan
-  pub few : length placed ≤ 64
+  pub few : length placed ≤ most_vertices
