@@ -30,5 +30,4 @@ pub(crate) fn post(shards: &mut Vec<Shard>, outlets: &[Outlet], time: &Time, rec
     requires few { length shards.old.items ≤ 16 }
     requires room { HaveRoom recs.now (length outlets.now) shards.old.items }
     ensures { IsPosted (on_each outlets.now time.now recs.now) shards.old.items shards.new.items }
-{
-}
+{}
