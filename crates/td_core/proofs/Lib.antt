@@ -8,5 +8,5 @@ pub mod CutSteps
 pub mod Opening
 pub mod SiteLists
 pub mod PostingSteps
-pub mod RaisingSteps
+pub mod Rises
 pub mod PostRuns
