@@ -1,4 +1,4 @@
-use Rattle.std.proofs.Common.{◌≡◌, subst}
+use Rattle.std.proofs.Common.{subst}
 use Rattle.td_core.specs.Posted.{IsPosted}
 use Rattle.td_core.proofs.PostRuns.{single}
 use Rattle.td_core.proofs.posting.post.Goals as goal
