@@ -1,13 +1,13 @@
 //! Laws of the definitions. Each is the contract of a function that does nothing, or calls the laws that it follows
 //! from.
-ghost use Rattle.std.specs.Prelude.{◌≡◌, ◌+◌, ◌≤◌, ◌++◌, ℕ, List};
+ghost use Rattle.std.specs.Prelude.{◌≡◌, ◌+◌, ◌≤◌, ◌++◌, ℕ, List, true};
 ghost use Rattle.std.specs.List.{AllByRecursion};
 ghost use Rattle.td_stamp.specs.States.{StateList, AreStates};
 ghost use Rattle.td_plan.specs.Lines.{Line};
 ghost use Rattle.td_plan.specs.Faults.{IsPlan};
 ghost use Rattle.td_reach.specs.Paths.{IsOf};
 ghost use Rattle.td_machine.specs.State.{HallState, Content};
-ghost use Rattle.td_machine.specs.Active.{active};
+ghost use Rattle.td_machine.specs.Active.{active, has_passed};
 ghost use Rattle.td_machine.specs.Steps.{Event, Answer, Step, Plays, opened};
 ghost use Rattle.td_machine.specs.Exact.{ExactWork, ExactWorkDrained};
 ghost use Rattle.td_machine.specs.Sound.{Sound, Confluence, EachIsSound, NeverStuck, batches_of};
@@ -132,6 +132,13 @@ pub fn reached<L: Law>()
     ensures sound { (S : HallState) → IsReached L.answers S → Sound L.answers S }
 {
     each_is_sound::<L>();
+}
+
+/// In each state that plays reach the epochs up to its base have passed.
+pub fn base_has_passed<L: Law>()
+    ensures { (S : HallState) → IsReached L.answers S → has_passed S S.base ≡ true }
+{
+    laws_below();
 }
 
 /// A task's records may be answered all at once: in each state where they are messages, that is the same as one after
