@@ -27,7 +27,7 @@ abbrev pub ReachedByStep : Answers → Type 0
 ReachedByStep answers = (S T : HallState) (event : Event) (answer : Answer) → IsReached answers S → Step answers S event answer T → IsReached answers T
 
 module _ (alike : PassedAlike) (floor : Floor) (counted : IsSameBag floor.table.stamps (active (state_of floor))) where
-  passed_here : passed_since floor.table.stamps floor.collected floor.next ≡ to_collect (state_of floor)
+  pub passed_here : passed_since floor.table.stamps floor.collected floor.next ≡ to_collect (state_of floor)
   passed_here = λ i. filter (λ e. alike floor.table.stamps (active (state_of floor)) e counted i) (numbers_from (floor.collected + 1) (floor.next - (floor.collected + 1)))
 
   pub stepped : collect_step (state_of floor) ≡ (has_collected (map (out_of floor.outputs) (passed_since floor.table.stamps floor.collected floor.next)), state_of (without_passed floor))

@@ -5,4 +5,5 @@ pub mod CollectSteps
 pub mod CloseSteps
 pub mod Unpassed
 pub mod CutSteps
+pub mod Meant
 pub mod Opening

@@ -7,6 +7,7 @@ mod cut;
 mod error;
 mod floor;
 mod hall;
+pub mod laws;
 mod open;
 mod outputs;
 mod passed;
