@@ -1,13 +1,12 @@
 //! Cutting: the states after an epoch become the base, and what belongs to the epochs up to it is let go.
-ghost use Rattle.std.specs.Prelude.{◌≡◌, ◌-◌, ◌≤◌, ◌<◌, ◌⊎◌, ℕ, drop, filter, nat_le, nat_lt, IfOk, IfErr, OnOk, OnErr};
-ghost use Rattle.td_machine.specs.State.{with_left};
+ghost use Rattle.std.specs.Prelude.{◌≡◌, ◌-◌, ◌≤◌, ◌<◌, drop, IfOk, IfErr, OnOk, OnErr};
 ghost use Rattle.td_machine.specs.Active.{has_passed, unpassed};
 ghost use Rattle.td_machine.specs.Sound.{run_states};
 ghost use Rattle.td_machine.specs.Steps.{cut_by, cut_at_by};
-ghost use Rattle.td_machine.specs.Steps.Answer.{has_cut, refused};
-ghost use Rattle.td_machine.specs.Steps.Refusal.{not_passed};
-ghost use Rattle.td_core.specs.Cuts.{IsCutAt, states_after, IsRefused};
-ghost use Rattle.td_core.specs.declared.error.HallError.TheVariants.{Memory, NotPassed};
+ghost use Rattle.td_machine.specs.Steps.Answer.{has_cut};
+ghost use Rattle.td_core.specs.Cuts.{IsCutAt, states_after};
+ghost use Rattle.td_core.specs.Refusals.{IsRefused};
+ghost use Rattle.td_core.specs.declared.error.HallError.TheVariants.{Memory};
 
 use crate::error::HallError;
 use crate::floor::Floor;

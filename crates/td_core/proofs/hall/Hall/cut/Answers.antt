@@ -1,6 +1,8 @@
-use Rattle.std.proofs.Common.{◌≡◌, ◌-◌, ap, sym, ◌∙◌, subst, arith, None, true}
+use Rattle.std.proofs.Common.{◌≡◌, ◌-◌, ap, sym, ◌∙◌, arith, None, true, inr, refl}
 use Rattle.td_machine.specs.Active.{has_passed, unpassed}
+use Rattle.td_machine.specs.Steps.{cut_by}
 use Rattle.td_machine.specs.Steps.Event.{cut}
+use Rattle.td_machine.specs.Steps.Refusal.{not_passed}
 use Rattle.td_core.specs.Floor.{state_of}
 use Rattle.td_core.proofs.CutSteps.{cut_hall, cuts}
 use Rattle.td_core.proofs.Meant.{cut_meant, last_passed}
@@ -30,3 +32,7 @@ returns-in-None-clause-meaning g c =
     let passed : has_passed (state_of floor) (floor.next - 1) ≡ true = last_passed answers (state_of floor) sound (c.base_has_passed.ensures _ reached) more none in
     cut_meant answers floor sound (floor.next - 1) (omega (arith, more)) (omega (arith, more)) passed c.cut_floor.result c.cut_floor.ensures.epoch c.cut_floor.ensures.states
     c.args.self.now c.self.view_is
+
+pub returns-in-Some-clause-refused : goal.returns-in-Some-clause-refused
+returns-in-Some-clause-refused g c =
+    inr (not_passed c.in-Some.epoch, refl, ap (λ o. cut_by c.args.self.now o (c.args.self.now.next - 1)) (sym c.unpassed.ensures ∙ c.in-Some.is))
