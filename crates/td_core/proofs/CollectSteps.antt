@@ -1,5 +1,5 @@
 -- A hall that is collected takes the machine's step.
-use Rattle.std.proofs.Common.{◌≡◌, ℕ, ◌+◌, ◌-◌, List, map, filter, length, true, Result, Ok, Err, IfOk, OnOk, OnErr, Vec, Global, refl, ap, sym, ◌∙◌, subst}
+use Rattle.std.proofs.Common.{◌≡◌, ℕ, ◌+◌, ◌-◌, List, map, filter, length, Result, Ok, Err, IfOk, OnOk, OnErr, Vec, Global, ap, sym, ◌∙◌, subst}
 use Rattle.td_stamp.specs.declared.epoch_out.EpochOut.{EpochOut}
 use Rattle.td_calls.specs.Answers.{Answers}
 use Rattle.td_batch.specs.Flow.{numbers_from}
@@ -16,7 +16,7 @@ use Rattle.td_core.specs.declared.floor.Floor.{Floor}
 use Rattle.td_core.specs.declared.error.HallError.{HallError}
 use Rattle.td_core.specs.Floor.{state_of, IsHall}
 use Rattle.td_core.specs.Came.{out_of, passed_since}
-use Rattle.td_core.specs.Collected.{last_of, without_passed}
+use Rattle.td_core.specs.Collected.{without_passed}
 
 -- passed epochs are those of any list with the same pointstamps
 abbrev pub PassedAlike : Type 0

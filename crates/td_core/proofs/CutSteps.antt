@@ -1,5 +1,5 @@
 -- A hall that is cut takes the machine's step.
-use Rattle.std.proofs.Common.{◌≡◌, ℕ, zero, suc, ◌+◌, ◌-◌, ◌≤◌, ◌<◌, Bool, true, false, not, List, [], ◌∷◌, drop, filter, nat_lt, Option, Some, None, unwrap_or, Result, Ok, Err, IfOk, IfErr, OnOk, OnErr, refl, ap, sym, ◌∙◌, subst, arith, inl, inr}
+use Rattle.std.proofs.Common.{◌≡◌, ℕ, zero, suc, ◌+◌, ◌-◌, true, false, List, [], ◌∷◌, drop, filter, nat_lt, None, unwrap_or, Result, Ok, Err, IfOk, IfErr, OnOk, OnErr, refl, ap, sym, ◌∙◌, subst, arith, inl}
 use Rattle.td_calls.specs.Answers.{Answers}
 use Rattle.td_machine.specs.State.{HallState, states_at}
 use Rattle.td_machine.specs.Active.{unpassed}

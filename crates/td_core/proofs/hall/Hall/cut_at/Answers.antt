@@ -1,5 +1,5 @@
-use Rattle.std.proofs.Common.{◌≡◌, ◌-◌, ◌≤◌, ◌<◌, ap, sym, ◌∙◌, subst, arith, true, false, inr, unwrap_or, refl}
-use Rattle.td_machine.specs.Active.{has_passed, unpassed}
+use Rattle.std.proofs.Common.{◌≡◌, ◌≤◌, ◌<◌, ap, sym, ◌∙◌, subst, true, false, inr, unwrap_or, refl}
+use Rattle.td_machine.specs.Active.{has_passed}
 use Rattle.td_machine.specs.Steps.{cut_at_by}
 use Rattle.td_machine.specs.Steps.Event.{cut_at}
 use Rattle.td_machine.specs.Steps.Answer.{refused}
