@@ -1,4 +1,5 @@
 //! A hall into which nothing was released, with ample memory and with each allocation refused in turn.
+use crate::laws::each_is_sound;
 use crate::{Cut, Hall, HallError};
 use std::alloc::Global;
 use std::test::Fail;
@@ -33,6 +34,20 @@ fn cut(hall: &mut Hall<Stock>) -> Result<Cut, HallError> {
     }
 }
 
+/// Cuts at an epoch that is released, and not before the base, a second time where memory was refused.
+fn cut_at(hall: &mut Hall<Stock>, epoch: u64) -> Result<Option<Cut>, HallError> {
+    each_is_sound(hall);
+    let base = hall.base().0;
+    let released = hall.inputs().len() as u64;
+    if epoch < base || released < epoch - base {
+        return Ok(None);
+    }
+    match hall.cut_at(epoch) {
+        Err(HallError::Memory) => Ok(Some(hall.cut_at(epoch)?)),
+        answer => Ok(Some(answer?)),
+    }
+}
+
 #[test]
 fn nothing_was_released(rt: HostRuntime) -> Result<(), Fail> {
     let plan = Plan::read(rt.alloc(), TOTAL)?;
@@ -49,6 +64,9 @@ fn nothing_was_released(rt: HostRuntime) -> Result<(), Fail> {
     assert_eq!(rt; collect(&mut hall)?.len(), 0);
     let made = cut(&mut hall)?;
     assert_eq!(rt; (made.epoch, made.states.get(1, 7)), (2, Some(STATE)));
+    let again = cut_at(&mut hall, 2)?.map(|cut| (cut.epoch, cut.states.get(1, 7)));
+    assert_eq!(rt; again, Some((2, Some(STATE))));
+    assert!(rt; cut_at(&mut hall, 3)?.is_none());
     assert!(rt; !hall.is_closed());
     hall.close();
     assert!(rt; hall.is_closed());
