@@ -8,3 +8,4 @@ pub mod CutSteps
 pub mod Meant
 pub mod Opening
 pub mod SiteLists
+pub mod PostingSteps
