@@ -5,3 +5,4 @@ pub mod Posted
 pub mod Floor
 pub mod Collected
 pub mod Cuts
+pub mod Released

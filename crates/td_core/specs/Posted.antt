@@ -1,5 +1,5 @@
 -- What is posted to the mailboxes of a hall's shards, and room for it.
-use Rattle.std.specs.Prelude.{◌≡◌, ℕ, ◌==◌, ◌*◌, ◌≤◌, List, [], ◌∷◌, ◌++◌, map, filter, flat_map, replicate, length}
+use Rattle.std.specs.Prelude.{◌≡◌, ℕ, ◌+◌, ◌==◌, ◌*◌, ◌≤◌, List, [], ◌∷◌, ◌++◌, map, filter, flat_map, replicate, length}
 use Rattle.std.specs.List.{AllByRecursion, enumerate_from}
 use Rattle.td_stamp.specs.declared.values.Rec.{Rec}
 use Rattle.td_stamp.specs.Time.{Timestamp}
@@ -38,6 +38,14 @@ HasNoLess [] [] = Unit {0}
 HasNoLess [] (t ∷ ts) = ⊥
 HasNoLess (s ∷ ss) [] = ⊥
 HasNoLess (s ∷ ss) (t ∷ ts) = (s.mailbox.room ≤ t.mailbox.room) × (s.mailbox.runs ≤ t.mailbox.runs) × HasNoLess ss ts
+
+-- no room is lost but for the messages that were posted
+abbrev pub KeepsRoom : List Shard → List Shard → Type 0
+KeepsRoom [] [] = Unit {0}
+KeepsRoom [] (t ∷ ts) = ⊥
+KeepsRoom (s ∷ ss) [] = ⊥
+KeepsRoom (s ∷ ss) (t ∷ ts) = (s.mailbox.room + length s.mailbox.messages ≤ t.mailbox.room + length t.mailbox.messages)
+    × (s.mailbox.runs + length s.mailbox.messages ≤ t.mailbox.runs + length t.mailbox.messages) × KeepsRoom ss ts
 
 -- NOTHING BUT MORE ROOM
 pub record IsRoomier (old new : List Shard) : Type 0 where

@@ -12,6 +12,7 @@ mod outputs;
 mod passed;
 mod posting;
 mod raising;
+mod release;
 mod sites;
 #[cfg(test)]
 mod tests;

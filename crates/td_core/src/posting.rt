@@ -1,6 +1,6 @@
 //! Posting messages to the mailboxes of the shards.
 ghost use Rattle.std.specs.Prelude.{◌≡◌, ◌≤◌, ◌<◌, length, IfErr, OnOk};
-ghost use Rattle.td_core.specs.Posted.{IsPosted, IsRoomier, HaveRoom, on_each};
+ghost use Rattle.td_core.specs.Posted.{IsPosted, IsRoomier, KeepsRoom, HaveRoom, on_each};
 ghost use Rattle.td_core.specs.declared.error.HallError.TheVariants.{Memory};
 
 use crate::error::HallError;
@@ -29,6 +29,7 @@ pub(crate) fn post(shards: &mut Vec<Shard>, outlets: &[Outlet], time: &Time, rec
     requires some { 1 ≤ length shards.old.items }
     requires few { length shards.old.items ≤ 16 }
     requires room { HaveRoom recs.now (length outlets.now) shards.old.items }
-    ensures { IsPosted (on_each outlets.now time.now recs.now) shards.old.items shards.new.items }
+    ensures messages { IsPosted (on_each outlets.now time.now recs.now) shards.old.items shards.new.items }
+    ensures left { KeepsRoom shards.old.items shards.new.items }
 {
 }

@@ -1,10 +1,10 @@
 //! Raising the occurrences of several pointstamps, all or none.
-ghost use Rattle.std.specs.Prelude.{◌≡◌, ◌≤◌, ◌++◌, IfOk, IfErr, OnOk, OnErr};
+ghost use Rattle.std.specs.Prelude.{◌≡◌, ◌≤◌, ◌++◌, map, IfOk, IfErr, OnOk, OnErr};
 ghost use Rattle.std.specs.List.{AllByRecursion};
 ghost use Rattle.td_reach.specs.declared.stamp.Stamp.{Stamp as AnyStamp};
 ghost use Rattle.td_reach.specs.Paths.{IsOf};
 ghost use Rattle.td_progress.specs.Bag.{IsSameBag, occurrences};
-ghost use Rattle.td_core.specs.Posted.{risen, stamps_on};
+ghost use Rattle.td_core.specs.Posted.{risen, stamp_on_outlet};
 ghost use Rattle.td_core.specs.declared.error.HallError.TheVariants.{Memory};
 
 use crate::error::HallError;
@@ -48,7 +48,7 @@ pub(crate) fn rises_on(
     time: &Time,
     times: u64,
 ) -> Result<Vec<Rise>, HallError>
-    ensures rises { IfOk result (λ rises. risen rises.items ≡ stamps_on outlets.now time.now times) }
+    ensures rises { IfOk result (λ rises. rises.items ≡ map (λ o. record { stamp = stamp_on_outlet time.now o; times = times }) outlets.now) }
     ensures memory { IfErr result (λ e. e ≡ Memory) }
 {
     let mut rises = Vec::with_capacity(alloc, outlets.len())?;

@@ -1,5 +1,5 @@
 -- That the pointstamps which come with a step are of the plan, and at which times the vertices of tasks may send.
-use Rattle.std.specs.Prelude.{◌≡◌, ℕ, ◌<◌, ◌≤◌, Contains, List}
+use Rattle.std.specs.Prelude.{ℕ, ◌<◌, ◌≤◌, Contains, List}
 use Rattle.std.specs.List.{AllByRecursion}
 use Rattle.td_stamp.specs.Time.{Timestamp, depth}
 use Rattle.td_plan.specs.declared.vertex.Kind.{Kind}
