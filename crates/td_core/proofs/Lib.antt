@@ -7,3 +7,5 @@ pub mod Unpassed
 pub mod CutSteps
 pub mod Opening
 pub mod Loads
+pub mod SiteLists
+pub mod PostingSteps
