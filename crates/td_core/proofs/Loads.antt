@@ -1,17 +1,21 @@
 -- The inputs of a batch, one after another.
-use Rattle.std.proofs.Common.{◌≡◌, ℕ, zero, suc, ◌+◌, ◌*◌, ◌<◌, ◌≤◌, ◌==◌, List, [], ◌∷◌, ◌++◌, map, filter, flat_map, length, take, drop, get_or, refl, ap, sym, ◌∙◌, arith}
+use Rattle.std.proofs.Common.{◌≡◌, ℕ, zero, suc, ◌+◌, ◌*◌, ◌<◌, ◌≤◌, ◌==◌, List, [], ◌∷◌, ◌++◌, map, filter, flat_map, length, take, drop, get_or, refl, ap, sym, ◌∙◌, subst, arith}
 use Rattle.std.specs.List.{AllByRecursion, enumerate_from}
 use Rattle.std.proofs.lemmas.List.Elements.{filter-append}
-use Rattle.std.proofs.lemmas.List.{map-append, take_more, append-nil, length-append}
+use Rattle.std.proofs.lemmas.List.{map-append, take_more, drop_more, append-nil, length-append}
 use Rattle.std.proofs.lemmas.Grind.{flat_map-append}
 use Rattle.td_stamp.specs.declared.values.Rec.{Rec}
+use Rattle.td_stamp.specs.Time.{Timestamp}
+use Rattle.td_machine.specs.declared.records.Message.{Message}
 use Rattle.td_machine.specs.State.{shard_of_key}
 use Rattle.td_shard.specs.declared.shard.Shard.{Shard}
+use Rattle.td_core.specs.declared.release.Load.{Load}
 use Rattle.td_core.specs.declared.sites.Outlet.{Outlet}
 use Rattle.td_core.specs.declared.sites.Sites.{Sites}
-use Rattle.td_core.specs.Posted.{count_of, HasRoom, HaveRoom, HaveRoomFor}
-use Rattle.td_core.specs.Released.{recs_out}
+use Rattle.td_core.specs.Posted.{count_of, HasRoom, HaveRoom, HaveRoomFor, IsPosted, on_each}
+use Rattle.td_core.specs.Released.{load_of, recs_out, messages_of, start_of}
 use Rattle.td_core.specs.Sites.{outlets_in}
+use Rattle.td_core.proofs.PostingSteps.{none_posted, posted_then, as_many_waits}
 
 -- what one more element of a list adds
 pub one_more : {X Y : Type 0} (f : X → List Y) (xs : List X) (i : ℕ) (d : X) → i < length xs → flat_map f (take (i + 1) xs) ≡ flat_map f (take i xs) ++ f (get_or xs i d)
@@ -71,8 +75,39 @@ module _ (sites : Sites) (load : ℕ × List Rec) (rest : List Rec) (shards : Li
   room_after h = room_within (λ s. count_of (length shards) load.1 s * edges + count_of (length shards) rest s * 1) (λ s. count_of (length shards) all s * 1)
       (λ s. let two = parted s in omega (arith, two)) 0 shards h
 
--- the element at a place, and those after it
-pub next_of : {X : Type 0} (xs : List X) (i : ℕ) (d : X) → i < length xs → drop i xs ≡ get_or xs i d ∷ drop (i + 1) xs
-next_of [] i d within = absurd (omega (arith, within))
-next_of (x ∷ xs) zero d within = refl
-next_of (x ∷ xs) (suc i) d within = next_of xs i d (omega (arith, within))
+-- LOADS POSTED one after another: nothing at first
+pub nothing_posted : (shards : List Shard) → IsPosted [] shards shards
+nothing_posted shards = record { mails = sym (none_posted (length shards) 0 shards); waiting = refl }
+
+module _ (sites : Sites) (epoch : ℕ) (loads : List Load) (i : ℕ) (item : Load) (at : item ≡ get_or loads i item) (within : i < length loads) where
+  abbrev posted_by : ℕ → List Message
+  posted_by n = flat_map (messages_of sites epoch) (map load_of (take n loads))
+
+  abbrev left_from : ℕ → List Rec
+  left_from n = flat_map (recs_out sites) (map load_of (drop n loads))
+
+  left_is : left_from i ≡ recs_out sites (load_of item) ++ left_from (i + 1)
+  left_is = ap (λ l. flat_map (recs_out sites) (map load_of l)) (drop_more loads i item within ∙ ap (λ x. x ∷ drop (i + 1) loads) (sym at))
+
+  module _ (outlets : List Outlet) (time : Timestamp) (recs : List Rec) (o : outlets ≡ outlets_in sites item.input) (t : time ≡ start_of epoch) (r : recs ≡ item.recs.items) (shards : List Shard)
+      (room : HaveRoom (left_from i) 1 shards) where
+    all_room : HaveRoom (recs_out sites (load_of item) ++ left_from (i + 1)) 1 shards
+    all_room = subst (λ l. HaveRoom l 1 shards) left_is room
+
+    pub room_for : HaveRoom recs (length outlets) shards
+    room_for = subst (λ l. HaveRoom l (length outlets) shards) (sym r) (subst (λ l. HaveRoom item.recs.items (length l) shards) (sym o) (room_here sites (load_of item) (left_from (i + 1)) shards all_room))
+
+    pub posted_next : (old new : List Shard) → IsPosted (posted_by i) old shards → IsPosted (on_each outlets time recs) shards new → IsPosted (posted_by (i + 1)) old new
+    posted_next old new before now =
+        let here : posted_by i ++ on_each outlets time recs ≡ posted_by (i + 1) =
+              (λ j. posted_by i ++ on_each (o j) (t j) (r j)) ∙ sym (one_more_of (messages_of sites epoch) load_of loads i item within ∙ ap (λ l. posted_by i ++ messages_of sites epoch (load_of l)) (sym at)) in
+        subst (λ cs. IsPosted cs old new) here (posted_then (posted_by i) (on_each outlets time recs) old shards new before now)
+
+    pub room_next : (new : List Shard) → IsPosted (on_each outlets time recs) shards new
+        → ((many : ℕ → ℕ) → HaveRoomFor (λ s. count_of (length shards) recs s * length outlets + many s) shards → HaveRoomFor many new) → HaveRoom (left_from (i + 1)) 1 new
+    room_next new now left =
+        let after = room_after sites (load_of item) (left_from (i + 1)) shards all_room in
+        let here : HaveRoomFor (λ s. count_of (length shards) recs s * length outlets + count_of (length shards) (left_from (i + 1)) s * 1) shards =
+              subst (λ l. HaveRoomFor (λ s. count_of (length shards) l s * length outlets + count_of (length shards) (left_from (i + 1)) s * 1) shards) (sym r)
+              (subst (λ l. HaveRoomFor (λ s. count_of (length shards) item.recs.items s * length l + count_of (length shards) (left_from (i + 1)) s * 1) shards) (sym o) after) in
+        subst (λ n. HaveRoomFor (λ s. count_of n (left_from (i + 1)) s * 1) new) (sym (as_many_waits shards new now.waiting)) (left (λ s. count_of (length shards) (left_from (i + 1)) s * 1) here)
