@@ -9,3 +9,4 @@ pub mod Opening
 pub mod Loads
 pub mod SiteLists
 pub mod PostingSteps
+pub mod Rises
