@@ -10,3 +10,5 @@ pub mod Loads
 pub mod SiteLists
 pub mod PostingSteps
 pub mod Rises
+pub mod RaisingSteps
+pub mod PostRuns
