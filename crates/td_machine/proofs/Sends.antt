@@ -36,7 +36,7 @@ use Rattle.td_machine.specs.ByEdge.{stamp_on, times_from, stamps_by_edge}
 use Rattle.td_machine.specs.InOrder.{StillThere}
 use Rattle.td_machine.specs.Moves.{stamps_of, newly_asked, come_given, come_by}
 use Rattle.td_machine.specs.Reached.{IsReached}
-use Rattle.td_machine.specs.Sends.{CanTurn, TurnsOfPlan, SendsOfPlan, TasksOfPlan, ComeOfPlan}
+use Rattle.td_machine.specs.Sends.{CanTurn, TurnsOfPlan, SentOfPlan, SendsOfPlan, TasksOfPlan, ComeOfPlan}
 use Rattle.td_machine.proofs.History.{Origin, History, Invariant, IsTime, IsOnEdge}
 use Rattle.td_machine.proofs.Lists.{all_app, all_at, all_both, all_map, all_flat, all_weaken, all_filter, all_everywhere, one_of}
 use Rattle.td_machine.proofs.Bags.{from_join}
@@ -333,3 +333,6 @@ tasks_of_plan below answers S task r out = sends below answers S r task out
 
 pub come_of_plan : (below : Below) (answers : Answers) → ComeOfPlan answers
 come_of_plan below answers S after event answer r step = come below answers S r event answer after step
+
+pub sent_of_plan : Below → SentOfPlan
+sent_of_plan below plan v t lawful h many = sent_by_edge below plan lawful v t h many
