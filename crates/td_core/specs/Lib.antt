@@ -6,3 +6,4 @@ pub mod Floor
 pub mod Collected
 pub mod Cuts
 pub mod Meant
+pub mod Released
