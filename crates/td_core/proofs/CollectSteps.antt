@@ -1,5 +1,5 @@
 -- A hall that is collected takes the machine's step.
-use Rattle.std.proofs.Common.{◌≡◌, ℕ, ◌+◌, ◌-◌, List, map, filter, length, true, Result, Ok, Err, IfOk, OnOk, OnErr, Vec, Global, refl, ap, sym, ◌∙◌, subst}
+use Rattle.std.proofs.Common.{◌≡◌, ℕ, ◌+◌, ◌-◌, List, map, filter, length, Result, Ok, Err, IfOk, OnOk, OnErr, Vec, Global, ap, sym, ◌∙◌, subst}
 use Rattle.td_stamp.specs.declared.epoch_out.EpochOut.{EpochOut}
 use Rattle.td_calls.specs.Answers.{Answers}
 use Rattle.td_batch.specs.Flow.{numbers_from}
@@ -16,7 +16,7 @@ use Rattle.td_core.specs.declared.floor.Floor.{Floor}
 use Rattle.td_core.specs.declared.error.HallError.{HallError}
 use Rattle.td_core.specs.Floor.{state_of, IsHall}
 use Rattle.td_core.specs.Came.{out_of, passed_since}
-use Rattle.td_core.specs.Collected.{last_of, without_passed}
+use Rattle.td_core.specs.Collected.{without_passed}
 
 -- passed epochs are those of any list with the same pointstamps
 abbrev pub PassedAlike : Type 0
@@ -27,7 +27,7 @@ abbrev pub ReachedByStep : Answers → Type 0
 ReachedByStep answers = (S T : HallState) (event : Event) (answer : Answer) → IsReached answers S → Step answers S event answer T → IsReached answers T
 
 module _ (alike : PassedAlike) (floor : Floor) (counted : IsSameBag floor.table.stamps (active (state_of floor))) where
-  passed_here : passed_since floor.table.stamps floor.collected floor.next ≡ to_collect (state_of floor)
+  pub passed_here : passed_since floor.table.stamps floor.collected floor.next ≡ to_collect (state_of floor)
   passed_here = λ i. filter (λ e. alike floor.table.stamps (active (state_of floor)) e counted i) (numbers_from (floor.collected + 1) (floor.next - (floor.collected + 1)))
 
   pub stepped : collect_step (state_of floor) ≡ (has_collected (map (out_of floor.outputs) (passed_since floor.table.stamps floor.collected floor.next)), state_of (without_passed floor))

@@ -1,5 +1,5 @@
 -- A hall that is cut takes the machine's step.
-use Rattle.std.proofs.Common.{◌≡◌, ℕ, zero, suc, ◌+◌, ◌-◌, ◌≤◌, ◌<◌, Bool, true, false, not, List, [], ◌∷◌, drop, filter, nat_lt, Option, Some, None, unwrap_or, Result, Ok, Err, IfOk, IfErr, OnOk, OnErr, refl, ap, sym, ◌∙◌, subst, arith, inl, inr}
+use Rattle.std.proofs.Common.{◌≡◌, ℕ, zero, suc, ◌+◌, ◌-◌, true, false, List, [], ◌∷◌, drop, filter, nat_lt, None, unwrap_or, Result, Ok, Err, IfOk, IfErr, OnOk, OnErr, refl, ap, sym, ◌∙◌, subst, arith, inl}
 use Rattle.td_calls.specs.Answers.{Answers}
 use Rattle.td_machine.specs.State.{HallState, states_at}
 use Rattle.td_machine.specs.Active.{unpassed}
@@ -10,9 +10,10 @@ use Rattle.td_machine.specs.Steps.Refusal.{not_passed}
 use Rattle.td_core.specs.declared.floor.Floor.{Floor}
 use Rattle.td_core.specs.declared.cut.Cut.{Cut}
 use Rattle.td_core.specs.declared.error.HallError.{HallError}
-use Rattle.td_core.specs.declared.error.HallError.TheVariants.{Memory, NotPassed}
+use Rattle.td_core.specs.declared.error.HallError.TheVariants.{Memory}
 use Rattle.td_core.specs.Floor.{state_of, IsHall}
-use Rattle.td_core.specs.Cuts.{IsCutAt, states_after, IsRefused}
+use Rattle.td_core.specs.Cuts.{IsCutAt, states_after}
+use Rattle.td_core.specs.Refusals.{IsRefused}
 use Rattle.td_core.proofs.CollectSteps.{ReachedByStep}
 
 drop_suc : {X : Type 0} (n : ℕ) (xs : List X) → drop 1 (drop n xs) ≡ drop (suc n) xs

@@ -5,8 +5,11 @@ pub mod CollectSteps
 pub mod CloseSteps
 pub mod Unpassed
 pub mod CutSteps
+pub mod Meant
 pub mod Opening
+pub mod Loads
 pub mod SiteLists
 pub mod PostingSteps
 pub mod Rises
+pub mod RaisingSteps
 pub mod PostRuns

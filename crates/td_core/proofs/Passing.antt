@@ -1,6 +1,5 @@
 -- Passed epochs stand before those that have not passed.
-use Rattle.std.proofs.Common.{◌≡◌, ℕ, zero, suc, ◌+◌, ◌-◌, ◌≤◌, ◌<◌, nat_lt, Bool, true, false, cond, List, [], ◌∷◌, ◌++◌, filter, not, find, Option, Some, None, refl, sym, ap, ◌∙◌, true≢false, arith, ◌&&◌}
-use Rattle.std.specs.List.{list_all}
+use Rattle.std.proofs.Common.{◌≡◌, ℕ, zero, suc, ◌+◌, ◌-◌, ◌≤◌, ◌<◌, nat_lt, Bool, true, false, cond, List, [], ◌∷◌, filter, not, find, Option, Some, None, refl, sym, ap, ◌∙◌, true≢false, arith, ◌&&◌}
 use Rattle.td_batch.specs.Flow.{numbers_from}
 use Rattle.td_reach.specs.declared.stamp.Stamp.{Stamp}
 use Rattle.td_reach.specs.Frontier.{has_passed}

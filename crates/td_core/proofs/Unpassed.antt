@@ -1,5 +1,5 @@
 -- The least released epoch that has not passed, by the pointstamps of a table.
-use Rattle.std.proofs.Common.{◌≡◌, ℕ, ◌+◌, ◌-◌, ◌<◌, ◌≤◌, nat_lt, Bool, true, false, not, cond, find, Option, Some, None, refl, ap, sym, ◌∙◌, arith}
+use Rattle.std.proofs.Common.{◌≡◌, ℕ, ◌+◌, ◌-◌, ◌<◌, ◌≤◌, nat_lt, Bool, true, false, not, cond, find, Some, None, ap, sym, ◌∙◌, arith}
 use Rattle.td_batch.specs.Flow.{numbers_from}
 use Rattle.td_reach.specs.Frontier.{has_passed}
 use Rattle.td_progress.specs.Bag.{IsSameBag}

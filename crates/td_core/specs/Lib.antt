@@ -5,3 +5,5 @@ pub mod Posted
 pub mod Floor
 pub mod Collected
 pub mod Cuts
+pub mod Meant
+pub mod Released

@@ -5,6 +5,7 @@ ghost use Rattle.td_machine.specs.Steps.{collect_step};
 ghost use Rattle.td_machine.specs.Steps.Answer.{has_collected};
 ghost use Rattle.td_core.specs.Came.{out_of, passed_since, later_than};
 ghost use Rattle.td_core.specs.Collected.{without_passed};
+ghost use Rattle.td_core.specs.Meant.{IsMeant};
 ghost use Rattle.td_core.specs.declared.error.HallError.TheVariants.{Memory};
 
 use crate::error::HallError;
@@ -20,9 +21,11 @@ use td_stamp::EpochOut;
 
 impl<L: Law> Hall<L> {
     /// The outputs of the epochs that have passed since the last call, epoch by epoch, also those in which nothing came out.
-    /// They are let go. Refusal: `Memory`, with nothing changed.
+    /// They are let go. Those of epochs after the base are what the batch meaning of the batches that were released since
+    /// gives. Refusal: `Memory`, with nothing changed.
     pub fn collect(&mut self) -> Result<Vec<EpochOut>, HallError>
         ensures ok { IfOk result (λ outs. collect_step self.old ≡ (has_collected outs.items, self.new)) }
+        ensures meaning { IfOk result (λ outs. IsMeant L.answers self.old outs.items) }
         ensures err { OnErr result (self.new ≡ self.old) }
         ensures memory { IfErr result (λ e. e ≡ Memory) }
     {

@@ -1,19 +1,19 @@
 //! Cutting: the states after an epoch become the base, and what belongs to the epochs up to it is let go.
-ghost use Rattle.std.specs.Prelude.{◌≡◌, ◌-◌, ◌≤◌, ◌<◌, ◌⊎◌, ℕ, drop, filter, nat_le, nat_lt, IfOk, IfErr, OnOk, OnErr};
-ghost use Rattle.td_machine.specs.State.{with_left};
+ghost use Rattle.std.specs.Prelude.{◌≡◌, ◌-◌, ◌≤◌, ◌<◌, drop, IfOk, IfErr, OnOk, OnErr};
 ghost use Rattle.td_machine.specs.Active.{has_passed, unpassed};
+ghost use Rattle.td_machine.specs.Sound.{run_states};
 ghost use Rattle.td_machine.specs.Steps.{cut_by, cut_at_by};
-ghost use Rattle.td_machine.specs.Steps.Answer.{has_cut, refused};
-ghost use Rattle.td_machine.specs.Steps.Refusal.{not_passed};
-ghost use Rattle.td_core.specs.Cuts.{IsCutAt, states_after, IsRefused};
-ghost use Rattle.td_core.specs.declared.error.HallError.TheVariants.{Memory, NotPassed};
+ghost use Rattle.td_machine.specs.Steps.Answer.{has_cut};
+ghost use Rattle.td_core.specs.Cuts.{IsCutAt, states_after};
+ghost use Rattle.td_core.specs.Refusals.{IsRefused};
+ghost use Rattle.td_core.specs.declared.error.HallError.TheVariants.{Memory};
 
 use crate::error::HallError;
 use crate::floor::Floor;
 use crate::hall::Hall;
 use std::collections::VecDeque;
 use td_calls::Law;
-use td_machine::laws::{reached, reached_in_order};
+use td_machine::laws::{base_has_passed, reached, reached_in_order};
 use td_progress::laws::in_any_order;
 use td_stamp::{Batch, States};
 
@@ -26,15 +26,17 @@ pub struct Cut {
 
 impl<L: Law> Hall<L> {
     /// Cuts at the last released epoch: the states after it become the base, and the batches, what folds left and what
-    /// distincts have seen in the epochs up to it are let go (Naiad, section 3.4, Checkpoint). It costs the states, twice
-    /// copied. Refusals, with nothing changed: `NotPassed` with the least released epoch that has not passed, and `Memory`.
+    /// distincts have seen in the epochs up to it are let go (Naiad, section 3.4, Checkpoint). The states are those of the
+    /// batch meaning of the batches that were released since the old base. It costs them, twice copied. Refusals, with nothing changed: `NotPassed` with the least released epoch that has not passed, and `Memory`.
     pub fn cut(&mut self) -> Result<Cut, HallError>
         ensures cut { IfOk result (λ cut. cut_by self.old (unpassed self.old) (self.old.next - 1) ≡ (has_cut cut.epoch cut.states, self.new)) }
+        ensures meaning { IfOk result (λ cut. cut.states ≡ run_states L.answers self.old cut.epoch) }
         ensures refused { IfErr result (IsRefused (cut_by self.old (unpassed self.old) (self.old.next - 1)) self.old) }
         ensures err { OnErr result (self.new ≡ self.old) }
     {
         reached::<L>();
         reached_in_order::<L>();
+        base_has_passed::<L>();
         match self.unpassed() {
             Some(epoch) => Err(HallError::NotPassed(epoch)),
             None => {
@@ -50,6 +52,7 @@ impl<L: Law> Hall<L> {
         requires after { self.old.base ≤ epoch }
         requires released { epoch < self.old.next }
         ensures cut { IfOk result (λ cut. cut_at_by self.old (has_passed self.old epoch) epoch ≡ (has_cut cut.epoch cut.states, self.new)) }
+        ensures meaning { IfOk result (λ cut. cut.states ≡ run_states L.answers self.old cut.epoch) }
         ensures refused { IfErr result (IsRefused (cut_at_by self.old (has_passed self.old epoch) epoch) self.old) }
         ensures err { OnErr result (self.new ≡ self.old) }
     {

@@ -7,11 +7,13 @@ mod cut;
 mod error;
 mod floor;
 mod hall;
+pub mod laws;
 mod open;
 mod outputs;
 mod passed;
 mod posting;
 mod raising;
+mod release;
 mod sites;
 #[cfg(test)]
 mod tests;

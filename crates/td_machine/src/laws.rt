@@ -1,13 +1,13 @@
 //! Laws of the definitions. Each is the contract of a function that does nothing, or calls the laws that it follows
 //! from.
-ghost use Rattle.std.specs.Prelude.{◌≡◌, ◌+◌, ◌≤◌, ◌++◌, ℕ, List};
+ghost use Rattle.std.specs.Prelude.{◌≡◌, ◌+◌, ◌≤◌, ◌++◌, ℕ, List, true};
 ghost use Rattle.std.specs.List.{AllByRecursion};
 ghost use Rattle.td_stamp.specs.States.{StateList, AreStates};
 ghost use Rattle.td_plan.specs.Lines.{Line};
 ghost use Rattle.td_plan.specs.Faults.{IsPlan};
 ghost use Rattle.td_reach.specs.Paths.{IsOf};
 ghost use Rattle.td_machine.specs.State.{HallState, Content};
-ghost use Rattle.td_machine.specs.Active.{active};
+ghost use Rattle.td_machine.specs.Active.{active, has_passed};
 ghost use Rattle.td_machine.specs.Steps.{Event, Answer, Step, Plays, opened};
 ghost use Rattle.td_machine.specs.Exact.{ExactWork, ExactWorkDrained};
 ghost use Rattle.td_machine.specs.Sound.{Sound, Confluence, EachIsSound, NeverStuck, batches_of};
@@ -21,6 +21,7 @@ ghost use Rattle.td_machine.specs.InOrder.{ListsInOrder, TasksInOrder, NumbersIn
 ghost use Rattle.td_machine.specs.Moves.{StampsMove};
 ghost use Rattle.td_machine.specs.NoneLeft.{NoneToTake, FirstUnpassed};
 ghost use Rattle.td_machine.specs.Waits.{WaitsByPlace, WhatWaits, AskedPassing};
+ghost use Rattle.td_machine.specs.Sends.{TasksOfPlan, ComeOfPlan, TurnsOfPlan, SentOfPlan};
 ghost use Rattle.td_machine.specs.ByEdge.{PostsByEdge, StampsByEdge, BatchByEdge, BatchStampsByEdge, StampsOfTask, OutputsAtOnce, AsksOnce};
 
 use crate::records::{Message, Notification, OutputAt, Stamped, StateLeft};
@@ -134,6 +135,13 @@ pub fn reached<L: Law>()
     each_is_sound::<L>();
 }
 
+/// In each state that plays reach the epochs up to its base have passed.
+pub fn base_has_passed<L: Law>()
+    ensures { (S : HallState) → IsReached L.answers S → has_passed S S.base ≡ true }
+{
+    laws_below();
+}
+
 /// A task's records may be answered all at once: in each state where they are messages, that is the same as one after
 /// another, by callbacks that each see what the ones before kept.
 pub fn delivered_at_once<L: Law>()
@@ -206,6 +214,36 @@ pub fn none_left()
 /// many loops as are open there.
 pub fn active_of_plan<L: Law>()
     ensures { (S : HallState) → IsReached L.answers S → AllByRecursion (IsOf S.plan) (active S) }
+{
+    laws_below();
+}
+
+/// The vertex and the time of a task that is out are of the plan, and so is what its vertex sends in answer to that time, on
+/// each edge out of it; and the task's epoch was released after the base.
+pub fn sends_of_plan<L: Law>()
+    ensures { TasksOfPlan L.answers }
+{
+    laws_below();
+}
+
+/// The pointstamps that come with a step from a state that is reached are of the plan.
+pub fn come_of_plan<L: Law>()
+    ensures { ComeOfPlan L.answers }
+{
+    laws_below();
+}
+
+/// Where a vertex and a time are of a plan, the vertex can send at the times that its kind turns it into: into a fourth loop
+/// no enter leads, a leave and a feedback stand in a loop, and a loop has a bound from 1 to 1,000.
+pub fn turns_of_plan()
+    ensures { TurnsOfPlan }
+{
+    laws_below();
+}
+
+/// And what it sends at these times is of the plan, on each edge out of it.
+pub fn sent_of_plan()
+    ensures { SentOfPlan }
 {
     laws_below();
 }

@@ -1,4 +1,4 @@
-use Rattle.std.proofs.Common.{◌≡◌, ◌+◌, ◌-◌, length, refl, ap, sym, ◌∙◌, arith}
+use Rattle.std.proofs.Common.{◌≡◌, ◌+◌, ◌-◌, length, ap, sym, ◌∙◌, arith}
 use Rattle.td_core.specs.Came.{later_than}
 use Rattle.td_core.specs.Collected.{last_of}
 use Rattle.td_core.proofs.Taken.{as_many}

@@ -1,5 +1,4 @@
-use Rattle.std.proofs.Common.{◌≡◌, ◌+◌, ◌-◌, ◌++◌, [], ◌∷◌, not, ◌==◌, filter, map, refl, ap, sym, ◌∙◌, arith}
-use Rattle.td_stamp.specs.declared.epoch_out.EpochOut.{EpochOut}
+use Rattle.std.proofs.Common.{◌≡◌, ◌+◌, ◌-◌, ◌++◌, [], ◌∷◌, not, ◌==◌, filter, map, ap, sym, ◌∙◌, arith}
 use Rattle.td_batch.specs.Flow.{numbers_from}
 use Rattle.td_core.specs.Came.{out_of, came_at, later_than}
 use Rattle.td_core.proofs.Taken.{none_taken, taken_now, left_now, left_then, out_next}

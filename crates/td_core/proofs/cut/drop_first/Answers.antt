@@ -1,4 +1,4 @@
-use Rattle.std.proofs.Common.{◌≡◌, ap, ◌∙◌, drop}
+use Rattle.std.proofs.Common.{ap, ◌∙◌, drop}
 use Rattle.td_core.proofs.CutSteps.{drop_next}
 use Rattle.td_core.proofs.cut.drop_first.Goals as goal
 

@@ -1,4 +1,4 @@
-use Rattle.std.proofs.Common.{◌≡◌, ℕ, ◌+◌, ◌-◌, ◌<◌, false, ap, sym, ◌∙◌, arith}
+use Rattle.std.proofs.Common.{◌≡◌, ◌+◌, ◌-◌, ap, sym, ◌∙◌, arith}
 use Rattle.td_batch.specs.Flow.{numbers_from}
 use Rattle.td_reach.specs.Frontier.{has_passed}
 use Rattle.td_core.specs.Came.{next_below}

@@ -1,9 +1,11 @@
-use Rattle.std.proofs.Common.{◌≡◌, ◌-◌, ap, sym, ◌∙◌, subst, arith, None}
-use Rattle.td_machine.specs.Active.{unpassed}
+use Rattle.std.proofs.Common.{◌≡◌, ◌-◌, ap, sym, ◌∙◌, arith, None, true, inr, refl}
+use Rattle.td_machine.specs.Active.{has_passed, unpassed}
 use Rattle.td_machine.specs.Steps.{cut_by}
 use Rattle.td_machine.specs.Steps.Event.{cut}
+use Rattle.td_machine.specs.Steps.Refusal.{not_passed}
 use Rattle.td_core.specs.Floor.{state_of}
-use Rattle.td_core.proofs.CutSteps.{cut_hall, cut_answered, cut_refused, cuts}
+use Rattle.td_core.proofs.CutSteps.{cut_hall, cuts}
+use Rattle.td_core.proofs.Meant.{cut_meant, last_passed}
 use Rattle.td_core.proofs.hall.Hall.cut.Goals as goal
 
 pub overflow_sub-last : goal.overflow_sub-last
@@ -18,3 +20,19 @@ invariant_of-self g c =
     let none : unpassed (state_of floor) ≡ None = ap unpassed c.self.view_is ∙ (sym c.unpassed.ensures ∙ c.in-None.is) in
     cut_hall floor c.cut_floor.new.floor (floor.next - 1) g.L.Law.answers c.reached.ensures.step c.self.invariant cut (cuts (state_of floor) none) c.cut_floor.result
     c.cut_floor.ensures.ok c.cut_floor.ensures.err
+
+pub returns-in-None-clause-meaning : goal.returns-in-None-clause-meaning
+returns-in-None-clause-meaning g c =
+    let floor = c.self.inside.floor in
+    let answers = g.L.Law.answers in
+    let reached = c.self.invariant.reached in
+    let sound = c.reached.ensures.sound _ reached in
+    let more = (c.reached_in_order.ensures.numbers _ reached).base in
+    let none : unpassed (state_of floor) ≡ None = ap unpassed c.self.view_is ∙ (sym c.unpassed.ensures ∙ c.in-None.is) in
+    let passed : has_passed (state_of floor) (floor.next - 1) ≡ true = last_passed answers (state_of floor) sound (c.base_has_passed.ensures _ reached) more none in
+    cut_meant answers floor sound (floor.next - 1) (omega (arith, more)) (omega (arith, more)) passed c.cut_floor.result c.cut_floor.ensures.epoch c.cut_floor.ensures.states
+    c.args.self.now c.self.view_is
+
+pub returns-in-Some-clause-refused : goal.returns-in-Some-clause-refused
+returns-in-Some-clause-refused g c =
+    inr (not_passed c.in-Some.epoch, refl, ap (λ o. cut_by c.args.self.now o (c.args.self.now.next - 1)) (sym c.unpassed.ensures ∙ c.in-Some.is))

@@ -1,11 +1,12 @@
-use Rattle.std.proofs.Common.{◌≡◌, ◌-◌, ◌≤◌, ◌<◌, ap, sym, ◌∙◌, subst, arith, true, false, inr, unwrap_or, refl}
-use Rattle.td_machine.specs.Active.{has_passed, unpassed}
+use Rattle.std.proofs.Common.{◌≡◌, ◌≤◌, ◌<◌, ap, sym, ◌∙◌, subst, true, false, inr, unwrap_or, refl}
+use Rattle.td_machine.specs.Active.{has_passed}
 use Rattle.td_machine.specs.Steps.{cut_at_by}
 use Rattle.td_machine.specs.Steps.Event.{cut_at}
 use Rattle.td_machine.specs.Steps.Answer.{refused}
 use Rattle.td_machine.specs.Steps.Refusal.{not_passed}
 use Rattle.td_core.specs.Floor.{state_of}
-use Rattle.td_core.proofs.CutSteps.{cut_hall, cut_answered, cut_refused, cuts_at, refuses_at}
+use Rattle.td_core.proofs.CutSteps.{cut_hall, cut_answered, cuts_at, refuses_at}
+use Rattle.td_core.proofs.Meant.{cut_meant}
 use Rattle.td_core.proofs.hall.Hall.cut_at.Goals as goal
 
 pub invariant_of-self : goal.invariant_of-self
@@ -30,4 +31,12 @@ returns-else-passed-clause-refused g c =
     let e = c.args.epoch in
     let passed : has_passed c.args.self.now e ≡ false = ap (λ S. has_passed S e) (sym c.self.view_is) ∙ (sym (c.in_any_order.ensures.passed _ _ e c.self.invariant.counted) ∙ (sym c.passed.ensures ∙ c.if-passed.false)) in
     let least = ap (λ o. unwrap_or o e) (sym c.unpassed.ensures) ∙ sym c.unwrap_or.ensures in
-    inr (c.unwrap_or.result, refl, refuses_at c.args.self.now e passed ∙ ap (λ n. (refused (not_passed n), c.args.self.now)) least)
+    inr (not_passed c.unwrap_or.result, refl, refuses_at c.args.self.now e passed ∙ ap (λ n. (refused (not_passed n), c.args.self.now)) least)
+
+pub returns-then-passed-clause-meaning : goal.returns-then-passed-clause-meaning
+returns-then-passed-clause-meaning g c =
+    let floor = c.self.inside.floor in
+    let e = c.args.epoch in
+    let passed : has_passed (state_of floor) e ≡ true = sym (c.in_any_order.ensures.passed _ _ e c.self.invariant.counted) ∙ (sym c.passed.ensures ∙ c.if-passed.true) in
+    cut_meant g.L.Law.answers floor (c.reached.ensures.sound _ c.self.invariant.reached) e (subst (λ S. S.base ≤ e) (sym c.self.view_is) c.requires.after)
+    (subst (λ S. e < S.next) (sym c.self.view_is) c.requires.released) passed c.cut_floor.result c.cut_floor.ensures.epoch c.cut_floor.ensures.states c.args.self.now c.self.view_is
