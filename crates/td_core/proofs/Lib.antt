@@ -12,3 +12,5 @@ pub mod PostingSteps
 pub mod Rises
 pub mod RaisingSteps
 pub mod PostRuns
+pub mod BatchParts
+pub mod ReleaseParts
