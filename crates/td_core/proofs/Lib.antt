@@ -10,7 +10,6 @@ pub mod Loads
 pub mod SiteLists
 pub mod PostingSteps
 pub mod Rises
-pub mod RaisingSteps
 pub mod PostRuns
 pub mod BatchParts
 pub mod ReleaseParts

@@ -2,8 +2,9 @@
 use Rattle.std.proofs.Common.{◌≡◌, ℕ, zero, suc, ◌+◌, ◌-◌, ◌*◌, ◌<◌, ◌≤◌, ◌==◌, Bool, true, false, cond, List, [], ◌∷◌, ◌++◌, map, filter, flat_map, take, drop, get_or, set, length, refl, ap, sym, ◌∙◌, subst, append-nil, drop-cons, length-drop, arith}
 use Rattle.std.specs.List.{AllByRecursion, enumerate_from}
 use Rattle.std.proofs.lemmas.Bool.Decides.{nat_tests}
-use Rattle.std.proofs.lemmas.Grind.{flat_map-append}
-use Rattle.std.proofs.lemmas.List.{take_more, map-append, get_or-drop, length-append}
+use Rattle.std.proofs.lemmas.Grind.{flat_map-append, get_or-set_at}
+use Rattle.std.proofs.lemmas.List.{take_more, map-append, get_or-drop, length-append, take-append-drop, get_or-set_other}
+use Rattle.std.proofs.Math.Seq.{take-add}
 use Rattle.std.proofs.lemmas.List.Elements.{filter-append}
 use Rattle.td_stamp.specs.declared.values.Rec.{Rec}
 use Rattle.td_stamp.specs.Time.{Timestamp}
@@ -11,8 +12,8 @@ use Rattle.td_machine.specs.declared.records.Message.{Message}
 use Rattle.td_machine.specs.State.{shard_of_key}
 use Rattle.td_shard.specs.declared.shard.Shard.{Shard}
 use Rattle.td_core.specs.declared.sites.Outlet.{Outlet}
-use Rattle.td_core.specs.Posted.{of_shard, mails, waits, IsPosted, HasRoom, HaveRoomFor, count_of, only_in, on_outlet, on_each}
-use Rattle.td_core.proofs.PostingSteps.{posted_from}
+use Rattle.td_core.specs.Posted.{of_shard, mails, waits, IsPosted, IsRoomier, HasRoom, HaveRoomFor, count_of, only_in, on_outlet, on_each}
+use Rattle.td_core.proofs.PostingSteps.{posted_from, roomier_same}
 
 equal : (a b : ℕ) → a ≡ b → (a == b) ≡ true
 equal a b e = grind (arith, nat_tests)
@@ -34,13 +35,17 @@ room_weaker many fewer less k (s ∷ ss) h =
     let runs = h.0.1 in
     ((omega (arith, l, room), omega (arith, l, runs)), room_weaker many fewer less (k + 1) ss h.1)
 
+-- with nothing else to be posted
+pub none_more : (many : ℕ → ℕ) (shards : List Shard) → HaveRoomFor many shards → HaveRoomFor (λ s. many s + 0) shards
+none_more many shards h = room_weaker many (λ s. many s + 0) (λ s. let m = many s in omega arith) 0 shards h
+
 pub room_at : (many : ℕ → ℕ) (k i at : ℕ) (shards : List Shard) (d : Shard) → at ≡ k + i → i < length shards
     → AllByRecursion (λ p. HasRoom (many p.0) p.1) (enumerate_from k shards) → HasRoom (many at) (get_or shards i d)
 room_at many k i at [] d e within h = absurd (omega (arith, within))
 room_at many k zero at (s ∷ ss) d e within h = let none : k ≡ at = omega (arith, e) in subst (λ n. HasRoom (many n) s) none h.0
 room_at many k (suc i) at (s ∷ ss) d e within h = room_at many (k + 1) i at ss d (omega (arith, e)) (omega (arith, within)) h.1
 
-only_here : (at n : ℕ) → only_in at n at ≡ n
+pub only_here : (at n : ℕ) → only_in at n at ≡ n
 only_here at n = ap (λ b. cond b n 0) (equal at at refl)
 
 -- room that is left when messages were posted to one shard
@@ -113,10 +118,10 @@ one_less at n i s within = by (s == at)
     by true = omega (arith, within)
     by false = omega arith
 
-only_none : (at s : ℕ) → only_in at 0 s ≡ 0
+only_none : (at s : ℕ) → ◌≡◌ {A = ℕ} (only_in at 0 s) 0
 only_none at s = by (s == at)
   where
-    by : (b : Bool) → cond b 0 0 ≡ 0
+    by : (b : Bool) → ◌≡◌ {A = ℕ} (cond b 0 0) 0
     by true = refl
     by false = refl
 
@@ -141,17 +146,21 @@ count_first workers edges r recs s = by (shard_of_key workers r.key == s) refl
         ap (λ b. length (cond b (r ∷ filter (λ x. shard_of_key workers x.key == s) recs) (filter (λ x. shard_of_key workers x.key == s) recs)) * edges) e
         ∙ (none ∙ ap (λ b. cond b edges 0 + m * edges) (sym (not_equal s (shard_of_key workers r.key) other)))
 
-pub count_next : (workers edges : ℕ) (recs : List Rec) (i : ℕ) (r : Rec) → i < length recs → r ≡ get_or recs i r → (s : ℕ)
-    → count_of workers (drop i recs) s * edges ≡ only_in (shard_of_key workers r.key) edges s + count_of workers (drop (i + 1) recs) s * edges
-count_next workers edges recs i r within is s =
+pub count_next : (workers edges : ℕ) (recs : List Rec) (i : ℕ) (d : Rec) → i < length recs → (s : ℕ)
+    → count_of workers (drop i recs) s * edges ≡ only_in (shard_of_key workers (get_or recs i d).key) edges s + count_of workers (drop (i + 1) recs) s * edges
+count_next workers edges recs i d within s =
     let next : suc i ≡ i + 1 = omega arith in
-    ap (λ l. count_of workers l s * edges) (drop-cons recs i r within ∙ (λ j. sym is j ∷ drop (next j) recs)) ∙ count_first workers edges r (drop (i + 1) recs) s
+    ap (λ l. count_of workers l s * edges) (drop-cons recs i d within ∙ ap (λ n. get_or recs i d ∷ drop n recs) next) ∙ count_first workers edges (get_or recs i d) (drop (i + 1) recs) s
 
-pub each_next : (outlets : List Outlet) (t : Timestamp) (recs : List Rec) (i : ℕ) (r : Rec) → i < length recs → r ≡ get_or recs i r
-    → on_each outlets t (take i recs) ++ map (on_outlet t r) outlets ≡ on_each outlets t (take (i + 1) recs)
-each_next outlets t recs i r within is =
-    sym (ap (on_each outlets t) (take_more recs i r within ∙ ap (λ x. take i recs ++ x ∷ []) (sym is))
-    ∙ (flat_map-append (λ x. map (on_outlet t x) outlets) (take i recs) (r ∷ []) ∙ ap (λ l. on_each outlets t (take i recs) ++ l) (append-nil (map (on_outlet t r) outlets))))
+pub each_next : (outlets : List Outlet) (t : Timestamp) (recs : List Rec) (i : ℕ) (d : Rec) → i < length recs
+    → on_each outlets t (take i recs) ++ map (on_outlet t (get_or recs i d)) outlets ≡ on_each outlets t (take (i + 1) recs)
+each_next outlets t recs i d within =
+    sym (ap (on_each outlets t) (take_more recs i d within)
+    ∙ (flat_map-append (λ x. map (on_outlet t x) outlets) (take i recs) (get_or recs i d ∷ []) ∙ ap (λ l. on_each outlets t (take i recs) ++ l) (append-nil (map (on_outlet t (get_or recs i d)) outlets))))
+
+pub outlet_next : (t : Timestamp) (r : Rec) (outlets : List Outlet) (i : ℕ) (o : Outlet) → i < length outlets
+    → map (on_outlet t r) (take i outlets) ++ on_outlet t r (get_or outlets i o) ∷ [] ≡ map (on_outlet t r) (take (i + 1) outlets)
+outlet_next t r outlets i o within = sym (ap (map (on_outlet t r)) (take_more outlets i o within) ∙ map-append (on_outlet t r) (take i outlets) (get_or outlets i o ∷ []))
 
 -- A RUN MORE
 pub count_run : (workers at : ℕ) (run rest : List Rec) → AllByRecursion (λ r. shard_of_key workers r.key ≡ at) run → (s : ℕ)
@@ -182,3 +191,90 @@ own_more P recs begin end d from within h it =
     with_last : (xs : List Rec) (x : Rec) → AllByRecursion P xs → P x → AllByRecursion P (xs ++ x ∷ [])
     with_last [] x h it = (it, tt)
     with_last (y ∷ xs) x h it = (h.0, with_last xs x h.1 it)
+
+-- MORE ROOM, shard by shard
+pub one_roomier : (i : ℕ) (shards : List Shard) (s d : Shard) → i < length shards → s.mailbox.messages ≡ (get_or shards i d).mailbox.messages → s.waiting ≡ (get_or shards i d).waiting
+    → (get_or shards i d).mailbox.room ≤ s.mailbox.room → (get_or shards i d).mailbox.runs ≤ s.mailbox.runs → IsRoomier shards (set shards i s)
+one_roomier i [] s d within mail wait room runs = absurd (omega (arith, within))
+one_roomier zero (x ∷ xs) s d within mail wait room runs =
+    let rest = roomier_same xs in
+    record { mails = λ j. mail j ∷ mails xs; waiting = λ j. wait j ∷ waits xs; room = (room, runs, rest.room) }
+one_roomier (suc i) (x ∷ xs) s d within mail wait room runs =
+    let rest = one_roomier i xs s d (omega (arith, within)) mail wait room runs in
+    record { mails = λ j. x.mailbox.messages ∷ rest.mails j; waiting = λ j. x.waiting ∷ rest.waiting j; room = (omega arith, omega arith, rest.room) }
+
+pub one_more_room : (many : ℕ → ℕ) (i : ℕ) (shards : List Shard) (s : Shard) → i < length shards
+    → ((k : ℕ) (d : Shard) → k < i → HasRoom (many k) (get_or shards k d)) → HasRoom (many i) s
+    → (k : ℕ) (d : Shard) → k < i + 1 → HasRoom (many k) (get_or (set shards i s) k d)
+one_more_room many i [] s within before here k d less = absurd (omega (arith, within))
+one_more_room many zero (x ∷ xs) s within before here zero d less = here
+one_more_room many zero (x ∷ xs) s within before here (suc k) d less = absurd (omega (arith, less))
+one_more_room many (suc i) (x ∷ xs) s within before here zero d less = before 0 d (omega arith)
+one_more_room many (suc i) (x ∷ xs) s within before here (suc k) d less =
+    one_more_room (λ n. many (suc n)) i xs s (omega (arith, within)) (λ j e l. before (suc j) e (omega (arith, l))) here k d (omega (arith, less))
+
+pub room_by_place : (many : ℕ → ℕ) (k : ℕ) (shards : List Shard) → ((i : ℕ) (d : Shard) → i < length shards → HasRoom (many (k + i)) (get_or shards i d))
+    → AllByRecursion (λ p. HasRoom (many p.0) p.1) (enumerate_from k shards)
+room_by_place many k [] h = tt
+room_by_place many k (s ∷ ss) h =
+    let none : k + 0 ≡ k = omega arith in (
+      subst (λ n. HasRoom (many n) s) none (h 0 s (omega arith)),
+      room_by_place many (k + 1) ss (λ i d l. let next : k + suc i ≡ k + 1 + i = omega arith in subst (λ n. HasRoom (many n) (get_or ss i d)) next (h (suc i) d (omega (arith, l)))),
+    )
+
+-- HOW MANY of some records
+pub count_at_most : (workers s : ℕ) (recs : List Rec) → count_of workers recs s ≤ length recs
+count_at_most workers s [] = omega arith
+count_at_most workers s (r ∷ recs) = by (shard_of_key workers r.key == s) (count_at_most workers s recs)
+  where
+    by : (b : Bool) → count_of workers recs s ≤ length recs → length (cond b (r ∷ filter (λ x. shard_of_key workers x.key == s) recs) (filter (λ x. shard_of_key workers x.key == s) recs)) ≤ suc (length recs)
+    by true h = omega (arith, h)
+    by false h = omega (arith, h)
+
+pub count_one_more : (workers s : ℕ) (recs : List Rec) (i : ℕ) (d : Rec) → i < length recs
+    → count_of workers (take (i + 1) recs) s ≡ count_of workers (take i recs) s + only_in (shard_of_key workers (get_or recs i d).key) 1 s
+count_one_more workers s recs i d within =
+    let r = get_or recs i d in
+    let two = ap length (filter-append (λ x. shard_of_key workers x.key == s) (take i recs) (r ∷ [])) ∙ length-append (filter (λ x. shard_of_key workers x.key == s) (take i recs)) (filter (λ x. shard_of_key workers x.key == s) (r ∷ [])) in
+    let one = count_first workers 1 r [] s in
+    let all = ap (λ l. count_of workers l s) (take_more recs i d within) in
+    omega (arith, all, two, one)
+
+-- ONE OUTLET alone
+pub single : (os : List Outlet) (d : Outlet) (t : Timestamp) (recs : List Rec) → length os ≡ 1 → map (λ r. on_outlet t r (get_or os 0 d)) recs ≡ on_each os t recs
+single os d t [] e = refl
+single [] d t (r ∷ recs) e = absurd (omega (arith, e))
+single (o ∷ []) d t (r ∷ recs) e = ap (λ l. on_outlet t r o ∷ l) (single (o ∷ []) d t recs e)
+single (o ∷ p ∷ os) d t (r ∷ recs) e = absurd (omega (arith, e))
+
+-- THE RECORDS after a place, in two parts
+drop_then : {X : Type 0} (n m : ℕ) (xs : List X) → drop m (drop n xs) ≡ drop (n + m) xs
+drop_then zero m xs = let none : m ≡ 0 + m = omega arith in ap (λ k. drop k xs) none
+drop_then {X} (suc n) m [] = none m ∙ sym (none (suc n + m))
+  where
+    none : (k : ℕ) → ◌≡◌ {A = List X} (drop k []) []
+    none zero = refl
+    none (suc k) = refl
+drop_then (suc n) m (x ∷ xs) = let next : suc (n + m) ≡ suc n + m = omega arith in drop_then n m xs ∙ ap (λ k. drop k (x ∷ xs)) next
+
+pub in_two : (recs : List Rec) (begin end : ℕ) → begin ≤ end → drop begin recs ≡ take (end - begin) (drop begin recs) ++ drop end recs
+in_two recs begin end from =
+    let place : begin + (end - begin) ≡ end = omega (arith, from) in
+    sym (take-append-drop (end - begin) (drop begin recs)) ∙ ap (λ l. take (end - begin) (drop begin recs) ++ l) (drop_then begin (end - begin) recs ∙ ap (λ n. drop n recs) place)
+
+pub up_to : (recs : List Rec) (begin end : ℕ) → begin ≤ end → take begin recs ++ take (end - begin) (drop begin recs) ≡ take end recs
+up_to recs begin end from = let place : begin + (end - begin) ≡ end = omega (arith, from) in sym (take-add begin (end - begin) recs) ∙ ap (λ n. take n recs) place
+
+-- one more at a place
+pub count_after : (s at : ℕ) (counts : List ℕ) → at < length counts → get_or (set counts at (get_or counts at 0 + 1)) s 0 ≡ get_or counts s 0 + only_in at 1 s
+count_after s at counts within = by (s == at) refl
+  where
+    by : (b : Bool) → (s == at) ≡ b → get_or (set counts at (get_or counts at 0 + 1)) s 0 ≡ get_or counts s 0 + cond b 1 0
+    by true e =
+        let same : s ≡ at = grind (arith, nat_tests, e) in
+        get_or-set_at counts at s (get_or counts at 0 + 1) 0 same within ∙ ap (λ n. get_or counts n 0 + 1) (sym same)
+    by false e =
+        let other : s ≡ at → ⊥ = λ same. grind (arith, nat_tests, e, same) in
+        let n = get_or counts s 0 in
+        let none : n ≡ n + 0 = omega arith in
+        get_or-set_other counts at s (get_or counts at 0 + 1) 0 other ∙ none

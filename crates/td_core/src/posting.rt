@@ -71,7 +71,9 @@ fn post_runs(shards: &mut Vec<Shard>, outlet: &Outlet, time: &Time, recs: &[Rec]
     requires some { 1 ≤ length shards.old.items }
     requires few { length shards.old.items ≤ 16 }
     requires room { HaveRoom recs.now 1 shards.old.items }
-    ensures { IsPosted (map (λ r. on_outlet time.now r outlet.now) recs.now) shards.old.items shards.new.items }
+    ensures posted { IsPosted (map (λ r. on_outlet time.now r outlet.now) recs.now) shards.old.items shards.new.items }
+    ensures room { (many : ℕ → ℕ) → HaveRoomFor (λ s. count_of (length shards.old.items) recs.now s * 1 + many s) shards.old.items
+        → HaveRoomFor many shards.new.items }
 {
     let workers = shards.len() as u8;
     let mut done = 0;
@@ -105,7 +107,9 @@ fn post_each(shards: &mut Vec<Shard>, outlets: &[Outlet], time: &Time, recs: &[R
     requires some { 1 ≤ length shards.old.items }
     requires few { length shards.old.items ≤ 16 }
     requires room { HaveRoom recs.now (length outlets.now) shards.old.items }
-    ensures { IsPosted (on_each outlets.now time.now recs.now) shards.old.items shards.new.items }
+    ensures posted { IsPosted (on_each outlets.now time.now recs.now) shards.old.items shards.new.items }
+    ensures room { (many : ℕ → ℕ) → HaveRoomFor (λ s. count_of (length shards.old.items) recs.now s * length outlets.now + many s) shards.old.items
+        → HaveRoomFor many shards.new.items }
 {
     let workers = shards.len() as u8;
     for rec in recs {
