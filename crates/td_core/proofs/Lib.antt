@@ -13,3 +13,4 @@ pub mod Rises
 pub mod PostRuns
 pub mod BatchParts
 pub mod ReleaseParts
+pub mod ReleaseSteps

@@ -1,4 +1,3 @@
-use Rattle.td_core.proofs.ReleaseParts.{batch_posts, batch_rises, rises_fit}
 use Rattle.std.proofs.Common.{◌++◌, ap, sym, ◌∙◌, append_assoc}
 use Rattle.td_core.proofs.Loads.{once_more}
 use Rattle.td_core.proofs.release.push_for_each.Goals as goal
