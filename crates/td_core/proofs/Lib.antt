@@ -11,5 +11,7 @@ pub mod Loads
 pub mod SiteLists
 pub mod PostingSteps
 pub mod Rises
-pub mod RaisingSteps
 pub mod PostRuns
+pub mod BatchParts
+pub mod ReleaseParts
+pub mod ReleaseSteps

@@ -1,5 +1,5 @@
 //! Releasing a batch into the inputs.
-ghost use Rattle.std.specs.Prelude.{◌≡◌, ◌+◌, ◌^◌, ◌<◌, ◌≤◌, ◌++◌, true, List, map, flat_map, length, IfOk, IfErr, OnOk, OnErr};
+ghost use Rattle.std.specs.Prelude.{◌≡◌, ◌+◌, ◌^◌, ◌<◌, ◌≤◌, ◌++◌, false, true, List, map, flat_map, length, IfOk, IfErr, OnOk, OnErr};
 ghost use Rattle.td_stamp.specs.Batch.{records_for};
 ghost use Rattle.td_progress.specs.Bag.{IsSameBag, input_stamp};
 ghost use Rattle.td_machine.specs.Active.{active, inputs_of};
@@ -21,11 +21,13 @@ use crate::raising::{Rise, raise, rises_on};
 use crate::sites::{Outlet, Sites};
 use std::alloc::{AllocError, Global};
 use td_calls::Law;
-use td_machine::laws::{come_of_plan, in_parts, reached, reached_in_order, stamps_move};
+use td_machine::laws::{bags_of_states, come_of_plan, in_parts, reached, reached_in_order, sent_of_plan, stamps_move};
+use td_plan::laws::look_ups;
 use td_progress::laws::counted;
 use td_reach::{Place, Stamp};
 use td_shard::Shard;
-use td_stamp::{Batch, Rec, Time};
+use td_stamp::laws::bags_by_any_order;
+use td_stamp::{Batch, Entry, Rec, Time};
 
 /// Epochs are numbered below this.
 const ENDS: u64 = 1 << 63;
@@ -51,7 +53,10 @@ impl<L: Law> Hall<L> {
         ensures back { IfErr result (λ e. e.1 ≡ batch) }
     {
         reached::<L>();
+        reached_in_order::<L>();
         stamps_move::<L>();
+        bags_of_states();
+        counted();
         if self.floor.closed {
             return Err((HallError::Closed, batch));
         }
@@ -81,9 +86,13 @@ fn bring_in<L: Law>(floor: &mut Floor, batch: &Batch) -> Result<u64, HallError>
     ensures memory { IfErr result (λ e. e ≡ Memory) }
 {
     in_parts();
+    sent_of_plan();
     come_of_plan::<L>();
     reached_in_order::<L>();
+    look_ups();
+    bags_by_any_order::<Entry>();
     counted();
+    let _ = batch.list();
     let epoch = floor.next;
     let loads = loads_of(floor.alloc, floor.inputs.as_slice(), batch)?;
     let rises = rises_in(floor.alloc, &floor.sites, loads.as_slice(), epoch)?;
