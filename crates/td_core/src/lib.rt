@@ -11,6 +11,9 @@ mod hall;
 mod open;
 mod outputs;
 mod passed;
+mod posting;
+mod raising;
+mod sites;
 #[cfg(test)]
 mod tests;
 
