@@ -1,6 +1,6 @@
 -- A hall's floor after the records of a task were delivered, and after that task is out no more. In between the task is still out, and
 -- what it took up stands with it.
-use Rattle.std.specs.Prelude.{◌≡◌, ℕ, ◌+◌, ◌==◌, true, false, not, ◌&&◌, List, ◌++◌, map, filter}
+use Rattle.std.specs.Prelude.{◌≡◌, ℕ, ◌+◌, ◌==◌, Bool, true, false, not, ◌&&◌, List, ◌++◌, map, filter}
 use Rattle.std.specs.List.{enumerate_from}
 use Rattle.td_stamp.specs.declared.values.Rec.{Rec}
 use Rattle.td_stamp.specs.Bag.{join}
@@ -24,10 +24,14 @@ use Rattle.td_core.specs.Posted.{IsRoomier, mails, mails_with, waits}
 abbrev pub added_by : Answers → Floor → Task → ℕ → List Rec → Added
 added_by answers h task port recs = added_at_once answers h.seen task.kind task.vertex port task.time recs
 
--- what waits in a shard, with a task's records where it is the task's own and the task's vertex is notified
+-- what waits in a shard when a task's records came there, if they did
+abbrev pub waiting_by : Bool → Task → ℕ → List Rec → AskedList → AskedList
+waiting_by true task port recs asked = with_items asked task.vertex task.time (map (arrival_of port) recs)
+waiting_by false task port recs asked = asked
+
+-- they come to the task's own shard, where its vertex is notified
 abbrev pub waiting_with : Task → ℕ → List Rec → ℕ × Shard → AskedList
-waiting_with task port recs p =
-    elim (is_notified task.kind && p.0 == task.shard) [ true ↦ with_items p.1.waiting task.vertex task.time (map (arrival_of port) recs) | false ↦ p.1.waiting ]
+waiting_with task port recs p = waiting_by (is_notified task.kind && p.0 == task.shard) task port recs p.1.waiting
 
 -- THE RECORDS of a task were delivered: what they send was posted, what they add was added, and what comes of it is active
 pub record IsDelivered (answers : Answers) (task : Task) (port : ℕ) (recs : List Rec) (old new : Floor) : Type 0 where

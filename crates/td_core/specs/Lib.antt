@@ -3,7 +3,6 @@ pub mod Came
 pub mod Sites
 pub mod Posted
 pub mod Floor
-pub mod Posted
 pub mod Delivered
 pub mod Collected
 pub mod Cuts
