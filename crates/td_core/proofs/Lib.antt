@@ -8,4 +8,6 @@ pub mod CutSteps
 pub mod Opening
 pub mod OutTasks
 pub mod Waits
+pub mod WaitsSorted
+pub mod WaitsAsked
 pub mod DeliverSteps
