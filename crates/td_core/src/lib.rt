@@ -12,6 +12,9 @@ mod notify;
 mod open;
 mod outputs;
 mod passed;
+mod posting;
+mod raising;
+mod sites;
 #[cfg(test)]
 mod tests;
 
