@@ -4,6 +4,7 @@
 mod close;
 mod collect;
 mod cut;
+mod deliver;
 mod error;
 mod floor;
 mod give;
