@@ -6,3 +6,4 @@ pub mod Floor
 pub mod Delivered
 pub mod Collected
 pub mod Cuts
+pub mod Given
