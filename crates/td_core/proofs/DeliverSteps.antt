@@ -17,7 +17,8 @@ use Rattle.td_machine.specs.Moves.{StampsMove, gone_given}
 use Rattle.td_machine.specs.Reached.{IsReached}
 use Rattle.td_core.specs.declared.floor.Floor.{Floor}
 use Rattle.td_core.specs.Floor.{state_of, IsHall}
-use Rattle.td_core.specs.Delivered.{IsDelivered, IsEnded}
+use Rattle.td_core.specs.Given.{IsEnded}
+use Rattle.td_core.specs.Delivered.{IsDelivered}
 use Rattle.td_core.proofs.CollectSteps.{ReachedByStep}
 use Rattle.td_core.proofs.CloseSteps.{CountsAppend}
 
