@@ -10,4 +10,5 @@ pub mod OutTasks
 pub mod Waits
 pub mod WaitsSorted
 pub mod WaitsAsked
+pub mod WaitsAll
 pub mod DeliverSteps
