@@ -11,4 +11,5 @@ pub mod Waits
 pub mod WaitsSorted
 pub mod WaitsAsked
 pub mod WaitsAll
+pub mod ShardParts
 pub mod DeliverSteps
