@@ -6,6 +6,8 @@ pub mod CloseSteps
 pub mod Unpassed
 pub mod CutSteps
 pub mod Opening
+pub mod SiteLists
+pub mod PostingSteps
 pub mod OutTasks
 pub mod Waits
 pub mod WaitsSorted

