@@ -8,6 +8,7 @@ pub mod CutSteps
 pub mod Opening
 pub mod SiteLists
 pub mod PostingSteps
+pub mod Rises
 pub mod OutTasks
 pub mod Waits
 pub mod WaitsSorted

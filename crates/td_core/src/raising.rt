@@ -1,17 +1,18 @@
 // FOUNDER TO POST: another helper (branch `raise`) proves this file; leave it out, merge branch `raise` when it is there. Drop this line.
 //! Raising the occurrences of several pointstamps, all or none.
-ghost use Rattle.std.specs.Prelude.{◌≡◌, ◌≤◌, ◌++◌, IfOk, IfErr, OnOk, OnErr};
+ghost use Rattle.std.specs.Prelude.{◌≡◌, ◌≤◌, ◌++◌, map, replicate, IfOk, IfErr, OnOk, OnErr};
 ghost use Rattle.std.specs.List.{AllByRecursion};
 ghost use Rattle.td_reach.specs.declared.stamp.Stamp.{Stamp as AnyStamp};
 ghost use Rattle.td_reach.specs.Paths.{IsOf};
 ghost use Rattle.td_progress.specs.Bag.{IsSameBag, occurrences};
-ghost use Rattle.td_core.specs.Posted.{risen, stamps_on};
+ghost use Rattle.td_core.specs.Posted.{risen, stamps_on, stamp_on_outlet};
 ghost use Rattle.td_core.specs.declared.error.HallError.TheVariants.{Memory};
 
 use crate::error::HallError;
 use crate::sites::Outlet;
 use std::alloc::Global;
 use td_progress::Table;
+use td_progress::laws::counted;
 use td_reach::{Place, Stamp};
 use td_stamp::Time;
 
@@ -31,7 +32,31 @@ pub(crate) fn raise(table: &mut Table, rises: &[Rise]) -> Result<(), HallError>
     ensures err { OnErr result (IsSameBag table.new.stamps table.old.stamps) }
     ensures memory { IfErr result (λ e. e ≡ Memory) }
 {
-    Err(HallError::Memory)
+    counted();
+    for (count, rise) in rises.iter().enumerate() {
+        if let Err(refused) = raise_one(table, rise) {
+            lower(table, &rises[..count]);
+            return Err(refused);
+        }
+    }
+    Ok(())
+}
+
+/// One of these pointstamps so many times more. Refusal: `Memory`, with the table unchanged, also where it would occur 2^128
+/// times.
+fn raise_one(table: &mut Table, rise: &Rise) -> Result<(), HallError>
+    requires { IsOf table.old.plan rise.now.stamp }
+    ensures plan { table.new.plan ≡ table.old.plan }
+    ensures ok { OnOk result (IsSameBag table.new.stamps (replicate rise.now.times rise.now.stamp ++ table.old.stamps)) }
+    ensures err { OnErr result (table.new ≡ table.old) }
+    ensures memory { IfErr result (λ e. e ≡ Memory) }
+{
+    let before = table.occurrences(&rise.stamp);
+    if before.checked_add(u128::from(rise.times)).is_none() {
+        return Err(HallError::Memory);
+    }
+    table.add_many(&rise.stamp, rise.times)?;
+    Ok(())
 }
 
 /// Each of these pointstamps so many times less. It takes no memory.
@@ -39,7 +64,12 @@ pub(crate) fn lower(table: &mut Table, rises: &[Rise])
     requires { (p : AnyStamp) → occurrences p (risen rises.now) ≤ occurrences p table.old.stamps }
     ensures plan { table.new.plan ≡ table.old.plan }
     ensures stamps { IsSameBag table.old.stamps (risen rises.now ++ table.new.stamps) }
-{}
+{
+    counted();
+    for rise in rises {
+        table.take_off_many(&rise.stamp, rise.times);
+    }
+}
 
 /// So many messages more on each of some outlets, at a time. Refusal: `Memory`.
 pub(crate) fn rises_on(
@@ -48,7 +78,8 @@ pub(crate) fn rises_on(
     time: &Time,
     times: u64,
 ) -> Result<Vec<Rise>, HallError>
-    ensures rises { IfOk result (λ rises. risen rises.items ≡ stamps_on outlets.now time.now times) }
+    ensures rises { IfOk result (λ rises. rises.items ≡ map (λ o. record { stamp = stamp_on_outlet time.now o; times = times }) outlets.now) }
+    ensures risen { IfOk result (λ rises. risen rises.items ≡ stamps_on outlets.now time.now times) }
     ensures memory { IfErr result (λ e. e ≡ Memory) }
 {
     let mut rises = Vec::with_capacity(alloc, outlets.len())?;
