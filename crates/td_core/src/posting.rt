@@ -42,7 +42,6 @@ pub(crate) fn post(shards: &mut Vec<Shard>, outlets: &[Outlet], time: &Time, rec
     requires few { length shards.old.items ≤ 16 }
     requires room { HaveRoom recs.now (length outlets.now) shards.old.items }
     ensures { IsPosted (on_each outlets.now time.now recs.now) shards.old.items shards.new.items }
-<<<<<<< HEAD
 {
     if outlets.len() == 1 {
         post_runs(shards, &outlets[0], time, recs);
@@ -135,6 +134,3 @@ fn post_run(shards: &mut Vec<Shard>, shard: u8, outlet: &Outlet, time: &Time, re
     let shard = &mut shards[usize::from(shard)];
     shard.mailbox.post(outlet.reader, outlet.port, time, recs);
 }
-=======
-{}
->>>>>>> raise
