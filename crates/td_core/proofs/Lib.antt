@@ -16,3 +16,4 @@ pub mod WaitsAsked
 pub mod WaitsAll
 pub mod ShardParts
 pub mod DeliverSteps
+pub mod Sending
