@@ -17,3 +17,5 @@ pub mod WaitsAll
 pub mod ShardParts
 pub mod DeliverSteps
 pub mod Sending
+pub mod Keeping
+pub mod Delivering
