@@ -6,6 +6,7 @@ pub mod CloseSteps
 pub mod Unpassed
 pub mod CutSteps
 pub mod Opening
+pub mod Loads
 pub mod SiteLists
 pub mod PostingSteps
 pub mod Rises
@@ -19,3 +20,7 @@ pub mod DeliverSteps
 pub mod Sending
 pub mod Keeping
 pub mod Delivering
+pub mod PostRuns
+pub mod BatchParts
+pub mod ReleaseParts
+pub mod ReleaseSteps

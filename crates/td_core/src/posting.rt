@@ -1,6 +1,7 @@
 //! Posting messages to the mailboxes of the shards.
-ghost use Rattle.std.specs.Prelude.{◌≡◌, ◌+◌, ◌≤◌, ◌<◌, ◌++◌, ℕ, length, map, max, get_or, take, drop, IfErr, OnOk, OnErr};
+ghost use Rattle.std.specs.Prelude.{◌≡◌, ◌+◌, ◌-◌, ◌*◌, ◌≤◌, ◌<◌, ℕ, length, map, get_or, take, drop, IfErr, OnOk, OnErr};
 ghost use Rattle.std.specs.List.{AllByRecursion};
+ghost use Rattle.td_stamp.specs.declared.values.Rec.{Rec as AnyRec};
 ghost use Rattle.td_machine.specs.State.{shard_of_key};
 ghost use Rattle.td_core.specs.Posted.{IsPosted, IsRoomier, HaveRoom, HaveRoomFor, count_of, only_in, on_outlet, on_each};
 ghost use Rattle.td_core.specs.declared.error.HallError.TheVariants.{Memory};
@@ -41,7 +42,9 @@ pub(crate) fn post(shards: &mut Vec<Shard>, outlets: &[Outlet], time: &Time, rec
     requires some { 1 ≤ length shards.old.items }
     requires few { length shards.old.items ≤ 16 }
     requires room { HaveRoom recs.now (length outlets.now) shards.old.items }
-    ensures { IsPosted (on_each outlets.now time.now recs.now) shards.old.items shards.new.items }
+    ensures messages { IsPosted (on_each outlets.now time.now recs.now) shards.old.items shards.new.items }
+    ensures room { (many : ℕ → ℕ) → HaveRoomFor (λ s. count_of (length shards.old.items) recs.now s * length outlets.now + many s) shards.old.items
+        → HaveRoomFor many shards.new.items }
 {
     if outlets.len() == 1 {
         post_runs(shards, &outlets[0], time, recs);
@@ -68,7 +71,9 @@ fn post_runs(shards: &mut Vec<Shard>, outlet: &Outlet, time: &Time, recs: &[Rec]
     requires some { 1 ≤ length shards.old.items }
     requires few { length shards.old.items ≤ 16 }
     requires room { HaveRoom recs.now 1 shards.old.items }
-    ensures { IsPosted (map (λ r. on_outlet time.now r outlet.now) recs.now) shards.old.items shards.new.items }
+    ensures posted { IsPosted (map (λ r. on_outlet time.now r outlet.now) recs.now) shards.old.items shards.new.items }
+    ensures room { (many : ℕ → ℕ) → HaveRoomFor (λ s. count_of (length shards.old.items) recs.now s * 1 + many s) shards.old.items
+        → HaveRoomFor many shards.new.items }
 {
     let workers = shards.len() as u8;
     let mut done = 0;
@@ -84,11 +89,12 @@ fn post_runs(shards: &mut Vec<Shard>, outlet: &Outlet, time: &Time, recs: &[Rec]
 fn run_end(recs: &[Rec], begin: usize, shard: u8, workers: u8) -> usize
     requires workers { 1 ≤ workers }
     requires there { begin < length recs.now }
-    ensures after { begin ≤ result }
+    requires first { (d : AnyRec) → shard_of_key workers (get_or recs.now begin d).key ≡ shard }
+    ensures after { begin < result }
     ensures within { result ≤ length recs.now }
-    ensures own { AllByRecursion (λ r. shard_of_key workers r.key ≡ shard) (drop begin (take result recs.now)) }
+    ensures own { AllByRecursion (λ r. shard_of_key workers r.key ≡ shard) (take (result - begin) (drop begin recs.now)) }
 {
-    for end in begin..recs.len() {
+    for end in begin + 1..recs.len() {
         if recs[end].shard(workers) != shard {
             return end;
         }
@@ -101,7 +107,9 @@ fn post_each(shards: &mut Vec<Shard>, outlets: &[Outlet], time: &Time, recs: &[R
     requires some { 1 ≤ length shards.old.items }
     requires few { length shards.old.items ≤ 16 }
     requires room { HaveRoom recs.now (length outlets.now) shards.old.items }
-    ensures { IsPosted (on_each outlets.now time.now recs.now) shards.old.items shards.new.items }
+    ensures posted { IsPosted (on_each outlets.now time.now recs.now) shards.old.items shards.new.items }
+    ensures room { (many : ℕ → ℕ) → HaveRoomFor (λ s. count_of (length shards.old.items) recs.now s * length outlets.now + many s) shards.old.items
+        → HaveRoomFor many shards.new.items }
 {
     let workers = shards.len() as u8;
     for rec in recs {
