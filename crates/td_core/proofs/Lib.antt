@@ -11,6 +11,16 @@ pub mod Loads
 pub mod SiteLists
 pub mod PostingSteps
 pub mod Rises
+pub mod OutTasks
+pub mod Waits
+pub mod WaitsSorted
+pub mod WaitsAsked
+pub mod WaitsAll
+pub mod ShardParts
+pub mod DeliverSteps
+pub mod Sending
+pub mod Keeping
+pub mod Delivering
 pub mod PostRuns
 pub mod BatchParts
 pub mod ReleaseParts

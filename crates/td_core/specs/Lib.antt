@@ -3,7 +3,9 @@ pub mod Came
 pub mod Sites
 pub mod Posted
 pub mod Floor
+pub mod Delivered
 pub mod Collected
 pub mod Cuts
 pub mod Meant
+pub mod Given
 pub mod Released

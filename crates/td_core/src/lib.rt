@@ -4,10 +4,13 @@
 mod close;
 mod collect;
 mod cut;
+mod deliver;
 mod error;
 mod floor;
+mod give;
 mod hall;
 pub mod laws;
+mod notify;
 mod open;
 mod outputs;
 mod passed;
