@@ -6,6 +6,7 @@ pub mod CloseSteps
 pub mod Unpassed
 pub mod CutSteps
 pub mod Opening
+pub mod NotifyLists
 pub mod OutTasks
 pub mod Waits
 pub mod DeliverSteps

@@ -1,6 +1,5 @@
--- A hall's floor after the records of a task were delivered, and after that task is out no more. In between the task is still out, and
--- what it took up stands with it.
-use Rattle.std.specs.Prelude.{◌≡◌, ℕ, ◌+◌, ◌==◌, Bool, true, false, not, ◌&&◌, List, ◌++◌, map, filter}
+-- A hall's floor after the records of a task were delivered. The task is still out, and what it took up stands with it.
+use Rattle.std.specs.Prelude.{◌≡◌, ℕ, ◌==◌, Bool, true, false, ◌&&◌, List, ◌++◌, map}
 use Rattle.std.specs.List.{enumerate_from}
 use Rattle.td_stamp.specs.declared.values.Rec.{Rec}
 use Rattle.td_stamp.specs.Bag.{join}
@@ -13,12 +12,13 @@ use Rattle.td_machine.specs.State.Content.{messages}
 use Rattle.td_machine.specs.Steps.{posts, stamped}
 use Rattle.td_machine.specs.AtOnce.{added_at_once}
 use Rattle.td_machine.specs.ByEdge.{comes_out_at_once}
-use Rattle.td_machine.specs.Moves.{come_given, gone_given}
+use Rattle.td_machine.specs.Moves.{come_given}
 use Rattle.td_shard.specs.Asked.{AskedList, with_items}
 use Rattle.td_shard.specs.declared.shard.Shard.{Shard}
 use Rattle.td_core.specs.declared.floor.Floor.{Floor}
 use Rattle.td_core.specs.Floor.{state_of}
-use Rattle.td_core.specs.Posted.{IsRoomier, mails, mails_with, waits}
+use Rattle.td_core.specs.Posted.{mails, mails_with, waits}
+pub use Rattle.td_core.specs.Given.{IsEnded, IsUntouched}
 
 -- what a task's records add and send
 abbrev pub added_by : Answers → Floor → Task → ℕ → List Rec → Added
@@ -45,17 +45,3 @@ pub record IsDelivered (answers : Answers) (task : Task) (port : ℕ) (recs : Li
   pub stamps : IsSameBag new.table.stamps (come_given answers (state_of old) task (messages port recs) ++ old.table.stamps)
   pub mails : mails new.shards.items ≡ mails_with (posts old.table.plan (stamped task.vertex task.time (added_by answers old task port recs).sent)) old.shards.items
   pub waits : waits new.shards.items ≡ map (waiting_with task port recs) (enumerate_from 0 old.shards.items)
-
--- THE TASK is out no more, one more was given, and what it took up is active no more
-pub record IsEnded (task : Task) (old new : Floor) : Type 0 where
-  pub parts : new ≡ record old { table = new.table; out = new.out; given = old.given + 1 }
-  pub plan : new.table.plan ≡ old.table.plan
-  pub stamps : IsSameBag old.table.stamps (gone_given (state_of old) task task.content ++ new.table.stamps)
-  pub out : new.out.items ≡ filter (λ t. not (t.shard == task.shard)) old.out.items
-
--- nothing but more room
-pub record IsUntouched (old new : Floor) : Type 0 where
-  pub parts : new ≡ record old { table = new.table; shards = new.shards }
-  pub plan : new.table.plan ≡ old.table.plan
-  pub stamps : IsSameBag new.table.stamps old.table.stamps
-  pub shards : IsRoomier old.shards.items new.shards.items

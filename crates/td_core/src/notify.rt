@@ -25,6 +25,5 @@ pub(crate) fn notify<L: Law>(
     ensures err { OnErr result (IsUntouched floor.old floor.new) }
     ensures memory { IfErr result (λ e. e ≡ Memory) }
 {
-    let _ = (floor, done, items);
     Err(HallError::Memory)
 }
