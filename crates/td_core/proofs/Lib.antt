@@ -9,6 +9,8 @@ pub mod Opening
 pub mod NotifyLists
 pub mod ShardViews
 pub mod GiveSteps
+pub mod NotifySteps
 pub mod OutTasks
 pub mod Waits
 pub mod DeliverSteps
+pub mod SiteLists

@@ -35,7 +35,14 @@ outlets_in sites v = unwrap_or (option_map (λ s. s.outlets.items) (site_in site
 abbrev pub edge_in : Sites → ℕ → ℕ → ℕ
 edge_in sites v port = unwrap_or (option_map (λ s. s.first) (site_in sites v)) sites.edges + port
 
--- they find what the plan has
+-- what is looked up of a vertex is what the plan has of it
+pub record IsSite (plan : List Line) (v : ℕ) (site : Site) : Type 0 where
+  pub kind : site.kind ≡ kind_of plan v
+  pub bound : site.bound ≡ bound_of plan v
+  pub first : site.first ≡ edge_at plan v 0
+  pub outlets : site.outlets.items ≡ outlets_of plan v
+
+-- THEY FIND what the plan has, of every number
 pub record IsSites (plan : List Line) (sites : Sites) : Type 0 where
   pub kind : (v : ℕ) → kind_in sites v ≡ kind_of plan v
   pub bound : (v : ℕ) → bound_in sites v ≡ bound_of plan v

@@ -1,15 +1,17 @@
 //! What a hall looks up of each vertex of its plan.
-ghost use Rattle.std.specs.Prelude.{◌≡◌, ◌+◌, ◌<◌, IfOk, length, map, take};
+ghost use Rattle.std.specs.Prelude.{◌≡◌, ◌<◌, IfOk, unwrap_or};
+ghost use Rattle.std.specs.List.{slice_get};
 ghost use Rattle.std.specs.Option.{option_to_list};
 ghost use Rattle.td_stamp.specs.Time.{depth, leave};
 ghost use Rattle.td_plan.specs.declared.vertex.Kind.TheVariants.{Enter};
-ghost use Rattle.td_plan.specs.Blocks.{edge_count, vertices};
+ghost use Rattle.td_plan.specs.Blocks.{bounds, edge_at};
+ghost use Rattle.td_plan.specs.LookedUp.{IsLookedUp};
 ghost use Rattle.td_machine.specs.Steps.{sending_times, again_below};
-ghost use Rattle.td_core.specs.Sites.{IsSites, outlets_of, kind_in, bound_in, outlets_in, edge_in};
+ghost use Rattle.td_core.specs.Sites.{IsSite, IsSites, outlets_of, kind_in, bound_in, outlets_in, edge_in};
 
 use std::alloc::{AllocError, Global};
 use td_plan::{Kind, Plan, Vertex};
-use td_plan::laws::edges_by_number;
+use td_plan::laws::{edges_by_number, look_ups, read_there};
 use td_stamp::Time;
 
 /// An edge out of a vertex: its number, and the vertex and port to which it leads.
@@ -40,13 +42,23 @@ pub(crate) struct Sites {
 }
 
 impl Sites {
-    /// What is looked up of a plan. It costs v × e steps, with v vertices and e edges. Refusal: out of memory.
+    /// What is looked up of a plan. It costs v × e steps, with v vertices and e edges. Refusal: an allocation was refused.
     pub fn of(alloc: Global, plan: &Plan) -> Result<Sites, AllocError>
         ensures { IfOk result (IsSites plan.now) }
     {
+        look_ups();
+        read_there();
+        edges_by_number();
+        let vertices = plan.vertices();
+        let mut sites = Vec::with_capacity(alloc, vertices.len())?;
+        let mut first: u8 = 0;
+        for vertex in vertices {
+            sites.push_reserved(site_of(alloc, plan, vertex, first)?);
+            first += vertex.source_count() as u8;
+        }
         Ok(Sites {
-            sites: Vec::new(alloc),
-            edges: plan.edges().len() as u8,
+            sites,
+            edges: first,
         })
     }
 
@@ -103,6 +115,51 @@ impl Sites {
             None => 0,
         }
     }
+}
+
+/// What is looked up of a vertex of a plan, where `first` is the number of the edge to its port 0.
+fn site_of(alloc: Global, plan: &Plan, vertex: &Vertex, first: u8) -> Result<Site, AllocError>
+    requires there { IsLookedUp plan.now vertex.now.vertex.number vertex.now }
+    requires first { first ≡ edge_at plan.now vertex.now.vertex.number 0 }
+    ensures { IfOk result (IsSite plan.now vertex.now.vertex.number) }
+{
+    let outlets = outlets_of(alloc, plan, vertex.number())?;
+    Ok(Site {
+        kind: vertex.kind(),
+        bound: bound_of(vertex),
+        first,
+        outlets,
+    })
+}
+
+/// The bound of the loop in which a vertex stands, 0 outside all loops.
+fn bound_of(vertex: &Vertex) -> u16
+    ensures { result ≡ unwrap_or (slice_get (bounds vertex.now.loops) 0) 0 }
+{
+    match vertex.loops().last() {
+        Some(innermost) => innermost.bound,
+        None => 0,
+    }
+}
+
+/// The edges out of a vertex.
+fn outlets_of(alloc: Global, plan: &Plan, vertex: u8) -> Result<Vec<Outlet>, AllocError>
+    ensures { IfOk result (λ outlets. outlets.items ≡ outlets_of plan.now vertex) }
+{
+    edges_by_number();
+    let _ = plan.vertices();
+    let edges = plan.edges();
+    let mut outlets = Vec::new(alloc);
+    for (number, edge) in edges.iter().enumerate() {
+        if edge.source == vertex {
+            outlets.push(Outlet {
+                number: number as u8,
+                reader: edge.reader,
+                port: edge.port,
+            })?;
+        }
+    }
+    Ok(outlets)
 }
 
 /// A time without the counter of its innermost loop, if it is in one.
