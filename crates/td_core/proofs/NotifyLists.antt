@@ -29,10 +29,10 @@ use Rattle.td_core.specs.Floor.{IsShard, waiting_at, waiting_in, asked_of_shard,
 use Rattle.td_core.specs.Posted.{waits}
 use Rattle.td_core.specs.Given.{waiting_without}
 
-abbrev Waits : Type 0
+abbrev pub Waits : Type 0
 Waits = Noted × List Arrival
 
-weaker : {X : Type 0} {P Q : X → Type 0} → ((x : X) → P x → Q x) → (xs : List X) → AllByRecursion P xs → AllByRecursion Q xs
+pub weaker : {X : Type 0} {P Q : X → Type 0} → ((x : X) → P x → Q x) → (xs : List X) → AllByRecursion P xs → AllByRecursion Q xs
 weaker f [] h = tt
 weaker f (x ∷ xs) h = (f x h.0, weaker f xs h.1)
 
@@ -69,12 +69,12 @@ module _ (v : ℕ) (t : Timestamp) where
   abbrev pub here : Noted → Bool
   here n = is_at (noted_cmp (noted_at v t)) n
 
-  there_is : (n : Noted) → is_there v t n.vertex n.time ≡ here n
+  pub there_is : (n : Noted) → is_there v t n.vertex n.time ≡ here n
   there_is n =
       both_ways (n.vertex == v) (is_eq (time_cmp n.time t))
       ∙ ((λ i. turned n.time t i && sym (same_number v n.vertex) i) ∙ sym (eq_then (time_cmp t n.time) (nat_cmp v n.vertex)))
 
-  asked_is : (S : HallState) (s k : ℕ) (w : Waits) → is_eq (notification_cmp (asked_at S s v t) (asked_of_shard k w)) ≡ ((k == s) && here w.0)
+  pub asked_is : (S : HallState) (s k : ℕ) (w : Waits) → is_eq (notification_cmp (asked_at S s v t) (asked_of_shard k w)) ≡ ((k == s) && here w.0)
   asked_is S s k w =
       eq_then (nat_cmp v w.0.vertex) (ordering_then (time_cmp t w.0.time) (nat_cmp s k))
       ∙ (ap (λ b. is_eq (nat_cmp v w.0.vertex) && b) (eq_then (time_cmp t w.0.time) (nat_cmp s k))
@@ -87,7 +87,7 @@ unfolding IsDistinct
 distinct_tail e es h = h.1
 
 module _ (k : Noted) where
-  abbrev is_other : Waits → Bool
+  abbrev pub is_other : Waits → Bool
   is_other w = not (is_at (noted_cmp k) w.0)
 
   kept_all : (es : AskedList) → NonePasses (is_at (noted_cmp k)) es → filter is_other es ≡ es
@@ -107,7 +107,7 @@ module _ (k : Noted) where
   removed es h = taken_out es (IsDistinct-from_sorted noted_cmp (keys_of es) h)
 
 -- what is true of all is true of those that pass
-still_all : {X : Type 0} (P : X → Type 0) (p : X → Bool) (xs : List X) → AllByRecursion P xs → AllByRecursion P (filter p xs)
+pub still_all : {X : Type 0} (P : X → Type 0) (p : X → Bool) (xs : List X) → AllByRecursion P xs → AllByRecursion P (filter p xs)
 still_all P p [] h = tt
 still_all P p (x ∷ xs) h = by (p x) (still_all P p xs h.1)
   where
@@ -115,7 +115,7 @@ still_all P p (x ∷ xs) h = by (p x) (still_all P p xs h.1)
     by true later = (h.0, later)
     by false later = later
 
-keys_filtered : (p : Noted → Bool) (es : AskedList) → keys_of (filter (λ w. p w.0) es) ≡ filter p (keys_of es)
+pub keys_filtered : (p : Noted → Bool) (es : AskedList) → keys_of (filter (λ w. p w.0) es) ≡ filter p (keys_of es)
 keys_filtered p [] = refl
 keys_filtered p (e ∷ es) = by (p e.0) (keys_filtered p es)
   where
@@ -140,13 +140,13 @@ module _ {Y : Type 0} (q : Y → Bool) (f : Waits → List Y) (gone : Noted → 
       by false = refl
 
   -- in the shard of which it is, and in another
-  passes : (b : Bool) (es : AskedList) → AllByRecursion (λ w. filter q (f w) ≡ cond (not (b && gone w.0)) (f w) []) es
+  pub passes : (b : Bool) (es : AskedList) → AllByRecursion (λ w. filter q (f w) ≡ cond (not (b && gone w.0)) (f w) []) es
       → filter q (flat_map f es) ≡ flat_map f (cond b (filter (λ w. not (gone w.0)) es) es)
   passes true es h = others_pass es h
   passes false es h = all_pass es h
 
 -- a test that lets all of some items pass, or none
-alike : {X Y : Type 0} (q : Y → Bool) (f : X → Y) (b : Bool) (xs : List X) → AllByRecursion (λ x. q (f x) ≡ b) xs → filter q (map f xs) ≡ cond b (map f xs) []
+pub alike : {X Y : Type 0} (q : Y → Bool) (f : X → Y) (b : Bool) (xs : List X) → AllByRecursion (λ x. q (f x) ≡ b) xs → filter q (map f xs) ≡ cond b (map f xs) []
 alike q f true [] h = refl
 alike q f false [] h = refl
 alike q f true (x ∷ xs) h = ap (λ b. cond b (f x ∷ filter q (map f xs)) (filter q (map f xs))) h.0 ∙ ap (λ l. f x ∷ l) (alike q f true xs h.1)
