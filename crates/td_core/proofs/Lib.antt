@@ -12,5 +12,9 @@ pub mod GiveSteps
 pub mod NotifySteps
 pub mod OutTasks
 pub mod Waits
+pub mod WaitsSorted
+pub mod WaitsAsked
+pub mod WaitsAll
+pub mod ShardParts
 pub mod DeliverSteps
 pub mod SiteLists

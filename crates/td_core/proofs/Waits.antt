@@ -19,12 +19,12 @@ use Rattle.td_stamp.specs.Time.{Timestamp, time_cmp}
 use Rattle.td_machine.specs.declared.records.Message.{Message}
 use Rattle.td_machine.specs.declared.records.Notification.{Notification}
 use Rattle.td_machine.specs.State.{message_cmp, notification_cmp}
-use Rattle.td_machine.specs.Steps.{asked_at, waiting}
+use Rattle.td_machine.specs.Steps.{waiting}
 use Rattle.td_shard.specs.declared.noted.Noted.{Noted}
 use Rattle.td_shard.specs.Asked.{AskedList, noted_cmp, noted_at, items_at, with_items, with_items_by}
 use Rattle.td_core.specs.Floor.{waiting_at, asked_of_shard}
 
-none_is_some : {X : Type 0} {x : X} → None ≡ Some x → ⊥
+pub none_is_some : {X : Type 0} {x : X} → None ≡ Some x → ⊥
 none_is_some {X} {x} e = let no : false ≡ true = ap is_some e in true≢false (sym no)
 
 -- only equal notifications tie

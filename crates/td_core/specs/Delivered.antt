@@ -18,7 +18,6 @@ use Rattle.td_shard.specs.declared.shard.Shard.{Shard}
 use Rattle.td_core.specs.declared.floor.Floor.{Floor}
 use Rattle.td_core.specs.Floor.{state_of}
 use Rattle.td_core.specs.Posted.{mails, mails_with, waits}
-pub use Rattle.td_core.specs.Given.{IsEnded, IsUntouched}
 
 -- what a task's records add and send
 abbrev pub added_by : Answers → Floor → Task → ℕ → List Rec → Added

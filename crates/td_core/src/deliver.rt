@@ -2,7 +2,8 @@
 ghost use Rattle.std.specs.Prelude.{◌≡◌, Contains, IfErr, OnOk, OnErr};
 ghost use Rattle.td_machine.specs.State.Content.{messages};
 ghost use Rattle.td_core.specs.Floor.{IsHall};
-ghost use Rattle.td_core.specs.Delivered.{IsDelivered, IsUntouched};
+ghost use Rattle.td_core.specs.Delivered.{IsDelivered};
+ghost use Rattle.td_core.specs.Given.{IsUntouched};
 ghost use Rattle.td_core.specs.declared.error.HallError.TheVariants.{Memory};
 
 use crate::error::HallError;
