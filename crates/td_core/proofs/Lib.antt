@@ -18,3 +18,4 @@ pub mod WaitsAll
 pub mod ShardParts
 pub mod DeliverSteps
 pub mod SiteLists
+pub mod PostingSteps

@@ -39,8 +39,7 @@ pub(crate) fn lower(table: &mut Table, rises: &[Rise])
     requires { (p : AnyStamp) → occurrences p (risen rises.now) ≤ occurrences p table.old.stamps }
     ensures plan { table.new.plan ≡ table.old.plan }
     ensures stamps { IsSameBag table.old.stamps (risen rises.now ++ table.new.stamps) }
-{
-}
+{}
 
 /// So many messages more on each of some outlets, at a time. Refusal: `Memory`.
 pub(crate) fn rises_on(
