@@ -1,11 +1,21 @@
 -- A hall to which a task is given back takes the machine's step, and one that refuses it stays as it was.
-use Rattle.std.proofs.Common.{◌≡◌, ℕ, zero, suc, ◌+◌, ◌-◌, ◌==◌, ◌≤◌, ◌<◌, Bool, true, false, not, cond, List, [], ◌∷◌, ◌++◌, map, flat_map, filter, take, drop, length, Option, Some, None, refl, ap, sym, ◌∙◌, subst, arith}
+use Rattle.std.proofs.Common.{◌≡◌, ℕ, zero, suc, ◌+◌, ◌-◌, ◌==◌, ◌≤◌, ◌<◌, ◌↔◌, Bool, true, false, not, cond, List, [], ◌∷◌, ◌++◌, map, flat_map, filter, take, drop, replicate, length, Option, Some, None, refl, ap, sym, ◌∙◌, subst, arith}
 use Rattle.std.specs.List.{AllByRecursion, Contains, slice_get, enumerate_from, remove}
 use Rattle.std.proofs.lemmas.Bool.Decides.{nat_tests}
+use Rattle.std.proofs.lemmas.List.{length-map}
+use Rattle.std.proofs.lemmas.List.FromFn.{length-enumerate_from}
+use Rattle.td_stamp.specs.declared.values.Rec.{Rec}
 use Rattle.td_stamp.specs.Bag.{bag_of, set_of}
+use Rattle.td_stamp.specs.BagLaws.{BagLaws}
+use Rattle.td_plan.specs.Faults.{IsPlan}
 use Rattle.td_calls.specs.Answers.{Answers}
 use Rattle.td_reach.specs.declared.stamp.Stamp.{Stamp}
+use Rattle.td_reach.specs.declared.stamp.Place.TheVariants as places
+use Rattle.td_reach.specs.Paths.{IsOf}
 use Rattle.td_progress.specs.Bag.{occurrences, is_stamp, IsSameBag}
+use Rattle.td_machine.specs.declared.records.Message.{Message}
+use Rattle.td_machine.specs.ByEdge.{StampsOfTask}
+use Rattle.td_task.specs.Contents.{IsSized}
 use Rattle.td_machine.specs.State.{HallState, Task, Content, message_cmp, notification_cmp}
 use Rattle.td_machine.specs.State.Content.{messages, notification}
 use Rattle.td_machine.specs.Active.{active, inputs_of}
@@ -18,14 +28,17 @@ use Rattle.td_machine.specs.Steps.Gives.{gives}
 use Rattle.td_machine.specs.Reached.{IsReached}
 use Rattle.td_shard.specs.declared.shard.Shard.{Shard}
 use Rattle.td_core.specs.declared.floor.Floor.{Floor}
-use Rattle.td_core.specs.Floor.{state_of, IsHall, IsShard, in_mailboxes, with_tasks, waiting_at, waiting_in, asked_of_shard, asked_in}
-use Rattle.td_core.specs.Given.{IsEnded, IsUntouched}
-use Rattle.td_core.specs.Posted.{IsRoomier, mails, waits}
-use Rattle.td_core.specs.Sites.{IsSites}
+use Rattle.td_core.specs.Floor.{state_of, IsHall, IsShard, in_mailboxes, with_tasks}
+use Rattle.td_core.specs.Given.{IsUntouched, took}
+use Rattle.td_core.specs.Posted.{IsPosted, of_shard, mails, mails_with, waits}
+use Rattle.td_core.specs.Sites.{IsSites, edge_in}
+use Rattle.td_core.specs.declared.sites.Sites.{Sites}
 use Rattle.td_core.proofs.CollectSteps.{ReachedByStep}
 use Rattle.td_core.proofs.CloseSteps.{CountsAppend}
 use Rattle.td_core.proofs.OutTasks.{of_one, same_number, is_itself}
-use Rattle.td_core.proofs.ShardViews.{mail_seen, waiting_seen, asked_seen, as_long, mail_of, waiting_of, shards_of, IsMail, IsWaiting}
+use Rattle.td_core.proofs.PostingSteps.{as_many_mails, posted_bag, roomier_shards, same_buffered, same_asked}
+use Rattle.td_core.proofs.DeliverSteps.{MailPosted}
+use Rattle.td_core.proofs.SiteLists.{small_number}
 
 -- THE TASK at a place of those that are out is one of them
 abbrev or_else : {X : Type 0} → X → Option X → X
@@ -126,6 +139,10 @@ module _ (answers : Answers) (steps : ReachedByStep answers) (moves : StampsMove
       }
 
 -- A HALL THAT IS UNTOUCHED but for room is as it was
+mail_by_lists : (shards : List Shard) → in_mailboxes shards ≡ flat_map (λ m. m) (mails shards)
+mail_by_lists [] = refl
+mail_by_lists (s ∷ shards) = ap (λ l. s.mailbox.messages ++ l) (mail_by_lists shards)
+
 module _ (old new : Floor) (same : IsUntouched old new) where
   abbrev olds : List Shard
   olds = old.shards.items
@@ -134,24 +151,18 @@ module _ (old new : Floor) (same : IsUntouched old new) where
   news = new.shards.items
 
   many : length news ≡ length olds
-  many = as_long olds news same.shards.mails
+  many = as_many_mails olds news same.shards.mails
 
   mail : in_mailboxes news ≡ in_mailboxes olds
-  mail = mail_seen news ∙ (ap (flat_map (λ m. m)) same.shards.mails ∙ sym (mail_seen olds))
-
-  items : flat_map waiting_in news ≡ flat_map waiting_in olds
-  items = waiting_seen news ∙ (ap (flat_map (λ w. flat_map waiting_at w)) same.shards.waiting ∙ sym (waiting_seen olds))
-
-  asked : flat_map asked_in (enumerate_from 0 news) ≡ flat_map asked_in (enumerate_from 0 olds)
-  asked = asked_seen 0 news ∙ (ap (λ l. flat_map (λ p. map (asked_of_shard p.0) p.1) (enumerate_from 0 l)) same.shards.waiting ∙ sym (asked_seen 0 olds))
+  mail = mail_by_lists news ∙ (ap (flat_map (λ m. m)) same.shards.mails ∙ sym (mail_by_lists olds))
 
   pub untouched_state : state_of new ≡ state_of old
   untouched_state = ap state_of same.parts ∙ (λ i. record (state_of old) {
     plan = same.plan i;
     workers = many i;
     messages = bag_of message_cmp (mail i ++ with_tasks old.out.items);
-    buffered = bag_of message_cmp (items i);
-    asked = set_of notification_cmp (asked i);
+    buffered = bag_of message_cmp (same_buffered olds news same.shards.waiting i);
+    asked = set_of notification_cmp (same_asked 0 olds news same.shards.waiting i);
   })
 
   pub untouched_hall : (answers : Answers) → IsHall answers old → IsHall answers new
@@ -159,11 +170,68 @@ module _ (old new : Floor) (same : IsUntouched old new) where
     reached = subst (IsReached answers) (sym untouched_state) inv.reached;
     counted = λ p. same.stamps p ∙ (inv.counted p ∙ ap (λ S. occurrences p (active S)) (sym untouched_state));
     inputs = ap (λ (f : Floor). f.inputs.items) same.parts ∙ (inv.inputs ∙ ap inputs_of (sym same.plan));
-    shards = subst (λ n. AllByRecursion (IsShard n) (enumerate_from 0 news)) (sym many)
-        (shards_of (length olds) 0 news
-        (subst (λ l. AllByRecursion (IsMail (length olds)) (enumerate_from 0 l)) (sym same.shards.mails) (mail_of (length olds) 0 olds inv.shards))
-        (subst (λ l. AllByRecursion (IsWaiting (length olds)) (enumerate_from 0 l)) (sym same.shards.waiting) (waiting_of (length olds) 0 olds inv.shards)));
+    shards = roomier_shards olds news same.shards inv.shards;
     few = subst (λ n. n ≤ 16) (sym many) inv.few;
     next = subst (λ n. n ≤ ends) (sym (ap (λ (f : Floor). f.next) same.parts)) inv.next;
     sites = subst (λ s. IsSites new.table.plan s) (sym (ap (λ (f : Floor). f.sites) same.parts)) (subst (λ p. IsSites p old.sites) (sym same.plan) inv.sites);
   }
+
+-- MESSAGES THAT WERE POSTED, whatever became of what waits
+refit : List Shard → List Shard → List Shard
+refit (o ∷ os) (n ∷ ns) = record n { waiting = o.waiting } ∷ refit os ns
+refit _ _ = []
+
+refit_mails : (os ns : List Shard) → length ns ≡ length os → mails (refit os ns) ≡ mails ns
+unfolding refit
+refit_mails [] [] e = refl
+refit_mails [] (n ∷ ns) e = absurd (omega (arith, e))
+refit_mails (o ∷ os) [] e = absurd (omega (arith, e))
+refit_mails (o ∷ os) (n ∷ ns) e = ap (λ l. n.mailbox.messages ∷ l) (refit_mails os ns (omega (arith, e)))
+
+refit_waits : (os ns : List Shard) → length ns ≡ length os → waits (refit os ns) ≡ waits os
+unfolding refit
+refit_waits [] ns e = refl
+refit_waits (o ∷ os) [] e = absurd (omega (arith, e))
+refit_waits (o ∷ os) (n ∷ ns) e = ap (λ l. o.waiting ∷ l) (refit_waits os ns (omega (arith, e)))
+
+pub as_many_posted : (cs : List Message) (old new : List Shard) → mails new ≡ mails_with cs old → length new ≡ length old
+as_many_posted cs old new e =
+    sym (length-map new (λ s. s.mailbox.messages))
+    ∙ (ap length e ∙ (length-map (enumerate_from 0 old) (λ p. p.1.mailbox.messages ++ of_shard (length old) p.0 cs) ∙ length-enumerate_from 0 old))
+
+pub mail_posted : BagLaws message_cmp → MailPosted
+mail_posted laws cs old new xs some e =
+    let many = as_many_posted cs old new e in
+    let mail = refit_mails old new many in
+    let is : IsPosted cs old (refit old new) = record { mails = mail ∙ e; waiting = refit_waits old new many } in
+    let same : in_mailboxes new ≡ in_mailboxes (refit old new) = mail_by_lists new ∙ (ap (flat_map (λ m. m)) (sym mail) ∙ sym (mail_by_lists (refit old new))) in
+    ap (λ l. bag_of message_cmp (l ++ xs)) same ∙ posted_bag laws cs old (refit old new) some is xs
+
+-- THE POINTSTAMP of what a task took up
+pub so_often : ((p q : Stamp) → (is_stamp p q ≡ true) ↔ (p ≡ q)) → (append : CountsAppend) → (p : Stamp) (n : ℕ) → occurrences p (replicate n p) ≡ n
+so_often same append p zero = refl
+so_often same append p (suc n) =
+    let one : occurrences p (p ∷ []) ≡ 1 = ap (λ b. 0 + cond b 1 0) ((same p p).1 refl) in
+    let two = append p (p ∷ []) (replicate n p) in
+    let rest = so_often same append p n in
+    omega (arith, one, two, rest)
+
+module _ (S : HallState) (sites : Sites) (are : IsSites S.plan sites) (own : StampsOfTask) (task : Task) where
+  -- it goes as often as it came
+  pub gone_is_took : (content : Content) → gone_given S task content ≡ replicate (took sites task content).times (took sites task content).stamp
+  gone_is_took (messages port recs) =
+      own S.plan task.vertex port task.time recs ∙ ap (λ e. replicate (length recs) (record { time = task.time; place = places.Edge e })) (sym (are.edge task.vertex port))
+  gone_is_took (notification items) = refl
+
+  -- the number of its edge fits
+  pub edge_is_small : ((p : Stamp) (xs : List Stamp) → Contains xs p ↔ (0 < occurrences p xs)) → ((p q : Stamp) → (is_stamp p q ≡ true) ↔ (p ≡ q)) → (append : CountsAppend)
+      → (stamps : List Stamp) → ((p : Stamp) → occurrences p (gone_given S task task.content) ≤ occurrences p stamps) → AllByRecursion (IsOf S.plan) stamps → IsPlan S.plan → IsSized task.content
+      → (port : ℕ) (recs : List Rec) → task.content ≡ messages port recs → edge_in sites task.vertex port < 256
+  edge_is_small contains same append stamps enough each lawful sized port recs content =
+      let p : Stamp = record { time = task.time; place = places.Edge (edge_in sites task.vertex port) } in
+      let some = (subst IsSized content sized).0 in
+      let many = ap (occurrences p) (ap (gone_given S task) content ∙ gone_is_took (messages port recs)) ∙ so_often same append p (length recs) in
+      let least = enough p in
+      let there : Contains stamps p = (contains p stamps).1 (omega (arith, some, many, least)) in
+      let of = of_one (IsOf S.plan) stamps p each there in
+      small_number S.plan lawful (edge_in sites task.vertex port) of.0 of.1

@@ -7,8 +7,8 @@ pub mod Unpassed
 pub mod CutSteps
 pub mod Opening
 pub mod NotifyLists
-pub mod ShardViews
 pub mod GiveSteps
+pub mod NotifyShards
 pub mod NotifySteps
 pub mod OutTasks
 pub mod Waits

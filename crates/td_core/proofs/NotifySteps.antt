@@ -28,7 +28,7 @@ use Rattle.td_core.specs.Posted.{mails, mails_with, waits}
 use Rattle.td_core.specs.Given.{IsNotified, IsEnded, waiting_without}
 use Rattle.td_core.proofs.NotifyLists.{Waits, here, there_is, asked_is, removed, passes, alike, weaker, still_all, keys_filtered}
 use Rattle.td_core.proofs.OutTasks.{parted}
-use Rattle.td_core.proofs.ShardViews.{waiting_seen, asked_seen, waiting_of, IsWaiting}
+use Rattle.td_core.proofs.WaitsAll.{waiting_by_lists, asked_by_lists, IsWaiting}
 
 -- WHAT WAITS in a shard without the task's notification
 module _ (task : Task) where
@@ -144,14 +144,14 @@ module _ (answers : Answers) (laws : NotifyLaws) (old mid end : Floor) (task : T
   buffered : bag_of message_cmp (flat_map waiting_in mids) ≡ filter (for_others task (state_of old) laws.place) (state_of old).buffered
   buffered = sym (
       laws.messages.filtered_join (for_others task (state_of old) laws.place) (flat_map waiting_in olds) [] refl
-      ∙ ap (bag_of message_cmp) (ap (filter (for_others task (state_of old) laws.place)) (waiting_seen olds) ∙ (items_of task (state_of old) laws.place 0 (waits olds) waiting_are
-      ∙ (ap (flat_map (λ w. flat_map waiting_at w)) (sym waits_mid) ∙ sym (waiting_seen mids)))))
+      ∙ ap (bag_of message_cmp) (ap (filter (for_others task (state_of old) laws.place)) (waiting_by_lists olds) ∙ (items_of task (state_of old) laws.place 0 (waits olds) waiting_are
+      ∙ (ap (flat_map (λ w. flat_map waiting_at w)) (sym waits_mid) ∙ sym (waiting_by_lists mids)))))
 
   asked : set_of notification_cmp (flat_map asked_in (enumerate_from 0 mids)) ≡ filter (others_asked task (state_of old) laws.place) (state_of old).asked
   asked = sym (
       laws.asked (others_asked task (state_of old) laws.place) (flat_map asked_in (enumerate_from 0 olds))
-      ∙ ap (set_of notification_cmp) (ap (filter (others_asked task (state_of old) laws.place)) (asked_seen 0 olds) ∙ (asked_of task (state_of old) laws.place 0 (waits olds)
-      ∙ (ap (λ l. flat_map (λ p. map (asked_of_shard p.0) p.1) (enumerate_from 0 l)) (sym waits_mid) ∙ sym (asked_seen 0 mids)))))
+      ∙ ap (set_of notification_cmp) (ap (filter (others_asked task (state_of old) laws.place)) (asked_by_lists 0 olds) ∙ (asked_of task (state_of old) laws.place 0 (waits olds)
+      ∙ (ap (λ l. flat_map (λ p. map (asked_of_shard p.0) p.1) (enumerate_from 0 l)) (sym waits_mid) ∙ sym (asked_by_lists 0 mids)))))
 
   module _ (posted : (xs : List Message) → bag_of message_cmp (in_mailboxes mids ++ xs) ≡ join message_cmp sent (bag_of message_cmp (in_mailboxes olds ++ xs)))
       (many : length mids ≡ length olds) (ended : IsEnded task mid end) where
