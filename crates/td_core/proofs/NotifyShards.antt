@@ -51,7 +51,7 @@ module _ (task : Task) where
 abbrev a_state : ℕ → ℕ → KeyItems → Option State → StateLeft
 a_state epoch v k state = record { epoch = epoch; vertex = v; key = k.key; state = state }
 
-none_left : (epoch v : ℕ) (keys : List KeyItems) → left_for epoch v keys [] ≡ []
+pub none_left : (epoch v : ℕ) (keys : List KeyItems) → left_for epoch v keys [] ≡ []
 none_left epoch v [] = refl
 none_left epoch v (k ∷ keys) = refl
 
