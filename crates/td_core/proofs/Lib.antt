@@ -19,3 +19,5 @@ pub mod ShardParts
 pub mod DeliverSteps
 pub mod SiteLists
 pub mod PostingSteps
+pub mod RaisingSteps
+pub mod PostRuns

@@ -73,7 +73,7 @@ posted_after workers k cs ds (s ∷ a) (t ∷ b) e =
     let rest : mails b ≡ posted_from workers (k + 1) cs a = cc in
     let two : of_shard workers k (cs ++ ds) ≡ of_shard workers k cs ++ of_shard workers k ds = filter-append (λ c. shard_of_key workers c.rec.key == k) cs ds in
     let first : t.mailbox.messages ++ of_shard workers k ds ≡ s.mailbox.messages ++ of_shard workers k (cs ++ ds) =
-          ap (λ l. l ++ of_shard workers k ds) here ∙ (append_assoc s.mailbox.messages (of_shard workers k cs) (of_shard workers k ds) ∙ ap (λ l. s.mailbox.messages ++ l) (sym two)) in
+    ap (λ l. l ++ of_shard workers k ds) here ∙ (append_assoc s.mailbox.messages (of_shard workers k cs) (of_shard workers k ds) ∙ ap (λ l. s.mailbox.messages ++ l) (sym two)) in
     λ i. first i ∷ posted_after workers (k + 1) cs ds a b rest i
 
 pub posted_then : (cs ds : List Message) (a b c : List Shard) → IsPosted cs a b → IsPosted ds b c → IsPosted (cs ++ ds) a c
@@ -200,12 +200,14 @@ shards_from workers k cs (s ∷ old) (t ∷ new) m w h =
     let here : t.mailbox.messages ≡ s.mailbox.messages ++ of_shard workers k cs = cc in
     let rest : mails new ≡ posted_from workers (k + 1) cs old = cc in
     let same : t.waiting ≡ s.waiting = cc in
-    let more : waits new ≡ waits old = cc in
-    (record {
-      messages = subst (AllByRecursion (λ c. shard_of_key workers c.rec.key ≡ k)) (sym here) (all_of_two (λ c. shard_of_key workers c.rec.key ≡ k) s.mailbox.messages (of_shard workers k cs) h.0.messages (are_own workers k cs));
-      items = subst (AllByRecursion (λ w. AllByRecursion (λ a. shard_of_key workers a.key ≡ k) w.1)) (sym same) h.0.items;
-      once = subst (λ w. IsStrictlySortedBy noted_cmp (keys_of w)) (sym same) h.0.once;
-    }, shards_from workers (k + 1) cs old new rest more h.1)
+    let more : waits new ≡ waits old = cc in (
+      record {
+        messages = subst (AllByRecursion (λ c. shard_of_key workers c.rec.key ≡ k)) (sym here) (all_of_two (λ c. shard_of_key workers c.rec.key ≡ k) s.mailbox.messages (of_shard workers k cs) h.0.messages (are_own workers k cs));
+        items = subst (AllByRecursion (λ w. AllByRecursion (λ a. shard_of_key workers a.key ≡ k) w.1)) (sym same) h.0.items;
+        once = subst (λ w. IsStrictlySortedBy noted_cmp (keys_of w)) (sym same) h.0.once;
+      },
+      shards_from workers (k + 1) cs old new rest more h.1,
+    )
 
 pub posted_shards : (cs : List Message) (old new : List Shard) → IsPosted cs old new
     → AllByRecursion (IsShard (length old)) (enumerate_from 0 old) → AllByRecursion (IsShard (length new)) (enumerate_from 0 new)

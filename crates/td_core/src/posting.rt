@@ -1,6 +1,7 @@
 //! Posting messages to the mailboxes of the shards.
-ghost use Rattle.std.specs.Prelude.{◌≡◌, ◌+◌, ◌≤◌, ◌<◌, ◌++◌, ℕ, length, map, max, get_or, take, drop, IfErr, OnOk, OnErr};
+ghost use Rattle.std.specs.Prelude.{◌≡◌, ◌+◌, ◌-◌, ◌≤◌, ◌<◌, ℕ, length, map, get_or, take, drop, IfErr, OnOk, OnErr};
 ghost use Rattle.std.specs.List.{AllByRecursion};
+ghost use Rattle.td_stamp.specs.declared.values.Rec.{Rec as AnyRec};
 ghost use Rattle.td_machine.specs.State.{shard_of_key};
 ghost use Rattle.td_core.specs.Posted.{IsPosted, IsRoomier, HaveRoom, HaveRoomFor, count_of, only_in, on_outlet, on_each};
 ghost use Rattle.td_core.specs.declared.error.HallError.TheVariants.{Memory};
@@ -84,11 +85,12 @@ fn post_runs(shards: &mut Vec<Shard>, outlet: &Outlet, time: &Time, recs: &[Rec]
 fn run_end(recs: &[Rec], begin: usize, shard: u8, workers: u8) -> usize
     requires workers { 1 ≤ workers }
     requires there { begin < length recs.now }
-    ensures after { begin ≤ result }
+    requires first { (d : AnyRec) → shard_of_key workers (get_or recs.now begin d).key ≡ shard }
+    ensures after { begin < result }
     ensures within { result ≤ length recs.now }
-    ensures own { AllByRecursion (λ r. shard_of_key workers r.key ≡ shard) (drop begin (take result recs.now)) }
+    ensures own { AllByRecursion (λ r. shard_of_key workers r.key ≡ shard) (take (result - begin) (drop begin recs.now)) }
 {
-    for end in begin..recs.len() {
+    for end in begin + 1..recs.len() {
         if recs[end].shard(workers) != shard {
             return end;
         }
