@@ -40,6 +40,7 @@ use Rattle.td_core.specs.Given.{IsEnded}
 use Rattle.td_core.specs.Delivered.{IsDelivered, added_by, waiting_with}
 use Rattle.td_core.proofs.CollectSteps.{ReachedByStep}
 use Rattle.td_core.proofs.CloseSteps.{CountsAppend}
+use Rattle.td_core.proofs.PostingSteps.{mails_bag}
 use Rattle.td_core.proofs.OutTasks.{of_one, others, its, parted}
 use Rattle.td_core.proofs.Waits.{waiting_all}
 use Rattle.td_core.proofs.WaitsSorted.{weaker}
@@ -61,10 +62,6 @@ pub record DeliverLaws (answers : Answers) : Type 0 where
   pub moves : StampsMove answers
   pub append : CountsAppend
 
-abbrev pub MailPosted : Type 0
-MailPosted = (cs : List Message) (old new : List Shard) (xs : List Message) → 1 ≤ length old → mails new ≡ mails_with cs old
-    → bag_of message_cmp (in_mailboxes new ++ xs) ≡ join message_cmp cs (bag_of message_cmp (in_mailboxes old ++ xs))
-
 -- what waits of a task's records, where they wait
 abbrev waiting_if : Bool → ℕ → List Rec → List Arrival
 waiting_if true port recs = map (arrival_of port) recs
@@ -82,7 +79,7 @@ buffered_by answers seen Feedback v port t recs = refl
 buffered_by answers seen Leave v port t recs = refl
 buffered_by answers seen Output v port t recs = refl
 
-module _ (posted : MailPosted) (answers : Answers) (laws : DeliverLaws answers) (old mid : Floor) (task : Task) (port : ℕ) (recs : List Rec)
+module _ (answers : Answers) (laws : DeliverLaws answers) (old mid : Floor) (task : Task) (port : ℕ) (recs : List Rec)
     (content : task.content ≡ messages port recs) (inv : IsHall answers old) (out : Contains old.out.items task)
     (delivered : IsDelivered answers task port recs old mid) where
   abbrev S : HallState
@@ -133,7 +130,7 @@ module _ (posted : MailPosted) (answers : Answers) (laws : DeliverLaws answers) 
   effect_is = ap (effect answers S task) content ∙ laws.at_once S task.kind v port t recs left taken
 
   posted_then : bag_of message_cmp (in_mailboxes mid.shards.items ++ with_tasks (others task old.out.items)) ≡ join message_cmp (posts old.table.plan (stamped v t added.sent)) left
-  posted_then = posted (posts old.table.plan (stamped v t added.sent)) old.shards.items mid.shards.items (with_tasks (others task old.out.items)) some_workers delivered.mails
+  posted_then = mails_bag laws.messages (posts old.table.plan (stamped v t added.sent)) old.shards.items mid.shards.items some_workers delivered.mails (with_tasks (others task old.out.items))
 
   -- WHAT WAITS
   buffered_if : (b : Bool) → is_notified task.kind ≡ b → bag_of message_cmp (flat_map waiting_in mid.shards.items) ≡ join message_cmp (map (waiting v t) (waiting_if b port recs)) S.buffered

@@ -10,6 +10,9 @@ pub mod NotifyLists
 pub mod GiveSteps
 pub mod NotifyShards
 pub mod NotifySteps
+pub mod SiteLists
+pub mod PostingSteps
+pub mod Rises
 pub mod OutTasks
 pub mod Waits
 pub mod WaitsSorted
@@ -17,7 +20,5 @@ pub mod WaitsAsked
 pub mod WaitsAll
 pub mod ShardParts
 pub mod DeliverSteps
-pub mod SiteLists
-pub mod PostingSteps
-pub mod RaisingSteps
 pub mod PostRuns
+pub mod Sending

@@ -167,11 +167,16 @@ module _ (laws : BagLaws message_cmp) where
       let below : c.rec.key % workers < workers = omega (arith, some) in
       of_one workers 0 c cs shards (omega arith) (omega (arith, below, all)) zs ∙ ap (bag_insert message_cmp c) (parted workers shards all some cs zs)
 
+  -- it is told by the mailboxes alone
+  pub mails_bag : (cs : List Message) (old new : List Shard) → 1 ≤ length old → mails new ≡ mails_with cs old → (xs : List Message)
+      → bag_of message_cmp (in_mailboxes new ++ xs) ≡ join message_cmp cs (bag_of message_cmp (in_mailboxes old ++ xs))
+  mails_bag cs old new some mail xs =
+      laws.append (in_mailboxes new) xs [] ∙ (in_new (length old) 0 cs old new mail (bag_of message_cmp xs)
+      ∙ (parted (length old) old refl some cs (join message_cmp (in_mailboxes old) (bag_of message_cmp xs)) ∙ ap (join message_cmp cs) (sym (laws.append (in_mailboxes old) xs []))))
+
   pub posted_bag : (cs : List Message) (old new : List Shard) → 1 ≤ length old → IsPosted cs old new → (xs : List Message)
       → bag_of message_cmp (in_mailboxes new ++ xs) ≡ join message_cmp cs (bag_of message_cmp (in_mailboxes old ++ xs))
-  posted_bag cs old new some is xs =
-      laws.append (in_mailboxes new) xs [] ∙ (in_new (length old) 0 cs old new is.mails (bag_of message_cmp xs)
-      ∙ (parted (length old) old refl some cs (join message_cmp (in_mailboxes old) (bag_of message_cmp xs)) ∙ ap (join message_cmp cs) (sym (laws.append (in_mailboxes old) xs []))))
+  posted_bag cs old new some is xs = mails_bag cs old new some is.mails xs
 
   pub roomier_bag : (old new : List Shard) → 1 ≤ length old → IsRoomier old new → (xs : List Message)
       → bag_of message_cmp (in_mailboxes new ++ xs) ≡ bag_of message_cmp (in_mailboxes old ++ xs)

@@ -72,16 +72,16 @@ module _ (task : Task) (port : ℕ) (recs : List Rec) where
   same_waits e k (s ∷ ss) =
       ap (λ w. w ∷ then_waits (k + 1) ss) (unless (k, s) (ap (λ b. b && k == task.shard) e)) ∙ ap (λ l. s.waiting ∷ l) (same_waits e (k + 1) ss)
 
-  elsewhere : (k : ℕ) → (k ≡ task.shard → ⊥) → (s : Shard) → waiting_with task port recs (k, s) ≡ s.waiting
+  pub elsewhere : (k : ℕ) → (k ≡ task.shard → ⊥) → (s : Shard) → waiting_with task port recs (k, s) ≡ s.waiting
   elsewhere k other s = unless (k, s) (ap (λ b. is_notified task.kind && b) (other_number k task.shard other) ∙ and_false (is_notified task.kind))
 
-  past_waits : (k : ℕ) (shards : List Shard) → task.shard < k → then_waits k shards ≡ waits shards
+  pub past_waits : (k : ℕ) (shards : List Shard) → task.shard < k → then_waits k shards ≡ waits shards
   past_waits k [] l = refl
   past_waits k (s ∷ ss) l =
       ap (λ w. w ∷ then_waits (k + 1) ss) (elsewhere k (λ e. absurd (omega (arith, e, l))) s) ∙ ap (λ l. s.waiting ∷ l) (past_waits (k + 1) ss (omega (arith, l)))
 
   module _ (noted : is_notified task.kind ≡ true) where
-    in_its_own : (k : ℕ) → k ≡ task.shard → (s : Shard) → waiting_with task port recs (k, s) ≡ with_items s.waiting task.vertex task.time more
+    pub in_its_own : (k : ℕ) → k ≡ task.shard → (s : Shard) → waiting_with task port recs (k, s) ≡ with_items s.waiting task.vertex task.time more
     in_its_own k e s =
         let mine : (k == task.shard) ≡ true = grind (arith, nat_tests) in
         ap (λ b. waiting_by (b && k == task.shard) task port recs s.waiting) noted ∙ ap (λ b. waiting_by b task port recs s.waiting) mine

@@ -1,22 +1,31 @@
 -- A hall's floor after the records of a task were delivered. The task is still out, and what it took up stands with it.
-use Rattle.std.specs.Prelude.{◌≡◌, ℕ, ◌==◌, Bool, true, false, ◌&&◌, List, ◌++◌, map}
-use Rattle.std.specs.List.{enumerate_from}
+use Rattle.std.specs.Prelude.{◌≡◌, ℕ, ◌≤◌, ◌<◌, ◌==◌, Bool, true, false, ◌&&◌, List, [], ◌∷◌, ◌++◌, map, length, get_or, set, is_some}
+use Rattle.std.specs.List.{AllByRecursion, enumerate_from}
 use Rattle.td_stamp.specs.declared.values.Rec.{Rec}
+use Rattle.td_stamp.specs.declared.values.Arrival.{Arrival}
 use Rattle.td_stamp.specs.Bag.{join}
 use Rattle.td_stamp.specs.Groups.{arrival_of}
+use Rattle.td_stamp.specs.Time.{Timestamp, depth}
+use Rattle.td_plan.specs.declared.vertex.Kind.TheVariants.{Enter}
 use Rattle.td_calls.specs.Answers.{Answers}
 use Rattle.td_calls.specs.Callbacks.{Added, is_notified}
+use Rattle.td_reach.specs.declared.stamp.Stamp.{Stamp}
+use Rattle.td_reach.specs.Paths.{IsOf}
 use Rattle.td_progress.specs.Bag.{IsSameBag}
+use Rattle.td_machine.specs.declared.records.Stamped.{Stamped}
+use Rattle.td_machine.specs.declared.records.OutputAt.{OutputAt}
 use Rattle.td_machine.specs.State.{Task, stamped_cmp, output_at_cmp}
 use Rattle.td_machine.specs.State.Content.{messages}
+use Rattle.td_machine.specs.Active.{kind_of, stamp_at}
 use Rattle.td_machine.specs.Steps.{posts, stamped}
 use Rattle.td_machine.specs.AtOnce.{added_at_once}
-use Rattle.td_machine.specs.ByEdge.{comes_out_at_once}
+use Rattle.td_machine.specs.ByEdge.{comes_out_at_once, stamps_by_edge}
 use Rattle.td_machine.specs.Moves.{come_given}
-use Rattle.td_shard.specs.Asked.{AskedList, with_items}
+use Rattle.td_shard.specs.Asked.{AskedList, items_at, with_items}
 use Rattle.td_shard.specs.declared.shard.Shard.{Shard}
 use Rattle.td_core.specs.declared.floor.Floor.{Floor}
 use Rattle.td_core.specs.Floor.{state_of}
+use Rattle.td_core.specs.Sites.{IsSites}
 use Rattle.td_core.specs.Posted.{mails, mails_with, waits}
 
 -- what a task's records add and send
@@ -44,3 +53,37 @@ pub record IsDelivered (answers : Answers) (task : Task) (port : ℕ) (recs : Li
   pub stamps : IsSameBag new.table.stamps (come_given answers (state_of old) task (messages port recs) ++ old.table.stamps)
   pub mails : mails new.shards.items ≡ mails_with (posts old.table.plan (stamped task.vertex task.time (added_by answers old task port recs).sent)) old.shards.items
   pub waits : waits new.shards.items ≡ map (waiting_with task port recs) (enumerate_from 0 old.shards.items)
+
+-- A vertex can send in answer to a time: what it sends is of the plan, and the hall knows to where
+pub record CanSend (v : ℕ) (t : Timestamp) (h : Floor) : Type 0 where
+  pub sites : IsSites h.table.plan h.sites
+  pub some : 1 ≤ length h.shards.items
+  pub few : length h.shards.items ≤ 16
+  pub enters : kind_of h.table.plan v ≡ Enter → depth t < 3
+  pub of_plan : (many : ℕ) → AllByRecursion (IsOf h.table.plan) (stamps_by_edge h.table.plan v t many)
+
+-- PARTS OF IT. Records are sent in answer to a time: they are posted, and active; what distincts have seen and what came to the
+-- outputs is this
+pub record IsSent (v : ℕ) (t : Timestamp) (sent : List Rec) (seen : List Stamped) (outputs : List OutputAt) (old new : Floor) : Type 0 where
+  pub parts : new ≡ record old { table = new.table; shards = new.shards; seen = seen; outputs = outputs }
+  pub plan : new.table.plan ≡ old.table.plan
+  pub stamps : IsSameBag new.table.stamps (stamps_by_edge old.table.plan v t (length sent) ++ old.table.stamps)
+  pub mails : mails new.shards.items ≡ mails_with (posts old.table.plan (stamped v t sent)) old.shards.items
+  pub waiting : waits new.shards.items ≡ waits old.shards.items
+
+-- what waits in a shard
+abbrev pub waiting_at_shard : ℕ → Floor → AskedList
+waiting_at_shard s h = get_or (waits h.shards.items) s []
+
+-- the pointstamp of a notification, where it was not asked for
+abbrev pub asked_now : ℕ → Timestamp → Bool → List Stamp
+asked_now v t true = []
+asked_now v t false = stamp_at v t ∷ []
+
+-- Items wait in a shard, and their notification is active
+pub record IsKept (s v : ℕ) (t : Timestamp) (more : List Arrival) (old new : Floor) : Type 0 where
+  pub parts : new ≡ record old { table = new.table; shards = new.shards }
+  pub plan : new.table.plan ≡ old.table.plan
+  pub stamps : IsSameBag new.table.stamps (asked_now v t (is_some (items_at (waiting_at_shard s old) v t)) ++ old.table.stamps)
+  pub mails : mails new.shards.items ≡ mails old.shards.items
+  pub waits : waits new.shards.items ≡ set (waits old.shards.items) s (with_items (waiting_at_shard s old) v t more)

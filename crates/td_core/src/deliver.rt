@@ -1,20 +1,50 @@
-//! Giving the records of a task to its vertex.
-ghost use Rattle.std.specs.Prelude.{◌≡◌, Contains, IfErr, OnOk, OnErr};
+//! Delivering the records of a task to its vertex.
+ghost use Rattle.std.specs.Prelude.{◌≡◌, ◌≤◌, ◌<◌, ◌++◌, ◌∷◌, [], ℕ, length, map, Contains, IfErr, OnOk, OnErr};
+ghost use Rattle.std.specs.List.{AllByRecursion};
+ghost use Rattle.td_stamp.specs.Bag.{join};
+ghost use Rattle.td_stamp.specs.Groups.{arrival_of};
+ghost use Rattle.td_stamp.specs.Time.{depth};
+ghost use Rattle.td_plan.specs.declared.vertex.Kind.TheVariants.{Enter};
+ghost use Rattle.td_reach.specs.declared.stamp.Stamp.{Stamp as AnyStamp};
+ghost use Rattle.td_reach.specs.Paths.{IsOf};
+ghost use Rattle.td_progress.specs.Bag.{occurrences, IsSameBag};
+ghost use Rattle.td_machine.specs.Active.{kind_of, bound_of, stamp_at};
+ghost use Rattle.td_machine.specs.AtOnce.{fresh};
+ghost use Rattle.td_machine.specs.ByEdge.{comes_out_at_once, stamps_by_edge, StampsByEdge};
+ghost use Rattle.td_machine.specs.State.{stamped_cmp, output_at_cmp};
 ghost use Rattle.td_machine.specs.State.Content.{messages};
+ghost use Rattle.td_machine.specs.Steps.{stamped, sending_times};
+ghost use Rattle.td_core.specs.Came.{output_at};
 ghost use Rattle.td_core.specs.Floor.{IsHall};
-ghost use Rattle.td_core.specs.Delivered.{IsDelivered};
+ghost use Rattle.td_core.specs.Delivered.{IsDelivered, IsSent, IsKept, CanSend};
 ghost use Rattle.td_core.specs.Given.{IsUntouched};
+ghost use Rattle.td_core.specs.Posted.{HaveRoom, IsRoomier, stamp_on_outlet, stamps_on};
 ghost use Rattle.td_core.specs.declared.error.HallError.TheVariants.{Memory};
 
 use crate::error::HallError;
 use crate::floor::Floor;
+use crate::posting::{make_room, post};
+use crate::raising::{Rise, lower, raise, rises_on};
+use crate::sites::Outlet;
+use std::alloc::Global;
 use td_calls::Law;
-use td_stamp::Rec;
+use td_machine::laws::{bags_of_states, in_parts, reached_in_order, sends_of_plan, turns_of_plan};
+use td_plan::Kind;
+use td_progress::Table;
+use td_progress::laws::counted;
+use td_reach::{Place, Stamp};
+use td_shard::Shard;
+use td_stamp::{Rec, Time};
 use td_task::Done;
 
-/// Has the records of a task that is out come to its vertex: what they send is posted, and what they add is added. The task is
-/// still out. Refusal: `Memory`, with nothing changed but room.
-pub(crate) fn deliver<L: Law>(floor: &mut Floor, done: &Done<L>, port: u8, recs: &[Rec]) -> Result<(), HallError>
+/// Has the records of a task that is out come to its vertex (Naiad, section 2.2: OnRecv): what they send is posted, and what
+/// they add is added. The task is still out. Refusal: `Memory`, with nothing changed but for more room.
+pub(crate) fn deliver<L: Law>(
+    floor: &mut Floor,
+    done: &Done<L>,
+    port: u8,
+    recs: &[Rec],
+) -> Result<(), HallError>
     requires hall { IsHall L.answers floor.old }
     requires out { Contains floor.old.out.items done.now }
     requires content { done.now.content ≡ messages port recs.now }
@@ -22,5 +52,183 @@ pub(crate) fn deliver<L: Law>(floor: &mut Floor, done: &Done<L>, port: u8, recs:
     ensures err { OnErr result (IsUntouched floor.old floor.new) }
     ensures memory { IfErr result (λ e. e ≡ Memory) }
 {
-    Err(HallError::Memory)
+    reached_in_order::<L>();
+    sends_of_plan::<L>();
+    turns_of_plan();
+    in_parts();
+    bags_of_states();
+    td_task::laws::a_map_sends::<L>();
+    let task = done.task();
+    let (vertex, time) = (task.vertex(), task.time());
+    match task.kind() {
+        Kind::Input => Ok(()),
+        Kind::Map(_) => send(floor, vertex, time, done.sent()),
+        Kind::Distinct => send_new(floor, vertex, time, recs),
+        Kind::Group(_) | Kind::Fold(_) => keep(floor, task.shard(), vertex, time, port, recs),
+        Kind::Enter | Kind::Feedback | Kind::Leave => send(floor, vertex, time, recs),
+        Kind::Output => come_out(floor, vertex, time, recs),
+    }
+}
+
+/// Sends records from a vertex in answer to a time. Refusal: `Memory`, with nothing changed but for more room.
+pub(crate) fn send(
+    floor: &mut Floor,
+    vertex: u8,
+    time: &Time,
+    recs: &[Rec],
+) -> Result<(), HallError>
+    requires { CanSend vertex time.now floor.old }
+    ensures ok { OnOk result (IsSent vertex time.now recs.now floor.old.seen floor.old.outputs floor.old floor.new) }
+    ensures err { OnErr result (IsUntouched floor.old floor.new) }
+    ensures memory { IfErr result (λ e. e ≡ Memory) }
+{
+    counted();
+    in_parts();
+    let Some(later) = floor.sites.sending_time(vertex, time) else {
+        return Ok(());
+    };
+    let outlets = floor.sites.outlets(vertex);
+    prepare(
+        &mut floor.table,
+        &mut floor.shards,
+        floor.alloc,
+        outlets,
+        &later,
+        recs,
+    )?;
+    post(&mut floor.shards, outlets, &later, recs);
+    Ok(())
+}
+
+/// Sends those of some records that are new to a distinct at a time, and has it have seen them. Refusal: `Memory`, with
+/// nothing changed but for more room.
+fn send_new(floor: &mut Floor, vertex: u8, time: &Time, recs: &[Rec]) -> Result<(), HallError>
+    requires can { CanSend vertex time.now floor.old }
+    requires plain { sending_times (kind_of floor.old.table.plan vertex) (bound_of floor.old.table.plan vertex) time.now ≡ time.now ∷ [] }
+    ensures ok { OnOk result (IsSent vertex time.now (fresh floor.old.seen vertex time.now recs.now) (join stamped_cmp (stamped vertex time.now (fresh floor.old.seen vertex time.now recs.now)) floor.old.seen) floor.old.outputs floor.old floor.new) }
+    ensures err { OnErr result (IsUntouched floor.old floor.new) }
+    ensures memory { IfErr result (λ e. e ≡ Memory) }
+{
+    counted();
+    in_parts();
+    let outlets = floor.sites.outlets(vertex);
+    prepare(
+        &mut floor.table,
+        &mut floor.shards,
+        floor.alloc,
+        outlets,
+        time,
+        recs,
+    )?;
+    let Ok(new) = floor.seen.see(vertex, time, recs) else {
+        lower_on(&mut floor.table, outlets, time, recs.len() as u64);
+        return Err(HallError::Memory);
+    };
+    let surplus = recs.len() - new.len();
+    lower_on(&mut floor.table, outlets, time, surplus as u64);
+    post(&mut floor.shards, outlets, time, new.as_slice());
+    Ok(())
+}
+
+/// Has records come out at an output in an epoch, and sends them. Refusal: `Memory`, with nothing changed but for more room.
+fn come_out(floor: &mut Floor, vertex: u8, time: &Time, recs: &[Rec]) -> Result<(), HallError>
+    requires can { CanSend vertex time.now floor.old }
+    requires plain { sending_times (kind_of floor.old.table.plan vertex) (bound_of floor.old.table.plan vertex) time.now ≡ time.now ∷ [] }
+    ensures ok { OnOk result (IsSent vertex time.now recs.now floor.old.seen (join output_at_cmp (map (output_at time.now.epoch vertex) recs.now) floor.old.outputs) floor.old floor.new) }
+    ensures err { OnErr result (IsUntouched floor.old floor.new) }
+    ensures memory { IfErr result (λ e. e ≡ Memory) }
+{
+    counted();
+    in_parts();
+    let outlets = floor.sites.outlets(vertex);
+    prepare(
+        &mut floor.table,
+        &mut floor.shards,
+        floor.alloc,
+        outlets,
+        time,
+        recs,
+    )?;
+    if floor.outputs.come(time.epoch(), vertex, recs).is_err() {
+        lower_on(&mut floor.table, outlets, time, recs.len() as u64);
+        return Err(HallError::Memory);
+    }
+    post(&mut floor.shards, outlets, time, recs);
+    Ok(())
+}
+
+/// Keeps records as items that wait at a vertex and time in a shard. Their notification is active from the first on. Refusal:
+/// `Memory`, with nothing changed but for more room.
+fn keep(
+    floor: &mut Floor,
+    shard: u8,
+    vertex: u8,
+    time: &Time,
+    port: u8,
+    recs: &[Rec],
+) -> Result<(), HallError>
+    requires there { shard < length floor.old.shards.items }
+    requires some { 0 < length recs.now }
+    requires of_plan { IsOf floor.old.table.plan (stamp_at vertex time.now) }
+    ensures ok { OnOk result (IsKept shard vertex time.now (map (arrival_of port) recs.now) floor.old floor.new) }
+    ensures err { OnErr result (IsUntouched floor.old floor.new) }
+    ensures memory { IfErr result (λ e. e ≡ Memory) }
+{
+    counted();
+    let waiting = &mut floor.shards[usize::from(shard)].waiting;
+    let times = if waiting.is_asked(vertex, time) { 0 } else { 1 };
+    let asked = [Rise {
+        stamp: Stamp {
+            time: time.copy(),
+            place: Place::Vertex(vertex),
+        },
+        times,
+    }];
+    raise(&mut floor.table, &asked)?;
+    if waiting.wait(vertex, time, port, recs).is_err() {
+        lower(&mut floor.table, &asked);
+        return Err(HallError::Memory);
+    }
+    Ok(())
+}
+
+/// Makes room for records on each of some outlets at a time, and has them active there. Refusal: `Memory`, with nothing
+/// changed but for more room.
+pub(crate) fn prepare(
+    table: &mut Table,
+    shards: &mut Vec<Shard>,
+    alloc: Global,
+    outlets: &[Outlet],
+    time: &Time,
+    recs: &[Rec],
+) -> Result<(), HallError>
+    requires some { 1 ≤ length shards.old.items }
+    requires few { length shards.old.items ≤ 16 }
+    requires of_plan { AllByRecursion (λ o. IsOf table.old.plan (stamp_on_outlet time.now o)) outlets.now }
+    ensures plan { table.new.plan ≡ table.old.plan }
+    ensures stamps { OnOk result (IsSameBag table.new.stamps (stamps_on outlets.now time.now (length recs.now) ++ table.old.stamps)) }
+    ensures room { OnOk result (HaveRoom recs.now (length outlets.now) shards.new.items) }
+    ensures shards { IsRoomier shards.old.items shards.new.items }
+    ensures err { OnErr result (IsSameBag table.new.stamps table.old.stamps) }
+    ensures memory { IfErr result (λ e. e ≡ Memory) }
+{
+    make_room(shards, recs, outlets.len())?;
+    let rises = rises_on(alloc, outlets, time, recs.len() as u64)?;
+    raise(table, rises.as_slice())
+}
+
+/// So many messages less on each of some outlets, at a time. It takes no memory.
+pub(crate) fn lower_on(table: &mut Table, outlets: &[Outlet], time: &Time, times: u64)
+    requires { (p : AnyStamp) → occurrences p (stamps_on outlets.now time.now times) ≤ occurrences p table.old.stamps }
+    ensures plan { table.new.plan ≡ table.old.plan }
+    ensures stamps { IsSameBag table.old.stamps (stamps_on outlets.now time.now times ++ table.new.stamps) }
+{
+    counted();
+    for outlet in outlets {
+        let stamp = Stamp {
+            time: time.copy(),
+            place: Place::Edge(outlet.number),
+        };
+        table.take_off_many(&stamp, times);
+    }
 }

@@ -1,11 +1,11 @@
+// FOUNDER TO POST: another helper (branch `raise`) proves this file; leave it out, merge branch `raise` when it is there. Drop this line.
 //! Raising the occurrences of several pointstamps, all or none.
-ghost use Rattle.std.specs.Prelude.{◌≡◌, ◌≤◌, ◌++◌, replicate, IfOk, IfErr, OnOk, OnErr};
-ghost use Rattle.std.specs.Bool.{OnTrue, OnFalse};
+ghost use Rattle.std.specs.Prelude.{◌≡◌, ◌≤◌, ◌++◌, map, replicate, IfOk, IfErr, OnOk, OnErr};
 ghost use Rattle.std.specs.List.{AllByRecursion};
 ghost use Rattle.td_reach.specs.declared.stamp.Stamp.{Stamp as AnyStamp};
 ghost use Rattle.td_reach.specs.Paths.{IsOf};
 ghost use Rattle.td_progress.specs.Bag.{IsSameBag, occurrences};
-ghost use Rattle.td_core.specs.Posted.{risen, stamps_on};
+ghost use Rattle.td_core.specs.Posted.{risen, stamps_on, stamp_on_outlet};
 ghost use Rattle.td_core.specs.declared.error.HallError.TheVariants.{Memory};
 
 use crate::error::HallError;
@@ -33,13 +33,29 @@ pub(crate) fn raise(table: &mut Table, rises: &[Rise]) -> Result<(), HallError>
     ensures memory { IfErr result (λ e. e ≡ Memory) }
 {
     counted();
-    for done in 0..rises.len() {
-        let rise = &rises[done];
-        if !raise_one(table, &rise.stamp, rise.times) {
-            lower(table, &rises[..done]);
-            return Err(HallError::Memory);
+    for (count, rise) in rises.iter().enumerate() {
+        if let Err(refused) = raise_one(table, rise) {
+            lower(table, &rises[..count]);
+            return Err(refused);
         }
     }
+    Ok(())
+}
+
+/// One of these pointstamps so many times more. Refusal: `Memory`, with the table unchanged, also where it would occur 2^128
+/// times.
+fn raise_one(table: &mut Table, rise: &Rise) -> Result<(), HallError>
+    requires { IsOf table.old.plan rise.now.stamp }
+    ensures plan { table.new.plan ≡ table.old.plan }
+    ensures ok { OnOk result (IsSameBag table.new.stamps (replicate rise.now.times rise.now.stamp ++ table.old.stamps)) }
+    ensures err { OnErr result (table.new ≡ table.old) }
+    ensures memory { IfErr result (λ e. e ≡ Memory) }
+{
+    let before = table.occurrences(&rise.stamp);
+    if before.checked_add(u128::from(rise.times)).is_none() {
+        return Err(HallError::Memory);
+    }
+    table.add_many(&rise.stamp, rise.times)?;
     Ok(())
 }
 
@@ -62,7 +78,8 @@ pub(crate) fn rises_on(
     time: &Time,
     times: u64,
 ) -> Result<Vec<Rise>, HallError>
-    ensures rises { IfOk result (λ rises. risen rises.items ≡ stamps_on outlets.now time.now times) }
+    ensures rises { IfOk result (λ rises. rises.items ≡ map (λ o. record { stamp = stamp_on_outlet time.now o; times = times }) outlets.now) }
+    ensures risen { IfOk result (λ rises. risen rises.items ≡ stamps_on outlets.now time.now times) }
     ensures memory { IfErr result (λ e. e ≡ Memory) }
 {
     let mut rises = Vec::with_capacity(alloc, outlets.len())?;
@@ -76,16 +93,4 @@ pub(crate) fn rises_on(
         });
     }
     Ok(rises)
-}
-
-/// Whether a pointstamp now occurs so many times more: otherwise memory was refused, or it would occur 2^128 times, and
-/// nothing was changed.
-fn raise_one(table: &mut Table, stamp: &Stamp, times: u64) -> bool
-    requires { IsOf table.old.plan stamp.now }
-    ensures plan { table.new.plan ≡ table.old.plan }
-    ensures yes { OnTrue result (IsSameBag table.new.stamps (replicate times stamp.now ++ table.old.stamps)) }
-    ensures no { OnFalse result (table.new ≡ table.old) }
-{
-    let occurs = table.occurrences(stamp);
-    occurs.checked_add(u128::from(times)).is_some() && table.add_many(stamp, times).is_ok()
 }
