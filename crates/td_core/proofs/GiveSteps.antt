@@ -2,8 +2,6 @@
 use Rattle.std.proofs.Common.{◌≡◌, ℕ, zero, suc, ◌+◌, ◌-◌, ◌==◌, ◌≤◌, ◌<◌, ◌↔◌, Bool, true, false, not, cond, List, [], ◌∷◌, ◌++◌, map, flat_map, filter, take, drop, replicate, length, Option, Some, None, refl, ap, sym, ◌∙◌, subst, arith}
 use Rattle.std.specs.List.{AllByRecursion, Contains, slice_get, enumerate_from, remove}
 use Rattle.std.proofs.lemmas.Bool.Decides.{nat_tests}
-use Rattle.std.proofs.lemmas.List.{length-map}
-use Rattle.std.proofs.lemmas.List.FromFn.{length-enumerate_from}
 use Rattle.td_stamp.specs.declared.values.Rec.{Rec}
 use Rattle.td_stamp.specs.Bag.{bag_of, set_of}
 use Rattle.td_stamp.specs.BagLaws.{BagLaws}
@@ -30,13 +28,13 @@ use Rattle.td_shard.specs.declared.shard.Shard.{Shard}
 use Rattle.td_core.specs.declared.floor.Floor.{Floor}
 use Rattle.td_core.specs.Floor.{state_of, IsHall, IsShard, in_mailboxes, with_tasks}
 use Rattle.td_core.specs.Given.{IsUntouched, took}
-use Rattle.td_core.specs.Posted.{IsPosted, of_shard, mails, mails_with, waits}
+use Rattle.td_core.specs.Posted.{mails}
 use Rattle.td_core.specs.Sites.{IsSites, edge_in}
 use Rattle.td_core.specs.declared.sites.Sites.{Sites}
 use Rattle.td_core.proofs.CollectSteps.{ReachedByStep}
 use Rattle.td_core.proofs.CloseSteps.{CountsAppend}
 use Rattle.td_core.proofs.OutTasks.{of_one, same_number, is_itself}
-use Rattle.td_core.proofs.PostingSteps.{as_many_mails, posted_bag, roomier_shards, same_buffered, same_asked}
+use Rattle.td_core.proofs.PostingSteps.{as_many_mails, mails_bag, roomier_shards, same_buffered, same_asked}
 use Rattle.td_core.proofs.DeliverSteps.{MailPosted}
 use Rattle.td_core.proofs.SiteLists.{small_number}
 
@@ -177,35 +175,8 @@ module _ (old new : Floor) (same : IsUntouched old new) where
   }
 
 -- MESSAGES THAT WERE POSTED, whatever became of what waits
-refit : List Shard → List Shard → List Shard
-refit (o ∷ os) (n ∷ ns) = record n { waiting = o.waiting } ∷ refit os ns
-refit _ _ = []
-
-refit_mails : (os ns : List Shard) → length ns ≡ length os → mails (refit os ns) ≡ mails ns
-unfolding refit
-refit_mails [] [] e = refl
-refit_mails [] (n ∷ ns) e = absurd (omega (arith, e))
-refit_mails (o ∷ os) [] e = absurd (omega (arith, e))
-refit_mails (o ∷ os) (n ∷ ns) e = ap (λ l. n.mailbox.messages ∷ l) (refit_mails os ns (omega (arith, e)))
-
-refit_waits : (os ns : List Shard) → length ns ≡ length os → waits (refit os ns) ≡ waits os
-unfolding refit
-refit_waits [] ns e = refl
-refit_waits (o ∷ os) [] e = absurd (omega (arith, e))
-refit_waits (o ∷ os) (n ∷ ns) e = ap (λ l. o.waiting ∷ l) (refit_waits os ns (omega (arith, e)))
-
-pub as_many_posted : (cs : List Message) (old new : List Shard) → mails new ≡ mails_with cs old → length new ≡ length old
-as_many_posted cs old new e =
-    sym (length-map new (λ s. s.mailbox.messages))
-    ∙ (ap length e ∙ (length-map (enumerate_from 0 old) (λ p. p.1.mailbox.messages ++ of_shard (length old) p.0 cs) ∙ length-enumerate_from 0 old))
-
 pub mail_posted : BagLaws message_cmp → MailPosted
-mail_posted laws cs old new xs some e =
-    let many = as_many_posted cs old new e in
-    let mail = refit_mails old new many in
-    let is : IsPosted cs old (refit old new) = record { mails = mail ∙ e; waiting = refit_waits old new many } in
-    let same : in_mailboxes new ≡ in_mailboxes (refit old new) = mail_by_lists new ∙ (ap (flat_map (λ m. m)) (sym mail) ∙ sym (mail_by_lists (refit old new))) in
-    ap (λ l. bag_of message_cmp (l ++ xs)) same ∙ posted_bag laws cs old (refit old new) some is xs
+mail_posted laws cs old new xs some e = mails_bag laws cs old new some e xs
 
 -- THE POINTSTAMP of what a task took up
 pub so_often : ((p q : Stamp) → (is_stamp p q ≡ true) ↔ (p ≡ q)) → (append : CountsAppend) → (p : Stamp) (n : ℕ) → occurrences p (replicate n p) ≡ n

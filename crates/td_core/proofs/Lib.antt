@@ -9,6 +9,7 @@ pub mod Opening
 pub mod NotifyLists
 pub mod GiveSteps
 pub mod NotifyShards
+pub mod NotifySends
 pub mod NotifySteps
 pub mod SiteLists
 pub mod PostingSteps

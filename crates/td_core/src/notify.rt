@@ -20,7 +20,7 @@ use crate::sites::{Outlet, Sites};
 use std::alloc::{AllocError, Global};
 use td_calls::Law;
 use td_machine::StateLeft;
-use td_machine::laws::{in_parts, reached_in_order, sends_of_plan};
+use td_machine::laws::{bags_of_states, in_parts, reached_in_order, sends_of_plan};
 use td_progress::Table;
 use td_progress::laws::counted;
 use td_shard::{Shard, Versions};
@@ -45,6 +45,7 @@ pub(crate) fn notify<L: Law>(
 {
     reached_in_order::<L>();
     sends_of_plan::<L>();
+    bags_of_states();
     in_parts();
     counted();
     a_notification_sends::<L>();
