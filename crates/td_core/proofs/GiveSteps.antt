@@ -3,6 +3,8 @@ use Rattle.std.proofs.Common.{◌≡◌, ℕ, zero, suc, ◌+◌, ◌-◌, ◌==
 use Rattle.std.specs.List.{AllByRecursion, Contains, slice_get, enumerate_from, remove}
 use Rattle.std.proofs.lemmas.Bool.Decides.{nat_tests}
 use Rattle.td_stamp.specs.declared.values.Rec.{Rec}
+use Rattle.std.proofs.lemmas.List.{length-map}
+use Rattle.std.proofs.lemmas.List.FromFn.{length-enumerate_from}
 use Rattle.td_stamp.specs.Bag.{bag_of, set_of}
 use Rattle.td_stamp.specs.BagLaws.{BagLaws}
 use Rattle.td_plan.specs.Faults.{IsPlan}
@@ -28,7 +30,7 @@ use Rattle.td_shard.specs.declared.shard.Shard.{Shard}
 use Rattle.td_core.specs.declared.floor.Floor.{Floor}
 use Rattle.td_core.specs.Floor.{state_of, IsHall, IsShard, in_mailboxes, with_tasks}
 use Rattle.td_core.specs.Given.{IsUntouched, took}
-use Rattle.td_core.specs.Posted.{mails}
+use Rattle.td_core.specs.Posted.{of_shard, mails, mails_with}
 use Rattle.td_core.specs.Sites.{IsSites, edge_in}
 use Rattle.td_core.specs.declared.sites.Sites.{Sites}
 use Rattle.td_core.proofs.CollectSteps.{ReachedByStep}
@@ -173,6 +175,12 @@ module _ (old new : Floor) (same : IsUntouched old new) where
     next = subst (λ n. n ≤ ends) (sym (ap (λ (f : Floor). f.next) same.parts)) inv.next;
     sites = subst (λ s. IsSites new.table.plan s) (sym (ap (λ (f : Floor). f.sites) same.parts)) (subst (λ p. IsSites p old.sites) (sym same.plan) inv.sites);
   }
+
+-- as many shards when messages were posted
+pub as_many_posted : (cs : List Message) (old new : List Shard) → mails new ≡ mails_with cs old → length new ≡ length old
+as_many_posted cs old new e =
+    sym (length-map new (λ s. s.mailbox.messages))
+    ∙ (ap length e ∙ (length-map (enumerate_from 0 old) (λ p. p.1.mailbox.messages ++ of_shard (length old) p.0 cs) ∙ length-enumerate_from 0 old))
 
 -- MESSAGES THAT WERE POSTED, whatever became of what waits
 pub mail_posted : BagLaws message_cmp → MailPosted

@@ -21,5 +21,6 @@ pub mod WaitsAsked
 pub mod WaitsAll
 pub mod ShardParts
 pub mod DeliverSteps
+pub mod NotifyGiven
 pub mod PostRuns
 pub mod Sending
