@@ -2,8 +2,9 @@
 use Rattle.std.proofs.Common.{◌≡◌, ℕ, zero, suc, ◌+◌, ◌-◌, ◌*◌, ◌<◌, ◌≤◌, ◌==◌, Bool, true, false, cond, List, [], ◌∷◌, ◌++◌, map, filter, flat_map, take, drop, get_or, set, length, refl, ap, sym, ◌∙◌, subst, append-nil, drop-cons, length-drop, arith}
 use Rattle.std.specs.List.{AllByRecursion, enumerate_from}
 use Rattle.std.proofs.lemmas.Bool.Decides.{nat_tests}
-use Rattle.std.proofs.lemmas.Grind.{flat_map-append}
-use Rattle.std.proofs.lemmas.List.{take_more, map-append, get_or-drop, length-append}
+use Rattle.std.proofs.lemmas.Grind.{flat_map-append, get_or-set_at}
+use Rattle.std.proofs.lemmas.List.{take_more, map-append, get_or-drop, length-append, take-append-drop, get_or-set_other}
+use Rattle.std.proofs.Math.Seq.{take-add}
 use Rattle.std.proofs.lemmas.List.Elements.{filter-append}
 use Rattle.td_stamp.specs.declared.values.Rec.{Rec}
 use Rattle.td_stamp.specs.Time.{Timestamp}
@@ -216,3 +217,60 @@ room_by_place many k (s ∷ ss) h =
       subst (λ n. HasRoom (many n) s) none (h 0 s (omega arith)),
       room_by_place many (k + 1) ss (λ i d l. let next : k + suc i ≡ k + 1 + i = omega arith in subst (λ n. HasRoom (many n) (get_or ss i d)) next (h (suc i) d (omega (arith, l)))),
     )
+
+-- HOW MANY of some records
+pub count_at_most : (workers s : ℕ) (recs : List Rec) → count_of workers recs s ≤ length recs
+count_at_most workers s [] = omega arith
+count_at_most workers s (r ∷ recs) = by (shard_of_key workers r.key == s) (count_at_most workers s recs)
+  where
+    by : (b : Bool) → count_of workers recs s ≤ length recs → length (cond b (r ∷ filter (λ x. shard_of_key workers x.key == s) recs) (filter (λ x. shard_of_key workers x.key == s) recs)) ≤ suc (length recs)
+    by true h = omega (arith, h)
+    by false h = omega (arith, h)
+
+pub count_one_more : (workers s : ℕ) (recs : List Rec) (i : ℕ) (d : Rec) → i < length recs
+    → count_of workers (take (i + 1) recs) s ≡ count_of workers (take i recs) s + only_in (shard_of_key workers (get_or recs i d).key) 1 s
+count_one_more workers s recs i d within =
+    let r = get_or recs i d in
+    let two = ap length (filter-append (λ x. shard_of_key workers x.key == s) (take i recs) (r ∷ [])) ∙ length-append (filter (λ x. shard_of_key workers x.key == s) (take i recs)) (filter (λ x. shard_of_key workers x.key == s) (r ∷ [])) in
+    let one = count_first workers 1 r [] s in
+    let all = ap (λ l. count_of workers l s) (take_more recs i d within) in
+    omega (arith, all, two, one)
+
+-- ONE OUTLET alone
+pub single : (os : List Outlet) (d : Outlet) (t : Timestamp) (recs : List Rec) → length os ≡ 1 → map (λ r. on_outlet t r (get_or os 0 d)) recs ≡ on_each os t recs
+single os d t [] e = refl
+single [] d t (r ∷ recs) e = absurd (omega (arith, e))
+single (o ∷ []) d t (r ∷ recs) e = ap (λ l. on_outlet t r o ∷ l) (single (o ∷ []) d t recs e)
+single (o ∷ p ∷ os) d t (r ∷ recs) e = absurd (omega (arith, e))
+
+-- THE RECORDS after a place, in two parts
+drop_then : {X : Type 0} (n m : ℕ) (xs : List X) → drop m (drop n xs) ≡ drop (n + m) xs
+drop_then zero m xs = let none : m ≡ 0 + m = omega arith in ap (λ k. drop k xs) none
+drop_then {X} (suc n) m [] = none m ∙ sym (none (suc n + m))
+  where
+    none : (k : ℕ) → ◌≡◌ {A = List X} (drop k []) []
+    none zero = refl
+    none (suc k) = refl
+drop_then (suc n) m (x ∷ xs) = let next : suc (n + m) ≡ suc n + m = omega arith in drop_then n m xs ∙ ap (λ k. drop k (x ∷ xs)) next
+
+pub in_two : (recs : List Rec) (begin end : ℕ) → begin ≤ end → drop begin recs ≡ take (end - begin) (drop begin recs) ++ drop end recs
+in_two recs begin end from =
+    let place : begin + (end - begin) ≡ end = omega (arith, from) in
+    sym (take-append-drop (end - begin) (drop begin recs)) ∙ ap (λ l. take (end - begin) (drop begin recs) ++ l) (drop_then begin (end - begin) recs ∙ ap (λ n. drop n recs) place)
+
+pub up_to : (recs : List Rec) (begin end : ℕ) → begin ≤ end → take begin recs ++ take (end - begin) (drop begin recs) ≡ take end recs
+up_to recs begin end from = let place : begin + (end - begin) ≡ end = omega (arith, from) in sym (take-add begin (end - begin) recs) ∙ ap (λ n. take n recs) place
+
+-- one more at a place
+pub count_after : (s at : ℕ) (counts : List ℕ) → at < length counts → get_or (set counts at (get_or counts at 0 + 1)) s 0 ≡ get_or counts s 0 + only_in at 1 s
+count_after s at counts within = by (s == at) refl
+  where
+    by : (b : Bool) → (s == at) ≡ b → get_or (set counts at (get_or counts at 0 + 1)) s 0 ≡ get_or counts s 0 + cond b 1 0
+    by true e =
+        let same : s ≡ at = grind (arith, nat_tests, e) in
+        get_or-set_at counts at s (get_or counts at 0 + 1) 0 same within ∙ ap (λ n. get_or counts n 0 + 1) (sym same)
+    by false e =
+        let other : s ≡ at → ⊥ = λ same. grind (arith, nat_tests, e, same) in
+        let n = get_or counts s 0 in
+        let none : n ≡ n + 0 = omega arith in
+        get_or-set_other counts at s (get_or counts at 0 + 1) 0 other ∙ none

@@ -89,7 +89,7 @@ small_number plan is n e there =
 
 -- as is one whose pointstamps are of the plan
 pub edge_fits : (plan : List Line) → IsPlan plan → (t : Timestamp) (n : ℕ) → IsOf plan (record { time = t; place = places.Edge n }) → n < 256
-edge_fits plan is t n of = small_number plan is n of.0 of.1.0
+edge_fits plan is t n of = small_number plan is n of.0 of.1
 
 -- A BEGINNING has at most as many
 pub count_next : (n : ℕ) (ps : List PlacedVertex) (p : PlacedVertex) → slice_get ps n ≡ Some p → edge_count (take (n + 1) ps) ≡ edge_count (take n ps) + length p.vertex.sources

@@ -14,7 +14,7 @@ post_everywhere-requires-clause-room c =
     let workers = length c.args.shards.now.items in
     let e = length c.args.outlets.now in
     let r = get_or recs i (record { key = 0; val = pos 0 }) in
-    let at : c.shard.result ≡ r.key % workers = c.shard.ensures ∙ ap (λ n. r.key % n) c.len-workers.ensures in
+    let at : c.shard.result ≡ r.key % workers = c.shard.ensures ∙ ap (λ n. r.key % n) (let have = c.args.shards.now.ok in let many : c.len-workers.result ≡ workers = omega (arith, have, c.len-workers.ensures) in many) in
     room_weaker (λ s. count_of workers (drop i recs) s * e) (only_in c.shard.result e)
     (λ s. let next = count_next workers e recs i (record { key = 0; val = pos 0 }) c.loop-rec-test.true s in let here = ap (λ n. only_in n e s) at in omega (arith, next, here)) 0 c.loop-rec.shards.items
     c.loop-rec.invariant.room
@@ -29,7 +29,7 @@ loop-rec-preserved c =
     let workers = length old in
     let e = length os in
     let r = get_or recs i (record { key = 0; val = pos 0 }) in
-    let at : c.shard.result ≡ r.key % workers = c.shard.ensures ∙ ap (λ n. r.key % n) c.len-workers.ensures in
+    let at : c.shard.result ≡ r.key % workers = c.shard.ensures ∙ ap (λ n. r.key % n) (let have = c.args.shards.now.ok in let many : c.len-workers.result ≡ workers = omega (arith, have, c.len-workers.ensures) in many) in
     record {
       posted = subst (λ cs. IsPosted cs old c.post_everywhere.new.shards.items) (each_next os t recs i (record { key = 0; val = pos 0 }) c.loop-rec-test.true)
           (posted_then (on_each os t (take i recs)) (map (on_outlet t r) os) old c.loop-rec.shards.items c.post_everywhere.new.shards.items c.loop-rec.invariant.posted c.post_everywhere.ensures.posted);

@@ -16,4 +16,4 @@ pub loop-end-preserved : goal.loop-end-preserved
 loop-end-preserved c =
     let from = c.loop-end.auto.end in
     own_more (λ r. shard_of_key c.args.workers r.key ≡ c.args.shard) c.args.recs.now c.args.begin c.loop-end.end (record { key = 0; val = pos 0 }) (omega (arith, from)) c.loop-end-test.true c.loop-end.invariant
-    (sym c.shard.ensures ∙ ?)
+    (sym c.shard.ensures ∙ c.if-shard.false)
