@@ -24,3 +24,5 @@ pub mod DeliverSteps
 pub mod NotifyGiven
 pub mod PostRuns
 pub mod Sending
+pub mod Keeping
+pub mod Delivering

@@ -23,12 +23,15 @@ use Rattle.td_shard.specs.Seen as shards
 use Rattle.td_shard.specs.declared.shard.Shard.{Shard}
 use Rattle.td_core.specs.declared.floor.Floor.{Floor}
 use Rattle.td_core.specs.declared.sites.Outlet.{Outlet}
-use Rattle.td_core.specs.Sites.{outlet_of, outlets_of, outlets_in}
+use Rattle.td_core.specs.declared.sites.Sites.{Sites}
+use Rattle.td_core.specs.Sites.{IsSites, outlet_of, outlets_of, kind_in, bound_in}
 use Rattle.td_core.specs.Posted.{on_each, on_outlet, stamp_on_outlet, stamps_on, mails, mails_with, waits, IsPosted, IsRoomier, HaveRoom, HasRoom, count_of}
 use Rattle.td_core.specs.Given.{IsUntouched}
 use Rattle.td_core.specs.Delivered.{IsSent, CanSend}
 use Rattle.td_core.proofs.CloseSteps.{CountsAppend}
 use Rattle.td_core.proofs.PostingSteps.{roomier_then_posted, none_posted as none_posts}
+use Rattle.td_core.specs.declared.raising.Rise.{Rise}
+use Rattle.td_core.proofs.Rises.{rise_on}
 use Rattle.td_core.proofs.WaitsSorted.{weaker}
 
 map_map : {X Y Z : Type 0} (f : X → Y) (g : Y → Z) (xs : List X) → map g (map f xs) ≡ map (λ x. g (f x)) xs
@@ -69,6 +72,10 @@ module _ (plan : List Line) (v : ℕ) (t : Timestamp) where
         by : (os : List Outlet) → AllByRecursion (IsOf plan) (stamps_on os later 1) → AllByRecursion (λ o. IsOf plan (stamp_on_outlet later o)) os
         by [] k = tt
         by (o ∷ os) k = (k.0, by os k.1)
+
+-- what is looked up is the plan's
+pub looked_up : (plan : List Line) (sites : Sites) → IsSites plan sites → (v : ℕ) (t : Timestamp) → sending_times (kind_in sites v) (bound_in sites v) t ≡ times_from plan v t
+looked_up plan sites is v t = λ i. sending_times (is.kind v i) (is.bound v i) t
 
 -- NEW RECORDS are told the same way by a shard's definition and by the machine's
 pub same_fresh : (seen : List Stamped) (v : ℕ) (t : Timestamp) (recs : List Rec) → shards.fresh seen v t recs ≡ fresh seen v t recs
@@ -163,33 +170,38 @@ module _ (append : CountsAppend) (outs : List Outlet) (t : Timestamp) where
       omega (arith, all, left)
 
 -- WHAT WAS SENT
-module _ (old new : Floor) (v : ℕ) (t : Timestamp) where
-  pub none_sent : times_from old.table.plan v t ≡ [] → (sent : List Rec) → IsSent v t sent old.seen old.outputs old old
-  none_sent e sent = record {
-    parts = refl;
-    plan = refl;
-    stamps = λ p. ap (λ l. occurrences p (l ++ old.table.stamps)) (sym (none_active old.table.plan v t e (length sent)));
-    mails = sym (none_posts (length old.shards.items) 0 old.shards.items) ∙ ap (λ cs. mails_with cs old.shards.items) (sym (none_posted old.table.plan v t e sent));
-    waiting = refl;
-  }
+pub none_sent : (old : Floor) (v : ℕ) (t : Timestamp) → times_from old.table.plan v t ≡ [] → (sent : List Rec) → IsSent v t sent old.seen old.outputs old old
+none_sent old v t e sent = record {
+  parts = refl;
+  plan = refl;
+  stamps = λ p. ap (λ l. occurrences p (l ++ old.table.stamps)) (sym (none_active old.table.plan v t e (length sent)));
+  mails = sym (none_posts (length old.shards.items) 0 old.shards.items) ∙ ap (λ cs. mails_with cs old.shards.items) (sym (none_posted old.table.plan v t e sent));
+  waiting = refl;
+}
 
-  module _ (later : Timestamp) (e : times_from old.table.plan v t ≡ later ∷ []) (outs : List Outlet) (outs_are : outs ≡ outlets_of old.table.plan v) where
-    pub sent_then : (sent : List Rec) (seen : List Stamped) (outputs : List OutputAt) (mid : List Shard)
-        → new ≡ record old { table = new.table; shards = new.shards; seen = seen; outputs = outputs }
-        → new.table.plan ≡ old.table.plan → IsSameBag new.table.stamps (stamps_on outs later (length sent) ++ old.table.stamps)
-        → IsRoomier old.shards.items mid → IsPosted (on_each outs later sent) mid new.shards.items
-        → IsSent v t sent seen outputs old new
-    sent_then sent seen outputs mid parts plan stamps room posted =
-        let all = roomier_then_posted (on_each outs later sent) old.shards.items mid new.shards.items room posted in
-        record {
-          parts = parts;
-          plan = plan;
-          stamps = λ p. stamps p ∙ ap (λ l. occurrences p (l ++ old.table.stamps)) (ap (λ os. stamps_on os later (length sent)) outs_are ∙ sym (active_on old.table.plan v t later e (length sent)));
-          mails = all.mails ∙ ap (λ cs. mails_with cs old.shards.items) (ap (λ os. on_each os later sent) outs_are ∙ sym (posted_on old.table.plan v t later e sent));
-          waiting = all.waiting;
-        }
+module _ (old new : Floor) (v : ℕ) (t later : Timestamp) (e : times_from old.table.plan v t ≡ later ∷ []) (outs : List Outlet) (outs_are : outs ≡ outlets_of old.table.plan v) where
+  pub sent_then : (sent : List Rec) (seen : List Stamped) (outputs : List OutputAt) (mid : List Shard)
+      → new ≡ record old { table = new.table; shards = new.shards; seen = seen; outputs = outputs }
+      → new.table.plan ≡ old.table.plan → IsSameBag new.table.stamps (stamps_on outs later (length sent) ++ old.table.stamps)
+      → IsRoomier old.shards.items mid → IsPosted (on_each outs later sent) mid new.shards.items
+      → IsSent v t sent seen outputs old new
+  sent_then sent seen outputs mid parts plan stamps room posted =
+      let all = roomier_then_posted (on_each outs later sent) old.shards.items mid new.shards.items room posted in
+      record {
+        parts = parts;
+        plan = plan;
+        stamps = λ p. stamps p ∙ ap (λ l. occurrences p (l ++ old.table.stamps)) (ap (λ os. stamps_on os later (length sent)) outs_are ∙ sym (active_on old.table.plan v t later e (length sent)));
+        mails = all.mails ∙ ap (λ cs. mails_with cs old.shards.items) (ap (λ os. on_each os later sent) outs_are ∙ sym (posted_on old.table.plan v t later e sent));
+        waiting = all.waiting;
+      }
 
 -- NOTHING BUT MORE ROOM
 pub untouched : (old new : Floor) → new ≡ record old { table = new.table; shards = new.shards } → new.table.plan ≡ old.table.plan
     → IsSameBag new.table.stamps old.table.stamps → IsRoomier old.shards.items new.shards.items → IsUntouched old new
 untouched old new parts plan stamps room = record { parts = parts; plan = plan; stamps = stamps; shards = room }
+
+-- each rise on an outlet is of the plan
+pub rises_of_plan : (plan : List Line) (t : Timestamp) (times : ℕ) (outs : List Outlet) → AllByRecursion (λ o. IsOf plan (stamp_on_outlet t o)) outs
+    → AllByRecursion (λ (r : Rise). IsOf plan r.stamp) (map (rise_on t times) outs)
+rises_of_plan plan t times [] h = tt
+rises_of_plan plan t times (o ∷ os) h = (h.0, rises_of_plan plan t times os h.1)

@@ -1,0 +1,37 @@
+use Rattle.std.proofs.Common.{◌≡◌, ◌∙◌, ap, sym, subst, map, length}
+use Rattle.std.specs.List.{AllByRecursion}
+use Rattle.td_reach.specs.Paths.{IsOf}
+use Rattle.td_stamp.specs.Bag.{join}
+use Rattle.td_machine.specs.State.{output_at_cmp}
+use Rattle.td_core.specs.Came.{output_at}
+use Rattle.td_core.specs.Posted.{stamp_on_outlet}
+use Rattle.td_core.proofs.Sending.{sent_then, outlets_of_plan, all_off, untouched}
+use Rattle.td_core.proofs.Keeping.{at_ok, at_err}
+use Rattle.td_core.proofs.deliver.come_out.Goals as goal
+
+pub prepare-requires-clause-of_plan : goal.prepare-requires-clause-of_plan
+prepare-requires-clause-of_plan c =
+    let floor = c.args.floor.now in
+    subst (AllByRecursion (λ o. IsOf floor.table.plan (stamp_on_outlet c.args.time.now o))) (sym (c.outlets-outlets.ensures ∙ c.requires.can.sites.outlets c.args.vertex))
+    (outlets_of_plan floor.table.plan c.args.vertex c.args.time.now c.args.time.now c.requires.plain c.requires.can.of_plan)
+
+pub returns-then-is_err-clause-err : goal.returns-then-is_err-clause-err
+returns-then-is_err-clause-err c =
+    let floor = c.args.floor.now in
+    untouched floor (record floor { table = c.lower_on.new.table; shards = c.prepare.new.shards; outputs = c.come.new.self })
+    (λ i. record floor { table = c.lower_on.new.table; shards = c.prepare.new.shards; outputs = at_err c.come.result c.if-is_err.ensures.value c.come.ensures.err i })
+    (c.lower_on.ensures.plan ∙ c.in_ok-prepare.ensures.plan)
+    (all_off c.counted.ensures.append c.outlets-outlets.result.now c.args.time.now (length c.args.recs.now) floor.table.stamps c.prepare.new.table.stamps c.lower_on.new.table.stamps
+    c.in_ok-prepare.ensures.stamps c.lower_on.ensures.stamps)
+    c.in_ok-prepare.ensures.shards
+
+pub returns-clause-ok : goal.returns-clause-ok
+returns-clause-ok c =
+    let floor = c.args.floor.now in
+    let came = join output_at_cmp (map (output_at c.args.time.now.epoch c.args.vertex) c.args.recs.now) floor.outputs in
+    let comes : c.come.new.self ≡ came =
+    at_ok c.come.result c.if-is_err.ensures.value c.come.ensures.ok ∙ ap (λ e. join output_at_cmp (map (output_at e c.args.vertex) c.args.recs.now) floor.outputs) c.epoch.ensures in
+    sent_then floor (record floor { table = c.prepare.new.table; shards = c.post.new.shards; outputs = c.come.new.self }) c.args.vertex c.args.time.now c.args.time.now c.requires.plain
+    c.outlets-outlets.result.now (c.outlets-outlets.ensures ∙ c.requires.can.sites.outlets c.args.vertex) c.args.recs.now floor.seen came c.prepare.new.shards.items
+    (λ i. record floor { table = c.prepare.new.table; shards = c.post.new.shards; outputs = comes i })
+    c.in_ok-prepare.ensures.plan c.in_ok-prepare.ensures.stamps c.in_ok-prepare.ensures.shards c.post.ensures

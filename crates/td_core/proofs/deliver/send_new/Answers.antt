@@ -1,0 +1,68 @@
+use Rattle.std.proofs.Common.{◌≡◌, ◌+◌, ◌-◌, ◌≤◌, ◌++◌, ◌∙◌, ℕ, ap, sym, subst, refl, length, arith}
+use Rattle.std.specs.List.{AllByRecursion}
+use Rattle.td_reach.specs.Paths.{IsOf}
+use Rattle.td_stamp.specs.Bag.{join}
+use Rattle.td_progress.specs.Bag.{occurrences}
+use Rattle.td_machine.specs.State.{stamped_cmp}
+use Rattle.td_machine.specs.Steps.{stamped}
+use Rattle.td_machine.specs.AtOnce.{fresh}
+use Rattle.td_shard.specs.Seen as shards
+use Rattle.td_core.specs.Posted.{stamp_on_outlet, stamps_on, on_each, IsPosted, HaveRoom}
+use Rattle.td_core.proofs.Sending.{sent_then, outlets_of_plan, same_fresh, fewer, room_for_new, enough_on, surplus_off, all_off, untouched}
+use Rattle.td_core.proofs.deliver.send_new.Goals as goal
+
+pub prepare-requires-clause-of_plan : goal.prepare-requires-clause-of_plan
+prepare-requires-clause-of_plan c =
+    let floor = c.args.floor.now in
+    subst (AllByRecursion (λ o. IsOf floor.table.plan (stamp_on_outlet c.args.time.now o))) (sym (c.outlets-outlets.ensures ∙ c.requires.can.sites.outlets c.args.vertex))
+    (outlets_of_plan floor.table.plan c.args.vertex c.args.time.now c.args.time.now c.requires.plain c.requires.can.of_plan)
+
+pub returns-in_default-clause-err : goal.returns-in_default-clause-err
+returns-in_default-clause-err c =
+    let floor = c.args.floor.now in
+    untouched floor (record floor { table = c.lower_on.new.table; shards = c.prepare.new.shards; seen = c.see.new.self })
+    (λ i. record floor { table = c.lower_on.new.table; shards = c.prepare.new.shards; seen = c.in_default.ensures.err i })
+    (c.lower_on.ensures.plan ∙ c.in_ok-prepare.ensures.plan)
+    (all_off c.counted.ensures.append c.outlets-outlets.result.now c.args.time.now (length c.args.recs.now) floor.table.stamps c.prepare.new.table.stamps c.lower_on.new.table.stamps
+    c.in_ok-prepare.ensures.stamps c.lower_on.ensures.stamps)
+    c.in_ok-prepare.ensures.shards
+
+pub overflow_sub-surplus : goal.overflow_sub-surplus
+overflow_sub-surplus c =
+    let less = fewer c.args.floor.now.seen c.args.vertex c.args.time.now c.args.recs.now in
+    let many : c.len.result ≡ length (shards.fresh c.args.floor.now.seen c.args.vertex c.args.time.now c.args.recs.now) = c.len.ensures ∙ (c.in-Ok.new.ok.0 ∙ ap length c.in-Ok.ensures.answer) in
+    omega (arith, less, many)
+
+pub lower_on-requires-2 : goal.lower_on-requires-2
+lower_on-requires-2 c =
+    enough_on c.counted.ensures.append c.outlets-outlets.result.now c.args.time.now (length c.args.recs.now) (length c.args.recs.now - c.len.result) c.args.floor.now.table.stamps c.prepare.new.table.stamps
+    (omega arith) c.in_ok-prepare.ensures.stamps
+
+pub post-requires-clause-room : goal.post-requires-clause-room
+post-requires-clause-room c =
+    subst (λ new. HaveRoom new (length c.outlets-outlets.result.now) c.prepare.new.shards.items) (sym (c.as_slice.ensures.value ∙ c.in-Ok.ensures.answer))
+    (room_for_new c.args.floor.now.seen c.args.vertex c.args.time.now c.args.recs.now (length c.outlets-outlets.result.now) c.prepare.new.shards.items c.in_ok-prepare.ensures.room)
+
+pub returns-clause-ok : goal.returns-clause-ok
+returns-clause-ok c =
+    let floor = c.args.floor.now in
+    let v = c.args.vertex in
+    let t = c.args.time.now in
+    let outs = c.outlets-outlets.result.now in
+    let same = same_fresh floor.seen v t c.args.recs.now in
+    let less = fewer floor.seen v t c.args.recs.now in
+    let many : c.len.result ≡ length (shards.fresh floor.seen v t c.args.recs.now) = c.len.ensures ∙ (c.in-Ok.new.ok.0 ∙ ap length c.in-Ok.ensures.answer) in
+    let stamps = surplus_off c.counted.ensures.append outs t (length c.args.recs.now) c.len.result floor.table.stamps c.prepare.new.table.stamps c.lower_on-2.new.table.stamps
+    (omega (arith, less, many)) c.in_ok-prepare.ensures.stamps c.lower_on-2.ensures.stamps in
+    sent_then floor (record floor { table = c.lower_on-2.new.table; shards = c.post.new.shards; seen = c.see.new.self }) v t t c.requires.plain outs
+    (c.outlets-outlets.ensures ∙ c.requires.can.sites.outlets v) (fresh floor.seen v t c.args.recs.now) (join stamped_cmp (stamped v t (fresh floor.seen v t c.args.recs.now)) floor.seen) floor.outputs
+    c.prepare.new.shards.items
+    (λ i. record floor {
+      table = c.lower_on-2.new.table;
+      shards = c.post.new.shards;
+      seen = (c.in-Ok.ensures.ok ∙ ap (λ new. join stamped_cmp (stamped v t new) floor.seen) same) i;
+    })
+    (c.lower_on-2.ensures.plan ∙ c.in_ok-prepare.ensures.plan)
+    (λ p. stamps p ∙ ap (λ n. occurrences p (stamps_on outs t n ++ floor.table.stamps)) (many ∙ ap length same))
+    c.in_ok-prepare.ensures.shards
+    (subst (λ new. IsPosted (on_each outs t new) c.prepare.new.shards.items c.post.new.shards.items) (c.as_slice.ensures.value ∙ (c.in-Ok.ensures.answer ∙ same)) c.post.ensures)
