@@ -6,7 +6,6 @@ use Rattle.td_stamp.specs.declared.values.Rec.{Rec}
 use Rattle.std.proofs.lemmas.List.{length-map}
 use Rattle.std.proofs.lemmas.List.FromFn.{length-enumerate_from}
 use Rattle.td_stamp.specs.Bag.{bag_of, set_of}
-use Rattle.td_stamp.specs.BagLaws.{BagLaws}
 use Rattle.td_plan.specs.Faults.{IsPlan}
 use Rattle.td_calls.specs.Answers.{Answers}
 use Rattle.td_reach.specs.declared.stamp.Stamp.{Stamp}
@@ -36,8 +35,7 @@ use Rattle.td_core.specs.declared.sites.Sites.{Sites}
 use Rattle.td_core.proofs.CollectSteps.{ReachedByStep}
 use Rattle.td_core.proofs.CloseSteps.{CountsAppend}
 use Rattle.td_core.proofs.OutTasks.{of_one, same_number, is_itself}
-use Rattle.td_core.proofs.PostingSteps.{as_many_mails, mails_bag, roomier_shards, same_buffered, same_asked}
-use Rattle.td_core.proofs.DeliverSteps.{MailPosted}
+use Rattle.td_core.proofs.PostingSteps.{as_many_mails, roomier_shards, same_buffered, same_asked}
 use Rattle.td_core.proofs.SiteLists.{small_number}
 
 -- THE TASK at a place of those that are out is one of them
@@ -181,10 +179,6 @@ pub as_many_posted : (cs : List Message) (old new : List Shard) → mails new �
 as_many_posted cs old new e =
     sym (length-map new (λ s. s.mailbox.messages))
     ∙ (ap length e ∙ (length-map (enumerate_from 0 old) (λ p. p.1.mailbox.messages ++ of_shard (length old) p.0 cs) ∙ length-enumerate_from 0 old))
-
--- MESSAGES THAT WERE POSTED, whatever became of what waits
-pub mail_posted : BagLaws message_cmp → MailPosted
-mail_posted laws cs old new xs some e = mails_bag laws cs old new some e xs
 
 -- THE POINTSTAMP of what a task took up
 pub so_often : ((p q : Stamp) → (is_stamp p q ≡ true) ↔ (p ≡ q)) → (append : CountsAppend) → (p : Stamp) (n : ℕ) → occurrences p (replicate n p) ≡ n

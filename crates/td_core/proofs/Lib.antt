@@ -22,6 +22,7 @@ pub mod WaitsAll
 pub mod ShardParts
 pub mod DeliverSteps
 pub mod NotifyGiven
+pub mod GiveFloor
 pub mod PostRuns
 pub mod Sending
 pub mod Keeping

@@ -13,11 +13,10 @@ use Rattle.td_core.specs.declared.floor.Floor.{Floor}
 use Rattle.td_core.specs.Floor.{state_of, IsHall, IsShard}
 use Rattle.td_core.specs.Given.{IsNotified, IsEnded}
 use Rattle.td_core.proofs.DeliverSteps.{DeliverLaws}
-use Rattle.td_core.proofs.GiveSteps.{mail_posted}
 use Rattle.td_core.proofs.GiveSteps as give
 use Rattle.td_core.proofs.NotifySteps.{NotifyLaws}
 use Rattle.td_core.proofs.NotifySteps as notify
-use Rattle.td_core.proofs.PostingSteps.{as_many_mails}
+use Rattle.td_core.proofs.PostingSteps.{mails_bag}
 use Rattle.td_core.proofs.ShardParts.{waiting_of, still_shards}
 
 module _ (answers : Answers) (laws : DeliverLaws answers) (waits : NotifyLaws) (old mid : Floor) (task : Task) (items : List KeyItems) (content : task.content ≡ notification items)
@@ -40,7 +39,7 @@ module _ (answers : Answers) (laws : DeliverLaws answers) (waits : NotifyLaws) (
     pub stepped : state_of end ≡ is_given (effect answers (state_of old) task task.content) task
     stepped =
         notify.stepped answers waits old mid end task items content there once (waiting_of (length old.shards.items) 0 old.shards.items inv.shards) notified
-        (λ xs. mail_posted waits.messages (posts old.table.plan (stamped task.vertex task.time (notified_sends answers task.kind items))) old.shards.items mid.shards.items xs
+        (mails_bag waits.messages (posts old.table.plan (stamped task.vertex task.time (notified_sends answers task.kind items))) old.shards.items mid.shards.items
         (laws.numbers (state_of old) inv.reached).workers notified.mails)
         many ended
 
@@ -50,7 +49,7 @@ module _ (answers : Answers) (laws : DeliverLaws answers) (waits : NotifyLaws) (
     shards_still : AllByRecursion (IsShard (length mid.shards.items)) (enumerate_from 0 mid.shards.items)
     shards_still =
         still_shards (posts old.table.plan (stamped task.vertex task.time (notified_sends answers task.kind items))) old.shards.items mid.shards.items notified.mails many inv.shards
-        (notify.still answers waits old mid task items content there once (waiting_of (length old.shards.items) 0 old.shards.items inv.shards) notified)
+        (notify.still answers waits old mid end task items content there once (waiting_of (length old.shards.items) 0 old.shards.items inv.shards) notified)
 
     -- the hall is one still
     pub kept : IsHall answers end

@@ -18,6 +18,7 @@ use Rattle.td_core.specs.declared.raising.Rise.{Rise}
 use Rattle.td_core.specs.declared.sites.Outlet.{Outlet}
 use Rattle.td_core.specs.declared.sites.Sites.{Sites}
 use Rattle.td_core.specs.Floor.{state_of}
+use Rattle.td_core.specs.Delivered.{IsDelivered}
 use Rattle.td_core.specs.Posted.{IsRoomier, mails, mails_with, waits}
 use Rattle.td_core.specs.Sites.{edge_in, outlets_in}
 
@@ -48,6 +49,11 @@ pub record IsNotified (answers : Answers) (task : Task) (items : List KeyItems) 
   pub stamps : IsSameBag new.table.stamps (come_given answers (state_of old) task (notification items) ++ old.table.stamps)
   pub mails : mails new.shards.items ≡ mails_with (posts old.table.plan (stamped task.vertex task.time (notified_sends answers task.kind items))) old.shards.items
   pub waits : waits new.shards.items ≡ map (waiting_without task) (enumerate_from 0 old.shards.items)
+
+-- A TASK was answered, whatever it has to do; it is still out
+abbrev pub IsAnswered : Answers → Task → Content → Floor → Floor → Type 0
+IsAnswered answers task (messages port recs) old new = IsDelivered answers task port recs old new
+IsAnswered answers task (notification items) old new = IsNotified answers task items old new
 
 -- the pointstamp of what a task took up, and how often it occurs for it
 abbrev pub took : Sites → Task → Content → Rise

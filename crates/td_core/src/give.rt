@@ -9,7 +9,7 @@ ghost use Rattle.td_machine.specs.Moves.{gone_given};
 ghost use Rattle.td_machine.specs.Steps.{Refusal, Gives, effect, is_given, ends};
 ghost use Rattle.td_machine.specs.Steps.Answer.{has_given, refused};
 ghost use Rattle.td_core.specs.Floor.{IsHall, state_of};
-ghost use Rattle.td_core.specs.Given.{IsEnded, IsUntouched, took};
+ghost use Rattle.td_core.specs.Given.{IsAnswered, IsEnded, IsUntouched, took};
 ghost use Rattle.td_core.specs.Refusals.{error_of};
 ghost use Rattle.td_core.specs.declared.error.HallError.TheVariants.{Memory};
 ghost use Rattle.td_core.specs.Sites.{IsSites, edge_in};
@@ -23,10 +23,11 @@ use crate::raising::Rise;
 use crate::sites::Sites;
 use td_calls::Law;
 use td_machine::laws::{
-    bags_of_states, in_parts, reached, reached_in_order, stamps_move, what_waits,
+    bags_of_states, delivered_at_once, in_parts, reached, reached_in_order, stamps_move, what_waits,
 };
 use td_progress::laws::counted;
 use td_reach::{Place, Stamp};
+use td_stamp::laws::time_list_order;
 use td_task::{Done, Task, Work};
 
 impl<L: Law> Hall<L> {
@@ -73,15 +74,29 @@ fn give_floor<L: Law>(floor: &mut Floor, place: usize, done: &Done<L>) -> Result
     reached::<L>();
     reached_in_order::<L>();
     stamps_move::<L>();
+    delivered_at_once::<L>();
     bags_of_states();
+    in_parts();
     what_waits();
     counted();
-    match done.task().work() {
-        Work::Messages(port, recs) => deliver::<L>(floor, done, *port, recs.as_slice())?,
-        Work::Notification(items) => notify::<L>(floor, done, items)?,
-    }
+    time_list_order();
+    answer::<L>(floor, done)?;
     end(floor, place, done.task());
     Ok(())
+}
+
+/// Answers a task that is out, which is still out then. Refusal: `Memory`, with nothing changed but for more room.
+fn answer<L: Law>(floor: &mut Floor, done: &Done<L>) -> Result<(), HallError>
+    requires hall { IsHall L.answers floor.old }
+    requires out { Contains floor.old.out.items done.now }
+    ensures ok { OnOk result (IsAnswered L.answers done.now done.now.content floor.old floor.new) }
+    ensures err { OnErr result (IsUntouched floor.old floor.new) }
+    ensures memory { IfErr result (λ e. e ≡ Memory) }
+{
+    match done.task().work() {
+        Work::Messages(port, recs) => deliver::<L>(floor, done, *port, recs.as_slice()),
+        Work::Notification(items) => notify::<L>(floor, done, items),
+    }
 }
 
 /// The task at a place of those that are out is out no more. It takes no memory.
