@@ -8,6 +8,11 @@ pub mod CutSteps
 pub mod Meant
 pub mod Opening
 pub mod Loads
+pub mod NotifyLists
+pub mod GiveSteps
+pub mod NotifyShards
+pub mod NotifySends
+pub mod NotifySteps
 pub mod SiteLists
 pub mod PostingSteps
 pub mod Rises
@@ -18,6 +23,9 @@ pub mod WaitsAsked
 pub mod WaitsAll
 pub mod ShardParts
 pub mod DeliverSteps
+pub mod NotifyGiven
+pub mod GiveFloor
+pub mod PostRuns
 pub mod Sending
 pub mod Keeping
 pub mod Delivering

@@ -1,28 +1,33 @@
 //! Giving a task back that was run.
-ghost use Rattle.std.specs.Prelude.{◌≡◌, ◌<◌, ◌≤◌, ◌⊎◌, ℕ, None, Some, Contains, slice_get, IfSome, IfErr, OnOk, OnErr};
+ghost use Rattle.std.specs.Prelude.{◌≡◌, ◌<◌, ◌≤◌, ◌⊎◌, ℕ, List, None, Some, Contains, slice_get, IfSome, IfErr, OnOk, OnErr};
+ghost use Rattle.td_stamp.specs.declared.values.Rec.{Rec as AnyRec};
 ghost use Rattle.td_reach.specs.declared.stamp.Stamp.{Stamp as AnyStamp};
 ghost use Rattle.td_progress.specs.Bag.{occurrences};
+ghost use Rattle.td_machine.specs.State.Content.{messages};
 ghost use Rattle.td_machine.specs.InOrder.{OneAShard};
 ghost use Rattle.td_machine.specs.Moves.{gone_given};
 ghost use Rattle.td_machine.specs.Steps.{Refusal, Gives, effect, is_given, ends};
 ghost use Rattle.td_machine.specs.Steps.Answer.{has_given, refused};
 ghost use Rattle.td_core.specs.Floor.{IsHall, state_of};
-ghost use Rattle.td_core.specs.Given.{IsEnded, IsUntouched};
+ghost use Rattle.td_core.specs.Given.{IsAnswered, IsEnded, IsUntouched, took};
 ghost use Rattle.td_core.specs.Refusals.{error_of};
 ghost use Rattle.td_core.specs.declared.error.HallError.TheVariants.{Memory};
-ghost use Rattle.td_core.specs.Sites.{IsSites};
+ghost use Rattle.td_core.specs.Sites.{IsSites, edge_in};
 
 use crate::deliver::deliver;
 use crate::error::HallError;
 use crate::floor::Floor;
 use crate::hall::Hall;
 use crate::notify::notify;
+use crate::raising::Rise;
 use crate::sites::Sites;
 use td_calls::Law;
-use td_machine::laws::{bags_of_states, reached, reached_in_order, stamps_move, what_waits};
-use td_progress::Table;
+use td_machine::laws::{
+    bags_of_states, delivered_at_once, in_parts, reached, reached_in_order, stamps_move, what_waits,
+};
 use td_progress::laws::counted;
 use td_reach::{Place, Stamp};
+use td_stamp::laws::time_list_order;
 use td_task::{Done, Task, Work};
 
 impl<L: Law> Hall<L> {
@@ -69,15 +74,29 @@ fn give_floor<L: Law>(floor: &mut Floor, place: usize, done: &Done<L>) -> Result
     reached::<L>();
     reached_in_order::<L>();
     stamps_move::<L>();
+    delivered_at_once::<L>();
     bags_of_states();
+    in_parts();
     what_waits();
     counted();
-    match done.task().work() {
-        Work::Messages(port, recs) => deliver::<L>(floor, done, *port, recs.as_slice())?,
-        Work::Notification(items) => notify::<L>(floor, done, items)?,
-    }
+    time_list_order();
+    answer::<L>(floor, done)?;
     end(floor, place, done.task());
     Ok(())
+}
+
+/// Answers a task that is out, which is still out then. Refusal: `Memory`, with nothing changed but for more room.
+fn answer<L: Law>(floor: &mut Floor, done: &Done<L>) -> Result<(), HallError>
+    requires hall { IsHall L.answers floor.old }
+    requires out { Contains floor.old.out.items done.now }
+    ensures ok { OnOk result (IsAnswered L.answers done.now done.now.content floor.old floor.new) }
+    ensures err { OnErr result (IsUntouched floor.old floor.new) }
+    ensures memory { IfErr result (λ e. e ≡ Memory) }
+{
+    match done.task().work() {
+        Work::Messages(port, recs) => deliver::<L>(floor, done, *port, recs.as_slice()),
+        Work::Notification(items) => notify::<L>(floor, done, items),
+    }
 }
 
 /// The task at a place of those that are out is out no more. It takes no memory.
@@ -89,23 +108,37 @@ pub(crate) fn end(floor: &mut Floor, place: usize, task: &Task)
     requires given { floor.old.given < ends }
     ensures { IsEnded task.now floor.old floor.new }
 {
-    take_off(&mut floor.table, &floor.sites, task);
+    in_parts();
+    counted();
+    // Their contracts say that there is a record in a task of records, and that the pointstamps are of a plan, which is lawful.
+    let _some = task.work();
+    let _lawful = floor.table.plan().vertices();
+    let took = took(&floor.sites, task);
+    floor.table.take_off_many(&took.stamp, took.times);
     floor.out.remove(place);
     floor.given += 1;
 }
 
-/// What a task took up is active no more. It takes no memory.
-fn take_off(table: &mut Table, sites: &Sites, task: &Task)
+/// The pointstamp of what a task took up, and how often it occurs for it.
+fn took(sites: &Sites, task: &Task) -> Rise
+    requires { (port : ℕ) (recs : List AnyRec) → task.now.content ≡ messages port recs → edge_in sites.now task.now.vertex port < 256 }
+    ensures { result ≡ took sites.now task.now task.now.content }
 {
     let time = task.time().copy();
     match task.work() {
-        Work::Messages(port, recs) => {
-            let place = Place::Edge(sites.edge(task.vertex(), *port));
-            table.take_off_many(&Stamp { time, place }, recs.len() as u64);
-        }
-        Work::Notification(_) => {
-            let place = Place::Vertex(task.vertex());
-            table.take_off(&Stamp { time, place });
-        }
+        Work::Messages(port, recs) => Rise {
+            stamp: Stamp {
+                time,
+                place: Place::Edge(sites.edge(task.vertex(), *port)),
+            },
+            times: recs.len() as u64,
+        },
+        Work::Notification(_) => Rise {
+            stamp: Stamp {
+                time,
+                place: Place::Vertex(task.vertex()),
+            },
+            times: 1,
+        },
     }
 }

@@ -1,0 +1,74 @@
+-- A hall to which a task was given back, whatever the task had to do.
+use Rattle.std.proofs.Common.{◌≡◌, ℕ, ◌+◌, ◌≤◌, ◌<◌, Option, Some, refl, sym, ap, ◌∙◌, subst, arith, length}
+use Rattle.std.specs.List.{Contains}
+use Rattle.td_calls.specs.Answers.{Answers}
+use Rattle.td_reach.specs.declared.stamp.Stamp.{Stamp}
+use Rattle.td_progress.specs.Bag.{occurrences}
+use Rattle.td_machine.specs.State.{Task, Content}
+use Rattle.td_machine.specs.State.Content.{messages, notification}
+use Rattle.td_machine.specs.Moves.{gone_given}
+use Rattle.td_machine.specs.Steps.{effect, is_given, ends}
+use Rattle.td_core.specs.declared.floor.Floor.{Floor}
+use Rattle.td_core.specs.Floor.{state_of, IsHall}
+use Rattle.td_core.specs.Given.{IsAnswered, IsEnded}
+use Rattle.td_core.specs.Sites.{IsSites}
+use Rattle.td_core.proofs.DeliverSteps as deliver
+use Rattle.td_core.proofs.DeliverSteps.{DeliverLaws}
+use Rattle.td_core.proofs.NotifyGiven as notify
+use Rattle.td_core.proofs.NotifySteps.{NotifyLaws}
+
+module _ (answers : Answers) (laws : DeliverLaws answers) (waits : NotifyLaws) (old mid : Floor) (task : Task) (out : Contains old.out.items task) (inv : IsHall answers old) where
+  -- what stays as it is until the task ends
+  same_out : (content : Content) → IsAnswered answers task content old mid → mid.out ≡ old.out
+  same_out (messages port recs) is = ap (λ (f : Floor). f.out) is.parts
+  same_out (notification items) is = ap (λ (f : Floor). f.out) is.parts
+
+  same_given : (content : Content) → IsAnswered answers task content old mid → mid.given ≡ old.given
+  same_given (messages port recs) is = ap (λ (f : Floor). f.given) is.parts
+  same_given (notification items) is = ap (λ (f : Floor). f.given) is.parts
+
+  same_sites : (content : Content) → IsAnswered answers task content old mid → IsSites mid.table.plan mid.sites
+  same_sites (messages port recs) is =
+      subst (λ s. IsSites mid.table.plan s) (sym (ap (λ (f : Floor). f.sites) is.parts)) (subst (λ p. IsSites p old.sites) (sym is.plan) inv.sites)
+  same_sites (notification items) is =
+      subst (λ s. IsSites mid.table.plan s) (sym (ap (λ (f : Floor). f.sites) is.parts)) (subst (λ p. IsSites p old.sites) (sym is.plan) inv.sites)
+
+  enough_for : (content : Content) → task.content ≡ content → IsAnswered answers task content old mid
+      → (p : Stamp) → occurrences p (gone_given (state_of mid) task task.content) ≤ occurrences p mid.table.stamps
+  enough_for (messages port recs) c is = deliver.enough answers laws old mid task port recs c inv out is
+  enough_for (notification items) c is = notify.enough answers laws waits old mid task items c out inv is
+
+  stepped_for : (content : Content) → task.content ≡ content → IsAnswered answers task content old mid → (end : Floor) → IsEnded task mid end
+      → state_of end ≡ is_given (effect answers (state_of old) task task.content) task
+  stepped_for (messages port recs) c is end ended = deliver.stepped answers laws old mid task port recs c inv out is end ended
+  stepped_for (notification items) c is end ended = notify.stepped answers laws waits old mid task items c out inv is end ended
+
+  kept_for : (content : Content) → task.content ≡ content → IsAnswered answers task content old mid → (end : Floor) → IsEnded task mid end → IsHall answers end
+  kept_for (messages port recs) c is end ended = deliver.kept answers laws old mid task port recs c inv out is end ended
+  kept_for (notification items) c is end ended = notify.kept answers laws waits old mid task items c out inv is end ended
+
+  module _ (is : IsAnswered answers task task.content old mid) where
+    pub out_still : mid.out ≡ old.out
+    out_still = same_out task.content is
+
+    pub sites_still : IsSites mid.table.plan mid.sites
+    sites_still = same_sites task.content is
+
+    -- one more may be counted, since this one was taken
+    pub more_given : mid.given < ends
+    more_given =
+        let numbers = laws.numbers (state_of old) inv.reached in
+        let sum = numbers.given in
+        let most = numbers.taken in
+        let one = out.1 in
+        let same = same_given task.content is in
+        omega (arith, sum, most, one, same)
+
+    pub enough : (p : Stamp) → occurrences p (gone_given (state_of mid) task task.content) ≤ occurrences p mid.table.stamps
+    enough = enough_for task.content refl is
+
+    pub stepped : (end : Floor) → IsEnded task mid end → state_of end ≡ is_given (effect answers (state_of old) task task.content) task
+    stepped end ended = stepped_for task.content refl is end ended
+
+    pub kept : (end : Floor) → IsEnded task mid end → IsHall answers end
+    kept end ended = kept_for task.content refl is end ended
