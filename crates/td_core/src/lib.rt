@@ -10,6 +10,7 @@ mod hall;
 mod open;
 mod outputs;
 mod passed;
+mod take;
 #[cfg(test)]
 mod tests;
 
