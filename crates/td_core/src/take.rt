@@ -1,6 +1,6 @@
 //! Taking tasks.
-ghost use Rattle.std.specs.Prelude.{◌≡◌, ◌<◌, ◌+◌, ℕ, AllByRecursion, HoldsAt, IfOk, IfErr, OnErr, Some, map, length};
-ghost use Rattle.td_machine.specs.State.{HallState, Task as AnyTask, is_out};
+ghost use Rattle.std.specs.Prelude.{◌≡◌, ◌<◌, ℕ, HoldsAt, IfOk, IfErr, OnErr, Some, length};
+ghost use Rattle.td_machine.specs.State.{HallState, Task as AnyTask};
 ghost use Rattle.td_machine.specs.Steps.{Takes};
 ghost use Rattle.td_machine.specs.Steps.Answer.{has_taken};
 ghost use Rattle.td_core.specs.Floor.{state_of, IsHall};
