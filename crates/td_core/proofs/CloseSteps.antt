@@ -12,6 +12,7 @@ use Rattle.td_machine.specs.Steps.Event.{close}
 use Rattle.td_machine.specs.Steps.Answer.{has_closed}
 use Rattle.td_core.specs.declared.floor.Floor.{Floor}
 use Rattle.td_core.specs.Floor.{state_of, IsHall}
+use Rattle.td_core.specs.Sites.{IsSites}
 use Rattle.td_core.proofs.CollectSteps.{ReachedByStep}
 
 -- how often a pointstamp occurs in two lists
@@ -121,4 +122,5 @@ module _ (answers : Answers) (append : CountsAppend) (steps : ReachedByStep answ
     shards = inv.shards;
     few = inv.few;
     next = inv.next;
+    sites = subst (λ p. IsSites p floor.sites) (sym plan) inv.sites;
   }

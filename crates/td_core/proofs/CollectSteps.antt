@@ -42,6 +42,7 @@ module _ (answers : Answers) (alike : PassedAlike) (steps : ReachedByStep answer
     shards = inv.shards;
     few = inv.few;
     next = inv.next;
+    sites = inv.sites;
   }
 
   pub still_hall : (r : Result (Vec EpochOut Global) HallError) → OnOk r (new ≡ without_passed floor) → OnErr r (new ≡ floor) → IsHall answers new

@@ -58,6 +58,7 @@ module _ (floor new : Floor) (epoch : ℕ) where
       shards = inv.shards;
       few = inv.few;
       next = inv.next;
+      sites = inv.sites;
     }
 
     pub cut_hall : Step answers (state_of floor) event (has_cut epoch (states_after floor epoch)) (cut_to (state_of floor) epoch) → (r : Result Cut HallError)

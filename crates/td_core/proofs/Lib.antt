@@ -6,3 +6,4 @@ pub mod CloseSteps
 pub mod Unpassed
 pub mod CutSteps
 pub mod Opening
+pub mod SiteLists

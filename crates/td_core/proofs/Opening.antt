@@ -14,6 +14,7 @@ use Rattle.td_machine.specs.Active.{active, inputs_of}
 use Rattle.td_machine.specs.Steps.{opened, ends}
 use Rattle.td_machine.specs.Reached.{IsReached}
 use Rattle.td_core.specs.declared.floor.Floor.{Floor}
+use Rattle.td_core.specs.Sites.{IsSites}
 use Rattle.td_core.specs.Floor.{state_of, IsHall, IsShard, empty_shard, in_mailboxes, with_tasks, waiting_in, asked_in}
 
 -- EMPTY SHARDS, so many of them
@@ -52,6 +53,7 @@ pub record IsOpened (plan : List Line) (base : StateList) (first workers : ℕ) 
   pub collected : floor.collected ≡ first - 1
   pub taken : floor.taken ≡ 0
   pub given : floor.given ≡ 0
+  pub sites : IsSites plan floor.sites
 
 module _ (plan : List Line) (base : StateList) (first workers : ℕ) (floor : Floor) (o : IsOpened plan base first workers floor) where
   many : length floor.shards.items ≡ workers
@@ -95,6 +97,7 @@ module _ (plan : List Line) (base : StateList) (first workers : ℕ) (floor : Fl
     shards = subst (λ xs. AllByRecursion (IsShard (length xs)) (enumerate_from 0 xs)) (sym o.shards) (empty_are (length (replicate workers empty_shard)) 0 workers);
     few = let m = many in omega (arith, m, few);
     next = subst (λ n. n ≤ ends) (sym o.next) numbers;
+    sites = subst (λ p. IsSites p floor.sites) (sym o.plan_is) o.sites;
   }
 
 -- the inputs of a hall that is opened are of its plan

@@ -20,6 +20,7 @@ use Rattle.td_shard.specs.declared.noted.Noted.{Noted}
 use Rattle.td_shard.specs.Asked.{noted_cmp}
 use Rattle.td_shard.specs.declared.shard.Shard.{Shard}
 use Rattle.td_core.specs.declared.floor.Floor.{Floor}
+use Rattle.td_core.specs.Sites.{IsSites}
 
 -- the messages that a task took up
 abbrev pub taken_up : ℕ → Timestamp → Content → List Message
@@ -81,7 +82,8 @@ pub record IsShard (workers : ℕ) (p : ℕ × Shard) : Type 0 where
 abbrev pub empty_shard : Shard
 empty_shard = record { mailbox = record { runs = 0; room = 0; messages = [] }; waiting = [] }
 
--- WHAT A HALL KEEPS TRUE: its state is one that plays reach, and its table has the active pointstamps of that state
+-- WHAT A HALL KEEPS TRUE: its state is one that plays reach, its table has the active pointstamps of that state, and what it looks up
+-- is of its plan
 pub record IsHall (answers : Answers) (h : Floor) : Type 0 where
   pub reached : IsReached answers (state_of h)
   pub counted : IsSameBag h.table.stamps (active (state_of h))
@@ -89,3 +91,4 @@ pub record IsHall (answers : Answers) (h : Floor) : Type 0 where
   pub shards : AllByRecursion (IsShard (length h.shards.items)) (enumerate_from 0 h.shards.items)
   pub few : length h.shards.items ≤ 16
   pub next : h.next ≤ ends
+  pub sites : IsSites h.table.plan h.sites

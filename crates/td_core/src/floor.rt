@@ -1,5 +1,6 @@
 //! What a hall is made of.
 use crate::outputs::Outputs;
+use crate::sites::Sites;
 use std::alloc::Global;
 use std::collections::VecDeque;
 use td_progress::Table;
@@ -12,6 +13,8 @@ use td_task::Task;
 pub(crate) struct Floor {
     /// The plan, and the active pointstamps.
     pub table: Table,
+    /// What is looked up of the plan.
+    pub sites: Sites,
     /// The numbers of the plan's inputs.
     pub inputs: Vec<u8>,
     /// The epoch up to which all is let go, and the states after it.

@@ -10,6 +10,9 @@ mod hall;
 mod open;
 mod outputs;
 mod passed;
+mod posting;
+mod raising;
+mod sites;
 mod take;
 #[cfg(test)]
 mod tests;

@@ -9,6 +9,7 @@ use crate::error::HallError;
 use crate::floor::Floor;
 use crate::hall::Hall;
 use crate::outputs::Outputs;
+use crate::sites::Sites;
 use std::alloc::{AllocError, Global};
 use std::collections::VecDeque;
 use std::marker::PhantomData;
@@ -45,11 +46,13 @@ impl<L: Law> Hall<L> {
         let _ = base.list();
         let inputs = inputs_of_plan(alloc, plan)?;
         let reach = Reach::of(alloc, plan)?;
+        let sites = Sites::of(alloc, plan)?;
         let table = Table::new(alloc, reach, inputs.as_slice(), first)?;
         let shards = empty_shards(alloc, workers)?;
         Ok(Hall {
             floor: Floor {
                 table,
+                sites,
                 inputs,
                 base: first - 1,
                 states: base,

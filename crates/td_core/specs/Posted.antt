@@ -1,0 +1,78 @@
+-- What is posted to the mailboxes of a hall's shards, and room for it.
+use Rattle.std.specs.Prelude.{◌≡◌, ℕ, ◌==◌, ◌*◌, ◌≤◌, List, [], ◌∷◌, ◌++◌, map, filter, flat_map, replicate, length}
+use Rattle.std.specs.List.{AllByRecursion, enumerate_from}
+use Rattle.td_stamp.specs.declared.values.Rec.{Rec}
+use Rattle.td_stamp.specs.Time.{Timestamp}
+use Rattle.td_reach.specs.declared.stamp.Place.TheVariants as places
+use Rattle.td_reach.specs.declared.stamp.Stamp.{Stamp}
+use Rattle.td_machine.specs.declared.records.Message.{Message}
+use Rattle.td_machine.specs.State.{shard_of_key}
+use Rattle.td_shard.specs.Asked.{AskedList}
+use Rattle.td_shard.specs.declared.shard.Shard.{Shard}
+use Rattle.td_core.specs.declared.sites.Outlet.{Outlet}
+use Rattle.td_core.specs.declared.raising.Rise.{Rise}
+
+-- the messages of a shard
+abbrev pub of_shard : ℕ → ℕ → List Message → List Message
+of_shard workers s cs = filter (λ c. shard_of_key workers c.rec.key == s) cs
+
+-- the mailboxes of the shards, and what waits in them
+abbrev pub mails : List Shard → List (List Message)
+mails shards = map (λ s. s.mailbox.messages) shards
+
+abbrev pub waits : List Shard → List AskedList
+waits shards = map (λ s. s.waiting) shards
+
+-- the mailboxes when messages were posted: each has those of its shard after those that it had, in the order posted
+abbrev pub mails_with : List Message → List Shard → List (List Message)
+mails_with cs shards = map (λ p. p.1.mailbox.messages ++ of_shard (length shards) p.0 cs) (enumerate_from 0 shards)
+
+-- MESSAGES WERE POSTED, and nothing else was changed but for room
+pub record IsPosted (cs : List Message) (old new : List Shard) : Type 0 where
+  pub mails : mails new ≡ mails_with cs old
+  pub waiting : waits new ≡ waits old
+
+-- each mailbox has as much room as it had
+abbrev pub HasNoLess : List Shard → List Shard → Type 0
+HasNoLess [] [] = Unit {0}
+HasNoLess [] (t ∷ ts) = ⊥
+HasNoLess (s ∷ ss) [] = ⊥
+HasNoLess (s ∷ ss) (t ∷ ts) = (s.mailbox.room ≤ t.mailbox.room) × (s.mailbox.runs ≤ t.mailbox.runs) × HasNoLess ss ts
+
+-- NOTHING BUT MORE ROOM
+pub record IsRoomier (old new : List Shard) : Type 0 where
+  pub mails : mails new ≡ mails old
+  pub waiting : waits new ≡ waits old
+  pub room : HasNoLess old new
+
+-- how many of some records are of a shard
+abbrev pub count_of : ℕ → List Rec → ℕ → ℕ
+count_of workers recs s = length (filter (λ r. shard_of_key workers r.key == s) recs)
+
+-- a mailbox has room for so many messages, in as many runs
+abbrev pub HasRoom : ℕ → Shard → Type 0
+HasRoom many s = (many ≤ s.mailbox.room) × (many ≤ s.mailbox.runs)
+
+-- ROOM FOR RECORDS on each of so many edges, in the shards to which they belong
+abbrev pub HaveRoom : List Rec → ℕ → List Shard → Type 0
+HaveRoom recs edges shards = AllByRecursion (λ p. HasRoom (count_of (length shards) recs p.0 * edges) p.1) (enumerate_from 0 shards)
+
+-- a record that goes out at a time
+abbrev pub on_outlet : Timestamp → Rec → Outlet → Message
+on_outlet t r o = record { vertex = o.reader; port = o.port; time = t; rec = r }
+
+-- RECORDS ON EACH OF SOME OUTLETS: record by record, and then outlet by outlet
+abbrev pub on_each : List Outlet → Timestamp → List Rec → List Message
+on_each outlets t recs = flat_map (λ r. map (on_outlet t r) outlets) recs
+
+-- the pointstamp of messages that go out
+abbrev pub stamp_on_outlet : Timestamp → Outlet → Stamp
+stamp_on_outlet t o = record { time = t; place = places.Edge o.number }
+
+-- so many for each of some outlets
+abbrev pub stamps_on : List Outlet → Timestamp → ℕ → List Stamp
+stamps_on outlets t many = flat_map (λ o. replicate many (stamp_on_outlet t o)) outlets
+
+-- the pointstamps of rises, each as often as it rises
+abbrev pub risen : List Rise → List Stamp
+risen rises = flat_map (λ r. replicate r.times r.stamp) rises
