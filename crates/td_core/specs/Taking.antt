@@ -1,30 +1,29 @@
 -- Taking a task of a shard.
-use Rattle.std.specs.Prelude.{◌≡◌, ◌⊎◌, ℕ, ◌+◌, ◌-◌, ◌%◌, ◌==◌, ◌<◌, ◌≤◌, nat_lt, cond, List, [], ◌∷◌, ◌++◌, map, length, slice_get, Option, Some, None, HoldsAt}
-use Rattle.std.specs.Option.{option_map}
+use Rattle.std.specs.Prelude.{◌≡◌, ◌⊎◌, ℕ, zero, suc, ◌+◌, ◌%◌, ◌<◌, ◌≤◌, List, [], ◌∷◌, ◌++◌, map, length, Option, Some, None, HoldsAt}
 use Rattle.td_stamp.specs.declared.values.Rec.{Rec}
 use Rattle.td_stamp.specs.declared.values.Arrival.{Arrival}
-use Rattle.td_stamp.specs.Orders.{arrival_cmp}
-use Rattle.td_stamp.specs.Bag.{bag_of}
 use Rattle.td_stamp.specs.Groups.{groups}
+use Rattle.td_calls.specs.Answers.{Answers}
+use Rattle.td_reach.specs.declared.stamp.Stamp.{Stamp}
 use Rattle.td_reach.specs.Frontier.{Frontier}
-use Rattle.td_machine.specs.State.{HallState, Task, KeyItems}
+use Rattle.td_progress.specs.Bag.{Active}
+use Rattle.td_machine.specs.State.{HallState, Task}
 use Rattle.td_machine.specs.State.Content.{messages, notification}
 use Rattle.td_machine.specs.Active.{kind_of, stamp_at}
-use Rattle.td_machine.specs.Steps.{Answer, Refusal, Takes, coming, with_state_of, task_size}
+use Rattle.td_machine.specs.Steps.{Refusal, Takes, coming, with_state_of, task_size, ends}
 use Rattle.td_machine.specs.Steps.Answer.{has_taken, refused}
 use Rattle.td_machine.specs.Reached.{IsReached}
-use Rattle.td_calls.specs.Answers.{Answers}
-use Rattle.td_progress.specs.Bag.{Active}
 use Rattle.td_shard.specs.declared.noted.Noted.{Noted}
 use Rattle.td_shard.specs.declared.shard.Shard.{Shard}
 use Rattle.td_shard.specs.Asked.{items_at}
-use Rattle.td_shard.specs.Messages.{task_at}
+use Rattle.td_shard.specs.Messages.{task_at, left_at}
 use Rattle.td_core.specs.declared.floor.Floor.{Floor}
 use Rattle.td_core.specs.declared.error.HallError.{HallError}
-use Rattle.td_core.specs.declared.error.HallError.TheVariants.{Memory}
+use Rattle.td_core.specs.declared.error.HallError.TheVariants.{Memory, Spent}
 use Rattle.td_core.specs.declared.take.Candidate.{Candidate}
 use Rattle.td_core.specs.declared.take.Candidate.TheVariants as candidates
 use Rattle.td_core.specs.Floor.{state_of}
+use Rattle.td_core.specs.Posted.{waits}
 use Rattle.td_core.specs.Refusals.{error_of}
 
 -- WHY A TAKE IS REFUSED: for want of memory, or since the machine refuses it
@@ -39,7 +38,7 @@ room_of s = (s.mailbox.runs, s.mailbox.room)
 pub record IsTaken (old new : Floor) (task : Task) : Type 0 where
   pub parts : new ≡ record old { shards = new.shards; out = new.out; taken = old.taken + 1 }
   pub out : new.out.items ≡ old.out.items ++ task ∷ []
-  pub waiting : map (λ s. s.waiting) new.shards.items ≡ map (λ s. s.waiting) old.shards.items
+  pub waiting : waits new.shards.items ≡ waits old.shards.items
   pub room : map room_of new.shards.items ≡ map room_of old.shards.items
 
 -- or none was, and all is as it was
@@ -55,27 +54,50 @@ HasRoomBack s = (0 < s.mailbox.runs) × (task_size ≤ s.mailbox.room)
 abbrev pub IsLastTake : Answers → HallState → ℕ → Task → HallState → Type 0
 IsLastTake answers S shard task T = IsReached answers S × Takes S shard (has_taken (Some task)) T
 
--- WHAT MAY BE TAKEN: the notifications of a shard that are in the frontier, in their order
-pub data AreReady (active : Active) : List Noted → List Noted → Type 0 where
-  no_more : AreReady active [] []
-  is_ready : (n : Noted) (asked ready : List Noted) → Frontier active.plan active.stamps (stamp_at n.vertex n.time) → AreReady active asked ready → AreReady active (n ∷ asked) (n ∷ ready)
-  is_held : (n : Noted) (asked ready : List Noted) → (Frontier active.plan active.stamps (stamp_at n.vertex n.time) → ⊥) → AreReady active asked ready → AreReady active (n ∷ asked) ready
+-- the pointstamp of a notification of a shard
+abbrev pub stamp_of_noted : Noted → Stamp
+stamp_of_noted n = stamp_at n.vertex n.time
 
--- the candidate at a place: the messages, of which there are so many, come before the notifications
-abbrev pub candidate_at : ℕ → List Noted → ℕ → Option Candidate
-candidate_at many ready place = cond (nat_lt place many) (Some (candidates.Message place)) (option_map candidates.Notification (slice_get ready (place - many)))
+-- the notifications for which a shard asked, in their order
+abbrev pub asked_at : Shard → List Noted
+asked_at s = map (λ w. w.0) s.waiting
 
--- THE CANDIDATE that a pick names: it goes round among them
-abbrev pub IsPicked : Active → Shard → ℕ → Option Candidate → Type 0
-IsPicked active s pick candidate = (ready : List Noted) × AreReady active (map (λ w. w.0) s.waiting) ready
-    × (candidate ≡ candidate_at (length s.mailbox.messages) ready (pick % (length s.mailbox.messages + length ready)))
+module _ (active : Active) where
+  -- in the frontier
+  abbrev pub IsReady : Noted → Type 0
+  IsReady n = Frontier active.plan active.stamps (stamp_of_noted n)
+
+  -- of some notifications those that are in the frontier
+  abbrev pub AreReady : List Noted → List Noted → Type 0
+  AreReady [] ready = ready ≡ []
+  AreReady (n ∷ asked) ready = ((IsReady n → ⊥) × AreReady asked ready) ⊎ (IsReady n × ((rest : List Noted) × (ready ≡ n ∷ rest) × AreReady asked rest))
+
+  -- the one at a place among these: as many are before it
+  abbrev pub IsReadyAt : List Noted → ℕ → Option Noted → Type 0
+  IsReadyAt asked place None = (ready : List Noted) × AreReady asked ready × (length ready ≤ place)
+  IsReadyAt asked place (Some n) = (before after ready : List Noted) × (asked ≡ before ++ n ∷ after) × AreReady before ready × (length ready ≡ place) × IsReady n
+
+  -- a place that a pick names, counted round among all candidates
+  abbrev pub IsPlaceOf : Shard → ℕ → ℕ → Type 0
+  IsPlaceOf s pick place = (ready : List Noted) → AreReady (asked_at s) ready → 0 < length s.mailbox.messages + length ready → place ≡ pick % (length s.mailbox.messages + length ready)
+
+  -- THE CANDIDATE that a pick names: a message, or, after all of them, a notification that is in the frontier
+  abbrev pub IsPicked : Shard → ℕ → Option Candidate → Type 0
+  IsPicked s pick None = (s.mailbox.messages ≡ []) × AreReady (asked_at s) []
+  IsPicked s pick (Some (candidates.Message place)) = (place < length s.mailbox.messages) × IsPlaceOf s pick place
+  IsPicked s pick (Some (candidates.Notification n)) = (place : ℕ) × IsReadyAt (asked_at s) place (Some n) × IsPlaceOf s pick (length s.mailbox.messages + place)
 
 -- what a task has to do for a candidate: the message and others of its edge and time; or the items that wait, by key, with the states
 -- before their epoch
 abbrev pub IsFor : Floor → Shard → Candidate → Task → Type 0
 IsFor floor s (candidates.Message place) task = (port : ℕ) × (recs : List Rec) × (task.content ≡ messages port recs) × (coming task.vertex port task.time recs ≡ task_at place s.mailbox.messages)
 IsFor floor s (candidates.Notification n) task = (task.vertex ≡ n.vertex) × (task.time ≡ n.time)
-    × ((items : List Arrival) × (items_at s.waiting n.vertex n.time ≡ Some items) × (task.content ≡ notification (map (with_state_of (state_of floor) n.vertex n.time) (groups items))))
+    × ((items : List Arrival) → items_at s.waiting n.vertex n.time ≡ Some items → task.content ≡ notification (map (with_state_of (state_of floor) n.vertex n.time) (groups items)))
+
+-- a candidate that a shard has
+abbrev pub IsThere : Shard → Candidate → Type 0
+IsThere s (candidates.Message place) = place < length s.mailbox.messages
+IsThere s (candidates.Notification n) = Unit {0}
 
 -- a task for a candidate of a shard
 pub record IsTaskFor (floor : Floor) (shard : ℕ) (s : Shard) (candidate : Candidate) (task : Task) : Type 0 where
@@ -84,7 +106,34 @@ pub record IsTaskFor (floor : Floor) (shard : ℕ) (s : Shard) (candidate : Cand
   pub kind : task.kind ≡ kind_of floor.table.plan task.vertex
   pub content : IsFor floor s candidate task
 
--- the task that a pick names, where there is a candidate
-abbrev pub IsPickedTask : Floor → ℕ → ℕ → Shard → Option Task → Type 0
-IsPickedTask floor shard pick s None = IsPicked floor.table s pick None
-IsPickedTask floor shard pick s (Some task) = (candidate : Candidate) × IsPicked floor.table s pick (Some candidate) × IsTaskFor floor shard s candidate task
+-- a list with what stands at a place changed
+abbrev pub changed_at : {X : Type 0} → (X → X) → ℕ → List X → List X
+changed_at f i [] = []
+changed_at f zero (x ∷ xs) = f x ∷ xs
+changed_at f (suc i) (x ∷ xs) = x ∷ changed_at f i xs
+
+-- a shard without the messages of a task
+abbrev pub without_task : ℕ → Shard → Shard
+without_task place s = record s { mailbox = record s.mailbox { messages = left_at place s.mailbox.messages } }
+
+-- the shards without what is taken
+abbrev pub without : Candidate → ℕ → List Shard → List Shard
+without (candidates.Message place) i shards = changed_at (without_task place) i shards
+without (candidates.Notification n) i shards = shards
+
+-- A CANDIDATE WAS TAKEN of a shard as this task
+pub record IsTakenFor (candidate : Candidate) (shard : ℕ) (old new : Floor) (task : Task) : Type 0 where
+  pub parts : new ≡ record old { shards = new.shards; out = new.out; taken = old.taken + 1 }
+  pub out : new.out.items ≡ old.out.items ++ task ∷ []
+  pub shards : new.shards.items ≡ without candidate shard old.shards.items
+
+-- the task that a pick names was taken, or there is none
+abbrev pub IsPickTaken : ℕ → ℕ → Floor → Floor → Option Task → Type 0
+IsPickTaken shard pick old new None = HoldsAt (λ s. IsPicked old.table s pick None) old.shards.items shard × (new ≡ old)
+IsPickTaken shard pick old new (Some task) = (candidate : Candidate) × HoldsAt (λ s. IsPicked old.table s pick (Some candidate) × IsTaskFor old shard s candidate task) old.shards.items shard
+    × IsTakenFor candidate shard old new task × (old.taken < ends)
+
+-- or why it was not
+abbrev pub IsPickRefused : ℕ → ℕ → Floor → HallError → Type 0
+IsPickRefused shard pick old error =
+    (error ≡ Memory) ⊎ ((error ≡ Spent) × (old.taken ≡ ends) × ((candidate : Candidate) × HoldsAt (λ s. IsPicked old.table s pick (Some candidate)) old.shards.items shard))
