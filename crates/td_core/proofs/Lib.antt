@@ -7,3 +7,4 @@ pub mod Unpassed
 pub mod CutSteps
 pub mod Opening
 pub mod SiteLists
+pub mod Picking

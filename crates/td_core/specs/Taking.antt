@@ -127,6 +127,11 @@ pub record IsTakenFor (candidate : Candidate) (shard : ℕ) (old new : Floor) (t
   pub out : new.out.items ≡ old.out.items ++ task ∷ []
   pub shards : new.shards.items ≡ without candidate shard old.shards.items
 
+-- the candidate that a pick names, with its task
+abbrev pub IsChosen : ℕ → ℕ → Floor → Option (Candidate × Task) → Type 0
+IsChosen shard pick floor None = HoldsAt (λ s. IsPicked floor.table s pick None) floor.shards.items shard
+IsChosen shard pick floor (Some c) = HoldsAt (λ s. IsPicked floor.table s pick (Some c.0) × IsTaskFor floor shard s c.0 c.1) floor.shards.items shard × (floor.taken < ends)
+
 -- the task that a pick names was taken, or there is none
 abbrev pub IsPickTaken : ℕ → ℕ → Floor → Floor → Option Task → Type 0
 IsPickTaken shard pick old new None = HoldsAt (λ s. IsPicked old.table s pick None) old.shards.items shard × (new ≡ old)

@@ -1,7 +1,6 @@
 //! Taking tasks.
 ghost use Rattle.std.specs.Prelude.{◌≡◌, ◌<◌, ◌≤◌, ◌+◌, ◌-◌, ◌++◌, ◌∷◌, [], ◌↔◌, IsTrue, ℕ, List, HoldsAt, IfOk, IfErr, OnErr, Some, filter, map, length, nat_le, ◌==◌};
 ghost use Rattle.std.specs.List.{AllByRecursion, list_any};
-ghost use Rattle.std.specs.Option.{option_copied};
 ghost use Rattle.td_stamp.specs.Groups.{groups};
 ghost use Rattle.td_stamp.specs.States.{state_of as kept_of};
 ghost use Rattle.td_stamp.specs.declared.values.Arrival.{Arrival as AnyArrival};
@@ -15,7 +14,7 @@ ghost use Rattle.td_shard.specs.Asked.{items_at};
 ghost use Rattle.td_core.specs.Floor.{state_of, taken_up, IsHall};
 ghost use Rattle.td_core.specs.Sites.{IsSites};
 ghost use Rattle.td_core.specs.Posted.{mails, waits};
-ghost use Rattle.td_core.specs.Taking.{changed_at, IsThere, IsTakeRefused, IsTakenIf, HasRoomBack, IsLastTake, stamp_of_noted, asked_at, IsReady, AreReady, IsReadyAt, IsPlaceOf, IsPicked, IsTaskFor, without, IsTakenFor, IsPickTaken, IsPickRefused};
+ghost use Rattle.td_core.specs.Taking.{changed_at, IsThere, IsTakeRefused, IsTakenIf, HasRoomBack, IsLastTake, stamp_of_noted, asked_at, IsReady, AreReady, IsReadyAt, IsPlaceOf, IsPicked, IsTaskFor, without, IsTakenFor, IsPickTaken, IsChosen, IsPickRefused};
 ghost use Rattle.td_core.specs.declared.take.Candidate.TheVariants.{Message, Notification};
 ghost use Rattle.td_core.specs.declared.error.HallError.TheVariants.{Memory};
 
@@ -115,15 +114,12 @@ fn take_there(floor: &mut Floor, shard: u8, pick: u64) -> Result<Option<Task>, H
     ensures refused { IfErr result (IsPickRefused shard pick floor.old) }
     ensures err { OnErr result (floor.new ≡ floor.old) }
 {
-    let there = &floor.shards[usize::from(shard)];
-    let Some(candidate) = candidate(&floor.table, there, pick) else {
+    let Some((candidate, task)) = chosen(floor, shard, pick)? else {
         return Ok(None);
     };
-    if floor.taken == MOST_TASKS {
-        return Err(HallError::Spent);
-    }
-    let task = task_for(floor, there, shard, &candidate)?;
-    let kept = task.copy().map_err(|_| HallError::Memory)?;
+    let Ok(kept) = task.copy() else {
+        return Err(HallError::Memory);
+    };
     floor.out.reserve(1)?;
     remove(&mut floor.shards, shard, &candidate);
     floor.out.push_reserved(kept);
@@ -131,9 +127,29 @@ fn take_there(floor: &mut Floor, shard: u8, pick: u64) -> Result<Option<Task>, H
     Ok(Some(task))
 }
 
+/// The candidate of a shard that a pick names, with its task, if there is one. Refusals: `Spent` and `Memory`.
+fn chosen(floor: &Floor, shard: u8, pick: u64) -> Result<Option<(Candidate, Task)>, HallError>
+    requires within { shard < length floor.now.shards.items }
+    requires stamps { HoldsAt (λ s. AllByRecursion (λ n. IsOf floor.now.table.plan (stamp_of_noted n)) (asked_at s)) floor.now.shards.items shard }
+    requires sites { IsSites floor.now.table.plan floor.now.sites }
+    requires numbers { floor.now.taken ≤ ends }
+    ensures chosen { IfOk result (IsChosen shard pick floor.now) }
+    ensures refused { IfErr result (IsPickRefused shard pick floor.now) }
+{
+    let there = &floor.shards[usize::from(shard)];
+    let Some(candidate) = picked(&floor.table, there, pick) else {
+        return Ok(None);
+    };
+    if floor.taken == MOST_TASKS {
+        return Err(HallError::Spent);
+    }
+    let task = task_for(floor, there, shard, &candidate)?;
+    Ok(Some((candidate, task)))
+}
+
 /// The candidate of a shard that a pick names, if there is one. Where the pick is below the number of its messages, the
 /// notifications are not looked at.
-fn candidate(table: &Table, shard: &Shard, pick: u64) -> Option<Candidate>
+fn picked(table: &Table, shard: &Shard, pick: u64) -> Option<Candidate>
     requires { AllByRecursion (λ n. IsOf table.now.plan (stamp_of_noted n)) (asked_at shard.now) }
     ensures { IsPicked table.now shard.now pick result }
 {
@@ -154,7 +170,7 @@ fn place_of(table: &Table, shard: &Shard, pick: u64) -> u64
     ensures { IsPlaceOf table.now shard.now pick result }
 {
     let messages = shard.mailbox.len() as u64;
-    if pick == 0 || pick < messages {
+    if pick < messages.max(1) {
         return pick;
     }
     let count = u128::from(messages) + u128::from(ready_count(table, &shard.waiting));
@@ -269,7 +285,7 @@ fn notification_task(
     ensures ok { IfOk result (IsTaskFor floor.now shard there.now (Notification noted.now)) }
     ensures memory { IfErr result (λ e. e ≡ Memory) }
 {
-    let mut items = grouped(floor.alloc, there.waiting.items(noted.vertex, &noted.time))?;
+    let mut items = grouped(floor.alloc, items_of(&there.waiting, noted))?;
     let before = noted.time.epoch().saturating_sub(1);
     set_states(&floor.versions, &floor.states, before, noted.vertex, &mut items);
     let kind = floor.sites.kind(noted.vertex);
@@ -284,15 +300,24 @@ fn notification_task(
     ))
 }
 
+/// What waits for a notification; nothing, where that is not asked for.
+fn items_of<'a>(waiting: &'a Waiting, noted: &Noted) -> &'a [Arrival]
+    ensures { (items : List AnyArrival) → items_at waiting.now noted.now.vertex noted.now.time ≡ Some items → result.now ≡ items }
+{
+    waiting.items(noted.vertex, &noted.time).unwrap_or(&[])
+}
+
 /// What waits, by key. Refusal: `Memory`.
-fn grouped(alloc: Global, items: Option<&[Arrival]>) -> Result<KeyedItems, HallError>
-    ensures ok { (came : List AnyArrival) → option_copied items ≡ Some came → IfOk result (λ keyed. keyed ≡ map without_state (groups came)) }
+fn grouped(alloc: Global, items: &[Arrival]) -> Result<KeyedItems, HallError>
+    ensures ok { IfOk result (λ keyed. keyed ≡ map without_state (groups items.now)) }
     ensures memory { IfErr result (λ e. e ≡ Memory) }
 {
     groups_of_a_bag();
-    let items = Vec::from_slice(alloc, items.unwrap_or(&[]))?;
-    let bag = Bag::from_vec(alloc, items);
-    KeyedItems::grouped(alloc, &bag).map_err(|_| HallError::Memory)
+    let bag = Bag::from_vec(alloc, Vec::from_slice(alloc, items)?);
+    match KeyedItems::grouped(alloc, &bag) {
+        Ok(keyed) => Ok(keyed),
+        Err(_) => Err(HallError::Memory),
+    }
 }
 
 /// Gives each key the state that a vertex kept for it after an epoch.
