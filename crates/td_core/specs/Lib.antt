@@ -3,6 +3,8 @@ pub mod Came
 pub mod Sites
 pub mod Posted
 pub mod Floor
+pub mod Delivered
 pub mod Collected
 pub mod Cuts
 pub mod Taking
+pub mod Given

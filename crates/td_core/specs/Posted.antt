@@ -1,5 +1,5 @@
 -- What is posted to the mailboxes of a hall's shards, and room for it.
-use Rattle.std.specs.Prelude.{◌≡◌, ℕ, ◌==◌, ◌*◌, ◌≤◌, List, [], ◌∷◌, ◌++◌, map, filter, flat_map, replicate, length}
+use Rattle.std.specs.Prelude.{◌≡◌, ℕ, ◌==◌, ◌*◌, ◌≤◌, cond, List, [], ◌∷◌, ◌++◌, map, filter, flat_map, replicate, length}
 use Rattle.std.specs.List.{AllByRecursion, enumerate_from}
 use Rattle.td_stamp.specs.declared.values.Rec.{Rec}
 use Rattle.td_stamp.specs.Time.{Timestamp}
@@ -53,9 +53,17 @@ count_of workers recs s = length (filter (λ r. shard_of_key workers r.key == s)
 abbrev pub HasRoom : ℕ → Shard → Type 0
 HasRoom many s = (many ≤ s.mailbox.room) × (many ≤ s.mailbox.runs)
 
+-- in each shard for so many
+abbrev pub HaveRoomFor : (ℕ → ℕ) → List Shard → Type 0
+HaveRoomFor many shards = AllByRecursion (λ p. HasRoom (many p.0) p.1) (enumerate_from 0 shards)
+
 -- ROOM FOR RECORDS on each of so many edges, in the shards to which they belong
 abbrev pub HaveRoom : List Rec → ℕ → List Shard → Type 0
-HaveRoom recs edges shards = AllByRecursion (λ p. HasRoom (count_of (length shards) recs p.0 * edges) p.1) (enumerate_from 0 shards)
+HaveRoom recs edges shards = HaveRoomFor (λ s. count_of (length shards) recs s * edges) shards
+
+-- so many in one shard alone
+abbrev pub only_in : ℕ → ℕ → ℕ → ℕ
+only_in shard many s = cond (s == shard) many 0
 
 -- a record that goes out at a time
 abbrev pub on_outlet : Timestamp → Rec → Outlet → Message

@@ -4,9 +4,12 @@
 mod close;
 mod collect;
 mod cut;
+mod deliver;
 mod error;
 mod floor;
+mod give;
 mod hall;
+mod notify;
 mod open;
 mod outputs;
 mod passed;

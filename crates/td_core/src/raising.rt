@@ -1,6 +1,6 @@
-// FOUNDER TO POST: another helper (branch `raise`) proves this file; leave it out, merge branch `raise` when it is there. Drop this line.
 //! Raising the occurrences of several pointstamps, all or none.
-ghost use Rattle.std.specs.Prelude.{◌≡◌, ◌≤◌, ◌++◌, IfOk, IfErr, OnOk, OnErr};
+ghost use Rattle.std.specs.Prelude.{◌≡◌, ◌≤◌, ◌++◌, replicate, IfOk, IfErr, OnOk, OnErr};
+ghost use Rattle.std.specs.Bool.{OnTrue, OnFalse};
 ghost use Rattle.std.specs.List.{AllByRecursion};
 ghost use Rattle.td_reach.specs.declared.stamp.Stamp.{Stamp as AnyStamp};
 ghost use Rattle.td_reach.specs.Paths.{IsOf};
@@ -12,6 +12,7 @@ use crate::error::HallError;
 use crate::sites::Outlet;
 use std::alloc::Global;
 use td_progress::Table;
+use td_progress::laws::counted;
 use td_reach::{Place, Stamp};
 use td_stamp::Time;
 
@@ -31,7 +32,15 @@ pub(crate) fn raise(table: &mut Table, rises: &[Rise]) -> Result<(), HallError>
     ensures err { OnErr result (IsSameBag table.new.stamps table.old.stamps) }
     ensures memory { IfErr result (λ e. e ≡ Memory) }
 {
-    Err(HallError::Memory)
+    counted();
+    for done in 0..rises.len() {
+        let rise = &rises[done];
+        if !raise_one(table, &rise.stamp, rise.times) {
+            lower(table, &rises[..done]);
+            return Err(HallError::Memory);
+        }
+    }
+    Ok(())
 }
 
 /// Each of these pointstamps so many times less. It takes no memory.
@@ -40,6 +49,10 @@ pub(crate) fn lower(table: &mut Table, rises: &[Rise])
     ensures plan { table.new.plan ≡ table.old.plan }
     ensures stamps { IsSameBag table.old.stamps (risen rises.now ++ table.new.stamps) }
 {
+    counted();
+    for rise in rises {
+        table.take_off_many(&rise.stamp, rise.times);
+    }
 }
 
 /// So many messages more on each of some outlets, at a time. Refusal: `Memory`.
@@ -63,4 +76,16 @@ pub(crate) fn rises_on(
         });
     }
     Ok(rises)
+}
+
+/// Whether a pointstamp now occurs so many times more: otherwise memory was refused, or it would occur 2^128 times, and
+/// nothing was changed.
+fn raise_one(table: &mut Table, stamp: &Stamp, times: u64) -> bool
+    requires { IsOf table.old.plan stamp.now }
+    ensures plan { table.new.plan ≡ table.old.plan }
+    ensures yes { OnTrue result (IsSameBag table.new.stamps (replicate times stamp.now ++ table.old.stamps)) }
+    ensures no { OnFalse result (table.new ≡ table.old) }
+{
+    let occurs = table.occurrences(stamp);
+    occurs.checked_add(u128::from(times)).is_some() && table.add_many(stamp, times).is_ok()
 }

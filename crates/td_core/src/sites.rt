@@ -10,8 +10,8 @@ ghost use Rattle.td_machine.specs.Steps.{sending_times, again_below};
 ghost use Rattle.td_core.specs.Sites.{IsSite, IsSites, outlets_of, kind_in, bound_in, outlets_in, edge_in};
 
 use std::alloc::{AllocError, Global};
-use td_plan::{Kind, Plan, Vertex};
 use td_plan::laws::{edges_by_number, look_ups, read_there};
+use td_plan::{Kind, Plan, Vertex};
 use td_stamp::Time;
 
 /// An edge out of a vertex: its number, and the vertex and port to which it leads.

@@ -72,7 +72,7 @@ kind_within plan v kind h = by (slice_get (vertices plan) v) refl
 module _ (below : Below) where
   module _ (plan : List Line) (lawful : IsPlan plan) where
     -- INPUTS read on the outermost block
-    inputs_of_plan : (next : ℕ) → AllByRecursion (λ v. IsOf plan (stamp_of_input next v)) (inputs_of plan)
+    pub inputs_of_plan : (next : ℕ) → AllByRecursion (λ v. IsOf plan (stamp_of_input next v)) (inputs_of plan)
     inputs_of_plan next = all_map (λ v. IsOf plan (stamp_of_input next v)) (λ (p : PlacedVertex). p.vertex.number) (filter (λ (p : PlacedVertex). is_input p.vertex.kind) (vertices plan))
         (all_weaken (λ (p : PlacedVertex). IsKindThere plan p × (is_input p.vertex.kind ≡ true)) (λ p. IsOf plan (stamp_of_input next p.vertex.number)) one (filter (λ (p : PlacedVertex). is_input p.vertex.kind) (vertices plan))
         (all_filter (IsKindThere plan) (λ (p : PlacedVertex). is_input p.vertex.kind) (vertices plan)

@@ -21,6 +21,7 @@ ghost use Rattle.td_machine.specs.InOrder.{ListsInOrder, TasksInOrder, NumbersIn
 ghost use Rattle.td_machine.specs.Moves.{StampsMove};
 ghost use Rattle.td_machine.specs.NoneLeft.{NoneToTake, FirstUnpassed};
 ghost use Rattle.td_machine.specs.Waits.{WaitsByPlace, WhatWaits, AskedPassing};
+ghost use Rattle.td_machine.specs.Sends.{TasksOfPlan, ComeOfPlan, TurnsOfPlan};
 ghost use Rattle.td_machine.specs.ByEdge.{PostsByEdge, StampsByEdge, BatchByEdge, BatchStampsByEdge, StampsOfTask, OutputsAtOnce, AsksOnce};
 
 use crate::records::{Message, Notification, OutputAt, Stamped, StateLeft};
@@ -206,6 +207,29 @@ pub fn none_left()
 /// many loops as are open there.
 pub fn active_of_plan<L: Law>()
     ensures { (S : HallState) → IsReached L.answers S → AllByRecursion (IsOf S.plan) (active S) }
+{
+    laws_below();
+}
+
+/// The vertex and the time of a task that is out are of the plan, and so is what its vertex sends in answer to that time, on
+/// each edge out of it; and the task's epoch was released after the base.
+pub fn sends_of_plan<L: Law>()
+    ensures { TasksOfPlan L.answers }
+{
+    laws_below();
+}
+
+/// The pointstamps that come with a step from a state that is reached are of the plan.
+pub fn come_of_plan<L: Law>()
+    ensures { ComeOfPlan L.answers }
+{
+    laws_below();
+}
+
+/// Where a vertex and a time are of a plan, the vertex can send at the times that its kind turns it into: into a fourth loop
+/// no enter leads, a leave and a feedback stand in a loop, and a loop has a bound from 1 to 1,000.
+pub fn turns_of_plan()
+    ensures { TurnsOfPlan }
 {
     laws_below();
 }

@@ -12,7 +12,6 @@ overflow_cast-number c =
     let many = ap (λ l. length l) c.edges-edges.ensures in
     omega (arith, few, many, c.loop-number-test.true)
 
-
 pub loop-number-preserved : goal.loop-number-preserved
 loop-number-preserved c =
     let n = c.loop-number.number in
@@ -24,9 +23,9 @@ loop-number-preserved c =
     let so_far = c.loop-number.invariant ∙ ap (λ l. outlets_among plan v (take n l)) (sym c.edges-edges.ensures) in
     let then = ap (λ l. outlets_among plan v (take (n + 1) l)) c.edges-edges.ensures in
     elim c.if-edge-vertex.branch [
-      then-edge-vertex+in_ok-push w ↦
-        ap (λ o. o.items) w.outlets-is ∙ (w.in_ok-push.ensures.items ∙ (ap (λ l. l ++ record { number = n; reader = e.reader; port = e.port } ∷ []) so_far
-        ∙ (next_out plan v n es e there w.if-edge-vertex.true
+      | then-edge-vertex+in_ok-push w ↦
+          ap (λ o. o.items) w.outlets-is ∙ (w.in_ok-push.ensures.items ∙ (ap (λ l. l ++ record { number = n; reader = e.reader; port = e.port } ∷ []) so_far
+          ∙ (next_out plan v n es e there w.if-edge-vertex.true
           (c.edges_by_number.ensures.number plan c.vertices.ensures.lawful n e (subst (λ l. slice_get l n ≡ Some e) c.edges-edges.ensures there)) ∙ then)))
       | else-edge-vertex w ↦ ap (λ o. o.items) w.outlets-is ∙ (so_far ∙ (next_other plan v n es e there w.if-edge-vertex.false ∙ then))
     ]

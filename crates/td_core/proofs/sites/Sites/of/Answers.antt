@@ -15,12 +15,12 @@ there plan vs n p all within is = subst (λ l. slice_get l n ≡ Some p) all (sl
 
 pub site_of-requires-clause-there : goal.site_of-requires-clause-there
 site_of-requires-clause-there c = let f = c.look_ups.ensures.vertices c.args.plan.now c.loop-vertex.vertex-index c.vertex-item.result c.vertices-vertices.ensures.lawful
-        (there c.args.plan.now c.vertices-vertices.result.now c.loop-vertex.vertex-index c.vertex-item.result c.vertices-vertices.ensures.all c.loop-vertex-test.true c.vertex-item.is) in subst (λ n. IsLookedUp c.args.plan.now n c.vertex-item.result) (sym f.number) f
+    (there c.args.plan.now c.vertices-vertices.result.now c.loop-vertex.vertex-index c.vertex-item.result c.vertices-vertices.ensures.all c.loop-vertex-test.true c.vertex-item.is) in subst (λ n. IsLookedUp c.args.plan.now n c.vertex-item.result) (sym f.number) f
 
 pub site_of-requires-clause-first : goal.site_of-requires-clause-first
 site_of-requires-clause-first c =
     let f = c.look_ups.ensures.vertices c.args.plan.now c.loop-vertex.vertex-index c.vertex-item.result c.vertices-vertices.ensures.lawful
-        (there c.args.plan.now c.vertices-vertices.result.now c.loop-vertex.vertex-index c.vertex-item.result c.vertices-vertices.ensures.all c.loop-vertex-test.true c.vertex-item.is) in
+    (there c.args.plan.now c.vertices-vertices.result.now c.loop-vertex.vertex-index c.vertex-item.result c.vertices-vertices.ensures.all c.loop-vertex-test.true c.vertex-item.is) in
     let first = edge_count (take c.loop-vertex.vertex-index (vertices c.args.plan.now)) in
     let none : first ≡ first + 0 = omega arith in
     c.loop-vertex.invariant.first ∙ (none ∙ ap (λ n. edge_at c.args.plan.now n 0) (sym f.number))
@@ -40,7 +40,7 @@ loop-vertex-preserved c =
     let n = c.loop-vertex.vertex-index in
     let inv = c.loop-vertex.invariant in
     let f = c.look_ups.ensures.vertices c.args.plan.now c.loop-vertex.vertex-index c.vertex-item.result c.vertices-vertices.ensures.lawful
-        (there c.args.plan.now c.vertices-vertices.result.now c.loop-vertex.vertex-index c.vertex-item.result c.vertices-vertices.ensures.all c.loop-vertex-test.true c.vertex-item.is) in
+    (there c.args.plan.now c.vertices-vertices.result.now c.loop-vertex.vertex-index c.vertex-item.result c.vertices-vertices.ensures.all c.loop-vertex-test.true c.vertex-item.is) in
     let s = c.in_ok-site_of.field-0 in
     let place : n ≡ 0 + length c.loop-vertex.sites.items = let many = inv.many in omega (arith, many) in
     record {
@@ -49,8 +49,8 @@ loop-vertex-preserved c =
       many = ap length c.push_reserved.ensures.items ∙ (length-append c.loop-vertex.sites.items (s ∷ []) ∙ ap (λ m. m + 1) inv.many);
       first = ap (λ m. m + c.source_count.result) inv.first ∙ (ap (λ m. edge_count (take n (vertices plan)) + m) c.source_count.ensures.count ∙ sym (count_next n (vertices plan) c.vertex-item.result (there c.args.plan.now c.vertices-vertices.result.now c.loop-vertex.vertex-index c.vertex-item.result c.vertices-vertices.ensures.all c.loop-vertex-test.true c.vertex-item.is)));
       room =
-        let within = ap (λ l. length l) c.vertices-vertices.ensures.all in
-        omega (arith, inv.room, c.push_reserved.ensures.len, c.push_reserved.ensures.capacity, c.loop-vertex-test.true, within);
+          let within = ap (λ l. length l) c.vertices-vertices.ensures.all in
+          omega (arith, inv.room, c.push_reserved.ensures.len, c.push_reserved.ensures.capacity, c.loop-vertex-test.true, within);
     }
 
 pub returns : goal.returns

@@ -1,0 +1,9 @@
+use Rattle.std.proofs.Common.{◌*◌, take, drop, length}
+use Rattle.td_core.specs.Posted.{IsPosted, HaveRoomFor, count_of, on_each}
+use Rattle.td_core.proofs.posting.post_each.Given as goal
+
+abbrev pub invariant-loop-rec : goal.invariant-loop-rec
+invariant-loop-rec l = record {
+  posted : IsPosted (on_each l.outlets l.time (take l.rec-index l.recs)) l.fn.shards.items l.shards.items;
+  room : HaveRoomFor (λ s. count_of (length l.fn.shards.items) (drop l.rec-index l.recs) s * length l.outlets) l.shards.items;
+}
