@@ -22,3 +22,4 @@ pub mod Picking
 pub mod PostingSteps
 pub mod RaisingSteps
 pub mod PostRuns
+pub mod TakeLists

@@ -7,6 +7,7 @@ use Rattle.td_calls.specs.Answers.{Answers}
 use Rattle.td_reach.specs.declared.stamp.Stamp.{Stamp}
 use Rattle.td_reach.specs.Frontier.{Frontier}
 use Rattle.td_progress.specs.Bag.{Active}
+use Rattle.td_machine.specs.declared.records.Message.{Message}
 use Rattle.td_machine.specs.State.{HallState, Task}
 use Rattle.td_machine.specs.State.Content.{messages, notification}
 use Rattle.td_machine.specs.Active.{kind_of, stamp_at}
@@ -23,7 +24,7 @@ use Rattle.td_core.specs.declared.error.HallError.TheVariants.{Memory, Spent}
 use Rattle.td_core.specs.declared.take.Candidate.{Candidate}
 use Rattle.td_core.specs.declared.take.Candidate.TheVariants as candidates
 use Rattle.td_core.specs.Floor.{state_of}
-use Rattle.td_core.specs.Posted.{waits}
+use Rattle.td_core.specs.Posted.{mails, waits}
 use Rattle.td_core.specs.Refusals.{error_of}
 
 -- WHY A TAKE IS REFUSED: for want of memory, or since the machine refuses it
@@ -112,20 +113,18 @@ changed_at f i [] = []
 changed_at f zero (x ∷ xs) = f x ∷ xs
 changed_at f (suc i) (x ∷ xs) = x ∷ changed_at f i xs
 
--- a shard without the messages of a task
-abbrev pub without_task : ℕ → Shard → Shard
-without_task place s = record s { mailbox = record s.mailbox { messages = left_at place s.mailbox.messages } }
-
--- the shards without what is taken
-abbrev pub without : Candidate → ℕ → List Shard → List Shard
-without (candidates.Message place) i shards = changed_at (without_task place) i shards
-without (candidates.Notification n) i shards = shards
+-- the mailboxes without what is taken: what waits for a notification stays until that is given
+abbrev pub mails_without : Candidate → ℕ → List (List Message) → List (List Message)
+mails_without (candidates.Message place) i mails = changed_at (left_at place) i mails
+mails_without (candidates.Notification n) i mails = mails
 
 -- A CANDIDATE WAS TAKEN of a shard as this task
 pub record IsTakenFor (candidate : Candidate) (shard : ℕ) (old new : Floor) (task : Task) : Type 0 where
   pub parts : new ≡ record old { shards = new.shards; out = new.out; taken = old.taken + 1 }
   pub out : new.out.items ≡ old.out.items ++ task ∷ []
-  pub shards : new.shards.items ≡ without candidate shard old.shards.items
+  pub mails : mails new.shards.items ≡ mails_without candidate shard (mails old.shards.items)
+  pub waiting : waits new.shards.items ≡ waits old.shards.items
+  pub room : map room_of new.shards.items ≡ map room_of old.shards.items
 
 -- the candidate that a pick names, with its task
 abbrev pub IsChosen : ℕ → ℕ → Floor → Option (Candidate × Task) → Type 0

@@ -14,7 +14,7 @@ ghost use Rattle.td_shard.specs.Asked.{items_at};
 ghost use Rattle.td_core.specs.Floor.{state_of, taken_up, IsHall};
 ghost use Rattle.td_core.specs.Sites.{IsSites};
 ghost use Rattle.td_core.specs.Posted.{mails, waits};
-ghost use Rattle.td_core.specs.Taking.{changed_at, IsThere, IsTakeRefused, IsTakenIf, HasRoomBack, IsLastTake, stamp_of_noted, asked_at, IsReady, AreReady, IsReadyAt, IsPlaceOf, IsPicked, IsTaskFor, without, IsTakenFor, IsPickTaken, IsChosen, IsPickRefused};
+ghost use Rattle.td_core.specs.Taking.{changed_at, IsThere, IsTakeRefused, IsTakenIf, HasRoomBack, IsLastTake, stamp_of_noted, asked_at, IsReady, AreReady, IsReadyAt, IsPlaceOf, IsPicked, IsTaskFor, mails_without, room_of, IsTakenFor, IsPickTaken, IsChosen, IsPickRefused};
 ghost use Rattle.td_core.specs.declared.take.Candidate.TheVariants.{Message, Notification};
 ghost use Rattle.td_core.specs.declared.error.HallError.TheVariants.{Memory};
 
@@ -340,7 +340,9 @@ fn set_states(
 fn remove(shards: &mut Vec<Shard>, shard: u8, candidate: &Candidate)
     requires within { shard < length shards.old.items }
     requires there { HoldsAt (λ s. IsThere s candidate.now) shards.old.items shard }
-    ensures { shards.new.items ≡ without candidate.now shard shards.old.items }
+    ensures mails { mails shards.new.items ≡ mails_without candidate.now shard (mails shards.old.items) }
+    ensures waiting { waits shards.new.items ≡ waits shards.old.items }
+    ensures room { map room_of shards.new.items ≡ map room_of shards.old.items }
 {
     if let Candidate::Message(place) = candidate {
         shards[usize::from(shard)].mailbox.remove(*place);
@@ -372,8 +374,11 @@ fn post_back(shards: &mut Vec<Shard>, shard: u8, task: &Task)
     ensures mails { mails shards.new.items ≡ changed_at (λ ms. ms ++ taken_up task.now.vertex task.now.time task.now.content) shard (mails shards.old.items) }
     ensures waiting { waits shards.new.items ≡ waits shards.old.items }
 {
-    if let Work::Messages(port, recs) = task.work() {
-        let mailbox = &mut shards[usize::from(shard)].mailbox;
-        mailbox.post(task.vertex(), *port, task.time(), recs.as_slice());
+    match task.work() {
+        Work::Messages(port, recs) => {
+            let mailbox = &mut shards[usize::from(shard)].mailbox;
+            mailbox.post(task.vertex(), *port, task.time(), recs.as_slice());
+        }
+        Work::Notification(_) => {}
     }
 }
