@@ -23,3 +23,4 @@ pub mod PostingSteps
 pub mod RaisingSteps
 pub mod PostRuns
 pub mod TakeLists
+pub mod TakeSteps

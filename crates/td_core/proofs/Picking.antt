@@ -6,7 +6,7 @@ use Rattle.td_shard.specs.declared.noted.Noted.{Noted}
 use Rattle.td_shard.specs.declared.shard.Shard.{Shard}
 use Rattle.td_core.specs.declared.take.Candidate.{Candidate}
 use Rattle.td_core.specs.declared.take.Candidate.TheVariants as candidates
-use Rattle.td_core.specs.Taking.{IsReady, AreReady, IsReadyAt, IsPlaceOf, IsPicked, asked_at}
+use Rattle.td_core.specs.Taking.{IsReady, AreReady, IsReadyAt, IsPlaceOf, IsPicked, IsThere, asked_at}
 
 module _ (active : Active) where
   -- there is one such list
@@ -98,3 +98,8 @@ module _ (active : Active) where
       empty : {X : Type 0} (xs : List X) → (0 < length xs → ⊥) → xs ≡ []
       empty [] h = refl
       empty (x ∷ xs) h = absurd (h (omega arith))
+
+  -- the candidate is one that the shard has
+  pub is_there : (s : Shard) (pick : ℕ) (c : Candidate) → IsPicked active s pick (Some c) → IsThere s c
+  is_there s pick (candidates.Message place) h = h.0
+  is_there s pick (candidates.Notification n) h = tt

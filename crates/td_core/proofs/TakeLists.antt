@@ -57,7 +57,7 @@ some_is : {X : Type 0} (x y : X) → Some x ≡ Some y → x ≡ y
 some_is x y e = cc
 
 -- and one more
-pub next_mapped : {X : Type 0} (f : X → X) (i : ℕ) (xs : List X) (x : X) → slice_get (first_mapped f i xs) i ≡ Some x → set (first_mapped f i xs) i (f x) ≡ first_mapped f (i + 1) xs
+pub next_mapped : {X : Type 0} (f : X → X) (i : ℕ) (xs : List X) (x : X) → slice_get (first_mapped f i xs) i ≡ Some x → set (first_mapped f i xs) i (f x) ≡ first_mapped f (suc i) xs
 next_mapped f zero [] x e = absurd (cc)
 next_mapped f zero (y ∷ ys) x e = ap (λ z. f z ∷ ys) (sym (some_is y x e))
 next_mapped f (suc i) [] x e = absurd (cc)
