@@ -17,8 +17,18 @@ use Rattle.td_stamp.specs.BagLaws.{BagLaws, SetLaws}
 use Rattle.td_stamp.specs.Groups.{groups}
 use Rattle.td_stamp.specs.Time.{Timestamp, time_cmp}
 use Rattle.td_machine.specs.declared.records.Message.{Message}
+use Rattle.std.proofs.lemmas.Nat.{mod_below}
+use Rattle.td_calls.specs.Answers.{Answers}
+use Rattle.td_plan.specs.Lines.{Line}
+use Rattle.td_reach.specs.declared.stamp.Stamp.{Stamp}
+use Rattle.td_reach.specs.Frontier as frontiers
+use Rattle.td_progress.specs.Bag.{IsSameBag}
+use Rattle.td_machine.specs.Active.{active, stamp_at, Frontier}
+use Rattle.td_machine.specs.InOrder.{ListsInOrder, TasksInOrder, NumbersInOrder, StillThere}
+use Rattle.td_machine.specs.NoneLeft.{NoneToTake}
 use Rattle.td_machine.specs.State.{HallState, Task, Content, message_cmp, notification_cmp, task_cmp, shard_of_key, is_there, is_out}
-use Rattle.td_machine.specs.Steps.{asked_at, is_asked, is_for, waiting, with_state_of, to_notify}
+use Rattle.td_machine.specs.State.Content.{messages, notification}
+use Rattle.td_machine.specs.Steps.{asked_at, is_asked, is_for, waiting, with_state_of, to_notify, coming, IsContent, MayTake}
 use Rattle.td_machine.specs.Waits.{WaitsByPlace, WhatWaits}
 use Rattle.td_progress.specs.Bag.{Active}
 use Rattle.td_shard.specs.declared.noted.Noted.{Noted}
@@ -26,14 +36,19 @@ use Rattle.td_shard.specs.declared.shard.Shard.{Shard}
 use Rattle.td_shard.specs.Asked.{AskedList, noted_cmp, noted_at, items_at}
 use Rattle.td_shard.specs.ProvedOrders.{noted_total}
 use Rattle.td_core.specs.declared.floor.Floor.{Floor}
-use Rattle.td_core.specs.Floor.{state_of, IsHall, IsShard, with_tasks, waiting_in, waiting_at, asked_in, asked_of_shard}
-use Rattle.td_core.specs.Posted.{waits}
-use Rattle.td_core.specs.Taking.{IsReady, AreReady, changed_at}
+use Rattle.td_core.specs.Floor.{state_of, IsHall, IsShard, empty_shard, in_mailboxes, with_tasks, taken_up, waiting_in, waiting_at, asked_in, asked_of_shard}
+use Rattle.td_core.specs.Posted.{mails, waits}
+use Rattle.td_core.specs.Taking.{IsReady, AreReady, IsPicked, changed_at}
 use Rattle.td_core.proofs.NotifyLists.{there_is, removed, is_other}
-use Rattle.td_core.proofs.TakeLists.{every, weaker, of_two, in_bag}
+use Rattle.td_core.proofs.TakeLists.{every, weaker, of_two, in_bag, flat_mails, none_of, get_map}
+use Rattle.td_core.proofs.ShardParts.{mail_of}
 use Rattle.td_core.proofs.Waits.{noted_apart, waiting_all, as_messages}
 use Rattle.td_core.proofs.WaitsAll.{waiting_by_lists, IsWaiting}
 use Rattle.td_core.proofs.WaitsAsked.{asks, is_in, in_two, in_set, asked_here, not_elsewhere}
+
+-- the frontier is that of the bag
+abbrev pub InAnyOrder : Type 0
+InAnyOrder = (plan : List Line) (xs ys : List Stamp) (p : Stamp) → IsSameBag xs ys → frontiers.Frontier plan xs p → frontiers.Frontier plan ys p
 
 -- WHAT IS ASKED FOR at a vertex and time
 module _ (v : ℕ) (t : Timestamp) where
@@ -183,8 +198,100 @@ module _ (laws : BagLaws message_cmp) (apart : IsAntisymmetric time_cmp) (n : No
     others_there [] k other h = tt
     others_there (w ∷ es) k other h = of_two IsElse (waiting_at w) (waiting_all es) (else_by_key w w.1 k other h.0) (others_there es k other h.1)
 
-    all_else : (k : ℕ) (ws : List AskedList) (i : ℕ) → (s < k) ⊎ (s ≡ k + i) → AllByRecursion (IsWaiting S.workers) (enumerate_from k ws) → AllByRecursion IsElse (all_waits (changed_at (remove_entry test) i ws))
-    all_else k [] i h are = tt
-    all_else k (w ∷ ws) i (inl l) are = ?
-    all_else k (w ∷ ws) zero (inr e) are = ?
-    all_else k (w ∷ ws) (suc i) (inr e) are = ?
+    else_all : (k : ℕ) (ws : List AskedList) → s < k → AllByRecursion (IsWaiting S.workers) (enumerate_from k ws) → AllByRecursion IsElse (all_waits ws)
+    else_all k [] l are = tt
+    else_all k (w ∷ ws) l are =
+        of_two IsElse (waiting_all w) (all_waits ws) (others_there w k (λ e. absurd (omega (arith, l, e))) are.0.items) (else_all (k + 1) ws (omega (arith, l)) are.1)
+
+    pub all_else : (k : ℕ) (ws : List AskedList) (i : ℕ) → s ≡ k + i → AllByRecursion (IsWaiting S.workers) (enumerate_from k ws) → AllByRecursion IsElse (all_waits (changed_at (remove_entry test) i ws))
+    all_else k [] i e are = tt
+    all_else k (w ∷ ws) zero e are =
+        of_two IsElse (waiting_all (remove_entry test w)) (all_waits ws) (subst (λ es. AllByRecursion IsElse (waiting_all es)) (sym (removed n w are.0.once)) (others_here w)) (else_all (k + 1) ws (omega (arith, e)) are.1)
+    all_else k (w ∷ ws) (suc i) e are =
+        of_two IsElse (waiting_all w) (all_waits (changed_at (remove_entry test) i ws)) (others_there w k (λ f. absurd (omega (arith, e, f))) are.0.items) (all_else (k + 1) ws i (omega (arith, e)) are.1)
+
+  -- its items are of the shard
+  found_own : (P : Arrival → Type 0) (es : AskedList) → AllByRecursion (λ w. AllByRecursion P w.1) es → items_at es n.vertex n.time ≡ Some items → AllByRecursion P items
+  found_own P [] h e = absurd (cc)
+  found_own P (w ∷ es) h e = by (test w.0) e
+    where
+      by : (b : Bool) → cond b (Some w.1) (items_at es n.vertex n.time) ≡ Some items → AllByRecursion P items
+      by true same = subst (AllByRecursion P) (some_is w.1 items same) h.0
+      by false later = found_own P es h.1 later
+
+  pub items_own : (workers k : ℕ) (ws : List AskedList) (i : ℕ) → i < length ws → AllByRecursion (IsWaiting workers) (enumerate_from k ws) → items_at (get_or ws i []) n.vertex n.time ≡ Some items
+      → AllByRecursion (λ a. shard_of_key workers a.key ≡ k + i) items
+  items_own workers k [] i l are e = absurd (omega (arith, l))
+  items_own workers k (w ∷ ws) zero l are e =
+      let here : k + 0 ≡ k = omega arith in
+      subst (λ m. AllByRecursion (λ a. shard_of_key workers a.key ≡ m) items) (sym here) (found_own (λ a. shard_of_key workers a.key ≡ k) w are.0.items e)
+  items_own workers k (w ∷ ws) (suc i) l are e =
+      let next : k + suc i ≡ k + 1 + i = omega arith in
+      subst (λ m. AllByRecursion (λ a. shard_of_key workers a.key ≡ m) items) (sym next) (items_own workers (k + 1) ws i (omega (arith, l)) are.1 e)
+
+-- A HALL from which a task is taken
+module _ (answers : Answers) (floor : Floor) (inv : IsHall answers floor) (bags : BagLaws message_cmp) (sets : SetLaws notification_cmp) (apart : IsAntisymmetric time_cmp)
+    (frontier : InAnyOrder) (lists : ListsInOrder (state_of floor)) (tasks : TasksInOrder (state_of floor)) (numbers : NumbersInOrder (state_of floor)) where
+  abbrev S : HallState
+  S = state_of floor
+
+  abbrev shards : List Shard
+  shards = floor.shards.items
+
+  abbrev W : ℕ
+  W = length shards
+
+  -- in the frontier by the table, and of the state
+  pub in_state : (n : Noted) → IsReady floor.table n → Frontier S (stamp_at n.vertex n.time)
+  in_state n h = frontier S.plan floor.table.stamps (active S) (stamp_at n.vertex n.time) inv.counted h
+
+  pub in_table : (n : Noted) → Frontier S (stamp_at n.vertex n.time) → IsReady floor.table n
+  in_table n h = frontier S.plan (active S) floor.table.stamps (stamp_at n.vertex n.time) (λ p. sym (inv.counted p)) h
+
+  -- what is asked for in a shard
+  pub asked_there : (s v : ℕ) (t : Timestamp) (d : Shard) → s < W → is_asked S s v t ≡ is_some (items_at (get_or shards s d).waiting v t)
+  asked_there s v t d l =
+      let here : s ≡ 0 + s = omega arith in
+      in_set sets (asks s v t) (flat_map asked_in (enumerate_from 0 shards))
+      ∙ (ap (λ m. is_in (asks m v t) (flat_map asked_in (enumerate_from 0 shards))) here ∙ there v t 0 shards s d l)
+
+  -- the messages of tasks are of the shards at which they are out
+  with_task_none : (s : ℕ) (t : Task) (content : Content) → IsContent S t.shard t.vertex t.time content → (t.shard ≡ s → ⊥) → AllByRecursion (λ c. shard_of_key W c.rec.key ≡ s → ⊥) (taken_up t.vertex t.time content)
+  with_task_none s t (notification items) is other = tt
+  with_task_none s t (messages port recs) is other = come recs is.2
+    where
+      come : (rs : List Rec) → AllByRecursion (λ r. shard_of_key W r.key ≡ t.shard) rs → AllByRecursion (λ c. shard_of_key W c.rec.key ≡ s → ⊥) (coming t.vertex port t.time rs)
+      come [] h = tt
+      come (r ∷ rs) h = (λ e. other (sym h.0 ∙ e), come rs h.1)
+
+  tasks_none : (s : ℕ) (out : List Task) → AllByRecursion (StillThere S) out → list_any (λ t. t.shard == s) out ≡ false → AllByRecursion (λ c. shard_of_key W c.rec.key ≡ s → ⊥) (with_tasks out)
+  tasks_none s [] h e = tt
+  tasks_none s (t ∷ ts) h e =
+      let two = neither (t.shard == s) (list_any (λ t. t.shard == s) ts) e in
+      of_two (λ c. shard_of_key W c.rec.key ≡ s → ⊥) (taken_up t.vertex t.time t.content) (with_tasks ts)
+      (with_task_none s t t.content h.0.2 (λ same. differs t.shard s two.0 same)) (tasks_none s ts h.1 two.1)
+    where
+      neither : (a b : Bool) → (a || b) ≡ false → (a ≡ false) × (b ≡ false)
+      neither true b e = absurd (cc)
+      neither false b e = (refl, e)
+
+      differs : (a b : ℕ) → (a == b) ≡ false → a ≡ b → ⊥
+      differs a b e f = grind (arith, nat_tests)
+
+  -- NONE at a shard that has no candidate
+  module _ (none : NoneToTake) (s : ℕ) (free : is_out S s ≡ false) where
+    pub none_here : s < W → HoldsAt (λ x. IsPicked floor.table x 0 None) shards s → (task : Task) → MayTake S s task → ⊥
+    none_here l picked = none S s
+        (in_bag message_cmp (λ c. shard_of_key W c.rec.key ≡ s → ⊥) (in_mailboxes shards ++ with_tasks floor.out.items)
+        (of_two (λ c. shard_of_key W c.rec.key ≡ s → ⊥) (in_mailboxes shards) (with_tasks floor.out.items)
+        (subst (AllByRecursion (λ c. shard_of_key W c.rec.key ≡ s → ⊥)) (sym (flat_mails shards)) (none_of W 0 (mails shards) s no_mail (mail_of W 0 shards inv.shards)))
+        (tasks_none s floor.out.items tasks.there free)))
+        (λ v t is ready. none_ready v t apart floor.table (get_or shards s empty_shard).waiting (picked empty_shard).1 (sym (asked_there s v t empty_shard l) ∙ is) (in_table (noted_at v t) ready))
+      where
+        no_mail : get_or (mails shards) s [] ≡ []
+        no_mail = get_map (λ (x : Shard). x.mailbox.messages) shards s empty_shard [] l ∙ (picked empty_shard).0
+
+    pub none_beyond : W ≤ s → (task : Task) → MayTake S s task → ⊥
+    none_beyond l = none S s
+        (every (λ (c : Message). shard_of_key W c.rec.key ≡ s → ⊥) (λ c e. let some = numbers.workers in let below = mod_below c.rec.key W some in absurd (omega (arith, e, below, l))) S.messages)
+        (λ v t is ready. let no = in_set sets (asks s v t) (flat_map asked_in (enumerate_from 0 shards)) ∙ nowhere v t s 0 shards (inr (omega (arith, l))) in absurd (true≢false (sym is ∙ no)))

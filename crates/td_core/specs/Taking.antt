@@ -42,6 +42,11 @@ pub record IsTaken (old new : Floor) (task : Task) : Type 0 where
   pub waiting : waits new.shards.items ≡ waits old.shards.items
   pub room : map room_of new.shards.items ≡ map room_of old.shards.items
 
+-- all is as it was, but for room in the list of tasks
+pub record IsSame (old new : Floor) : Type 0 where
+  pub parts : new ≡ record old { out = new.out }
+  pub out : new.out.items ≡ old.out.items
+
 -- or none was, and all is as it was
 abbrev pub IsTakenIf : Floor → Floor → Option Task → Type 0
 IsTakenIf old new None = new ≡ old

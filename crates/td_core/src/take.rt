@@ -14,7 +14,7 @@ ghost use Rattle.td_shard.specs.Asked.{items_at};
 ghost use Rattle.td_core.specs.Floor.{state_of, taken_up, IsHall};
 ghost use Rattle.td_core.specs.Sites.{IsSites};
 ghost use Rattle.td_core.specs.Posted.{mails, waits};
-ghost use Rattle.td_core.specs.Taking.{changed_at, IsThere, IsTakeRefused, IsTakenIf, HasRoomBack, IsLastTake, stamp_of_noted, asked_at, IsReady, AreReady, IsReadyAt, IsPlaceOf, IsPicked, IsTaskFor, mails_without, room_of, IsTakenFor, IsPickTaken, IsChosen, IsPickRefused};
+ghost use Rattle.td_core.specs.Taking.{changed_at, IsThere, IsTakeRefused, IsSame, IsTakenIf, HasRoomBack, IsLastTake, stamp_of_noted, asked_at, IsReady, AreReady, IsReadyAt, IsPlaceOf, IsPicked, IsTaskFor, mails_without, room_of, IsTakenFor, IsPickTaken, IsChosen, IsPickRefused};
 ghost use Rattle.td_core.specs.declared.take.Candidate.TheVariants.{Message, Notification};
 ghost use Rattle.td_core.specs.declared.error.HallError.TheVariants.{Memory};
 
@@ -76,7 +76,7 @@ pub(crate) fn take_floor<L: Law>(
     ensures refused { IfErr result (IsTakeRefused (state_of floor.old) shard) }
     ensures hall { IsHall L.answers floor.new }
     ensures parts { IfOk result (IsTakenIf floor.old floor.new) }
-    ensures err { OnErr result (floor.new ≡ floor.old) }
+    ensures err { OnErr result (IsSame floor.old floor.new) }
 {
     reached::<L>();
     reached_in_order::<L>();
@@ -112,7 +112,7 @@ fn take_there(floor: &mut Floor, shard: u8, pick: u64) -> Result<Option<Task>, H
     requires numbers { floor.old.taken ≤ ends }
     ensures taken { IfOk result (IsPickTaken shard pick floor.old floor.new) }
     ensures refused { IfErr result (IsPickRefused shard pick floor.old) }
-    ensures err { OnErr result (floor.new ≡ floor.old) }
+    ensures err { OnErr result (IsSame floor.old floor.new) }
 {
     let Some((candidate, task)) = chosen(floor, shard, pick)? else {
         return Ok(None);
