@@ -24,3 +24,4 @@ pub mod RaisingSteps
 pub mod PostRuns
 pub mod TakeLists
 pub mod TakeSteps
+pub mod TakenHall

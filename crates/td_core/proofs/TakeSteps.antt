@@ -1,9 +1,9 @@
 -- A take of a hall is the machine's step.
-use Rattle.std.proofs.Common.{◌≡◌, ◌⊎◌, inl, inr, ℕ, zero, suc, ◌+◌, ◌-◌, ◌<◌, ◌≤◌, ◌==◌, Bool, true, false, not, ◌&&◌, ◌||◌, cond, List, [], ◌∷◌, ◌++◌, map, filter, flat_map, length, get_or, slice_get, HoldsAt, Option, Some, None, is_some, refl, ap, sym, ◌∙◌, subst, arith, append-nil, true≢false}
+use Rattle.std.proofs.Common.{◌≡◌, ◌⊎◌, inl, inr, ℕ, zero, suc, ◌+◌, ◌-◌, ◌<◌, ◌≤◌, ◌==◌, Bool, true, false, not, ◌&&◌, ◌||◌, cond, List, [], ◌∷◌, ◌++◌, map, filter, flat_map, length, get_or, slice_get, HoldsAt, Option, Some, None, is_some, refl, ap, sym, ◌∙◌, subst, arith, append-nil, append_assoc, true≢false}
 use Rattle.std.specs.declared.cmp.Ordering.{Ordering}
 use Rattle.std.specs.declared.cmp.Ordering.TheVariants.{Less, Equal, Greater}
 use Rattle.std.specs.Ordering.{is_eq, nat_cmp}
-use Rattle.std.specs.FinMap.{IsAntisymmetric}
+use Rattle.std.specs.FinMap.{IsAntisymmetric, nat_cmp-IsAntisymmetric}
 use Rattle.std.specs.Map.{remove_entry, keys_of}
 use Rattle.std.specs.BTreeMap.{is_at}
 use Rattle.std.specs.List.{AllByRecursion, enumerate_from, list_any}
@@ -12,6 +12,8 @@ use Rattle.std.proofs.lemmas.Bool.Decides.{nat_tests}
 use Rattle.std.proofs.lemmas.Cmp.{tied_itself}
 use Rattle.td_stamp.specs.declared.values.Rec.{Rec}
 use Rattle.td_stamp.specs.declared.values.Arrival.{Arrival}
+use Rattle.td_stamp.specs.ProvedOrders.{both_tie}
+use Rattle.td_machine.specs.declared.records.Notification.{Notification}
 use Rattle.td_stamp.specs.Bag.{bag_of, bag_insert, set_of, join, IsBag}
 use Rattle.td_stamp.specs.BagLaws.{BagLaws, SetLaws}
 use Rattle.td_stamp.specs.Groups.{groups}
@@ -22,8 +24,9 @@ use Rattle.td_calls.specs.Answers.{Answers}
 use Rattle.td_plan.specs.Lines.{Line}
 use Rattle.td_reach.specs.declared.stamp.Stamp.{Stamp}
 use Rattle.td_reach.specs.Frontier as frontiers
+use Rattle.td_reach.specs.Paths.{IsOf}
 use Rattle.td_progress.specs.Bag.{IsSameBag}
-use Rattle.td_machine.specs.Active.{active, stamp_at, Frontier}
+use Rattle.td_machine.specs.Active.{active, stamp_at, stamp_of_asked, stamp_of_message, Frontier}
 use Rattle.td_machine.specs.InOrder.{ListsInOrder, TasksInOrder, NumbersInOrder, StillThere}
 use Rattle.td_machine.specs.NoneLeft.{NoneToTake}
 use Rattle.td_machine.specs.State.{HallState, Task, Content, message_cmp, notification_cmp, task_cmp, shard_of_key, is_there, is_out}
@@ -38,9 +41,9 @@ use Rattle.td_shard.specs.ProvedOrders.{noted_total}
 use Rattle.td_core.specs.declared.floor.Floor.{Floor}
 use Rattle.td_core.specs.Floor.{state_of, IsHall, IsShard, empty_shard, in_mailboxes, with_tasks, taken_up, waiting_in, waiting_at, asked_in, asked_of_shard}
 use Rattle.td_core.specs.Posted.{mails, waits}
-use Rattle.td_core.specs.Taking.{IsReady, AreReady, IsPicked, changed_at}
+use Rattle.td_core.specs.Taking.{IsReady, AreReady, IsPicked, changed_at, stamp_of_noted}
 use Rattle.td_core.proofs.NotifyLists.{there_is, removed, is_other}
-use Rattle.td_core.proofs.TakeLists.{every, weaker, of_two, in_bag, flat_mails, none_of, get_map}
+use Rattle.td_core.proofs.TakeLists.{every, weaker, of_two, of_first, of_second, in_bag, flat, flat_mails, none_of, get_map}
 use Rattle.td_core.proofs.ShardParts.{mail_of}
 use Rattle.td_core.proofs.Waits.{noted_apart, waiting_all, as_messages}
 use Rattle.td_core.proofs.WaitsAll.{waiting_by_lists, IsWaiting}
@@ -92,11 +95,11 @@ module _ (v : ℕ) (t : Timestamp) where
   pub none_ready : IsAntisymmetric time_cmp → (active : Active) (es : AskedList) → AreReady active (map (λ w. w.0) es) [] → is_some (items_at es v t) ≡ true → IsReady active (noted_at v t) → ⊥
   none_ready apart active [] are e is = absurd (cc)
   none_ready apart active (w ∷ es) (inr h) e is = absurd (let no = h.1.1 in cc)
-  none_ready apart active (w ∷ es) (inl h) e is = by (is_at (noted_cmp (noted_at v t)) w.0) refl e
+  none_ready apart active (w ∷ es) (inl h) e is = by (is_at (noted_cmp (noted_at v t)) w.0) refl e (λ some. none_ready apart active es h.1 some is)
     where
-      by : (b : Bool) → is_at (noted_cmp (noted_at v t)) w.0 ≡ b → is_some (cond b (Some w.1) (items_at es v t)) ≡ true → ⊥
-      by true here some = h.0 (subst (IsReady active) (noted_apart apart (noted_at v t) w.0 (tie (noted_cmp (noted_at v t) w.0) here)) is)
-      by false other some = none_ready apart active es h.1 some is
+      by : (b : Bool) → is_at (noted_cmp (noted_at v t)) w.0 ≡ b → is_some (cond b (Some w.1) (items_at es v t)) ≡ true → (is_some (items_at es v t) ≡ true → ⊥) → ⊥
+      by true here some later = h.0 (subst (IsReady active) (noted_apart apart (noted_at v t) w.0 (tie (noted_cmp (noted_at v t) w.0) here)) is)
+      by false other some later = later some
 
 -- one that stands there is asked for
 pub key_there : (n : Noted) (es : AskedList) (before after : List Noted) → map (λ w. w.0) es ≡ before ++ n ∷ after → is_some (items_at es n.vertex n.time) ≡ true
@@ -113,6 +116,26 @@ key_there n (w ∷ es) (m ∷ before) after e =
     by : (b : Bool) → is_some (items_at es n.vertex n.time) ≡ true → is_some (cond b (Some w.1) (items_at es n.vertex n.time)) ≡ true
     by true later = refl
     by false later = later
+
+-- what is true of one that is asked for
+each_key : (P : Noted → Type 0) (before xs : List Noted) → ((b a : List Noted) (n : Noted) → before ++ xs ≡ b ++ n ∷ a → P n) → AllByRecursion P xs
+each_key P before [] f = tt
+each_key P before (x ∷ xs) f = (f before xs x refl, each_key P (before ++ x ∷ []) xs (λ b a n e. f b a n (sym (append_assoc before (x ∷ []) xs) ∙ e)))
+
+pub every_key : (P : Noted → Type 0) (xs : List Noted) → ((b a : List Noted) (n : Noted) → xs ≡ b ++ n ∷ a → P n) → AllByRecursion P xs
+every_key P xs f = each_key P [] xs f
+
+pub in_asked : IsAntisymmetric time_cmp → (P : ℕ → Timestamp → Type 0) (x : Notification) (ys : List Notification) → is_in x ys ≡ true → AllByRecursion (λ (y : Notification). P y.vertex y.time) ys → P x.vertex x.time
+in_asked apart P x [] e h = absurd (cc)
+in_asked apart P x (y ∷ ys) e h = by (notification_cmp x y) refl e (λ later. in_asked apart P x ys later h.1)
+  where
+    by : (o : Ordering) → notification_cmp x y ≡ o → (is_eq o || is_in x ys) ≡ true → (is_in x ys ≡ true → P x.vertex x.time) → P x.vertex x.time
+    by Less same some later = later some
+    by Greater same some later = later some
+    by Equal same some later =
+        let first = both_tie (nat_cmp x.vertex y.vertex) _ same in
+        let second = both_tie (time_cmp x.time y.time) (nat_cmp x.shard y.shard) first.1 in
+        subst (λ (z : ℕ × Timestamp). P z.0 z.1) (λ i. (sym (nat_cmp-IsAntisymmetric x.vertex y.vertex first.0) i, sym (apart x.time y.time second.0) i)) h.0
 
 -- WHAT WAITS for it, beside all else
 module _ (laws : BagLaws message_cmp) (apart : IsAntisymmetric time_cmp) (n : Noted) (items : List Arrival) where
@@ -133,16 +156,17 @@ module _ (laws : BagLaws message_cmp) (apart : IsAntisymmetric time_cmp) (n : No
   split_in : (es : AskedList) → items_at es n.vertex n.time ≡ Some items → (zs : List Message)
       → join message_cmp (waiting_all es) zs ≡ join message_cmp its (join message_cmp (waiting_all (remove_entry test es)) zs)
   split_in [] e zs = absurd (cc)
-  split_in (w ∷ es) e zs = by (test w.0) refl e
+  split_in (w ∷ es) e zs = by (test w.0) refl e (λ later. split_in es later zs)
     where
       by : (b : Bool) → test w.0 ≡ b → cond b (Some w.1) (items_at es n.vertex n.time) ≡ Some items
+          → (items_at es n.vertex n.time ≡ Some items → join message_cmp (waiting_all es) zs ≡ join message_cmp its (join message_cmp (waiting_all (remove_entry test es)) zs))
           → join message_cmp (waiting_all (w ∷ es)) zs ≡ join message_cmp its (join message_cmp (waiting_all (cond b es (w ∷ remove_entry test es))) zs)
-      by true here same =
+      by true here same rest =
           let key : n ≡ w.0 = noted_apart apart n w.0 (equal (noted_cmp n w.0) here) in
           laws.append (waiting_at w) (waiting_all es) zs ∙ (λ i. join message_cmp (as_messages (sym key i) (some_is w.1 items same i)) (join message_cmp (waiting_all es) zs))
-      by false other later =
+      by false other later rest =
           laws.append (waiting_at w) (waiting_all es) zs
-          ∙ (ap (join message_cmp (waiting_at w)) (split_in es later zs)
+          ∙ (ap (join message_cmp (waiting_at w)) (rest later)
           ∙ (laws.swaps (waiting_at w) its (join message_cmp (waiting_all (remove_entry test es)) zs)
           ∙ ap (join message_cmp its) (sym (laws.append (waiting_at w) (waiting_all (remove_entry test es)) zs))))
 
@@ -150,7 +174,7 @@ module _ (laws : BagLaws message_cmp) (apart : IsAntisymmetric time_cmp) (n : No
   abbrev all_waits : List AskedList → List Message
   all_waits ws = flat_map waiting_all ws
 
-  split_all : (ws : List AskedList) (i : ℕ) → i < length ws → items_at (get_or ws i []) n.vertex n.time ≡ Some items → (zs : List Message)
+  pub split_all : (ws : List AskedList) (i : ℕ) → i < length ws → items_at (get_or ws i []) n.vertex n.time ≡ Some items → (zs : List Message)
       → join message_cmp (all_waits ws) zs ≡ join message_cmp its (join message_cmp (all_waits (changed_at (remove_entry test) i ws)) zs)
   split_all [] i h e zs = absurd (omega (arith, h))
   split_all (w ∷ ws) zero h e zs =
@@ -170,21 +194,21 @@ module _ (laws : BagLaws message_cmp) (apart : IsAntisymmetric time_cmp) (n : No
     and_false true = refl
     and_false false = refl
 
-    else_by_key : (w : Noted × List Arrival) (as : List Arrival) (k : ℕ) → (k ≡ s → ⊥) → AllByRecursion (λ a. shard_of_key S.workers a.key ≡ k) as
-        → AllByRecursion IsElse (map (waiting w.0.vertex w.0.time) as)
+    else_by_key : (w : Noted × List Arrival) (came : List Arrival) (k : ℕ) → (k ≡ s → ⊥) → AllByRecursion (λ a. shard_of_key S.workers a.key ≡ k) came
+        → AllByRecursion IsElse (map (waiting w.0.vertex w.0.time) came)
     else_by_key w [] k other h = tt
-    else_by_key w (a ∷ as) k other h =
+    else_by_key w (a ∷ came) k other h =
         let no : (shard_of_key S.workers a.key == s) ≡ false = ap (λ x. x == s) h.0 ∙ differ k s other in
-        (place S s n.vertex n.time (waiting w.0.vertex w.0.time a) ∙ ap (λ b. b && is_there n.vertex n.time w.0.vertex w.0.time) no, else_by_key w as k other h.1)
+        (place S s n.vertex n.time (waiting w.0.vertex w.0.time a) ∙ ap (λ b. b && is_there n.vertex n.time w.0.vertex w.0.time) no, else_by_key w came k other h.1)
       where
         differ : (a b : ℕ) → (a ≡ b → ⊥) → (a == b) ≡ false
         differ a b d = grind (arith, nat_tests)
 
-    else_by_place : (w : Noted × List Arrival) (as : List Arrival) → test w.0 ≡ false → AllByRecursion IsElse (map (waiting w.0.vertex w.0.time) as)
+    else_by_place : (w : Noted × List Arrival) (came : List Arrival) → test w.0 ≡ false → AllByRecursion IsElse (map (waiting w.0.vertex w.0.time) came)
     else_by_place w [] other = tt
-    else_by_place w (a ∷ as) other =
+    else_by_place w (a ∷ came) other =
         (place S s n.vertex n.time (waiting w.0.vertex w.0.time a) ∙ (ap (λ b. (shard_of_key S.workers a.key == s) && b) (there_is n.vertex n.time w.0 ∙ other) ∙ and_false (shard_of_key S.workers a.key == s)),
-          else_by_place w as other)
+          else_by_place w came other)
 
     others_here : (es : AskedList) → AllByRecursion IsElse (waiting_all (filter (is_other n) es))
     others_here [] = tt
@@ -213,11 +237,11 @@ module _ (laws : BagLaws message_cmp) (apart : IsAntisymmetric time_cmp) (n : No
   -- its items are of the shard
   found_own : (P : Arrival → Type 0) (es : AskedList) → AllByRecursion (λ w. AllByRecursion P w.1) es → items_at es n.vertex n.time ≡ Some items → AllByRecursion P items
   found_own P [] h e = absurd (cc)
-  found_own P (w ∷ es) h e = by (test w.0) e
+  found_own P (w ∷ es) h e = by (test w.0) e (λ later. found_own P es h.1 later)
     where
-      by : (b : Bool) → cond b (Some w.1) (items_at es n.vertex n.time) ≡ Some items → AllByRecursion P items
-      by true same = subst (AllByRecursion P) (some_is w.1 items same) h.0
-      by false later = found_own P es h.1 later
+      by : (b : Bool) → cond b (Some w.1) (items_at es n.vertex n.time) ≡ Some items → (items_at es n.vertex n.time ≡ Some items → AllByRecursion P items) → AllByRecursion P items
+      by true same rest = subst (AllByRecursion P) (some_is w.1 items same) h.0
+      by false later rest = rest later
 
   pub items_own : (workers k : ℕ) (ws : List AskedList) (i : ℕ) → i < length ws → AllByRecursion (IsWaiting workers) (enumerate_from k ws) → items_at (get_or ws i []) n.vertex n.time ≡ Some items
       → AllByRecursion (λ a. shard_of_key workers a.key ≡ k + i) items
@@ -284,10 +308,13 @@ module _ (answers : Answers) (floor : Floor) (inv : IsHall answers floor) (bags 
     none_here l picked = none S s
         (in_bag message_cmp (λ c. shard_of_key W c.rec.key ≡ s → ⊥) (in_mailboxes shards ++ with_tasks floor.out.items)
         (of_two (λ c. shard_of_key W c.rec.key ≡ s → ⊥) (in_mailboxes shards) (with_tasks floor.out.items)
-        (subst (AllByRecursion (λ c. shard_of_key W c.rec.key ≡ s → ⊥)) (sym (flat_mails shards)) (none_of W 0 (mails shards) s no_mail (mail_of W 0 shards inv.shards)))
+        (subst (AllByRecursion (λ c. shard_of_key W c.rec.key ≡ s → ⊥)) (sym (flat_mails shards)) (subst (λ m. AllByRecursion (λ c. shard_of_key W c.rec.key ≡ m → ⊥) (flat (mails shards))) zero_too (none_of W 0 (mails shards) s no_mail (mail_of W 0 shards inv.shards))))
         (tasks_none s floor.out.items tasks.there free)))
         (λ v t is ready. none_ready v t apart floor.table (get_or shards s empty_shard).waiting (picked empty_shard).1 (sym (asked_there s v t empty_shard l) ∙ is) (in_table (noted_at v t) ready))
       where
+        zero_too : 0 + s ≡ s
+        zero_too = omega arith
+
         no_mail : get_or (mails shards) s [] ≡ []
         no_mail = get_map (λ (x : Shard). x.mailbox.messages) shards s empty_shard [] l ∙ (picked empty_shard).0
 
@@ -295,3 +322,15 @@ module _ (answers : Answers) (floor : Floor) (inv : IsHall answers floor) (bags 
     none_beyond l = none S s
         (every (λ (c : Message). shard_of_key W c.rec.key ≡ s → ⊥) (λ c e. let some = numbers.workers in let below = mod_below c.rec.key W some in absurd (omega (arith, e, below, l))) S.messages)
         (λ v t is ready. let no = in_set sets (asks s v t) (flat_map asked_in (enumerate_from 0 shards)) ∙ nowhere v t s 0 shards (inr (omega (arith, l))) in absurd (true≢false (sym is ∙ no)))
+
+  -- THE POINTSTAMPS of what is asked for are of the plan
+  pub noted_of_plan : AllByRecursion (IsOf S.plan) (active S) → (s : ℕ) (d : Shard) → s < W → AllByRecursion (λ n. IsOf floor.table.plan (stamp_of_noted n)) (map (λ w. w.0) (get_or shards s d).waiting)
+  noted_of_plan all s d l = every_key (λ n. IsOf floor.table.plan (stamp_of_noted n)) (map (λ w. w.0) (get_or shards s d).waiting)
+      (λ b a n e. in_asked apart (λ v t. IsOf floor.table.plan (stamp_at v t)) (asks s n.vertex n.time) S.asked (asked_there s n.vertex n.time d l ∙ key_there n (get_or shards s d).waiting b a e) asked_of_plan)
+    where
+      from_map : {X : Type 0} (P : Stamp → Type 0) (f : X → Stamp) (xs : List X) → AllByRecursion P (map f xs) → AllByRecursion (λ x. P (f x)) xs
+      from_map P f [] h = tt
+      from_map P f (x ∷ xs) h = (h.0, from_map P f xs h.1)
+
+      asked_of_plan : AllByRecursion (λ (y : Notification). IsOf floor.table.plan (stamp_at y.vertex y.time)) S.asked
+      asked_of_plan = from_map (IsOf floor.table.plan) stamp_of_asked S.asked (of_first (IsOf floor.table.plan) (map stamp_of_asked S.asked) _ (of_second (IsOf floor.table.plan) (map (stamp_of_message S.plan) S.messages) _ all))
