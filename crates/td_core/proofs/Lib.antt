@@ -33,3 +33,11 @@ pub mod PostRuns
 pub mod BatchParts
 pub mod ReleaseParts
 pub mod ReleaseSteps
+pub mod SiteLists
+pub mod Picking
+pub mod PostingSteps
+pub mod RaisingSteps
+pub mod PostRuns
+pub mod TakeLists
+pub mod TakeSteps
+pub mod TakenHall

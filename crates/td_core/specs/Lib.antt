@@ -7,5 +7,6 @@ pub mod Delivered
 pub mod Collected
 pub mod Cuts
 pub mod Meant
+pub mod Taking
 pub mod Given
 pub mod Released

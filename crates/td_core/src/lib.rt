@@ -18,6 +18,7 @@ mod posting;
 mod raising;
 mod release;
 mod sites;
+mod take;
 #[cfg(test)]
 mod tests;
 

@@ -9,21 +9,11 @@ use Rattle.td_stamp.specs.declared.values.Rec.{Rec}
 use Rattle.td_shard.specs.declared.lane.Lane.{Lane}
 use Rattle.td_shard.specs.declared.slots.Slot.{Slot}
 use Rattle.td_machine.specs.declared.records.Message.{Message}
-use Rattle.td_shard.specs.Slots.{message, messages_of, ahead_of, last_by, taken, first_on, last_on, AreLinked, waits_on, taken_on, recs_on}
-
--- the slots with that at a place taken
-abbrev pub taken_at : ℕ → List Slot → List Slot
-taken_at i [] = []
-taken_at zero (s ∷ ss) = taken s ∷ ss
-taken_at (suc i) (s ∷ ss) = s ∷ taken_at i ss
+use Rattle.td_shard.specs.Slots.{message, messages_of, ahead_of, last_by, taken, taken_at, waiting_rec, first_on, last_on, AreLinked, waits_on, taken_on, recs_on}
 
 -- how many of a lane are to be taken yet, after a slot of it
 abbrev pub yet : Bool → ℕ → ℕ
 yet was n = cond was (suc n) n
-
--- the record that a slot gives
-abbrev pub given : Slot → List Rec
-given s = cond s.is_taken [] (s.rec ∷ [])
 
 pub taken-again : (s : Slot) → s.is_taken ≡ true → taken s ≡ s
 taken-again s e = λ i. record { lane = s.lane; rec = s.rec; ahead = s.ahead; is_taken = sym e i }
@@ -38,6 +28,44 @@ pub length-taken_at : (i : ℕ) (ss : List Slot) → length (taken_at i ss) ≡ 
 length-taken_at i [] = refl
 length-taken_at zero (s ∷ ss) = refl
 length-taken_at (suc i) (s ∷ ss) = ap suc (length-taken_at i ss)
+
+pub one_waits : (s : Slot) → s.is_taken ≡ false → length (waiting_rec s) ≡ 1
+one_waits s e = ap (λ b. length (cond b [] (s.rec ∷ []))) e
+
+-- with a slot taken the messages are fewer by that of the slot
+pub one_less : (i : ℕ) (ss : List Slot) (d : Slot) → i < length ss → length (messages_of (taken_at i ss)) + length (waiting_rec (get_or ss i d)) ≡ length (messages_of ss)
+one_less i [] d h = absurd (omega (arith, h))
+one_less zero (s ∷ ss) d h = by_taken s.is_taken
+  where
+    by_taken : (b : Bool) → length (messages_of ss) + length (cond b [] (s.rec ∷ [])) ≡ length (cond b (messages_of ss) (message s ∷ messages_of ss))
+    by_taken true = omega arith
+    by_taken false = omega arith
+one_less (suc i) (s ∷ ss) d h = by_taken s.is_taken (one_less i ss d (omega (arith, h)))
+  where
+    by_taken : (b : Bool) → length (messages_of (taken_at i ss)) + length (waiting_rec (get_or ss i d)) ≡ length (messages_of ss)
+        → length (cond b (messages_of (taken_at i ss)) (message s ∷ messages_of (taken_at i ss))) + length (waiting_rec (get_or ss i d)) ≡ length (cond b (messages_of ss) (message s ∷ messages_of ss))
+    by_taken true e = e
+    by_taken false e = omega (arith, e)
+
+-- other slots stay, and that slot but for its mark
+pub taken_at-here : (i : ℕ) (ss : List Slot) (d : Slot) → i < length ss → get_or (taken_at i ss) i d ≡ taken (get_or ss i d)
+taken_at-here i [] d h = absurd (omega (arith, h))
+taken_at-here zero (s ∷ ss) d h = refl
+taken_at-here (suc i) (s ∷ ss) d h = taken_at-here i ss d (omega (arith, h))
+
+pub taken_at-apart : (i j : ℕ) (ss : List Slot) (d : Slot) → (j ≡ i → ⊥) → get_or (taken_at i ss) j d ≡ get_or ss j d
+taken_at-apart i j [] d h = refl
+taken_at-apart zero zero (s ∷ ss) d h = absurd (h refl)
+taken_at-apart zero (suc j) (s ∷ ss) d h = refl
+taken_at-apart (suc i) zero (s ∷ ss) d h = refl
+taken_at-apart (suc i) (suc j) (s ∷ ss) d h = taken_at-apart i j ss d (λ e. h (ap suc e))
+
+pub taken_at-ahead : (i j : ℕ) (ss : List Slot) (d : Slot) → (get_or (taken_at i ss) j d).ahead ≡ (get_or ss j d).ahead
+taken_at-ahead i j [] d = refl
+taken_at-ahead zero zero (s ∷ ss) d = refl
+taken_at-ahead zero (suc j) (s ∷ ss) d = refl
+taken_at-ahead (suc i) zero (s ∷ ss) d = refl
+taken_at-ahead (suc i) (suc j) (s ∷ ss) d = taken_at-ahead i j ss d
 
 module _ (same : Lane → Lane → Bool) where
   pub first-taken_at : (j : Lane) (i : ℕ) (ss : List Slot) → first_on same j (taken_at i ss) ≡ first_on same j ss
@@ -144,7 +172,7 @@ module _ (same : Lane → Lane → Bool) where
     here_rec-by n s ss false true f = refl
     here_rec-by n s ss false false f = absurd (cc)
 
-    here_rec : (n : ℕ) (s : Slot) (ss : List Slot) → same k s.lane ≡ true → recs_on same k (suc n) (s ∷ ss) ≡ given s ++ recs_on same k (yet s.is_taken n) ss
+    here_rec : (n : ℕ) (s : Slot) (ss : List Slot) → same k s.lane ≡ true → recs_on same k (suc n) (s ∷ ss) ≡ waiting_rec s ++ recs_on same k (yet s.is_taken n) ss
     here_rec n s ss e = here_rec-by n s ss s.is_taken (same k s.lane) e
 
     -- a slot of the lane is visited: what is taken in the end stays the same
@@ -153,9 +181,9 @@ module _ (same : Lane → Lane → Bool) where
     visit n zero (t ∷ ss) s d h e f = subst (λ (x : Slot). taken_on same k (suc n) (x ∷ ss) ≡ taken x ∷ taken_on same k (yet s.is_taken n) ss) e (here n s ss f)
     visit n (suc i) (t ∷ ss) s d h e f = ap (λ l. t ∷ l) (visit n i ss s d (omega (arith, h)) e f)
 
-    pub visit-recs : (n i : ℕ) (ss : List Slot) (s d : Slot) → i < length ss → s ≡ get_or ss i d → same k s.lane ≡ true → recs_on same k (suc n) (drop i ss) ≡ given s ++ recs_on same k (yet s.is_taken n) (drop (suc i) (taken_at i ss))
+    pub visit-recs : (n i : ℕ) (ss : List Slot) (s d : Slot) → i < length ss → s ≡ get_or ss i d → same k s.lane ≡ true → recs_on same k (suc n) (drop i ss) ≡ waiting_rec s ++ recs_on same k (yet s.is_taken n) (drop (suc i) (taken_at i ss))
     visit-recs n i [] s d h e f = absurd (omega (arith, h))
-    visit-recs n zero (t ∷ ss) s d h e f = subst (λ (x : Slot). recs_on same k (suc n) (x ∷ ss) ≡ given s ++ recs_on same k (yet s.is_taken n) ss) e (here_rec n s ss f)
+    visit-recs n zero (t ∷ ss) s d h e f = subst (λ (x : Slot). recs_on same k (suc n) (x ∷ ss) ≡ waiting_rec s ++ recs_on same k (yet s.is_taken n) ss) e (here_rec n s ss f)
     visit-recs n (suc i) (t ∷ ss) s d h e f = visit-recs n i ss s d (omega (arith, h)) e f
 
 pub drop-taken_at : (i : ℕ) (ss : List Slot) → drop (suc i) (taken_at i ss) ≡ drop (suc i) ss

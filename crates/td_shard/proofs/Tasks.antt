@@ -9,9 +9,9 @@ use Rattle.td_shard.specs.declared.slots.Slot.{Slot}
 use Rattle.td_machine.specs.declared.records.Message.{Message}
 use Rattle.td_shard.specs.Messages.{same_edge, without_first, task_by, left_by, task_at, left_at}
 use Rattle.td_machine.specs.Steps.{coming}
-use Rattle.td_shard.specs.Slots.{message, messages_of, lane_eq, taken, ahead_of, last_by, first_on, last_on, AreLinked, waits_on, taken_on, recs_on}
+use Rattle.td_shard.specs.Slots.{message, messages_of, lane_eq, taken, taken_at, ahead_of, last_by, first_on, last_on, AreLinked, waits_on, taken_on, recs_on}
 use Rattle.td_shard.proofs.Lanes.{lane_eq-sound}
-use Rattle.td_shard.proofs.TakenUp.{taken_at, linked-taken_at, last-taken_at}
+use Rattle.td_shard.proofs.TakenUp.{linked-taken_at, last-taken_at}
 
 -- THE PICKED ONE
 -- the message of a slot that waits stands behind those before it
@@ -95,23 +95,6 @@ module _ (s : Slot) where
       ∙ (sym (take-map (λ r. record { vertex = s.lane.vertex; port = s.lane.port; time = s.lane.time; rec = r }) n (map (λ (m : Message). m.rec) (filter (same_edge (message s)) ms)))
       ∙ ap (take n) (back ms))
 
--- HOW MANY
-count-by : {X : Type 0} (p : X → Bool) (n : ℕ) (x : X) (xs : List X) (b : Bool)
-    → length (without_first p n xs) + length (take n (filter p xs)) ≡ length xs → length (without_first p (suc n) xs) + length (take (suc n) (filter p xs)) ≡ length xs
-    → length (cond b (without_first p n xs) (x ∷ without_first p (suc n) xs)) + length (take (suc n) (cond b (x ∷ filter p xs) (filter p xs))) ≡ suc (length xs)
-count-by p n x xs true less more = omega (arith, less)
-count-by p n x xs false less more = omega (arith, more)
-
-pub counted : {X : Type 0} (p : X → Bool) (n : ℕ) (xs : List X) → length (without_first p n xs) + length (take n (filter p xs)) ≡ length xs
-counted p zero xs = omega arith
-counted p (suc n) [] = refl
-counted p (suc n) (x ∷ xs) = count-by p n x xs (p x) (counted p n xs) (counted p (suc n) xs)
-
-pub length-remove : {X : Type 0} (xs : List X) (i : ℕ) → i < length xs → length (remove xs i) + 1 ≡ length xs
-length-remove [] i h = absurd (omega (arith, h))
-length-remove (x ∷ xs) zero h = omega arith
-length-remove (x ∷ xs) (suc i) h = let g = length-remove xs i (omega (arith, h)) in omega (arith, g)
-
 -- THE LINKS STAY
 module _ (same : Lane → Lane → Bool) (k : Lane) where
   first-taken_on-by : (j : Lane) (b : Bool) (s : Slot) (xs ys ss : List Slot) → first_on same j xs ≡ first_on same j ss → first_on same j ys ≡ first_on same j ss → first_on same j (cond b (taken s ∷ xs) (s ∷ ys)) ≡ first_on same j (s ∷ ss)
@@ -157,13 +140,12 @@ module _ (same : Lane → Lane → Bool) (k : Lane) where
 pub record IsTask (ss : List Slot) (pick : ℕ) (k : Lane) (rs : List Rec) (ts : List Slot) : Type 0 where
   pub task : coming k.vertex k.port k.time rs ≡ task_at pick (messages_of ss)
   pub left : messages_of ts ≡ left_at pick (messages_of ss)
-  pub count : length (messages_of ts) + length rs ≡ length (messages_of ss)
   pub linked : AreLinked lane_eq ts
   pub lasts : (q : Lane) → last_on lane_eq q ts ≡ last_on lane_eq q ss
 
-task_of : (ss : List Slot) (p : ℕ) (s d : Slot) → p < length ss → get_or ss p d ≡ s → s.is_taken ≡ false → length (messages_of (take p ss)) < length (messages_of ss) → AreLinked lane_eq ss
+task_of : (ss : List Slot) (p : ℕ) (s d : Slot) → p < length ss → get_or ss p d ≡ s → s.is_taken ≡ false → AreLinked lane_eq ss
     → IsTask ss (length (messages_of (take p ss))) s.lane (s.rec ∷ recs_on lane_eq s.lane 63 (taken_at p ss)) (taken_on lane_eq s.lane 63 (taken_at p ss))
-task_of ss p s d h e w below l =
+task_of ss p s d h e w l =
     let ms = messages_of ss in
     let n = length (messages_of (take p ss)) in
     let waits : (get_or ss p d).is_taken ≡ false = ap (λ (t : Slot). t.is_taken) e ∙ w in
@@ -171,21 +153,18 @@ task_of ss p s d h e w below l =
     let rest : messages_of (taken_at p ss) ≡ remove ms n = others ss p d h waits in
     let recs : recs_on lane_eq s.lane 63 (taken_at p ss) ≡ map (λ (m : Message). m.rec) (take 63 (filter (same_edge (message s)) (remove ms n))) = recs-are s 63 (taken_at p ss) ∙ ap (λ l. map (λ (m : Message). m.rec) (take 63 (filter (same_edge (message s)) l))) rest in
     let after : messages_of (taken_on lane_eq s.lane 63 (taken_at p ss)) ≡ without_first (same_edge (message s)) 63 (remove ms n) = left_on s 63 (taken_at p ss) ∙ ap (without_first (same_edge (message s)) 63) rest in
-    let long : length (recs_on lane_eq s.lane 63 (taken_at p ss)) ≡ length (take 63 (filter (same_edge (message s)) (remove ms n))) = ap length recs ∙ length-map (take 63 (filter (same_edge (message s)) (remove ms n))) _ in
     record {
       task = ap (λ rs. message s ∷ coming s.lane.vertex s.lane.port s.lane.time rs) recs ∙ (ap (λ l. message s ∷ l) (come_back s 63 (remove ms n)) ∙ ap (λ o. task_by o (remove ms n)) (sym first));
       left = after ∙ ap (λ o. left_by o (remove ms n)) (sym first);
-      count = let all = counted (same_edge (message s)) 63 (remove ms n) in let one = length-remove ms n below in omega (arith, ap length after, long, all, one);
       linked = linked-taken_on lane_eq s.lane 63 (taken_at p ss) (linked-taken_at lane_eq p ss l);
       lasts = λ q. last-taken_on lane_eq s.lane q 63 (taken_at p ss) ∙ last-taken_at lane_eq q p ss;
     }
 
-pub is_task : (ss : List Slot) (p pick : ℕ) (s d : Slot) (k : Lane) (rs : List Rec) (ts : List Slot) → p < length ss → get_or ss p d ≡ s → s.is_taken ≡ false → length (messages_of (take p ss)) ≡ pick → pick < length (messages_of ss) → AreLinked lane_eq ss
+pub is_task : (ss : List Slot) (p pick : ℕ) (s d : Slot) (k : Lane) (rs : List Rec) (ts : List Slot) → p < length ss → get_or ss p d ≡ s → s.is_taken ≡ false → length (messages_of (take p ss)) ≡ pick → AreLinked lane_eq ss
     → k ≡ s.lane → rs ≡ s.rec ∷ recs_on lane_eq k 63 (taken_at p ss) → ts ≡ taken_on lane_eq k 63 (taken_at p ss) → IsTask ss pick k rs ts
-is_task ss p pick s d k rs ts h e w before below l lane recs slots =
+is_task ss p pick s d k rs ts h e w before l lane recs slots =
     let n = length (messages_of (take p ss)) in
-    let under : n < length (messages_of ss) = omega (arith, before, below) in
     let rs_is : s.rec ∷ recs_on lane_eq s.lane 63 (taken_at p ss) ≡ rs = ap (λ j. s.rec ∷ recs_on lane_eq j 63 (taken_at p ss)) (sym lane) ∙ sym recs in
     let ts_is : taken_on lane_eq s.lane 63 (taken_at p ss) ≡ ts = ap (λ j. taken_on lane_eq j 63 (taken_at p ss)) (sym lane) ∙ sym slots in
     subst (λ i. IsTask ss i k rs ts) before (subst (λ j. IsTask ss n j rs ts) (sym lane) (subst (λ r. IsTask ss n s.lane r ts) rs_is (subst (λ t. IsTask ss n s.lane (s.rec ∷ recs_on lane_eq s.lane 63 (taken_at p ss)) t) ts_is
-    (task_of ss p s d h e w under l))))
+    (task_of ss p s d h e w l))))

@@ -39,6 +39,16 @@ FrontWaits (s ∷ ss) = s.is_taken ≡ false
 abbrev pub taken : Slot → Slot
 taken s = record s { is_taken = true }
 
+-- the slots with that at a place taken
+abbrev pub taken_at : ℕ → List Slot → List Slot
+taken_at i [] = []
+taken_at zero (s ∷ ss) = taken s ∷ ss
+taken_at (suc i) (s ∷ ss) = s ∷ taken_at i ss
+
+-- the record of a slot, where it waits
+abbrev pub waiting_rec : Slot → List Rec
+waiting_rec s = cond s.is_taken [] (s.rec ∷ [])
+
 module _ (same : Lane → Lane → Bool) where
   -- the place of the first slot of a lane, and of the last
   abbrev pub first_on : Lane → List Slot → Option ℕ

@@ -9,13 +9,13 @@ ghost use Rattle.td_shard.specs.Slots.{lane_eq};
 use crate::error::ShardError;
 use crate::lane::Lane;
 use crate::slots::{Slot, append};
-use crate::take::{TASK_SIZE, let_go, take_task};
+use crate::take::{TASK_SIZE, let_go, mark_task, read_task};
 use std::alloc::Global;
 use std::collections::{HashMap, VecDeque};
 use std::marker::Model;
 use td_stamp::{Rec, Time};
 
-/// Messages that were taken: records that come to a port of a vertex, all at one time.
+/// The messages of a task: records that come to a port of a vertex, all at one time.
 #[derive(Debug, Drop)]
 pub struct Taken {
     pub vertex: u8,
@@ -115,25 +115,30 @@ impl Mailbox {
         }
     }
 
-    /// Takes a task: the message at `pick` in the order posted, and then the first of the others on its edge and of its time, 64
-    /// messages at most. With pick 0 it costs O(1) for each message; another pick walks over the messages. Refusal: `Memory`, with
-    /// the mailbox unchanged.
-    pub fn take(&mut self, pick: usize) -> Result<Taken, ShardError>
-        requires { pick < length self.old.messages }
-        ensures task { IfOk result (λ t. coming t.vertex t.port t.time t.recs.items ≡ task_at pick self.old.messages) }
-        ensures left { OnOk result (self.new ≡ record self.old { messages = left_at pick self.old.messages }) }
-        ensures err { OnErr result (self.new ≡ self.old) }
+    /// The task of the message at `pick`, in the order posted: that message, and then the first of the others on its edge and of
+    /// its time, 64 messages at most. They stay where they are. With pick 0 it costs O(1) for each message; another pick walks
+    /// over the messages. Refusal: `Memory`.
+    pub fn task(&self, pick: usize) -> Result<Taken, ShardError>
+        requires { pick < length self.now.messages }
+        ensures { IfOk result (λ t. coming t.vertex t.port t.time t.recs.items ≡ task_at pick self.now.messages) }
     {
         let mut recs = Vec::with_capacity(self.alloc, TASK_SIZE)?;
-        let Lane { vertex, port, time } = take_task(&mut self.slots, pick, &mut recs);
-        self.len -= recs.len();
-        self.first = let_go(&mut self.slots, &mut self.lasts, self.first);
+        let Lane { vertex, port, time } = read_task(&self.slots, pick, &mut recs);
         Ok(Taken {
             vertex,
             port,
             time,
             recs,
         })
+    }
+
+    /// Removes the messages of the task of the message at `pick`. It costs what `task` does, and takes no memory.
+    pub fn remove(&mut self, pick: usize)
+        requires { pick < length self.old.messages }
+        ensures { self.new ≡ record self.old { messages = left_at pick self.old.messages } }
+    {
+        self.len -= mark_task(&mut self.slots, pick);
+        self.first = let_go(&mut self.slots, &mut self.lasts, self.first);
     }
 
     /// Posts these records, of which there is one at least.

@@ -1,4 +1,4 @@
-//! How a task is taken out of the slots of a mailbox.
+//! How a task is read off the slots of a mailbox, and how it is taken out.
 ghost use Rattle.std.specs.Prelude.{◌≡◌, ◌+◌, ◌-◌, ◌^◌, ◌<◌, ◌≤◌, ◌++◌, ◌∷◌, [], ℕ, cond, true, false, ◌==◌, ◌&&◌, IsTrue, Some, None, length, take, drop, slice_set, slice_index_or, vec_len, vec_capacity, IsSome};
 ghost use Rattle.std.specs.List.{HoldsAt};
 ghost use Rattle.std.specs.Option.{option_map};
@@ -6,7 +6,7 @@ ghost use Rattle.std.specs.HashMap.{get, spare};
 ghost use Rattle.std.specs.VecDeque.{deque_len, deque_capacity};
 ghost use Rattle.td_shard.specs.Messages.{task_at, left_at};
 ghost use Rattle.td_machine.specs.Steps.{coming};
-ghost use Rattle.td_shard.specs.Slots.{lane_eq, first_on, last_on, AreLinked, FrontWaits, messages_of, taken, taken_on, recs_on};
+ghost use Rattle.td_shard.specs.Slots.{lane_eq, first_on, last_on, AreLinked, FrontWaits, messages_of, taken, taken_at, taken_on, waiting_rec, recs_on};
 ghost use Rattle.td_shard.specs.declared.slots.Slot.{Slot as AnySlot};
 ghost use Rattle.td_shard.specs.declared.lane.Lane.{Lane as AnyLane};
 
@@ -51,68 +51,117 @@ pub(crate) fn first_place(slots: &VecDeque<Slot>, lane: &Lane) -> usize
     place
 }
 
-/// Takes the message of the slot at a place, if it waits, and says how far ahead the next slot of its lane is.
-pub(crate) fn take_up(slots: &mut VecDeque<Slot>, place: usize, recs: &mut Vec<Rec>) -> usize
-    requires within { place < deque_len slots.old }
+/// Reads the message of the slot at a place, if it waits and is not the picked one, and says how far ahead the next slot of its
+/// lane is.
+fn read(slots: &VecDeque<Slot>, place: usize, picked: usize, recs: &mut Vec<Rec>) -> usize
+    requires within { place < deque_len slots.now }
     requires room { vec_len recs.old < vec_capacity recs.old }
+    ensures recs { (d : AnySlot) → recs.new.items ≡ recs.old.items ++ waiting_rec (slice_index_or (taken_at picked slots.now.items) place d) }
+    ensures ahead { (d : AnySlot) → result ≡ (slice_index_or slots.now.items place d).ahead }
+    ensures capacity { vec_capacity recs.new ≡ vec_capacity recs.old }
+{
+    let slot = &slots[place];
+    if !slot.is_taken && place != picked {
+        recs.push_reserved(slot.rec);
+    }
+    slot.ahead
+}
+
+/// Reads the messages of a lane, from its first slot on and without the picked one, until the task is full.
+fn read_lane(
+    slots: &VecDeque<Slot>,
+    lane: &Lane,
+    first: usize,
+    picked: usize,
+    recs: &mut Vec<Rec>,
+)
+    requires first { first_on lane_eq lane.now slots.now.items ≡ Some first }
+    requires linked { AreLinked lane_eq slots.now.items }
+    requires some { vec_len recs.old < 64 }
+    requires room { vec_capacity recs.old ≡ 64 }
+    ensures recs { recs.new.items ≡ recs.old.items ++ recs_on lane_eq lane.now (64 - vec_len recs.old) (taken_at picked slots.now.items) }
+{
+    let mut place = first;
+    let mut ahead = read(slots, place, picked, recs);
+    while ahead > 0 && recs.len() < TASK_SIZE {
+        place += ahead;
+        ahead = read(slots, place, picked, recs);
+    }
+}
+
+/// Reads the message at `pick` among those that wait, and then the first of the others of its lane, until the task is full.
+/// Answers their lane.
+pub(crate) fn read_task(slots: &VecDeque<Slot>, pick: usize, recs: &mut Vec<Rec>) -> Lane
+    requires pick { pick < length (messages_of slots.now.items) }
+    requires linked { AreLinked lane_eq slots.now.items }
+    requires none { recs.old.items ≡ [] }
+    requires room { vec_capacity recs.old ≡ 64 }
+    ensures task { coming result.vertex result.port result.time recs.new.items ≡ task_at pick (messages_of slots.now.items) }
+{
+    let picked = place_of(slots, pick);
+    let slot = &slots[picked];
+    recs.push_reserved(slot.rec);
+    let first = first_place(slots, &slot.lane);
+    read_lane(slots, &slot.lane, first, picked, recs);
+    slot.lane.copy()
+}
+
+/// Marks the slot at a place as taken, counts it if it waits, and says how far ahead the next slot of its lane is.
+fn mark(slots: &mut VecDeque<Slot>, place: usize, count: &mut usize) -> usize
+    requires within { place < deque_len slots.old }
+    requires few { count.old < 64 }
     ensures slots { (d : AnySlot) → slots.new.items ≡ slice_set slots.old.items place (taken (slice_index_or slots.old.items place d)) }
-    ensures recs { (d : AnySlot) → recs.new.items ≡ recs.old.items ++ cond (slice_index_or slots.old.items place d).is_taken [] ((slice_index_or slots.old.items place d).rec ∷ []) }
+    ensures count { (d : AnySlot) → count.new ≡ count.old + length (waiting_rec (slice_index_or slots.old.items place d)) }
     ensures ahead { (d : AnySlot) → result ≡ (slice_index_or slots.old.items place d).ahead }
     ensures len { deque_len slots.new ≡ deque_len slots.old }
-    ensures slots_capacity { deque_capacity slots.new ≡ deque_capacity slots.old }
-    ensures capacity { vec_capacity recs.new ≡ vec_capacity recs.old }
+    ensures capacity { deque_capacity slots.new ≡ deque_capacity slots.old }
 {
     let slot = &mut slots[place];
     let was_taken = slot.is_taken;
-    let rec = slot.rec;
     let ahead = slot.ahead;
     slot.is_taken = true;
     if !was_taken {
-        recs.push_reserved(rec);
+        *count += 1;
     }
     ahead
 }
 
-/// Takes the messages of a lane, from its first slot on, until the task is full.
-pub(crate) fn gather(slots: &mut VecDeque<Slot>, lane: &Lane, first: usize, recs: &mut Vec<Rec>)
+/// Marks the slots of a lane as taken, from its first on, until the task is full.
+fn mark_lane(slots: &mut VecDeque<Slot>, lane: &Lane, first: usize, count: &mut usize)
     requires first { first_on lane_eq lane.now slots.old.items ≡ Some first }
     requires linked { AreLinked lane_eq slots.old.items }
-    requires some { vec_len recs.old < 64 }
-    requires room { vec_capacity recs.old ≡ 64 }
-    ensures slots { slots.new.items ≡ taken_on lane_eq lane.now (64 - vec_len recs.old) slots.old.items }
-    ensures recs { recs.new.items ≡ recs.old.items ++ recs_on lane_eq lane.now (64 - vec_len recs.old) slots.old.items }
+    requires some { count.old < 64 }
+    ensures slots { slots.new.items ≡ taken_on lane_eq lane.now (64 - count.old) slots.old.items }
+    ensures count { length (messages_of slots.new.items) + count.new ≡ length (messages_of slots.old.items) + count.old }
     ensures len { deque_len slots.new ≡ deque_len slots.old }
-    ensures slots_capacity { deque_capacity slots.new ≡ deque_capacity slots.old }
+    ensures capacity { deque_capacity slots.new ≡ deque_capacity slots.old }
 {
     let mut place = first;
-    let mut ahead = take_up(slots, place, recs);
-    while ahead > 0 && recs.len() < TASK_SIZE {
+    let mut ahead = mark(slots, place, count);
+    while ahead > 0 && *count < TASK_SIZE {
         place += ahead;
-        ahead = take_up(slots, place, recs);
+        ahead = mark(slots, place, count);
     }
 }
 
-/// Takes the message at `pick` among those that wait, and then the first of the others of its lane, until the task is full.
-/// Answers their lane.
-pub(crate) fn take_task(slots: &mut VecDeque<Slot>, pick: usize, recs: &mut Vec<Rec>) -> Lane
+/// Marks the slots of the task of the message at `pick` as taken. Answers how many messages it has.
+pub(crate) fn mark_task(slots: &mut VecDeque<Slot>, pick: usize) -> usize
     requires pick { pick < length (messages_of slots.old.items) }
     requires linked { AreLinked lane_eq slots.old.items }
-    requires none { recs.old.items ≡ [] }
-    requires room { vec_capacity recs.old ≡ 64 }
     ensures linked { AreLinked lane_eq slots.new.items }
     ensures lasts { (q : AnyLane) → last_on lane_eq q slots.new.items ≡ last_on lane_eq q slots.old.items }
-    ensures task { coming result.vertex result.port result.time recs.new.items ≡ task_at pick (messages_of slots.old.items) }
     ensures left { messages_of slots.new.items ≡ left_at pick (messages_of slots.old.items) }
-    ensures count { length (messages_of slots.new.items) + vec_len recs.new ≡ length (messages_of slots.old.items) }
+    ensures count { length (messages_of slots.new.items) + result ≡ length (messages_of slots.old.items) }
     ensures len { deque_len slots.new ≡ deque_len slots.old }
     ensures capacity { deque_capacity slots.new ≡ deque_capacity slots.old }
 {
     let place = place_of(slots, pick);
     let lane = slots[place].lane.copy();
-    let _ahead = take_up(slots, place, recs);
+    let mut count = 0;
+    let _ahead = mark(slots, place, &mut count);
     let first = first_place(slots, &lane);
-    gather(slots, &lane, first, recs);
-    lane
+    mark_lane(slots, &lane, first, &mut count);
+    count
 }
 
 /// Lets go of the slots before the first that waits, and answers the number of the slot that is the first then. `first` is the

@@ -26,10 +26,12 @@ fn take(mailbox: &mut Mailbox, pick: usize) -> Result<Taken, Fail> {
     if pick >= mailbox.len() {
         return Err("no such message")?;
     }
-    match mailbox.take(pick) {
-        Ok(task) => Ok(task),
-        Err(ShardError::Memory) => Ok(mailbox.take(pick)?),
-    }
+    let task = match mailbox.task(pick) {
+        Ok(task) => task,
+        Err(ShardError::Memory) => mailbox.task(pick)?,
+    };
+    mailbox.remove(pick);
+    Ok(task)
 }
 
 #[test]

@@ -44,6 +44,13 @@ impl Waiting {
         }
     }
 
+    /// How many notifications are asked for.
+    pub fn len(&self) -> usize
+        ensures { result ≡ length self.now }
+    {
+        self.asked.len()
+    }
+
     /// Whether the notification of a vertex at a time is asked for.
     pub fn is_asked(&self, vertex: u8, time: &Time) -> bool
         ensures { result ≡ is_some (items_at self.now vertex time.now) }

@@ -1,0 +1,217 @@
+-- A hall from which a task was taken, and one to which it was put back.
+use Rattle.std.proofs.Common.{◌≡◌, ◌⊎◌, inl, inr, ℕ, zero, suc, ◌+◌, ◌-◌, ◌<◌, ◌≤◌, ◌==◌, Bool, true, false, List, [], ◌∷◌, ◌++◌, map, flat_map, length, get_or, slice_get, HoldsAt, Option, Some, None, is_some, refl, ap, sym, ◌∙◌, subst, arith, append-nil, append_assoc}
+use Rattle.std.specs.declared.cmp.Ordering.{Ordering}
+use Rattle.std.specs.declared.cmp.Ordering.TheVariants.{Less, Equal, Greater}
+use Rattle.std.specs.Ordering.{nat_cmp}
+use Rattle.std.specs.FinMap.{IsAntisymmetric}
+use Rattle.std.specs.List.{AllByRecursion, enumerate_from}
+use Rattle.std.specs.BTreeMap.{is_at}
+use Rattle.std.specs.Map.{remove_entry}
+use Rattle.std.proofs.lemmas.Bool.Decides.{nat_tests}
+use Rattle.std.proofs.lemmas.List.{length-map}
+use Rattle.td_stamp.specs.declared.values.Rec.{Rec}
+use Rattle.td_stamp.specs.declared.values.Arrival.{Arrival}
+use Rattle.td_stamp.specs.Bag.{bag_of, bag_insert, set_of, join, IsBag}
+use Rattle.td_stamp.specs.BagLaws.{BagLaws, SetLaws}
+use Rattle.td_stamp.specs.Groups.{groups}
+use Rattle.td_stamp.specs.Time.{Timestamp, time_cmp}
+use Rattle.td_calls.specs.Answers.{Answers}
+use Rattle.td_progress.specs.Bag.{IsSameBag}
+use Rattle.td_machine.specs.Reached.{IsReached}
+use Rattle.td_machine.specs.declared.records.Message.{Message}
+use Rattle.td_machine.specs.Active.{active, stamp_at, Frontier}
+use Rattle.td_machine.specs.InOrder.{ListsInOrder, TasksInOrder, NumbersInOrder, StillThere}
+use Rattle.td_machine.specs.State.{HallState, Task, Content, message_cmp, notification_cmp, task_cmp, shard_of_key, is_out}
+use Rattle.td_machine.specs.State.Content.{messages, notification}
+use Rattle.td_machine.specs.Steps.{Takes, MayTake, IsContent, coming, with_task, with_state_of, to_notify, is_asked, task_size, ends, waiting}
+use Rattle.td_machine.specs.Steps.Event.{taking}
+use Rattle.td_machine.specs.Steps.Answer.{has_taken}
+use Rattle.td_machine.specs.Steps.Takes.{takes}
+use Rattle.td_machine.specs.Waits.{WaitsByPlace, WhatWaits}
+use Rattle.td_shard.specs.declared.noted.Noted.{Noted}
+use Rattle.td_shard.specs.declared.shard.Shard.{Shard}
+use Rattle.td_shard.specs.Asked.{AskedList, noted_cmp, noted_at, items_at}
+use Rattle.td_shard.specs.Messages.{IsBeside, task_at, left_at}
+use Rattle.td_core.specs.declared.floor.Floor.{Floor}
+use Rattle.td_core.specs.declared.take.Candidate.{Candidate}
+use Rattle.td_core.specs.declared.take.Candidate.TheVariants as candidates
+use Rattle.td_core.specs.Floor.{state_of, IsHall, IsShard, empty_shard, in_mailboxes, with_tasks, taken_up, waiting_in, waiting_at, asked_in}
+use Rattle.td_core.specs.Posted.{mails, waits}
+use Rattle.td_core.specs.Taking.{IsReady, IsPicked, IsFor, IsTaskFor, IsTakenFor, mails_without, changed_at, stamp_of_noted}
+use Rattle.td_core.proofs.CollectSteps.{ReachedByStep}
+use Rattle.td_core.proofs.PostingSteps.{as_many_waits, same_buffered, same_asked}
+use Rattle.td_core.proofs.ShardParts.{IsMail, mail_of, waiting_of, united}
+use Rattle.td_core.proofs.Waits.{waiting_all, as_messages}
+use Rattle.td_core.proofs.WaitsAll.{waiting_by_lists, IsWaiting}
+use Rattle.td_core.proofs.TakeLists.{IsKeyOf, every, weaker, of_two, of_first, of_second, in_bag, of_bag, come_back, flat, flat_mails, less_there, more_there, same_bag, mails_stay, at_own, get_map}
+use Rattle.td_core.proofs.TakeSteps.{InAnyOrder, key_there, split_all, all_else, items_own, in_state, asked_there}
+
+-- what is known of the tasks of a mailbox
+abbrev pub Parted : Type 0
+Parted = (ms : List Message) (pick : ℕ) → pick < length ms → bag_of message_cmp (task_at pick ms ++ left_at pick ms) ≡ bag_of message_cmp ms
+
+abbrev pub HaveSome : Type 0
+HaveSome = (ms : List Message) (pick : ℕ) → pick < length ms → 0 < length (task_at pick ms)
+
+abbrev pub AreFew : Type 0
+AreFew = (ms : List Message) (pick : ℕ) → length (task_at pick ms) ≤ task_size
+
+abbrev pub AreBeside : Type 0
+AreBeside = (ms : List Message) (pick : ℕ) (c : Message) → slice_get ms pick ≡ Some c → AllByRecursion (IsBeside c) (task_at pick ms)
+
+-- TASKS that are out
+pub with_one_more : (out : List Task) (task : Task) → with_tasks (out ++ task ∷ []) ≡ with_tasks out ++ taken_up task.vertex task.time task.content
+with_one_more [] task = append-nil (taken_up task.vertex task.time task.content)
+with_one_more (t ∷ ts) task = ap (λ l. taken_up t.vertex t.time t.content ++ l) (with_one_more ts task) ∙ sym (append_assoc (taken_up t.vertex t.time t.content) (with_tasks ts) (taken_up task.vertex task.time task.content))
+
+greater : (a b : ℕ) → b < a → nat_cmp a b ≡ Greater
+greater a b l = grind (arith, nat_tests)
+
+-- a task with a greater number comes last
+pub inserted_last : (task : Task) (out : List Task) → AllByRecursion (λ (t : Task). t.number < task.number) out → bag_insert task_cmp task out ≡ out ++ task ∷ []
+inserted_last task [] h = refl
+inserted_last task (t ∷ ts) h = by (task_cmp task t) (greater task.number t.number h.0) (inserted_last task ts h.1)
+  where
+    by : (o : Ordering) → o ≡ Greater → bag_insert task_cmp task ts ≡ ts ++ task ∷ [] → elim o [ Greater ↦ t ∷ bag_insert task_cmp task ts | _ ↦ task ∷ t ∷ ts ] ≡ t ∷ ts ++ task ∷ []
+    by Less e later = absurd (cc)
+    by Equal e later = absurd (cc)
+    by Greater e later = ap (λ l. t ∷ l) later
+
+key_of_recs : (workers s v port : ℕ) (t : Timestamp) (recs : List Rec) → AllByRecursion (IsKeyOf workers s) (coming v port t recs) → AllByRecursion (λ r. shard_of_key workers r.key ≡ s) recs
+key_of_recs workers s v port t [] h = tt
+key_of_recs workers s v port t (r ∷ rs) h = (h.0, key_of_recs workers s v port t rs h.1)
+
+keys_of_coming : (workers s v port : ℕ) (t : Timestamp) (recs : List Rec) → AllByRecursion (λ r. shard_of_key workers r.key ≡ s) recs → AllByRecursion (IsKeyOf workers s) (coming v port t recs)
+keys_of_coming workers s v port t [] h = tt
+keys_of_coming workers s v port t (r ∷ rs) h = (h.0, keys_of_coming workers s v port t rs h.1)
+
+some_of : {X : Type 0} (o : Option X) → is_some o ≡ true → (x : X) × (o ≡ Some x)
+some_of None e = absurd (cc)
+some_of (Some x) e = (x, refl)
+
+module _ (answers : Answers) (floor : Floor) (inv : IsHall answers floor) (bags : BagLaws message_cmp) (sets : SetLaws notification_cmp) (apart : IsAntisymmetric time_cmp)
+    (frontier : InAnyOrder) (lists : ListsInOrder (state_of floor)) (tasks : TasksInOrder (state_of floor)) (numbers : NumbersInOrder (state_of floor)) where
+  abbrev S : HallState
+  S = state_of floor
+
+  abbrev shards : List Shard
+  shards = floor.shards.items
+
+  abbrev W : ℕ
+  W = length shards
+
+  abbrev two : List Message → List Message → List Message
+  two xs ys = join message_cmp xs ys
+
+  -- the messages of a state, by mailboxes
+  by_mails : (ms : List (List Message)) (zs : List Message) → bag_of message_cmp (flat ms ++ zs) ≡ two (flat ms) (bag_of message_cmp zs)
+  by_mails ms zs = bags.append (flat ms) zs []
+
+  module _ (parted : Parted) (s : ℕ) (l : s < W) where
+    abbrev here : Shard
+    here = get_or shards s empty_shard
+
+    mail_here : get_or (mails shards) s [] ≡ here.mailbox.messages
+    mail_here = get_map (λ (x : Shard). x.mailbox.messages) shards s empty_shard [] l
+
+    within : s < length (mails shards)
+    within = let many = length-map shards (λ s. s.mailbox.messages) in omega (arith, many, l)
+
+    -- without a task's messages
+    pub less_mail : (place : ℕ) → place < length here.mailbox.messages → (zs : List Message)
+        → two (flat (mails shards)) zs ≡ two (task_at place here.mailbox.messages) (two (flat (changed_at (left_at place) s (mails shards))) zs)
+    less_mail place under zs = less_there bags (left_at place) (task_at place here.mailbox.messages) (mails shards) s within
+        (λ ys. ap (λ m. two m ys) mail_here
+        ∙ (sym (same_bag bags (task_at place here.mailbox.messages ++ left_at place here.mailbox.messages) here.mailbox.messages ys (parted here.mailbox.messages place under))
+        ∙ (bags.append (task_at place here.mailbox.messages) (left_at place here.mailbox.messages) ys ∙ ap (λ m. two (task_at place here.mailbox.messages) (two (left_at place m) ys)) (sym mail_here)))) zs
+
+    own_here : AllByRecursion (IsKeyOf W s) here.mailbox.messages
+    own_here =
+        let zero_too : 0 + s ≡ s = omega arith in
+        subst (AllByRecursion (IsKeyOf W s)) mail_here (subst (λ n. AllByRecursion (IsKeyOf W n) (get_or (mails shards) s [])) zero_too (at_own W 0 (mails shards) s within (mail_of W 0 shards inv.shards)))
+
+    both_own : (place : ℕ) → place < length here.mailbox.messages → AllByRecursion (IsKeyOf W s) (task_at place here.mailbox.messages ++ left_at place here.mailbox.messages)
+    both_own place under =
+        of_bag message_cmp (IsKeyOf W s) (task_at place here.mailbox.messages ++ left_at place here.mailbox.messages)
+        (subst (AllByRecursion (IsKeyOf W s)) (sym (parted here.mailbox.messages place under)) (in_bag message_cmp (IsKeyOf W s) here.mailbox.messages own_here))
+
+    -- A TASK OF MESSAGES may be taken
+    pub may_messages : HaveSome → AreFew → (place v port : ℕ) (t : Timestamp) (recs : List Rec) → place < length here.mailbox.messages → coming v port t recs ≡ task_at place here.mailbox.messages
+        → IsContent S s v t (messages port recs)
+    may_messages some few place v port t recs under are =
+        let many : length recs ≡ length (task_at place here.mailbox.messages) = sym (length-map recs _) ∙ ap length are in
+        let least = some here.mailbox.messages place under in
+        let most = few here.mailbox.messages place in
+        let others = flat (changed_at (left_at place) s (mails shards)) in
+        let tasks_of = with_tasks floor.out.items in
+        (omega (arith, many, least), omega (arith, many, most),
+          key_of_recs W s v port t recs (subst (AllByRecursion (IsKeyOf W s)) (sym are) (of_first (IsKeyOf W s) (task_at place here.mailbox.messages) (left_at place here.mailbox.messages) (both_own place under))),
+          (bag_of message_cmp (others ++ tasks_of),
+            ap (λ m. bag_of message_cmp (m ++ tasks_of)) (flat_mails shards) ∙ (by_mails (mails shards) tasks_of ∙ (less_mail place under (bag_of message_cmp tasks_of)
+            ∙ ((λ i. two (sym are i) (sym (by_mails (changed_at (left_at place) s (mails shards)) tasks_of) i)))))))
+
+    -- A NOTIFICATION that is in the frontier may be taken
+    pub may_notify : WaitsByPlace → WhatWaits → (n : Noted) (before after : List Noted) → map (λ w. w.0) here.waiting ≡ before ++ n ∷ after → IsReady floor.table n
+        → (keys : Content) → ((items : List Arrival) → items_at here.waiting n.vertex n.time ≡ Some items → keys ≡ notification (map (with_state_of S n.vertex n.time) (groups items)))
+        → IsContent S s n.vertex n.time keys
+    may_notify place waits_for n before after e ready keys are =
+        let asked = key_there n here.waiting before after e in
+        let at = some_of (items_at here.waiting n.vertex n.time) asked in
+        let items = at.0 in
+        let ws = waits shards in
+        let zero_too : s ≡ 0 + s = omega arith in
+        let wait_here : get_or ws s [] ≡ here.waiting = get_map (λ (x : Shard). x.waiting) shards s empty_shard [] l in
+        let found : items_at (get_or ws s []) n.vertex n.time ≡ Some items = ap (λ es. items_at es n.vertex n.time) wait_here ∙ at.1 in
+        let short : s < length ws = let many = length-map shards (λ x. x.waiting) in omega (arith, many, l) in
+        let rest = flat_map waiting_all (changed_at (remove_entry (is_at (noted_cmp n))) s ws) in
+        let waiting_for = (waits_for S s n.vertex n.time items (bag_of message_cmp rest)
+            (ap (bag_of message_cmp) (waiting_by_lists shards) ∙ split_all bags apart n items ws s short found [])
+            (bags.associative rest [] [])
+            (subst (λ m. AllByRecursion (λ a. shard_of_key W a.key ≡ m) items) (sym zero_too) (items_own bags apart n items W 0 ws s short (waiting_of W 0 shards inv.shards) found))
+            (in_bag message_cmp _ rest (all_else bags apart n items S s place 0 ws s zero_too (waiting_of W 0 shards inv.shards)))).0 in
+        subst (IsContent S s n.vertex n.time) (sym (are items at.1))
+        (asked_there answers floor inv bags sets apart frontier lists tasks numbers s n.vertex n.time empty_shard l ∙ asked,
+          in_state answers floor inv bags sets apart frontier lists tasks numbers n ready, sym waiting_for)
+
+  -- THE STATE when a task was taken
+  module _ (s : ℕ) (l : s < W) (new : Floor) (task : Task) (number : task.number ≡ floor.taken + 1)
+      (parts : new ≡ record floor { shards = new.shards; out = new.out; taken = floor.taken + 1 }) (out : new.out.items ≡ floor.out.items ++ task ∷ [])
+      (waiting_same : waits new.shards.items ≡ waits shards)
+      (mail : (zs : List Message) → two (flat (mails shards)) zs ≡ two (taken_up task.vertex task.time task.content) (two (flat (mails new.shards.items)) zs)) where
+    abbrev its : List Message
+    its = taken_up task.vertex task.time task.content
+
+    same_messages : bag_of message_cmp (in_mailboxes new.shards.items ++ with_tasks new.out.items) ≡ S.messages
+    same_messages =
+        let wo = with_tasks floor.out.items in
+        let fn = flat (mails new.shards.items) in
+        (λ i. bag_of message_cmp (flat_mails new.shards.items i ++ (ap with_tasks out ∙ with_one_more floor.out.items task) i))
+        ∙ (by_mails (mails new.shards.items) (wo ++ its)
+        ∙ (ap (two fn) (bags.append wo its [] ∙ bags.swaps wo its [])
+        ∙ (bags.swaps fn its (two wo [])
+        ∙ (sym (mail (two wo [])) ∙ (sym (by_mails (mails shards) wo) ∙ ap (λ m. bag_of message_cmp (m ++ wo)) (sym (flat_mails shards)))))))
+
+    below : AllByRecursion (λ (t : Task). t.number < task.number) floor.out.items
+    below = weaker (StillThere S) (λ (t : Task). t.number < task.number) (λ t still. let most = still.1 in omega (arith, most, number)) floor.out.items tasks.there
+
+    pub stepped : state_of new ≡ with_task S task
+    stepped = ap state_of parts ∙ (λ i. record S {
+      workers = as_many_waits shards new.shards.items waiting_same i;
+      messages = same_messages i;
+      buffered = bag_of message_cmp (same_buffered shards new.shards.items waiting_same i);
+      asked = set_of notification_cmp (same_asked 0 shards new.shards.items waiting_same i);
+      out = (out ∙ sym (inserted_last task floor.out.items below)) i;
+      taken = floor.taken + 1;
+    })
+
+    pub kept : ReachedByStep answers → Takes S s (has_taken (Some task)) (with_task S task) → AllByRecursion (IsMail W) (enumerate_from 0 (mails new.shards.items)) → IsHall answers new
+    kept steps step own = subst (IsHall answers) (sym parts) (record {
+      reached = subst (λ f. IsReached answers (state_of f)) parts (subst (IsReached answers) (sym stepped) (steps S (with_task S task) (taking s) (has_taken (Some task)) inv.reached step));
+      counted = subst (λ T. IsSameBag floor.table.stamps (active T)) (sym stepped ∙ ap state_of parts) inv.counted;
+      inputs = inv.inputs;
+      shards = subst (λ n. AllByRecursion (IsShard n) (enumerate_from 0 new.shards.items)) (sym (as_many_waits shards new.shards.items waiting_same))
+          (united W 0 new.shards.items own (subst (λ ws. AllByRecursion (IsWaiting W) (enumerate_from 0 ws)) (sym waiting_same) (waiting_of W 0 shards inv.shards)));
+      few = subst (λ n. n ≤ 16) (sym (as_many_waits shards new.shards.items waiting_same)) inv.few;
+      next = inv.next;
+      sites = inv.sites;
+    })

@@ -1,0 +1,29 @@
+use Rattle.std.proofs.Common.{◌≡◌, ◌≤◌, ◌==◌, false, refl, ap, sym, ◌∙◌, subst, arith, inr, true}
+use Rattle.td_machine.specs.Steps.Takes.{is_busy, has_none}
+use Rattle.td_machine.specs.Steps.Refusal.{busy}
+use Rattle.std.specs.List.{list_any}
+use Rattle.td_core.proofs.TakeSteps.{none_beyond, noted_of_plan}
+use Rattle.td_core.proofs.TakenHall.{inserted_last}
+use Rattle.td_core.proofs.take.take_floor.Goals as goal
+
+pub returns-then-is_busy-clause-refused : goal.returns-then-is_busy-clause-refused
+returns-then-is_busy-clause-refused g c =
+    let floor = c.args.floor.now in
+    inr (busy, refl, is_busy (sym (c.is_busy.ensures ∙ ap (λ l. list_any (λ t. t.shard == c.args.shard) l) c.as_slice.ensures.value) ∙ c.if-is_busy.true))
+
+pub returns-then-from-len-clause-taken : goal.returns-then-from-len-clause-taken
+returns-then-from-len-clause-taken g c =
+    let floor = c.args.floor.now in
+    let free = sym (c.is_busy.ensures ∙ ap (λ l. list_any (λ t. t.shard == c.args.shard) l) c.as_slice.ensures.value) ∙ c.if-is_busy.false in
+    has_none free (none_beyond g.L.Law.answers floor c.requires.hall c.bags_of_states.ensures.messages c.bags_of_states.ensures.notifications c.time_list_order.ensures.told_apart c.in_any_order.ensures.frontier
+    (c.reached_in_order.ensures.lists _ c.requires.hall.reached) (c.reached_in_order.ensures.tasks _ c.requires.hall.reached) (c.reached_in_order.ensures.numbers _ c.requires.hall.reached)
+    c.none_left.ensures.task c.args.shard free (omega (arith, c.if-from-len.true, c.from.ensures, c.len.ensures)))
+
+pub take_there-requires-clause-numbers : goal.take_there-requires-clause-numbers
+take_there-requires-clause-numbers g c = (c.reached_in_order.ensures.numbers _ c.requires.hall.reached).taken
+
+pub take_there-requires-clause-stamps : goal.take_there-requires-clause-stamps
+take_there-requires-clause-stamps g c d =
+    noted_of_plan g.L.Law.answers c.args.floor.now c.requires.hall c.bags_of_states.ensures.messages c.bags_of_states.ensures.notifications c.time_list_order.ensures.told_apart c.in_any_order.ensures.frontier
+    (c.reached_in_order.ensures.lists _ c.requires.hall.reached) (c.reached_in_order.ensures.tasks _ c.requires.hall.reached) (c.reached_in_order.ensures.numbers _ c.requires.hall.reached)
+    (c.active_of_plan.ensures _ c.requires.hall.reached) c.args.shard d (omega (arith, c.if-from-len.false, c.from.ensures, c.len.ensures))

@@ -1,0 +1,384 @@
+//! Taking tasks.
+ghost use Rattle.std.specs.Prelude.{◌≡◌, ◌<◌, ◌≤◌, ◌+◌, ◌-◌, ◌++◌, ◌∷◌, [], ◌↔◌, IsTrue, ℕ, List, HoldsAt, IfOk, IfErr, OnErr, Some, filter, map, length, nat_le, ◌==◌};
+ghost use Rattle.std.specs.List.{AllByRecursion, list_any};
+ghost use Rattle.td_stamp.specs.Groups.{groups};
+ghost use Rattle.td_stamp.specs.States.{state_of as kept_of};
+ghost use Rattle.td_stamp.specs.declared.values.Arrival.{Arrival as AnyArrival};
+ghost use Rattle.td_shard.specs.declared.noted.Noted.{Noted as AnyNoted};
+ghost use Rattle.td_reach.specs.Paths.{IsOf};
+ghost use Rattle.td_machine.specs.State.{HallState, Task as AnyTask, with_left};
+ghost use Rattle.td_machine.specs.Steps.{Takes, with_state_of, ends};
+ghost use Rattle.td_machine.specs.Steps.Answer.{has_taken};
+ghost use Rattle.td_task.specs.KeyLists.{with_state, without_state};
+ghost use Rattle.td_shard.specs.Asked.{items_at};
+ghost use Rattle.td_core.specs.Floor.{state_of, taken_up, IsHall};
+ghost use Rattle.td_core.specs.Sites.{IsSites};
+ghost use Rattle.td_core.specs.Posted.{mails, waits};
+ghost use Rattle.td_core.specs.Taking.{changed_at, IsThere, IsTakeRefused, IsSame, IsTakenIf, HasRoomBack, IsLastTake, stamp_of_noted, asked_at, IsReady, AreReady, IsReadyAt, IsPlaceOf, IsPicked, IsTaskFor, mails_without, room_of, IsTakenFor, IsPickTaken, IsChosen, IsPickRefused};
+ghost use Rattle.td_core.specs.declared.take.Candidate.TheVariants.{Message, Notification};
+ghost use Rattle.td_core.specs.declared.error.HallError.TheVariants.{Memory};
+
+use crate::error::HallError;
+use crate::floor::Floor;
+use crate::hall::Hall;
+use std::alloc::Global;
+use std::sync::Arc;
+use td_calls::Law;
+use td_machine::laws::{
+    active_of_plan, bags_of_states, none_left, reached, reached_in_order, what_waits,
+};
+use td_progress::Table;
+use td_progress::laws::{counted, in_any_order};
+use td_reach::{Place, Stamp};
+use td_shard::{Noted, Shard, Versions, Waiting};
+use td_shard::laws::tasks;
+use td_stamp::{Arrival, Bag, States};
+use td_stamp::laws::{groups_of_a_bag, time_list_order};
+use td_task::{KeyedItems, Task, Work};
+
+/// Tasks are numbered up to this.
+const MOST_TASKS: u64 = 1 << 63;
+
+/// What may be taken of a shard.
+#[derive(Debug, Drop)]
+pub(crate) enum Candidate {
+    /// The message at this place, in the order posted.
+    Message(usize),
+    Notification(Noted),
+}
+
+impl<L: Law> Hall<L> {
+    /// Takes a task of a shard, if it has one: messages, or a notification that is in the frontier (Naiad, section 2.3). The
+    /// candidates are the shard's messages in the order posted, then its notifications in the frontier by epoch, counters and
+    /// vertex; the one at place `pick` is taken, counted round, and a message with the others of its edge and time in the order
+    /// posted, 64 at most. With pick 0 it costs O(1) for each message, and notifications are looked at only where no message
+    /// waits. A shard that the hall does not have has no task.
+    ///
+    /// Refusals, with nothing changed: `Busy`, where a task of the shard is out; `Spent`, where there is a candidate and all
+    /// numbers of tasks are used; and `Memory`.
+    pub fn take(&mut self, shard: u8, pick: u64) -> Result<Option<Task>, HallError>
+        ensures taken { IfOk result (λ task. Takes self.old shard (has_taken task) self.new) }
+        ensures refused { IfErr result (IsTakeRefused self.old shard) }
+        ensures err { OnErr result (self.new ≡ self.old) }
+    {
+        take_floor::<L>(&mut self.floor, shard, pick)
+    }
+}
+
+/// Takes a task of a shard, if it has one. Refusals, with nothing changed: `Busy`, `Spent` and `Memory`.
+pub(crate) fn take_floor<L: Law>(
+    floor: &mut Floor,
+    shard: u8,
+    pick: u64,
+) -> Result<Option<Task>, HallError>
+    requires hall { IsHall L.answers floor.old }
+    ensures taken { IfOk result (λ task. Takes (state_of floor.old) shard (has_taken task) (state_of floor.new)) }
+    ensures refused { IfErr result (IsTakeRefused (state_of floor.old) shard) }
+    ensures hall { IsHall L.answers floor.new }
+    ensures parts { IfOk result (IsTakenIf floor.old floor.new) }
+    ensures err { OnErr result (IsSame floor.old floor.new) }
+{
+    reached::<L>();
+    reached_in_order::<L>();
+    active_of_plan::<L>();
+    bags_of_states();
+    none_left();
+    what_waits();
+    tasks();
+    counted();
+    in_any_order();
+    time_list_order();
+    if is_busy(floor.out.as_slice(), shard) {
+        return Err(HallError::Busy);
+    }
+    if usize::from(shard) >= floor.shards.len() {
+        return Ok(None);
+    }
+    take_there(floor, shard, pick)
+}
+
+/// Whether a task is out at a shard.
+fn is_busy(out: &[Task], shard: u8) -> bool
+    ensures { result ≡ list_any (λ t. t.shard == shard) out.now }
+{
+    out.iter().any(|task| task.shard() == shard)
+}
+
+/// Takes the task that a pick names, of a shard at which none is out. Refusals, with nothing changed: `Spent` and `Memory`.
+fn take_there(floor: &mut Floor, shard: u8, pick: u64) -> Result<Option<Task>, HallError>
+    requires within { shard < length floor.old.shards.items }
+    requires stamps { HoldsAt (λ s. AllByRecursion (λ n. IsOf floor.old.table.plan (stamp_of_noted n)) (asked_at s)) floor.old.shards.items shard }
+    requires sites { IsSites floor.old.table.plan floor.old.sites }
+    requires numbers { floor.old.taken ≤ ends }
+    ensures taken { IfOk result (IsPickTaken shard pick floor.old floor.new) }
+    ensures refused { IfErr result (IsPickRefused shard pick floor.old) }
+    ensures err { OnErr result (IsSame floor.old floor.new) }
+{
+    let Some((candidate, task)) = chosen(floor, shard, pick)? else {
+        return Ok(None);
+    };
+    let Ok(kept) = task.copy() else {
+        return Err(HallError::Memory);
+    };
+    floor.out.reserve(1)?;
+    remove(&mut floor.shards, shard, &candidate);
+    floor.out.push_reserved(kept);
+    floor.taken += 1;
+    Ok(Some(task))
+}
+
+/// The candidate of a shard that a pick names, with its task, if there is one. Refusals: `Spent` and `Memory`.
+fn chosen(floor: &Floor, shard: u8, pick: u64) -> Result<Option<(Candidate, Task)>, HallError>
+    requires within { shard < length floor.now.shards.items }
+    requires stamps { HoldsAt (λ s. AllByRecursion (λ n. IsOf floor.now.table.plan (stamp_of_noted n)) (asked_at s)) floor.now.shards.items shard }
+    requires sites { IsSites floor.now.table.plan floor.now.sites }
+    requires numbers { floor.now.taken ≤ ends }
+    ensures chosen { IfOk result (IsChosen shard pick floor.now) }
+    ensures refused { IfErr result (IsPickRefused shard pick floor.now) }
+{
+    let there = &floor.shards[usize::from(shard)];
+    let Some(candidate) = picked(&floor.table, there, pick) else {
+        return Ok(None);
+    };
+    if floor.taken == MOST_TASKS {
+        return Err(HallError::Spent);
+    }
+    let task = task_for(floor, there, shard, &candidate)?;
+    Ok(Some((candidate, task)))
+}
+
+/// The candidate of a shard that a pick names, if there is one. Where the pick is below the number of its messages, the
+/// notifications are not looked at.
+fn picked(table: &Table, shard: &Shard, pick: u64) -> Option<Candidate>
+    requires { AllByRecursion (λ n. IsOf table.now.plan (stamp_of_noted n)) (asked_at shard.now) }
+    ensures { IsPicked table.now shard.now pick result }
+{
+    let messages = shard.mailbox.len() as u64;
+    let place = place_of(table, shard, pick);
+    if place < messages {
+        return Some(Candidate::Message(place as usize));
+    }
+    match ready_at(table, &shard.waiting, place - messages) {
+        Some(noted) => Some(Candidate::Notification(noted)),
+        None => None,
+    }
+}
+
+/// The place that a pick names. Where it is 0, or below the number of messages, it need not be counted round.
+fn place_of(table: &Table, shard: &Shard, pick: u64) -> u64
+    requires { AllByRecursion (λ n. IsOf table.now.plan (stamp_of_noted n)) (asked_at shard.now) }
+    ensures { IsPlaceOf table.now shard.now pick result }
+{
+    let messages = shard.mailbox.len() as u64;
+    if pick < messages.max(1) {
+        return pick;
+    }
+    let count = u128::from(messages) + u128::from(ready_count(table, &shard.waiting));
+    if count == 0 {
+        return pick;
+    }
+    (u128::from(pick) % count) as u64
+}
+
+/// How many notifications of a shard are in the frontier.
+fn ready_count(table: &Table, waiting: &Waiting) -> u64
+    requires { AllByRecursion (λ n. IsOf table.now.plan (stamp_of_noted n)) (map (λ w. w.0) waiting.now) }
+    ensures { (ready : List AnyNoted) → AreReady table.now (map (λ w. w.0) waiting.now) ready → result ≡ length ready }
+{
+    let _few = waiting.len();
+    let mut count = 0;
+    for noted in waiting.asked() {
+        if is_ready(table, noted) {
+            count += 1;
+        }
+    }
+    count
+}
+
+/// The notification at a place among those of a shard that are in the frontier.
+fn ready_at(table: &Table, waiting: &Waiting, place: u64) -> Option<Noted>
+    requires { AllByRecursion (λ n. IsOf table.now.plan (stamp_of_noted n)) (map (λ w. w.0) waiting.now) }
+    ensures { IsReadyAt table.now (map (λ w. w.0) waiting.now) place result }
+{
+    let mut left = place;
+    for noted in waiting.asked() {
+        if is_ready(table, noted) {
+            if left == 0 {
+                let time = noted.time.copy();
+                return Some(Noted {
+                    time,
+                    vertex: noted.vertex,
+                });
+            }
+            left -= 1;
+        }
+    }
+    None
+}
+
+/// Whether a notification is in the frontier.
+fn is_ready(table: &Table, noted: &Noted) -> bool
+    requires { IsOf table.now.plan (stamp_of_noted noted.now) }
+    ensures { IsTrue result ↔ IsReady table.now noted.now }
+{
+    table.in_frontier(&Stamp {
+        time: noted.time.copy(),
+        place: Place::Vertex(noted.vertex),
+    })
+}
+
+/// A task for a candidate of a shard. Refusal: `Memory`.
+fn task_for(
+    floor: &Floor,
+    there: &Shard,
+    shard: u8,
+    candidate: &Candidate,
+) -> Result<Task, HallError>
+    requires sites { IsSites floor.now.table.plan floor.now.sites }
+    requires numbers { floor.now.taken < ends }
+    requires there { IsThere there.now candidate.now }
+    ensures ok { IfOk result (IsTaskFor floor.now shard there.now candidate.now) }
+    ensures memory { IfErr result (λ e. e ≡ Memory) }
+{
+    match candidate {
+        Candidate::Message(place) => messages_task(floor, there, shard, *place),
+        Candidate::Notification(noted) => notification_task(floor, there, shard, noted),
+    }
+}
+
+/// The task of the message at a place of a shard. Refusal: `Memory`.
+fn messages_task(
+    floor: &Floor,
+    there: &Shard,
+    shard: u8,
+    place: usize,
+) -> Result<Task, HallError>
+    requires sites { IsSites floor.now.table.plan floor.now.sites }
+    requires numbers { floor.now.taken < ends }
+    requires place { place < length there.now.mailbox.messages }
+    ensures ok { IfOk result (IsTaskFor floor.now shard there.now (Message place)) }
+    ensures memory { IfErr result (λ e. e ≡ Memory) }
+{
+    tasks();
+    let taken = there.mailbox.task(place)?;
+    let kind = floor.sites.kind(taken.vertex);
+    let work = Arc::new(floor.alloc, Work::Messages(taken.port, taken.recs))?;
+    Ok(Task::new(
+        shard,
+        floor.taken + 1,
+        taken.vertex,
+        kind,
+        taken.time,
+        work,
+    ))
+}
+
+/// The task of a notification of a shard. Refusal: `Memory`.
+fn notification_task(
+    floor: &Floor,
+    there: &Shard,
+    shard: u8,
+    noted: &Noted,
+) -> Result<Task, HallError>
+    requires sites { IsSites floor.now.table.plan floor.now.sites }
+    requires numbers { floor.now.taken < ends }
+    ensures ok { IfOk result (IsTaskFor floor.now shard there.now (Notification noted.now)) }
+    ensures memory { IfErr result (λ e. e ≡ Memory) }
+{
+    let mut items = grouped(floor.alloc, items_of(&there.waiting, noted))?;
+    let before = noted.time.epoch().saturating_sub(1);
+    set_states(&floor.versions, &floor.states, before, noted.vertex, &mut items);
+    let kind = floor.sites.kind(noted.vertex);
+    let work = Arc::new(floor.alloc, Work::Notification(items))?;
+    Ok(Task::new(
+        shard,
+        floor.taken + 1,
+        noted.vertex,
+        kind,
+        noted.time.copy(),
+        work,
+    ))
+}
+
+/// What waits for a notification; nothing, where that is not asked for.
+fn items_of<'a>(waiting: &'a Waiting, noted: &Noted) -> &'a [Arrival]
+    ensures { (items : List AnyArrival) → items_at waiting.now noted.now.vertex noted.now.time ≡ Some items → result.now ≡ items }
+{
+    waiting.items(noted.vertex, &noted.time).unwrap_or(&[])
+}
+
+/// What waits, by key. Refusal: `Memory`.
+fn grouped(alloc: Global, items: &[Arrival]) -> Result<KeyedItems, HallError>
+    ensures ok { IfOk result (λ keyed. keyed ≡ map without_state (groups items.now)) }
+    ensures memory { IfErr result (λ e. e ≡ Memory) }
+{
+    groups_of_a_bag();
+    let bag = Bag::from_vec(alloc, Vec::from_slice(alloc, items)?);
+    match KeyedItems::grouped(alloc, &bag) {
+        Ok(keyed) => Ok(keyed),
+        Err(_) => Err(HallError::Memory),
+    }
+}
+
+/// Gives each key the state that a vertex kept for it after an epoch.
+fn set_states(
+    versions: &Versions,
+    base: &States,
+    epoch: u64,
+    vertex: u8,
+    items: &mut KeyedItems,
+)
+    ensures { items.new ≡ map (λ k. with_state k (kept_of (with_left base.now (filter (λ k. nat_le k.epoch epoch) versions.now)) vertex k.key)) items.old }
+{
+    for index in 0..items.len() {
+        let state = versions.state_at(epoch, vertex, items.at(index).key, base);
+        items.set_state(index, state);
+    }
+}
+
+/// Removes the messages of a candidate from a shard. What waits for a notification stays until that is given.
+fn remove(shards: &mut Vec<Shard>, shard: u8, candidate: &Candidate)
+    requires within { shard < length shards.old.items }
+    requires there { HoldsAt (λ s. IsThere s candidate.now) shards.old.items shard }
+    ensures mails { mails shards.new.items ≡ mails_without candidate.now shard (mails shards.old.items) }
+    ensures waiting { waits shards.new.items ≡ waits shards.old.items }
+    ensures room { map room_of shards.new.items ≡ map room_of shards.old.items }
+{
+    if let Candidate::Message(place) = candidate {
+        shards[usize::from(shard)].mailbox.remove(*place);
+    }
+}
+
+/// Puts back what was taken last, of this shard, whose mailbox has room for it: the hall is as it was before that take, but for
+/// the order in which messages stand. It takes no memory.
+pub(crate) fn put_back<L: Law>(floor: &mut Floor, shard: u8)
+    requires hall { IsHall L.answers floor.old }
+    requires within { shard < length floor.old.shards.items }
+    requires room { HoldsAt HasRoomBack floor.old.shards.items shard }
+    ensures back { (S : HallState) (task : AnyTask) → IsLastTake L.answers S shard task (state_of floor.old) → state_of floor.new ≡ S }
+    ensures hall { (S : HallState) (task : AnyTask) → IsLastTake L.answers S shard task (state_of floor.old) → IsHall L.answers floor.new }
+{
+    reached_in_order::<L>();
+    bags_of_states();
+    let Some(task) = floor.out.pop() else {
+        return;
+    };
+    post_back(&mut floor.shards, shard, &task);
+    floor.taken -= 1;
+}
+
+/// Posts the messages of a task to a shard once more.
+fn post_back(shards: &mut Vec<Shard>, shard: u8, task: &Task)
+    requires within { shard < length shards.old.items }
+    requires room { HoldsAt HasRoomBack shards.old.items shard }
+    ensures mails { mails shards.new.items ≡ changed_at (λ ms. ms ++ taken_up task.now.vertex task.now.time task.now.content) shard (mails shards.old.items) }
+    ensures waiting { waits shards.new.items ≡ waits shards.old.items }
+{
+    match task.work() {
+        Work::Messages(port, recs) => {
+            let mailbox = &mut shards[usize::from(shard)].mailbox;
+            mailbox.post(task.vertex(), *port, task.time(), recs.as_slice());
+        }
+        Work::Notification(_) => {}
+    }
+}
