@@ -6,3 +6,6 @@ pub mod CloseSteps
 pub mod Unpassed
 pub mod CutSteps
 pub mod Opening
+pub mod DrainSteps
+pub mod DrainFloors
+pub mod Advance

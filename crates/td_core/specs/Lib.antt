@@ -3,3 +3,4 @@ pub mod Came
 pub mod Floor
 pub mod Collected
 pub mod Cuts
+pub mod Drained

@@ -4,6 +4,7 @@
 mod close;
 mod collect;
 mod cut;
+mod drain;
 mod error;
 mod floor;
 mod hall;
@@ -14,5 +15,6 @@ mod passed;
 mod tests;
 
 pub use cut::Cut;
+pub use drain::Drained;
 pub use error::HallError;
 pub use hall::Hall;
