@@ -12,7 +12,8 @@ use Rattle.td_core.specs.declared.cut.Cut.{Cut}
 use Rattle.td_core.specs.declared.error.HallError.{HallError}
 use Rattle.td_core.specs.declared.error.HallError.TheVariants.{Memory, NotPassed}
 use Rattle.td_core.specs.Floor.{state_of, IsHall}
-use Rattle.td_core.specs.Cuts.{IsCutAt, states_after, IsRefused}
+use Rattle.td_core.specs.Cuts.{IsCutAt, states_after}
+use Rattle.td_core.specs.Refusals.{IsRefused}
 use Rattle.td_core.proofs.CollectSteps.{ReachedByStep}
 
 drop_suc : {X : Type 0} (n : ℕ) (xs : List X) → drop 1 (drop n xs) ≡ drop (suc n) xs

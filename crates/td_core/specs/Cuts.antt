@@ -1,13 +1,8 @@
 -- A hall that was cut at an epoch.
-use Rattle.std.specs.Prelude.{◌≡◌, ℕ, ◌-◌, ◌⊎◌, nat_le, nat_lt, List, drop, filter}
+use Rattle.std.specs.Prelude.{◌≡◌, ℕ, ◌-◌, nat_le, nat_lt, drop, filter}
 use Rattle.td_stamp.specs.States.{StateList}
-use Rattle.td_machine.specs.State.{HallState, with_left}
-use Rattle.td_machine.specs.Steps.{Answer}
-use Rattle.td_machine.specs.Steps.Answer.{refused}
-use Rattle.td_machine.specs.Steps.Refusal.{not_passed}
+use Rattle.td_machine.specs.State.{with_left}
 use Rattle.td_core.specs.declared.floor.Floor.{Floor}
-use Rattle.td_core.specs.declared.error.HallError.{HallError}
-use Rattle.td_core.specs.declared.error.HallError.TheVariants.{Memory, NotPassed}
 
 -- the states after an epoch: those of the base, and what folds left up to it
 abbrev pub states_after : Floor → ℕ → StateList
@@ -23,7 +18,3 @@ pub record IsCutAt (epoch : ℕ) (floor new : Floor) : Type 0 where
     versions = filter (λ k. nat_lt epoch k.epoch) floor.versions;
   }
   pub batches : new.batches.items ≡ drop (epoch - floor.base) floor.batches.items
-
--- WHY A CUT IS REFUSED: for want of memory, or since the machine refuses it
-abbrev pub IsRefused : Answer × HallState → HallState → HallError → Type 0
-IsRefused step S error = (error ≡ Memory) ⊎ ((e : ℕ) × (error ≡ NotPassed e) × (step ≡ (refused (not_passed e), S)))

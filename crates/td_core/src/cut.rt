@@ -5,7 +5,8 @@ ghost use Rattle.td_machine.specs.Active.{has_passed, unpassed};
 ghost use Rattle.td_machine.specs.Steps.{cut_by, cut_at_by};
 ghost use Rattle.td_machine.specs.Steps.Answer.{has_cut, refused};
 ghost use Rattle.td_machine.specs.Steps.Refusal.{not_passed};
-ghost use Rattle.td_core.specs.Cuts.{IsCutAt, states_after, IsRefused};
+ghost use Rattle.td_core.specs.Cuts.{IsCutAt, states_after};
+ghost use Rattle.td_core.specs.Refusals.{IsRefused};
 ghost use Rattle.td_core.specs.declared.error.HallError.TheVariants.{Memory, NotPassed};
 
 use crate::error::HallError;

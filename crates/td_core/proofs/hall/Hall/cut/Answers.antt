@@ -1,7 +1,8 @@
-use Rattle.std.proofs.Common.{◌≡◌, ◌-◌, ap, sym, ◌∙◌, subst, arith, None}
+use Rattle.std.proofs.Common.{◌≡◌, ◌-◌, ap, sym, ◌∙◌, arith, inr, None, refl}
 use Rattle.td_machine.specs.Active.{unpassed}
 use Rattle.td_machine.specs.Steps.{cut_by}
 use Rattle.td_machine.specs.Steps.Event.{cut}
+use Rattle.td_machine.specs.Steps.Refusal.{not_passed}
 use Rattle.td_core.specs.Floor.{state_of}
 use Rattle.td_core.proofs.CutSteps.{cut_hall, cut_answered, cut_refused, cuts}
 use Rattle.td_core.proofs.hall.Hall.cut.Goals as goal
@@ -18,3 +19,6 @@ invariant_of-self g c =
     let none : unpassed (state_of floor) ≡ None = ap unpassed c.self.view_is ∙ (sym c.unpassed.ensures ∙ c.in-None.is) in
     cut_hall floor c.cut_floor.new.floor (floor.next - 1) g.L.Law.answers c.reached.ensures.step c.self.invariant cut (cuts (state_of floor) none) c.cut_floor.result
     c.cut_floor.ensures.ok c.cut_floor.ensures.err
+
+pub returns-in-Some-clause-refused : goal.returns-in-Some-clause-refused
+returns-in-Some-clause-refused g c = inr (not_passed c.in-Some.epoch, refl, ap (λ o. cut_by c.args.self.now o (c.args.self.now.next - 1)) (sym c.unpassed.ensures ∙ c.in-Some.is))

@@ -30,4 +30,4 @@ returns-else-passed-clause-refused g c =
     let e = c.args.epoch in
     let passed : has_passed c.args.self.now e ≡ false = ap (λ S. has_passed S e) (sym c.self.view_is) ∙ (sym (c.in_any_order.ensures.passed _ _ e c.self.invariant.counted) ∙ (sym c.passed.ensures ∙ c.if-passed.false)) in
     let least = ap (λ o. unwrap_or o e) (sym c.unpassed.ensures) ∙ sym c.unwrap_or.ensures in
-    inr (c.unwrap_or.result, refl, refuses_at c.args.self.now e passed ∙ ap (λ n. (refused (not_passed n), c.args.self.now)) least)
+    inr (not_passed c.unwrap_or.result, refl, refuses_at c.args.self.now e passed ∙ ap (λ n. (refused (not_passed n), c.args.self.now)) least)
