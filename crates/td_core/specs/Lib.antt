@@ -10,3 +10,4 @@ pub mod Meant
 pub mod Taking
 pub mod Given
 pub mod Released
+pub mod Drained

@@ -5,6 +5,9 @@ mod close;
 mod collect;
 mod cut;
 mod deliver;
+mod drain;
+#[cfg(test)]
+mod drain_tests;
 mod error;
 mod floor;
 mod give;
@@ -23,5 +26,6 @@ mod take;
 mod tests;
 
 pub use cut::Cut;
+pub use drain::Drained;
 pub use error::HallError;
 pub use hall::Hall;

@@ -1,0 +1,215 @@
+//! Draining: all that can be taken is taken, run and given.
+ghost use Rattle.std.specs.Prelude.{◌≡◌, ◌↔◌, ◌≤◌, ◌<◌, ◌∷◌, [], ℕ, length, true, None, HoldsAt, IfOk, IfErr, OnOk, OnErr, IsErrAnd};
+ghost use Rattle.td_plan.specs.Blocks.{vertices};
+ghost use Rattle.td_calls.specs.Fits.{first_lack};
+ghost use Rattle.td_machine.specs.Active.{has_passed, unpassed, kind_of};
+ghost use Rattle.td_machine.specs.Steps.{Takes, effect, is_given};
+ghost use Rattle.td_machine.specs.Steps.Answer.{has_taken};
+ghost use Rattle.td_machine.specs.Tally.{records_in, notes_in};
+ghost use Rattle.td_core.specs.Floor.{state_of, IsHall};
+ghost use Rattle.td_core.specs.Given.{IsUntouched};
+ghost use Rattle.td_core.specs.Posted.{IsRoomier};
+ghost use Rattle.td_core.specs.Taking.{HasRoomBack};
+ghost use Rattle.td_core.specs.Drained.{Works, IsKept, IsWhy, IsExact, IsExactFresh, IsTurnIf, IsIdle, IsFurther, HasNone};
+ghost use Rattle.td_core.specs.declared.error.HallError.TheVariants.{Busy, Memory};
+
+use crate::error::HallError;
+use crate::floor::Floor;
+use crate::give::give_floor;
+use crate::hall::Hall;
+use crate::take::{put_back, take_floor};
+use td_calls::{Closures, Law};
+use td_machine::laws::{exact_work_drained, never_stuck, plays_join, reached_in_order};
+use td_shard::Shard;
+use td_task::{TASK_SIZE, Task, TaskError, Work};
+
+/// What a drain delivered.
+#[derive(Clone, Copy, Debug, PartialEq, Eq)]
+pub struct Drained {
+    /// How many records.
+    pub messages: u128,
+    /// How many notifications.
+    pub notes: u64,
+}
+
+impl<L: Law> Hall<L> {
+    /// Takes, runs and gives tasks until no shard has one: then every released epoch has passed. It tells how many records
+    /// and notifications it delivered: those of the batch meaning, less what was given before. Refusals: `Busy` where a
+    /// task is out, with nothing changed; `Memory`, and `Spent` where there is something to take and all numbers of tasks
+    /// are used, with no task out and nothing lost: what was given so far stays given, and a later drain goes on from there.
+    pub fn drain<C: Closures<L>>(&mut self, calls: &C) -> Result<Drained, HallError>
+        requires fits { first_lack (C.has_map calls.now) (C.has_group calls.now) (C.has_fold calls.now) (vertices self.old.plan) ≡ None }
+        ensures busy { IsErrAnd result (λ e. e ≡ Busy) ↔ (0 < length self.old.out) }
+        ensures same { 0 < length self.old.out → self.new ≡ self.old }
+        ensures worked { self.old.out ≡ [] → (records : ℕ) × (notifications : ℕ) × Works L.answers self.old records notifications self.new }
+        ensures none_out { self.old.out ≡ [] → self.new.out ≡ [] }
+        ensures kept { IsKept self.old self.new }
+        ensures refused { self.old.out ≡ [] → IfErr result (IsWhy self.new) }
+        ensures delivered { IfOk result (λ drained. Works L.answers self.old drained.messages drained.notes self.new) }
+        ensures none_left { OnOk result (HasNone self.new) }
+        ensures passed { OnOk result ((epoch : ℕ) → epoch < self.new.next → has_passed self.new epoch ≡ true) }
+        ensures unpassed { OnOk result (unpassed self.new ≡ None) }
+        ensures exact { IfOk result (λ drained. IsExact L.answers self.old drained.messages drained.notes) }
+        ensures fresh { IfOk result (λ drained. IsExactFresh L.answers self.old drained.messages drained.notes) }
+    {
+        plays_join::<L>();
+        exact_work_drained::<L>();
+        never_stuck::<L>();
+        reached_in_order::<L>();
+        if !self.floor.out.is_empty() {
+            return Err(HallError::Busy);
+        }
+        let mut drained = Drained {
+            messages: 0,
+            notes: 0,
+        };
+        drain_floor::<L, C>(&mut self.floor, calls, &mut drained)?;
+        Ok(drained)
+    }
+}
+
+/// Goes round all shards until none has a task, and counts what is delivered. Refusals: `Memory` and `Spent`.
+fn drain_floor<L: Law, C: Closures<L>>(
+    floor: &mut Floor,
+    calls: &C,
+    drained: &mut Drained,
+) -> Result<(), HallError>
+    requires fits { first_lack (C.has_map calls.now) (C.has_group calls.now) (C.has_fold calls.now) (vertices floor.old.table.plan) ≡ None }
+    requires idle { IsIdle L.answers floor.old drained.old }
+    ensures further { IsFurther L.answers floor.old drained.old floor.new drained.new }
+    ensures none_left { OnOk result (HasNone (state_of floor.new)) }
+    ensures refused { IfErr result (IsWhy (state_of floor.new)) }
+{
+    reached_in_order::<L>();
+    loop {
+        let taken = floor.taken;
+        go_round::<L, C>(floor, calls, drained)?;
+        if floor.taken == taken {
+            return Ok(());
+        }
+    }
+}
+
+/// Clears each shard in turn. Refusals: `Memory` and `Spent`.
+fn go_round<L: Law, C: Closures<L>>(
+    floor: &mut Floor,
+    calls: &C,
+    drained: &mut Drained,
+) -> Result<(), HallError>
+    requires fits { first_lack (C.has_map calls.now) (C.has_group calls.now) (C.has_fold calls.now) (vertices floor.old.table.plan) ≡ None }
+    requires idle { IsIdle L.answers floor.old drained.old }
+    ensures further { IsFurther L.answers floor.old drained.old floor.new drained.new }
+    ensures none_left { OnOk result (floor.new.taken ≡ floor.old.taken → HasNone (state_of floor.new)) }
+    ensures refused { IfErr result (IsWhy (state_of floor.new)) }
+{
+    for shard in 0..floor.shards.len() as u8 {
+        clear::<L, C>(floor, calls, shard, drained)?;
+    }
+    Ok(())
+}
+
+/// Takes, runs and gives tasks of a shard until it has none. Refusals: `Memory` and `Spent`.
+fn clear<L: Law, C: Closures<L>>(
+    floor: &mut Floor,
+    calls: &C,
+    shard: u8,
+    drained: &mut Drained,
+) -> Result<(), HallError>
+    requires fits { first_lack (C.has_map calls.now) (C.has_group calls.now) (C.has_fold calls.now) (vertices floor.old.table.plan) ≡ None }
+    requires idle { IsIdle L.answers floor.old drained.old }
+    requires within { shard < length floor.old.shards.items }
+    ensures further { IsFurther L.answers floor.old drained.old floor.new drained.new }
+    ensures none_left { OnOk result (Takes (state_of floor.new) shard (has_taken None) (state_of floor.new)) }
+    ensures refused { IfErr result (IsWhy (state_of floor.new)) }
+{
+    plays_join::<L>();
+    reached_in_order::<L>();
+    while let Some(delivered) = advance::<L, C>(floor, calls, shard)? {
+        drained.messages += delivered.messages;
+        drained.notes += delivered.notes;
+    }
+    Ok(())
+}
+
+/// Takes a task of a shard, runs it and gives it, if the shard has one, and tells what it delivered. Refusals, with the
+/// state as it was: `Memory` and `Spent`.
+fn advance<L: Law, C: Closures<L>>(
+    floor: &mut Floor,
+    calls: &C,
+    shard: u8,
+) -> Result<Option<Drained>, HallError>
+    requires fits { first_lack (C.has_map calls.now) (C.has_group calls.now) (C.has_fold calls.now) (vertices floor.old.table.plan) ≡ None }
+    requires hall { IsHall L.answers floor.old }
+    requires none_out { floor.old.out.items ≡ [] }
+    requires within { shard < length floor.old.shards.items }
+    ensures hall { IsHall L.answers floor.new }
+    ensures turn { IfOk result (λ delivered. IsTurnIf L.answers (state_of floor.old) shard delivered (state_of floor.new)) }
+    ensures err { OnErr result (state_of floor.new ≡ state_of floor.old) }
+    ensures refused { IfErr result (IsWhy (state_of floor.new)) }
+{
+    make_room_back(&mut floor.shards, shard)?;
+    let Some(task) = take_floor::<L>(floor, shard, 0)? else {
+        return Ok(None);
+    };
+    let delivered = delivery(&task);
+    match run_and_give::<L, C>(floor, calls, task) {
+        Ok(()) => Ok(Some(delivered)),
+        Err(error) => {
+            put_back::<L>(floor, shard);
+            Err(error)
+        }
+    }
+}
+
+/// Runs the one task that is out, and gives it. Refusal: `Memory`, with the task still out and nothing changed but for more
+/// room.
+fn run_and_give<L: Law, C: Closures<L>>(
+    floor: &mut Floor,
+    calls: &C,
+    task: Task,
+) -> Result<(), HallError>
+    requires fits { first_lack (C.has_map calls.now) (C.has_group calls.now) (C.has_fold calls.now) (vertices floor.old.table.plan) ≡ None }
+    requires hall { IsHall L.answers floor.old }
+    requires out { floor.old.out.items ≡ task ∷ [] }
+    requires kind { task.kind ≡ kind_of floor.old.table.plan task.vertex }
+    ensures state { OnOk result (state_of floor.new ≡ is_given (effect L.answers (state_of floor.old) task task.content) task) }
+    ensures hall { OnOk result (IsHall L.answers floor.new) }
+    ensures err { OnErr result (IsUntouched floor.old floor.new) }
+    ensures memory { IfErr result (λ e. e ≡ Memory) }
+{
+    match task.run::<L, C>(floor.alloc, calls) {
+        Ok(done) => give_floor::<L>(floor, 0, &done),
+        Err((TaskError::Memory, _task)) => Err(HallError::Memory),
+        // The calls fit the plan.
+        Err((TaskError::NoCall(..), _task)) => unreachable!(),
+    }
+}
+
+/// What a task delivers: its records, or its notification.
+fn delivery(task: &Task) -> Drained
+    ensures messages { result.messages ≡ records_in task.now.content }
+    ensures notes { result.notes ≡ notes_in task.now.content }
+{
+    match task.work() {
+        Work::Messages(_port, recs) => Drained {
+            messages: recs.len() as u128,
+            notes: 0,
+        },
+        Work::Notification(_items) => Drained {
+            messages: 0,
+            notes: 1,
+        },
+    }
+}
+
+/// Makes room in the mailbox of a shard for the messages of a task, so that it can be put back. Refusal: `Memory`, with
+/// nothing changed.
+fn make_room_back(shards: &mut Vec<Shard>, shard: u8) -> Result<(), HallError>
+    requires { shard < length shards.old.items }
+    ensures same { IsRoomier shards.old.items shards.new.items }
+    ensures room { OnOk result (HoldsAt HasRoomBack shards.new.items shard) }
+    ensures memory { IfErr result (λ e. e ≡ Memory) }
+{
+    shards[shard as usize].mailbox.reserve(1, TASK_SIZE)?;
+    Ok(())
+}
