@@ -1,11 +1,12 @@
 #!/usr/bin/env python3
 """Compares `td batch` with a reading of docs/FORMATS.md in Python, on random inputs, most of them with a mistake in them.
 
-    bench/random_inputs.py [--every-plan] [COUNT [SEED]]       needs crates/td/out/td (see the README); by default 2000 inputs
+    bench/random_inputs.py [--every-plan] [--hall] [COUNT [SEED]]       needs crates/td/out/td (see the README); by default 2000 inputs
 
 The reading shares nothing with the program. Status, output and error text must be equal; the first input at which one
 is not is printed. With --every-plan it reads loops, folds, distinct and several sources; without, it refuses these as
-syntax, as a reader of flat plans does."""
+syntax, as a reader of flat plans does. With --hall each input is answered by `td run` and by `td sim` too, with a random
+number of workers and random picks; of `sim` the lines of notifications are left out."""
 
 import collections
 import pathlib
@@ -18,6 +19,8 @@ TD = pathlib.Path(__file__).resolve().parent.parent / "crates/td/out/td"
 HALF = 2**63
 # So many records on one edge are enough: a random loop may double them at each turn.
 ENOUGH = 500
+WORKERS = [1, 2, 3, 4, 7, 16]
+PICKS = [0, 0, 1, 2, 3, 5, 8, 100, 2**64 - 1]
 
 
 class Fault(Exception):
@@ -512,10 +515,27 @@ def with_mistakes(rng, text):
     return text
 
 
+def commands(rng, hall):
+    """The words with which the program is run on an input."""
+    yield ["batch"]
+    if hall:
+        yield ["run", "--workers", str(rng.choice(WORKERS))]
+        picks = ",".join(str(rng.choice(PICKS)) for _ in range(rng.randrange(1, 5)))
+        yield ["sim", "--workers", str(rng.choice(WORKERS)), "--picks", picks]
+
+
+def answered(said, text):
+    """Status, output without the lines of notifications, and error text."""
+    done = subprocess.run([TD, *said], input=text, capture_output=True)
+    lines = done.stdout.splitlines(keepends=True)
+    return done.returncode, b"".join(line for line in lines if not line.startswith(b"note ")), done.stderr
+
+
 def main():
     given = sys.argv[1:]
-    every_plan = given[:1] == ["--every-plan"]
-    given = given[every_plan:]
+    every_plan = "--every-plan" in given
+    hall = "--hall" in given
+    given = [word for word in given if not word.startswith("--")]
     count = int(given[0]) if given else 2000
     rng = random.Random(given[1] if len(given) > 1 else "td")
     if not TD.exists():
@@ -527,10 +547,10 @@ def main():
             want = wanted(text, every_plan)
         except TooLarge:
             continue
-        done = subprocess.run([TD, "batch"], input=text, capture_output=True)
-        got = (done.returncode, done.stdout, done.stderr)
-        if got != want:
-            sys.exit(f"{text!r}\nwanted {want}\n   got {got}")
+        for said in commands(rng, hall):
+            got = answered(said, text)
+            if got != want:
+                sys.exit(f"td {' '.join(said)}\n{text!r}\nwanted {want}\n   got {got}")
         met[re.sub(r"\d+", "N", want[2].decode().strip()) or "no fault"] += 1
     print(f"{count} inputs, all answered alike:")
     for what, times in met.most_common():

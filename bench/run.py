@@ -1,11 +1,10 @@
 #!/usr/bin/env python3
-"""Times `td batch` beside a plain program for the same job, on data that it makes itself.
+"""Times `td batch`, and `td run` with 1 and 4 shards, beside a plain program for the same job, on data that it makes itself.
 
     bench/run.py            needs the kit, rustc and GNU time
 
-It builds both first, and `td` is proved on the way where it is not yet. Both programs read the same text; their outputs
-must be equal. Each case runs three times, in turn, and the best time counts; the memory is the most that was resident
-at once."""
+It builds the programs first, and `td` is proved on the way where it is not yet. All read the same text; their outputs must
+be equal. Each case runs three times, in turn, and the best time counts; the memory is the most that was resident at once."""
 
 import pathlib
 import random
@@ -82,6 +81,8 @@ CASES = [
     ("COUNT, 2,000,000 records, 100,000 keys, 1 epoch", ["count"], COUNT, dict(count=2_000_000, keys=100_000, epochs=1)),
     ("COUNT and 20 maps that nobody reads, 1,000,000 records", ["count"], UNREAD, dict(count=1_000_000, keys=100_000, epochs=1)),
     ("COUNT, 1,000,000 records, 100,000 keys, 1,000 epochs", ["count"], COUNT, dict(count=1_000_000, keys=100_000, epochs=1000)),
+    ("COUNT, 1,000,000 records, 100,000 keys, 100 epochs", ["count"], COUNT, dict(count=1_000_000, keys=100_000, epochs=100)),
+    ("COUNT, 1,000,000 records, 100,000 keys, 10,000 epochs", ["count"], COUNT, dict(count=1_000_000, keys=100_000, epochs=10_000)),
     ("SUM, 1,000,000 records, 1 key, 1 epoch", ["sum"], SUM, dict(count=1_000_000, keys=1, epochs=1)),
     ("TOTAL, 1,000,000 records, 100,000 keys, 1,000 epochs", ["total"], TOTAL, dict(count=1_000_000, keys=100_000, epochs=1000)),
     ("BOTH, 1,000,000 records, 100,000 keys, 1 epoch", ["both"], BOTH, dict(count=1_000_000, keys=100_000, epochs=1, inputs=2)),
@@ -108,35 +109,61 @@ def build_td():
         sys.exit(done.stderr)
 
 
+class Best:
+    """The least seconds and the most kilobytes of some runs."""
+
+    def __init__(self):
+        self.seconds, self.kilobytes = float("inf"), 0
+
+    def add(self, seconds, kilobytes):
+        self.seconds = min(self.seconds, seconds)
+        self.kilobytes = max(self.kilobytes, kilobytes)
+
+    def row(self):
+        return f"{self.seconds:.2f} | {self.kilobytes / 1024:.0f}"
+
+    def ratios(self, other):
+        return f"{self.seconds / max(other.seconds, 0.01):.1f} | {self.kilobytes / other.kilobytes:.1f}"
+
+
+def measure(name, programs, text, place):
+    """The best of three runs of each program, in turn; their outputs are equal."""
+    best = {who: Best() for who in programs}
+    for _ in range(3):
+        for who, command in programs.items():
+            best[who].add(*run(command, text, place / f"{who}.out"))
+    if len({(place / f"{who}.out").read_bytes() for who in programs}) > 1:
+        sys.exit(f"{name}: the outputs differ")
+    return best
+
+
 def main():
     build_td()
     with tempfile.TemporaryDirectory() as folder:
         place = pathlib.Path(folder)
         plain = place / "plain"
         subprocess.run(["rustc", "--edition", "2021", "-O", "-o", plain, ROOT / "bench/plain.rs"], check=True)
-        print("| Case | td, s | plain, s | ratio | td, MB | plain, MB | ratio |")
-        print("|---|---|---|---|---|---|---|")
-        times, rooms = {}, {}
+        print("| Case | batch, s | MB | plain, s | MB | ratio | MB | run, s | MB | ratio to batch | MB | run of 4, s | MB | ratio to batch | MB |")
+        print("|---" * 15 + "|")
+        met = {}
         for number, (name, job, plan, data) in enumerate(CASES):
             text = place / "text"
             with open(text, "w") as file:
                 file.write(f"{plan}--\n")
                 file.writelines(records(seed=number, **data))
-            best = {}
-            for _ in range(3):
-                for who, command in (("td", [TD, "batch"]), ("plain", [plain, *job])):
-                    seconds, memory = run(command, text, place / f"{who}.out")
-                    known = best.get(who, (seconds, memory))
-                    best[who] = (min(known[0], seconds), max(known[1], memory))
-            if (place / "td.out").read_bytes() != (place / "plain.out").read_bytes():
-                sys.exit(f"{name}: the outputs differ")
-            (td_s, td_kb), (plain_s, plain_kb) = best["td"], best["plain"]
-            times[name], rooms[name] = td_s, td_kb
-            print(f"| {name} | {td_s:.2f} | {plain_s:.2f} | {td_s / max(plain_s, 0.01):.1f} "
-                  f"| {td_kb / 1024:.0f} | {plain_kb / 1024:.0f} | {td_kb / plain_kb:.1f} |", flush=True)
-        once, twice, unread = list(times)[:3]
-        print(f"\nFrom one to two million records td takes {times[twice] / times[once]:.2f} times as long; "
-              f"20 maps that nobody reads take {rooms[unread] / rooms[once]:.2f} times the memory of none.")
+            best = met[name] = measure(name, {
+                "batch": [TD, "batch"],
+                "plain": [plain, *job],
+                "run": [TD, "run"],
+                "run of 4": [TD, "run", "--workers", "4"],
+            }, text, place)
+            batch = best["batch"]
+            print(f"| {name} | {batch.row()} | {best['plain'].row()} | {batch.ratios(best['plain'])} "
+                  f"| {best['run'].row()} | {best['run'].ratios(batch)} | {best['run of 4'].row()} | {best['run of 4'].ratios(batch)} |", flush=True)
+        once, twice, unread = list(met)[:3]
+        for who in ("batch", "run", "run of 4"):
+            print(f"\nFrom one to two million records {who} takes {met[twice][who].seconds / met[once][who].seconds:.2f} times as long; "
+                  f"20 maps that nobody reads take {met[unread][who].kilobytes / met[once][who].kilobytes:.2f} times the memory of none.")
 
 
 main()
