@@ -1,19 +1,19 @@
 -- What is posted to the shards comes to the bag of all messages, each shard keeps its own, and what waits is as it was.
-use Rattle.std.proofs.Common.{◌≡◌, ℕ, zero, suc, ◌+◌, ◌*◌, ◌<◌, ◌≤◌, ◌==◌, ◌%◌, Bool, true, false, cond, List, [], ◌∷◌, ◌++◌, map, filter, flat_map, length, refl, ap, sym, ◌∙◌, subst, append_assoc, append-nil, arith}
+use Rattle.std.proofs.Common.{◌≡◌, ℕ, suc, ◌+◌, ◌*◌, ◌<◌, ◌≤◌, ◌==◌, ◌%◌, Bool, true, false, cond, List, [], ◌∷◌, ◌++◌, map, flat_map, length, refl, ap, sym, ◌∙◌, subst, append_assoc, append-nil, arith}
 use Rattle.std.specs.List.{AllByRecursion, enumerate_from}
 use Rattle.std.specs.List.Sorted.{IsStrictlySortedBy}
 use Rattle.std.specs.Map.{keys_of}
 use Rattle.std.proofs.lemmas.Bool.Decides.{nat_tests}
 use Rattle.std.proofs.lemmas.List.Elements.{filter-append}
 use Rattle.td_stamp.specs.declared.values.Rec.{Rec}
-use Rattle.td_stamp.specs.Bag.{bag_insert, bag_of, set_of, join}
+use Rattle.td_stamp.specs.Bag.{bag_insert, bag_of, join}
 use Rattle.td_stamp.specs.BagLaws.{BagLaws}
 use Rattle.td_machine.specs.declared.records.Message.{Message}
-use Rattle.td_machine.specs.State.{message_cmp, notification_cmp, shard_of_key}
+use Rattle.td_machine.specs.State.{message_cmp, shard_of_key}
 use Rattle.td_shard.specs.Asked.{noted_cmp}
 use Rattle.td_shard.specs.declared.shard.Shard.{Shard}
 use Rattle.td_core.specs.Floor.{in_mailboxes, waiting_in, asked_in, asked_of_shard, waiting_at, IsShard}
-use Rattle.td_core.specs.Posted.{of_shard, mails, waits, mails_with, IsPosted, HasNoLess, IsRoomier, count_of, HasRoom, HaveRoom}
+use Rattle.td_core.specs.Posted.{of_shard, mails, waits, IsPosted, HasNoLess, IsRoomier, count_of, HasRoom, HaveRoom}
 
 -- the mailboxes of shards from a number on
 abbrev pub posted_from : ℕ → ℕ → List Message → List Shard → List (List Message)

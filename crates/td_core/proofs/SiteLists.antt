@@ -1,5 +1,5 @@
 -- The look-ups of a plan: a plan has few edges, and what is looked up of each vertex in turn is what the plan has.
-use Rattle.std.proofs.Common.{◌≡◌, ℕ, zero, suc, ◌+◌, ◌<◌, ◌≤◌, ◌==◌, Bool, true, false, ◌&&◌, ◌||◌, not, cond, List, [], ◌∷◌, ◌++◌, map, filter, flat_map, take, get_or, length, append-nil, sum_by, fold, find, nat_le, nat_lt, Option, Some, None, option_map, unwrap_or, reverse, ◌-◌, refl, ap, sym, ◌∙◌, subst, arith}
+use Rattle.std.proofs.Common.{◌≡◌, ℕ, zero, suc, ◌+◌, ◌<◌, ◌≤◌, ◌==◌, Bool, true, false, ◌&&◌, ◌||◌, cond, List, [], ◌∷◌, ◌++◌, map, filter, take, get_or, length, append-nil, sum_by, fold, find, nat_le, nat_lt, Option, Some, None, option_map, unwrap_or, reverse, ◌-◌, refl, ap, sym, ◌∙◌, subst, arith}
 use Rattle.std.specs.Prelude.{is_none}
 use Rattle.std.specs.List.{slice_get, enumerate_from}
 use Rattle.std.proofs.lemmas.Bool.Decides.{nat_tests}
@@ -12,7 +12,7 @@ use Rattle.td_plan.specs.declared.vertex.Edge.{Edge}
 use Rattle.td_plan.specs.declared.vertex.Loop.{Loop}
 use Rattle.td_plan.specs.Lines.{Vertex, Line}
 use Rattle.td_plan.specs.Lines.Line.{vertex, loop, end}
-use Rattle.td_plan.specs.Blocks.{PlacedVertex, Scope, no_scope, scope_after, scope_of, vertices, edges, edges_to, edge_count, edge_at, read_loops, read_loops_at, reading_loops_at, bounds}
+use Rattle.td_plan.specs.Blocks.{PlacedVertex, Scope, no_scope, scope_after, vertices, edges, edges_to, edge_count, edge_at, read_loops, read_loops_at, reading_loops_at, bounds}
 use Rattle.td_plan.specs.Faults.{Fault, has_fault, faults, fault_of, is_faultless, IsPlan}
 use Rattle.td_plan.specs.LookedUp.{IsSourceAt}
 use Rattle.td_stamp.specs.Time.{Timestamp}
@@ -23,7 +23,7 @@ use Rattle.td_machine.specs.Steps.{edges_from}
 use Rattle.td_core.specs.declared.sites.Outlet.{Outlet}
 use Rattle.td_core.specs.declared.sites.Site.{Site}
 use Rattle.td_core.specs.declared.sites.Sites.{Sites}
-use Rattle.td_core.specs.Sites.{outlet_of, outlets_of, kind_in, bound_in, outlets_in, edge_in, IsSite, IsSites}
+use Rattle.td_core.specs.Sites.{outlet_of, outlets_of, IsSite, IsSites}
 
 -- FEW EDGES
 both : (p q : Bool) → (p && q) ≡ true → (p ≡ true) × (q ≡ true)

@@ -1,5 +1,5 @@
 -- What a hall looks up of each vertex of its plan.
-use Rattle.std.specs.Prelude.{◌≡◌, ℕ, ◌+◌, List, [], map, Option, Some, None, option_map, unwrap_or}
+use Rattle.std.specs.Prelude.{◌≡◌, ℕ, ◌+◌, List, [], map, Option, option_map, unwrap_or}
 use Rattle.std.specs.List.{slice_get}
 use Rattle.td_plan.specs.declared.vertex.Edge.{Edge}
 use Rattle.td_plan.specs.declared.vertex.Kind.{Kind}

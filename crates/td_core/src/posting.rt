@@ -123,7 +123,8 @@ fn post_everywhere(shards: &mut Vec<Shard>, shard: u8, outlets: &[Outlet], time:
     requires own { shard_of_key (length shards.old.items) rec.key ≡ shard }
     requires room { HaveRoomFor (only_in shard (length outlets.now)) shards.old.items }
     ensures posted { IsPosted (map (on_outlet time.now rec) outlets.now) shards.old.items shards.new.items }
-    ensures room { (many : ℕ → ℕ) → HaveRoomFor (λ s. only_in shard (length outlets.now) s + many s) shards.old.items → HaveRoomFor many shards.new.items }
+    ensures room { (many : ℕ → ℕ) → HaveRoomFor (λ s. only_in shard (length outlets.now) s + many s) shards.old.items
+        → HaveRoomFor many shards.new.items }
 {
     for outlet in outlets {
         post_run(shards, shard, outlet, time, &[rec]);
@@ -137,7 +138,8 @@ fn post_run(shards: &mut Vec<Shard>, shard: u8, outlet: &Outlet, time: &Time, re
     requires own { AllByRecursion (λ r. shard_of_key (length shards.old.items) r.key ≡ shard) recs.now }
     requires room { HaveRoomFor (only_in shard (length recs.now)) shards.old.items }
     ensures posted { IsPosted (map (λ r. on_outlet time.now r outlet.now) recs.now) shards.old.items shards.new.items }
-    ensures room { (many : ℕ → ℕ) → HaveRoomFor (λ s. only_in shard (length recs.now) s + many s) shards.old.items → HaveRoomFor many shards.new.items }
+    ensures room { (many : ℕ → ℕ) → HaveRoomFor (λ s. only_in shard (length recs.now) s + many s) shards.old.items
+        → HaveRoomFor many shards.new.items }
 {
     let shard = &mut shards[usize::from(shard)];
     shard.mailbox.post(outlet.reader, outlet.port, time, recs);

@@ -1,7 +1,7 @@
-use Rattle.std.proofs.Common.{◌≡◌, ℕ, ◌<◌, ◌≤◌, ◌+◌, ◌%◌, set, length, take, get_or, pos, sym, ap, ◌∙◌, arith}
+use Rattle.std.proofs.Common.{◌≡◌, ◌<◌, ◌≤◌, ◌+◌, ◌%◌, length, take, get_or, pos, sym, ◌∙◌, arith}
 use Rattle.std.proofs.lemmas.Grind.{common_steps}
 use Rattle.std.proofs.lemmas.List.{length-set}
-use Rattle.td_core.specs.Posted.{count_of, only_in}
+use Rattle.td_core.specs.Posted.{only_in}
 use Rattle.td_core.proofs.PostRuns.{count_at_most, count_one_more, count_after}
 use Rattle.td_core.proofs.posting.count_by_shard.Goals as goal
 

@@ -1,4 +1,4 @@
-use Rattle.std.proofs.Common.{◌≡◌, ℕ, ◌+◌, ◌*◌, ◌<◌, ◌≤◌, max, length, get_or, set, refl, sym, ap, ◌∙◌, subst, arith}
+use Rattle.std.proofs.Common.{◌≡◌, ◌+◌, ◌*◌, ◌<◌, max, length, get_or, set, sym, ap, ◌∙◌, subst, arith}
 use Rattle.td_shard.specs.declared.shard.Shard.{Shard}
 use Rattle.td_core.specs.Posted.{HasRoom, HaveRoomFor, count_of}
 use Rattle.td_core.proofs.PostingSteps.{roomier_same, roomier_then, as_many_mails}

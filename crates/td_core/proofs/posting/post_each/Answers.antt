@@ -1,5 +1,5 @@
-use Rattle.std.proofs.Common.{◌≡◌, ℕ, ◌+◌, ◌-◌, ◌*◌, ◌%◌, ◌<◌, ◌≤◌, ◌++◌, [], ◌∷◌, map, take, drop, get_or, length, pos, refl, sym, ap, ◌∙◌, subst, arith}
-use Rattle.td_core.specs.Posted.{IsPosted, HaveRoomFor, count_of, only_in, on_outlet, on_each}
+use Rattle.std.proofs.Common.{◌≡◌, ◌+◌, ◌*◌, ◌%◌, map, take, drop, get_or, length, pos, ap, ◌∙◌, subst, arith}
+use Rattle.td_core.specs.Posted.{IsPosted, count_of, only_in, on_outlet, on_each}
 use Rattle.td_core.proofs.PostingSteps.{posted_roomier, roomier_same, posted_then}
 use Rattle.td_core.proofs.PostRuns.{room_weaker, none_more, count_next, each_next}
 use Rattle.td_core.proofs.posting.post_each.Goals as goal

@@ -1,5 +1,5 @@
-use Rattle.std.proofs.Common.{◌≡◌, ℕ, ◌+◌, ◌-◌, ◌<◌, ◌≤◌, ◌++◌, [], ◌∷◌, map, take, get_or, length, refl, sym, ap, ◌∙◌, subst, arith}
-use Rattle.td_core.specs.Posted.{IsPosted, HaveRoomFor, only_in, on_outlet}
+use Rattle.std.proofs.Common.{◌≡◌, ◌+◌, ◌-◌, [], ◌∷◌, map, take, get_or, length, ap, subst, arith}
+use Rattle.td_core.specs.Posted.{IsPosted, only_in, on_outlet}
 use Rattle.td_core.proofs.PostingSteps.{posted_roomier, roomier_same, posted_then}
 use Rattle.td_core.proofs.PostRuns.{room_weaker, one_less, outlet_next}
 use Rattle.td_core.proofs.posting.post_everywhere.Goals as goal

@@ -1,7 +1,7 @@
-use Rattle.std.proofs.Common.{◌≡◌, ℕ, ◌+◌, ◌<◌, ◌≤◌, ◌++◌, map, set, get_or, length, refl, sym, ap, ◌∙◌, subst, arith}
+use Rattle.std.proofs.Common.{◌≡◌, ◌++◌, map, length, sym, ap, ◌∙◌, subst, arith}
 use Rattle.std.specs.List.{AllByRecursion}
 use Rattle.td_machine.specs.State.{shard_of_key}
-use Rattle.td_core.specs.Posted.{HasRoom, HaveRoomFor, only_in, on_outlet}
+use Rattle.td_core.specs.Posted.{only_in, on_outlet}
 use Rattle.td_core.proofs.PostRuns.{room_at, room_left, run_posted, only_here}
 use Rattle.td_core.proofs.posting.post_run.Goals as goal
 

@@ -1,8 +1,8 @@
-use Rattle.std.proofs.Common.{◌≡◌, ℕ, ◌+◌, ◌-◌, ◌*◌, ◌%◌, ◌<◌, ◌≤◌, ◌++◌, map, take, drop, get_or, length, refl, sym, ap, ◌∙◌, subst, arith}
+use Rattle.std.proofs.Common.{◌≡◌, ◌+◌, ◌-◌, ◌*◌, ◌≤◌, map, take, drop, length, sym, ap, ◌∙◌, subst, arith}
 use Rattle.std.specs.List.{AllByRecursion}
 use Rattle.std.proofs.lemmas.List.{map-append}
 use Rattle.td_machine.specs.State.{shard_of_key}
-use Rattle.td_core.specs.Posted.{IsPosted, HaveRoomFor, count_of, only_in, on_outlet}
+use Rattle.td_core.specs.Posted.{IsPosted, count_of, only_in, on_outlet}
 use Rattle.td_core.proofs.PostingSteps.{posted_roomier, roomier_same, posted_then, as_many_waits}
 use Rattle.td_core.proofs.PostRuns.{room_weaker, none_more, count_run, in_two, up_to}
 use Rattle.td_core.proofs.posting.post_runs.Goals as goal

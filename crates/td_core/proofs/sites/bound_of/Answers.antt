@@ -1,4 +1,4 @@
-use Rattle.std.proofs.Common.{◌≡◌, ◌-◌, Some, length, reverse, subst}
+use Rattle.std.proofs.Common.{◌≡◌, ◌-◌, Some, length, subst}
 use Rattle.std.specs.List.{slice_get}
 use Rattle.td_core.proofs.SiteLists.{innermost_bound}
 use Rattle.td_core.proofs.sites.bound_of.Goals as goal
