@@ -1,10 +1,10 @@
-//! A hall into which nothing was released, with ample memory and with each allocation refused in turn.
+//! A hall, with ample memory and with each allocation refused in turn.
 use crate::{Cut, Hall, HallError};
 use std::alloc::Global;
 use std::test::Fail;
 use td_calls::Stock;
 use td_plan::Plan;
-use td_stamp::{EpochOut, State, States};
+use td_stamp::{Batch, Entry, EpochOut, Rec, State, States};
 
 const TOTAL: &str = "0 input\n1 fold 40 0\n2 output 1\n";
 
@@ -52,5 +52,33 @@ fn nothing_was_released(rt: HostRuntime) -> Result<(), Fail> {
     assert!(rt; !hall.is_closed());
     hall.close();
     assert!(rt; hall.is_closed());
+    Ok(())
+}
+
+/// Releases a batch of one record, a second time where memory was refused. A refusal hands the batch back.
+fn release(hall: &mut Hall<Stock>, batch: Batch) -> Result<u64, (HallError, usize)> {
+    if !hall.plan().accepts(&batch) {
+        return Err((HallError::Stranger, 0));
+    }
+    let answer = match hall.release(batch) {
+        Err((HallError::Memory, batch)) => hall.release(batch),
+        answer => answer,
+    };
+    answer.map_err(|refused| (refused.0, refused.1.len()))
+}
+
+#[test]
+fn batches_are_released(rt: HostRuntime) -> Result<(), Fail> {
+    let plan = Plan::read(rt.alloc(), TOTAL)?;
+    let last = (1 << 63) - 1;
+    let mut hall: Hall<Stock> = Hall::open(rt.alloc(), &plan, States::new(rt.alloc()), last, 2)?;
+    let mut batch = Batch::new(rt.alloc());
+    let rec = Rec { key: 7, val: 1 };
+    batch.add(Entry { input: 0, rec })?;
+    assert_eq!(rt; release(&mut hall, batch.copy()?), Ok(last));
+    assert_eq!(rt; (hall.inputs().len(), hall.unpassed()), (1, Some(last)));
+    assert_eq!(rt; release(&mut hall, batch.copy()?), Err((HallError::Epochs, 1)));
+    hall.close();
+    assert_eq!(rt; release(&mut hall, batch), Err((HallError::Closed, 1)));
     Ok(())
 }
