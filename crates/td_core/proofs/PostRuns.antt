@@ -12,7 +12,7 @@ use Rattle.td_machine.specs.declared.records.Message.{Message}
 use Rattle.td_machine.specs.State.{shard_of_key}
 use Rattle.td_shard.specs.declared.shard.Shard.{Shard}
 use Rattle.td_core.specs.declared.sites.Outlet.{Outlet}
-use Rattle.td_core.specs.Posted.{of_shard, mails, waits, IsPosted, IsRoomier, HasRoom, count_of, only_in, on_outlet, on_each}
+use Rattle.td_core.specs.Posted.{of_shard, mails, waits, IsPosted, IsRoomier, HasRoom, HaveRoomFor, count_of, only_in, on_outlet, on_each}
 use Rattle.td_core.proofs.PostingSteps.{posted_from, roomier_same}
 
 equal : (a b : ℕ) → a ≡ b → (a == b) ≡ true

@@ -1,8 +1,7 @@
 //! Releasing a batch into the inputs.
-ghost use Rattle.std.specs.Prelude.{◌≡◌, ◌+◌, ◌^◌, ◌<◌, ◌≤◌, ◌++◌, false, true, List, map, flat_map, length, IfOk, IfErr, OnOk, OnErr};
+ghost use Rattle.std.specs.Prelude.{◌≡◌, ◌+◌, ◌^◌, ◌<◌, ◌≤◌, ◌++◌, false, true, map, flat_map, length, IfOk, IfErr, OnOk, OnErr};
 ghost use Rattle.td_stamp.specs.Batch.{records_for};
-ghost use Rattle.td_progress.specs.Bag.{IsSameBag, input_stamp};
-ghost use Rattle.td_machine.specs.Active.{active, inputs_of};
+ghost use Rattle.td_progress.specs.Bag.{input_stamp};
 ghost use Rattle.td_machine.specs.Steps.{accepts, release_step};
 ghost use Rattle.td_machine.specs.Steps.Answer.{has_released};
 ghost use Rattle.td_core.specs.Floor.{IsHall};

@@ -1,5 +1,4 @@
-//! A hall into which nothing was released, with ample memory and with each allocation refused in turn; and cuts of epochs that
-//! have passed, and of one that has not.
+//! Calls of a hall in which no task is taken, with ample memory and with each allocation refused in turn.
 use crate::laws::each_is_sound;
 use crate::{Cut, Hall, HallError};
 use std::alloc::Global;
@@ -74,15 +73,32 @@ fn nothing_was_released(rt: HostRuntime) -> Result<(), Fail> {
     Ok(())
 }
 
-/// Releases a batch, if the plan accepts it.
-fn release(hall: &mut Hall<Stock>, batch: Batch) -> Result<Option<u64>, HallError> {
+/// Releases a batch of one record, a second time where memory was refused. A refusal hands the batch back.
+fn release(hall: &mut Hall<Stock>, batch: Batch) -> Result<u64, (HallError, usize)> {
     if !hall.plan().accepts(&batch) {
-        return Ok(None);
+        return Err((HallError::Stranger, 0));
     }
-    match hall.release(batch) {
-        Ok(epoch) => Ok(Some(epoch)),
-        Err((error, _batch)) => Err(error),
-    }
+    let answer = match hall.release(batch) {
+        Err((HallError::Memory, batch)) => hall.release(batch),
+        answer => answer,
+    };
+    answer.map_err(|refused| (refused.0, refused.1.len()))
+}
+
+#[test]
+fn batches_are_released(rt: HostRuntime) -> Result<(), Fail> {
+    let plan = Plan::read(rt.alloc(), TOTAL)?;
+    let last = (1 << 63) - 1;
+    let mut hall: Hall<Stock> = Hall::open(rt.alloc(), &plan, States::new(rt.alloc()), last, 2)?;
+    let mut batch = Batch::new(rt.alloc());
+    let rec = Rec { key: 7, val: 1 };
+    batch.add(Entry { input: 0, rec })?;
+    assert_eq!(rt; release(&mut hall, batch.copy()?), Ok(last));
+    assert_eq!(rt; (hall.inputs().len(), hall.unpassed()), (1, Some(last)));
+    assert_eq!(rt; release(&mut hall, batch.copy()?), Err((HallError::Epochs, 1)));
+    hall.close();
+    assert_eq!(rt; release(&mut hall, batch), Err((HallError::Closed, 1)));
+    Ok(())
 }
 
 #[test]
@@ -94,8 +110,8 @@ fn passed_epochs_are_cut(rt: HostRuntime) -> Result<(), Fail> {
         input: 0,
         rec: Rec { key: 7, val: 1 },
     })?;
-    assert_eq!(rt; release(&mut hall, Batch::new(rt.alloc()))?, Some(3));
-    assert_eq!(rt; release(&mut hall, batch)?, Some(4));
+    assert_eq!(rt; release(&mut hall, Batch::new(rt.alloc())), Ok(3));
+    assert_eq!(rt; release(&mut hall, batch), Ok(4));
     assert!(rt; matches!(cut_at(&mut hall, 4), Err(HallError::NotPassed(4))));
     let made = cut_at(&mut hall, 3)?.map(|cut| (cut.epoch, cut.states.get(1, 7)));
     assert_eq!(rt; made, Some((3, Some(STATE))));
