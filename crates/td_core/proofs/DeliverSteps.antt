@@ -1,5 +1,5 @@
 -- A hall that is given the records of a task takes the machine's step.
-use Rattle.std.proofs.Common.{◌≡◌, ℕ, ◌+◌, ◌<◌, ◌≤◌, Bool, true, false, List, [], ◌∷◌, ◌++◌, map, filter, flat_map, length, refl, ap, sym, ◌∙◌, subst, arith}
+use Rattle.std.proofs.Common.{◌≡◌, ℕ, ◌+◌, ◌<◌, ◌≤◌, Bool, true, false, List, [], ◌∷◌, ◌++◌, map, flat_map, length, refl, ap, sym, ◌∙◌, subst, arith}
 use Rattle.std.specs.List.{AllByRecursion, Contains, enumerate_from}
 use Rattle.std.specs.FinMap.{IsAntisymmetric}
 use Rattle.std.proofs.lemmas.List.{length-map}
@@ -22,30 +22,28 @@ use Rattle.td_machine.specs.declared.records.Stamped.{Stamped}
 use Rattle.td_machine.specs.State.{HallState, Task, message_cmp, stamped_cmp, notification_cmp, output_at_cmp, shard_of_key, asked_of}
 use Rattle.td_machine.specs.State.Content.{messages}
 use Rattle.td_machine.specs.Active.{active, inputs_of}
-use Rattle.td_machine.specs.Steps.{Step, effect, is_given, coming, posts, stamped, comes_out, waiting, with_asked, IsContent, asked_at}
+use Rattle.td_machine.specs.Steps.{effect, is_given, coming, posts, stamped, comes_out, waiting, with_asked, IsContent}
 use Rattle.td_machine.specs.Steps.Event.{give}
 use Rattle.td_machine.specs.Steps.Answer.{has_given}
 use Rattle.td_machine.specs.Steps.Gives.{gives}
 use Rattle.td_machine.specs.AtOnce.{DeliveredAtOnce, added_at_once, at_once}
-use Rattle.td_machine.specs.ByEdge.{OutputsAtOnce, AsksOnce, comes_out_at_once}
+use Rattle.td_machine.specs.ByEdge.{OutputsAtOnce, AsksOnce}
 use Rattle.td_machine.specs.InOrder.{TasksInOrder, NumbersInOrder, StillThere}
 use Rattle.td_machine.specs.Moves.{StampsMove, Moves, come_given, gone_given, stamps_of}
 use Rattle.td_machine.specs.Reached.{IsReached}
-use Rattle.td_shard.specs.declared.shard.Shard.{Shard}
 use Rattle.td_core.specs.declared.floor.Floor.{Floor}
 use Rattle.td_core.specs.Floor.{state_of, IsHall, taken_up, with_tasks, in_mailboxes, waiting_in, asked_in}
 use Rattle.td_core.specs.Sites.{IsSites}
-use Rattle.td_core.specs.Posted.{mails, mails_with, waits}
+use Rattle.td_core.specs.Posted.{waits}
 use Rattle.td_core.specs.Given.{IsEnded}
 use Rattle.td_core.specs.Delivered.{IsDelivered, added_by, waiting_with}
 use Rattle.td_core.proofs.CollectSteps.{ReachedByStep}
 use Rattle.td_core.proofs.CloseSteps.{CountsAppend}
 use Rattle.td_core.proofs.PostingSteps.{mails_bag}
-use Rattle.td_core.proofs.OutTasks.{of_one, others, its, parted}
+use Rattle.td_core.proofs.OutTasks.{of_one, others, parted}
 use Rattle.td_core.proofs.Waits.{waiting_all}
-use Rattle.td_core.proofs.WaitsSorted.{weaker}
 use Rattle.td_core.proofs.WaitsAsked.{asks}
-use Rattle.td_core.proofs.WaitsAll.{waiting_by_lists, asked_by_lists, asked_all, then_waits, same_waits, more_in_all, asked_then, still_waiting, more, IsWaiting}
+use Rattle.td_core.proofs.WaitsAll.{waiting_by_lists, asked_by_lists, asked_all, same_waits, more_in_all, asked_then, still_waiting, more, IsWaiting}
 use Rattle.td_core.proofs.ShardParts.{waiting_of, still_shards}
 
 -- what laws of the crates below say

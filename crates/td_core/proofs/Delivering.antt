@@ -1,12 +1,10 @@
 -- Records that are delivered, by the kind of their vertex: what was sent, or kept.
-use Rattle.std.proofs.Common.{◌≡◌, ℕ, zero, suc, ◌+◌, ◌-◌, ◌<◌, ◌≤◌, ◌==◌, Bool, true, false, not, ◌&&◌, ◌||◌, ◌⊎◌, inl, inr, List, [], ◌∷◌, ◌++◌, map, flat_map, get_or, set, length, replicate, is_some, refl, ap, sym, ◌∙◌, subst, append-nil, arith, Contains}
+use Rattle.std.proofs.Common.{◌≡◌, ℕ, zero, suc, ◌+◌, ◌<◌, Bool, true, false, not, ◌&&◌, ◌||◌, ◌⊎◌, inl, inr, List, [], ◌∷◌, ◌++◌, map, flat_map, get_or, set, length, replicate, is_some, refl, ap, sym, ◌∙◌, subst, arith, Contains}
 use Rattle.std.specs.List.{AllByRecursion, enumerate_from}
 use Rattle.td_stamp.specs.declared.values.Rec.{Rec}
-use Rattle.td_stamp.specs.declared.values.Arrival.{Arrival}
-use Rattle.td_stamp.specs.Bag.{join, has, set_of}
+use Rattle.td_stamp.specs.Bag.{join}
 use Rattle.td_stamp.specs.BagLaws.{SetLaws}
-use Rattle.td_stamp.specs.Groups.{arrival_of}
-use Rattle.td_stamp.specs.Time.{Timestamp, depth}
+use Rattle.td_stamp.specs.Time.{Timestamp}
 use Rattle.td_plan.specs.declared.vertex.Kind.{Kind}
 use Rattle.td_plan.specs.declared.vertex.Edge.{Edge}
 use Rattle.td_reach.specs.Paths.{IsOf}
@@ -14,8 +12,7 @@ use Rattle.td_plan.specs.declared.vertex.Kind.TheVariants.{Group, Fold, Enter, F
 use Rattle.td_calls.specs.Answers.{Answers}
 use Rattle.td_calls.specs.Callbacks.{Added, is_notified}
 use Rattle.td_reach.specs.declared.stamp.Stamp.{Stamp}
-use Rattle.td_progress.specs.Bag.{occurrences, is_stamp, IsSameBag}
-use Rattle.td_machine.specs.declared.records.Notification.{Notification}
+use Rattle.td_progress.specs.Bag.{occurrences, is_stamp}
 use Rattle.td_machine.specs.declared.records.Stamped.{Stamped}
 use Rattle.td_machine.specs.declared.records.OutputAt.{OutputAt}
 use Rattle.td_machine.specs.State.{HallState, Task, stamped_cmp, notification_cmp, output_at_cmp, shard_of_key}
@@ -32,7 +29,7 @@ use Rattle.td_shard.specs.Asked.{AskedList, items_at, with_items}
 use Rattle.td_shard.specs.declared.shard.Shard.{Shard}
 use Rattle.td_core.specs.declared.floor.Floor.{Floor}
 use Rattle.td_core.specs.Floor.{state_of, IsHall, asked_in, asked_of_shard}
-use Rattle.td_core.specs.Posted.{mails, mails_with, waits}
+use Rattle.td_core.specs.Posted.{mails_with, waits}
 use Rattle.td_core.specs.Delivered.{IsDelivered, IsSent, IsKept, CanSend, added_by, waiting_with, waiting_at_shard, asked_now}
 use Rattle.td_core.proofs.CloseSteps.{CountsAppend}
 use Rattle.td_core.proofs.PostingSteps.{none_posted}
@@ -189,6 +186,7 @@ nothing_sent old v t = record {
     of_none : (later : Timestamp) (edges : List Edge) → flat_map (λ e. replicate 0 (stamp_on old.table.plan later e)) edges ≡ []
     of_none later [] = refl
     of_none later (e ∷ es) = of_none later es
+
     on_none : (times : List Timestamp) → flat_map (λ later. flat_map (λ e. replicate 0 (stamp_on old.table.plan later e)) (edges_from old.table.plan v)) times ≡ []
     on_none [] = refl
     on_none (later ∷ times) = ap (λ l. l ++ flat_map (λ u. flat_map (λ e. replicate 0 (stamp_on old.table.plan u e)) (edges_from old.table.plan v)) times) (of_none later (edges_from old.table.plan v)) ∙ on_none times

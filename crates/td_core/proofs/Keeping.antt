@@ -1,19 +1,16 @@
 -- Items that come to wait in one shard of a hall.
-use Rattle.std.proofs.Common.{◌≡◌, ℕ, zero, suc, ◌+◌, ◌-◌, ◌<◌, ◌≤◌, ◌==◌, Bool, true, false, ◌||◌, List, [], ◌∷◌, ◌++◌, map, get_or, set, length, replicate, is_some, refl, ap, sym, ◌∙◌, subst, append-nil, arith, Result, Ok, Err, OnOk, OnErr, true≢false}
+use Rattle.std.proofs.Common.{◌≡◌, ℕ, ◌<◌, Bool, true, false, List, [], ◌∷◌, ◌++◌, get_or, set, length, replicate, refl, ap, sym, ◌∙◌, subst, Result, Ok, Err, OnOk, OnErr}
 use Rattle.std.specs.Result.{is_err}
 use Rattle.std.proofs.lemmas.List.{set-get_or, map-set, get_or-map}
 use Rattle.std.proofs.Math.Seq.{map-set_same}
 use Rattle.td_stamp.specs.declared.values.Arrival.{Arrival}
 use Rattle.td_stamp.specs.Time.{Timestamp}
 use Rattle.td_reach.specs.declared.stamp.Stamp.{Stamp}
-use Rattle.td_progress.specs.Bag.{occurrences, IsSameBag}
 use Rattle.td_machine.specs.Active.{stamp_at}
-use Rattle.td_shard.specs.Asked.{AskedList, items_at, with_items}
+use Rattle.td_shard.specs.Asked.{AskedList, with_items}
 use Rattle.td_shard.specs.declared.shard.Shard.{Shard}
 use Rattle.td_core.specs.Posted.{mails, waits, risen, IsRoomier}
-use Rattle.td_core.specs.declared.raising.Rise.{Rise}
 use Rattle.td_core.specs.Delivered.{asked_now}
-use Rattle.td_core.proofs.PostingSteps.{roomier_same}
 
 -- what a result tells
 pub at_ok : {T E P : Type 0} (r : Result T E) → false ≡ is_err r → OnOk r P → P

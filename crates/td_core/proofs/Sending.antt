@@ -1,21 +1,18 @@
 -- Records that a vertex sends in answer to a time: what is posted on each outlet, and what is active.
-use Rattle.std.proofs.Common.{◌≡◌, ℕ, zero, suc, ◌+◌, ◌-◌, ◌*◌, ◌<◌, ◌≤◌, ◌==◌, Bool, true, false, cond, List, [], ◌∷◌, ◌++◌, map, filter, flat_map, length, replicate, refl, ap, sym, ◌∙◌, subst, append-nil, arith}
+use Rattle.std.proofs.Common.{◌≡◌, ℕ, ◌+◌, ◌-◌, ◌*◌, ◌≤◌, ◌==◌, Bool, true, false, cond, List, [], ◌∷◌, ◌++◌, map, filter, flat_map, length, replicate, refl, ap, sym, ◌∙◌, subst, append-nil, arith}
 use Rattle.std.specs.List.{AllByRecursion, enumerate_from}
 use Rattle.std.proofs.Math.Nat.{mul-le-mul_right}
 use Rattle.std.proofs.lemmas.List.{replicate-append-replicate}
 use Rattle.td_stamp.specs.declared.values.Rec.{Rec}
 use Rattle.td_stamp.specs.Time.{Timestamp}
-use Rattle.td_stamp.specs.Bag.{bag_insert, join, has}
-use Rattle.td_plan.specs.declared.vertex.Edge.{Edge}
+use Rattle.td_stamp.specs.Bag.{bag_insert, has}
 use Rattle.td_plan.specs.Lines.{Line}
 use Rattle.td_reach.specs.declared.stamp.Stamp.{Stamp}
 use Rattle.td_reach.specs.Paths.{IsOf}
 use Rattle.td_progress.specs.Bag.{occurrences, IsSameBag}
-use Rattle.td_machine.specs.declared.records.Message.{Message}
 use Rattle.td_machine.specs.declared.records.Stamped.{Stamped}
 use Rattle.td_machine.specs.declared.records.OutputAt.{OutputAt}
 use Rattle.td_machine.specs.State.{stamped_cmp, shard_of_key}
-use Rattle.td_machine.specs.Active.{kind_of, bound_of}
 use Rattle.td_machine.specs.Steps.{posts, posted, stamped, sending_times, edges_from, on_edge}
 use Rattle.td_machine.specs.AtOnce.{fresh, stamped_at}
 use Rattle.td_machine.specs.ByEdge.{times_from, stamps_by_edge, stamp_on}
@@ -25,9 +22,9 @@ use Rattle.td_core.specs.declared.floor.Floor.{Floor}
 use Rattle.td_core.specs.declared.sites.Outlet.{Outlet}
 use Rattle.td_core.specs.declared.sites.Sites.{Sites}
 use Rattle.td_core.specs.Sites.{IsSites, outlet_of, outlets_of, kind_in, bound_in}
-use Rattle.td_core.specs.Posted.{on_each, on_outlet, stamp_on_outlet, stamps_on, mails, mails_with, waits, IsPosted, IsRoomier, HaveRoom, HasRoom, count_of}
+use Rattle.td_core.specs.Posted.{on_each, on_outlet, stamp_on_outlet, stamps_on, mails_with, IsPosted, IsRoomier, HaveRoom, HasRoom, count_of}
 use Rattle.td_core.specs.Given.{IsUntouched}
-use Rattle.td_core.specs.Delivered.{IsSent, CanSend}
+use Rattle.td_core.specs.Delivered.{IsSent}
 use Rattle.td_core.proofs.CloseSteps.{CountsAppend}
 use Rattle.td_core.proofs.PostingSteps.{roomier_then_posted, none_posted as none_posts}
 use Rattle.td_core.specs.declared.raising.Rise.{Rise}
@@ -106,14 +103,18 @@ fewer_of workers s seen v t (r ∷ rs) =
   where
     mine : List Rec → List Rec
     mine xs = filter (λ x. shard_of_key workers x.key == s) xs
+
     after : List Rec
     after = shards.fresh (bag_insert stamped_cmp (shards.at v t r) seen) v t rs
+
     first : (here : Bool) (xs ys : List Rec) → length xs ≤ length ys → length (cond here (r ∷ xs) xs) ≤ length (cond here (r ∷ ys) ys)
     first true xs ys l = omega (arith, l)
     first false xs ys l = l
+
     more : (here : Bool) (xs ys : List Rec) → length xs ≤ length ys → length xs ≤ length (cond here (r ∷ ys) ys)
     more true xs ys l = omega (arith, l)
     more false xs ys l = l
+
     by : (b : Bool) → count_of workers (shards.fresh seen v t rs) s ≤ count_of workers rs s
         → count_of workers (shards.fresh (bag_insert stamped_cmp (shards.at v t r) seen) v t rs) s ≤ count_of workers rs s
         → length (filter (λ x. shard_of_key workers x.key == s) (cond b (shards.fresh seen v t rs) (r ∷ shards.fresh (bag_insert stamped_cmp (shards.at v t r) seen) v t rs)))

@@ -1,8 +1,7 @@
 -- What is true of shards, told by their mailboxes and by what waits in them, each for itself.
-use Rattle.std.proofs.Common.{◌≡◌, ℕ, ◌+◌, ◌==◌, Bool, true, false, cond, List, [], ◌∷◌, ◌++◌, map, filter, length, refl, ap, sym, ◌∙◌, subst, arith}
+use Rattle.std.proofs.Common.{◌≡◌, ℕ, ◌+◌, ◌==◌, Bool, true, false, cond, List, [], ◌∷◌, ◌++◌, map, length, refl, sym, subst}
 use Rattle.std.specs.List.{AllByRecursion, enumerate_from}
 use Rattle.std.proofs.lemmas.List.{length-map}
-use Rattle.std.proofs.lemmas.List.FromFn.{length-enumerate_from}
 use Rattle.td_machine.specs.declared.records.Message.{Message}
 use Rattle.td_machine.specs.State.{shard_of_key}
 use Rattle.td_shard.specs.declared.shard.Shard.{Shard}

@@ -1,28 +1,23 @@
 -- Records that come to wait in a shard: what waits then, and what is asked for.
-use Rattle.std.proofs.Common.{◌≡◌, ℕ, zero, suc, ◌+◌, ◌==◌, ◌<◌, ◌≤◌, Bool, true, false, not, ◌||◌, cond, List, [], ◌∷◌, ◌++◌, map, flat_map, length, Option, Some, None, is_some, refl, ap, sym, ◌∙◌, subst, arith, inl, inr, ◌⊎◌, true≢false}
-use Rattle.std.specs.List.{AllByRecursion, enumerate_from}
+use Rattle.std.proofs.Common.{◌≡◌, Bool, true, false, cond, List, [], ◌∷◌, ◌++◌, map, flat_map, Option, Some, None, is_some, refl, ap, sym, ◌∙◌, true≢false}
 use Rattle.std.specs.declared.cmp.Ordering.{Ordering}
 use Rattle.std.specs.declared.cmp.Ordering.TheVariants.{Less, Equal, Greater}
-use Rattle.std.specs.Map.{lookup, set_value, keys_of}
+use Rattle.std.specs.Map.{lookup, set_value}
 use Rattle.std.specs.BTreeMap.{is_at, insert_entry}
-use Rattle.std.specs.Ordering.{nat_cmp, ordering_then, is_eq, match_ordering}
-use Rattle.std.specs.Cmp.{nat_cmp_total}
+use Rattle.std.specs.Ordering.{nat_cmp, is_eq, match_ordering}
 use Rattle.std.specs.FinMap.{IsAntisymmetric, nat_cmp-IsAntisymmetric}
-use Rattle.std.proofs.lemmas.Cmp.{tied_itself}
 use Rattle.std.proofs.lemmas.List.{map-append}
-use Rattle.std.proofs.lemmas.Bool.Decides.{nat_tests}
 use Rattle.td_stamp.specs.declared.values.Arrival.{Arrival}
 use Rattle.td_stamp.specs.ProvedOrders.{both_tie}
-use Rattle.td_stamp.specs.Bag.{set_insert, set_of, join, has}
-use Rattle.td_stamp.specs.BagLaws.{BagLaws, SetLaws}
-use Rattle.td_stamp.specs.Time.{Timestamp, time_cmp}
+use Rattle.td_stamp.specs.Bag.{join}
+use Rattle.td_stamp.specs.BagLaws.{BagLaws}
+use Rattle.td_stamp.specs.Time.{time_cmp}
 use Rattle.td_machine.specs.declared.records.Message.{Message}
-use Rattle.td_machine.specs.declared.records.Notification.{Notification}
-use Rattle.td_machine.specs.State.{message_cmp, notification_cmp}
+use Rattle.td_machine.specs.State.{message_cmp}
 use Rattle.td_machine.specs.Steps.{waiting}
 use Rattle.td_shard.specs.declared.noted.Noted.{Noted}
-use Rattle.td_shard.specs.Asked.{AskedList, noted_cmp, noted_at, items_at, with_items, with_items_by}
-use Rattle.td_core.specs.Floor.{waiting_at, asked_of_shard}
+use Rattle.td_shard.specs.Asked.{AskedList, noted_cmp, with_items, with_items_by}
+use Rattle.td_core.specs.Floor.{waiting_at}
 
 pub none_is_some : {X : Type 0} {x : X} → None ≡ Some x → ⊥
 none_is_some {X} {x} e = let no : false ≡ true = ap is_some e in true≢false (sym no)

@@ -1,5 +1,5 @@
 -- What waits in all shards when the records of a task came to its own.
-use Rattle.std.proofs.Common.{◌≡◌, ℕ, suc, ◌+◌, ◌==◌, ◌<◌, ◌≤◌, Bool, true, false, ◌&&◌, List, [], ◌∷◌, ◌++◌, map, flat_map, length, refl, ap, sym, ◌∙◌, subst, arith}
+use Rattle.std.proofs.Common.{◌≡◌, ℕ, ◌+◌, ◌==◌, ◌<◌, ◌≤◌, Bool, true, false, ◌&&◌, List, [], ◌∷◌, ◌++◌, map, flat_map, length, refl, ap, sym, ◌∙◌, subst, arith}
 use Rattle.std.specs.List.{AllByRecursion, enumerate_from}
 use Rattle.std.specs.List.Sorted.{IsStrictlySortedBy}
 use Rattle.std.specs.Map.{keys_of}
@@ -7,7 +7,7 @@ use Rattle.std.specs.FinMap.{IsAntisymmetric}
 use Rattle.std.proofs.lemmas.Bool.Decides.{nat_tests}
 use Rattle.td_stamp.specs.declared.values.Rec.{Rec}
 use Rattle.td_stamp.specs.declared.values.Arrival.{Arrival}
-use Rattle.td_stamp.specs.Bag.{join, bag_of, set_of, set_insert}
+use Rattle.td_stamp.specs.Bag.{join, set_of, set_insert}
 use Rattle.td_stamp.specs.BagLaws.{BagLaws, SetLaws}
 use Rattle.td_stamp.specs.Groups.{arrival_of}
 use Rattle.td_stamp.specs.Time.{time_cmp}
@@ -15,7 +15,6 @@ use Rattle.td_calls.specs.Callbacks.{is_notified}
 use Rattle.td_machine.specs.declared.records.Message.{Message}
 use Rattle.td_machine.specs.declared.records.Notification.{Notification}
 use Rattle.td_machine.specs.State.{Task, message_cmp, notification_cmp, shard_of_key}
-use Rattle.td_machine.specs.Steps.{waiting}
 use Rattle.td_shard.specs.declared.noted.Noted.{Noted}
 use Rattle.td_shard.specs.declared.shard.Shard.{Shard}
 use Rattle.td_shard.specs.Asked.{AskedList, noted_cmp, noted_at, with_items}
@@ -87,21 +86,25 @@ module _ (task : Task) (port : ℕ) (recs : List Rec) where
         ap (λ b. waiting_by (b && k == task.shard) task port recs s.waiting) noted ∙ ap (λ b. waiting_by b task port recs s.waiting) mine
 
     -- WHAT WAITS
+    abbrev HaveMore : ℕ → List Shard → List Message → Type 0
+    HaveMore k shards rest = join message_cmp (flat_map waiting_all (then_waits k shards)) rest ≡ join message_cmp (as_messages here more) (join message_cmp (flat_map waiting_all (waits shards)) rest)
+
     pub more_in_all : IsAntisymmetric time_cmp → BagLaws message_cmp → (k : ℕ) (shards : List Shard) (rest : List Message) → k ≤ task.shard → task.shard < k + length shards
-        → join message_cmp (flat_map waiting_all (then_waits k shards)) rest ≡ join message_cmp (as_messages here more) (join message_cmp (flat_map waiting_all (waits shards)) rest)
+        → HaveMore k shards rest
     more_in_all apart laws k [] rest from to = absurd (omega (arith, from, to))
     more_in_all apart laws k (s ∷ ss) rest from to = by (k == task.shard) refl (λ less. more_in_all apart laws (k + 1) ss rest (omega (arith, less)) (omega (arith, to)))
       where
         its_own : k ≡ task.shard
-            → join message_cmp (flat_map waiting_all (then_waits k (s ∷ ss))) rest ≡ join message_cmp (as_messages here more) (join message_cmp (flat_map waiting_all (waits (s ∷ ss))) rest)
+            → HaveMore k (s ∷ ss) rest
         its_own e =
             let others : List Message = flat_map waiting_all (waits ss) in
             (λ i. join message_cmp (waiting_all (in_its_own k e s i) ++ flat_map waiting_all (past_waits (k + 1) ss (omega (arith, e)) i)) rest)
             ∙ (laws.append (waiting_all (with_items s.waiting task.vertex task.time more)) others rest
             ∙ (more_wait apart laws here more s.waiting (join message_cmp others rest)
             ∙ ap (join message_cmp (as_messages here more)) (sym (laws.append (waiting_all s.waiting) others rest))))
-        anothers : (k ≡ task.shard → ⊥) → (k < task.shard → join message_cmp (flat_map waiting_all (then_waits (k + 1) ss)) rest ≡ join message_cmp (as_messages here more) (join message_cmp (flat_map waiting_all (waits ss)) rest))
-            → join message_cmp (flat_map waiting_all (then_waits k (s ∷ ss))) rest ≡ join message_cmp (as_messages here more) (join message_cmp (flat_map waiting_all (waits (s ∷ ss))) rest)
+
+        anothers : (k ≡ task.shard → ⊥) → (k < task.shard → HaveMore (k + 1) ss rest)
+            → HaveMore k (s ∷ ss) rest
         anothers n later =
             let others : List Message = flat_map waiting_all (waits ss) in
             let less : k < task.shard = omega (arith, n, from) in
@@ -110,18 +113,22 @@ module _ (task : Task) (port : ℕ) (recs : List Rec) where
             ∙ (ap (join message_cmp (waiting_all s.waiting)) (later less)
             ∙ (laws.swaps (waiting_all s.waiting) (as_messages here more) (join message_cmp others rest)
             ∙ ap (join message_cmp (as_messages here more)) (sym (laws.append (waiting_all s.waiting) others rest)))))
-        by : (b : Bool) → (k == task.shard) ≡ b → (k < task.shard → join message_cmp (flat_map waiting_all (then_waits (k + 1) ss)) rest ≡ join message_cmp (as_messages here more) (join message_cmp (flat_map waiting_all (waits ss)) rest))
-            → join message_cmp (flat_map waiting_all (then_waits k (s ∷ ss))) rest ≡ join message_cmp (as_messages here more) (join message_cmp (flat_map waiting_all (waits (s ∷ ss))) rest)
+
+        by : (b : Bool) → (k == task.shard) ≡ b → (k < task.shard → HaveMore (k + 1) ss rest)
+            → HaveMore k (s ∷ ss) rest
         by true e later = its_own (grind (arith, nat_tests))
         by false e later = anothers (λ same. absurd (grind (arith, nat_tests))) later
 
     -- WHAT IS ASKED FOR
+    abbrev AskForIt : ℕ → List Shard → Type 0
+    AskForIt k shards = IsAskedFor (asks task.shard task.vertex task.time) (asked_all k (waits shards)) (asked_all k (then_waits k shards))
+
     asked_in_all : (k : ℕ) (shards : List Shard) → k ≤ task.shard → task.shard < k + length shards
-        → IsAskedFor (asks task.shard task.vertex task.time) (asked_all k (waits shards)) (asked_all k (then_waits k shards))
+        → AskForIt k shards
     asked_in_all k [] from to = absurd (omega (arith, from, to))
     asked_in_all k (s ∷ ss) from to = by (k == task.shard) refl (λ less. asked_in_all (k + 1) ss (omega (arith, less)) (omega (arith, to)))
       where
-        its_own : k ≡ task.shard → IsAskedFor (asks task.shard task.vertex task.time) (asked_all k (waits (s ∷ ss))) (asked_all k (then_waits k (s ∷ ss)))
+        its_own : k ≡ task.shard → AskForIt k (s ∷ ss)
         its_own e =
             let others : List Notification = asked_all (k + 1) (waits ss) in
             let one : IsAskedFor (asks task.shard task.vertex task.time) (map (asked_of_shard k) s.waiting) (map (asked_of_shard k) (with_items s.waiting task.vertex task.time more)) =
@@ -130,13 +137,15 @@ module _ (task : Task) (port : ℕ) (recs : List Rec) where
             subst (λ lists. IsAskedFor (asks task.shard task.vertex task.time) (asked_all k (waits (s ∷ ss))) (asked_all k lists))
             (sym (λ i. in_its_own k e s i ∷ past_waits (k + 1) ss (omega (arith, e)) i))
             (before_others (asks task.shard task.vertex task.time) others (map (asked_of_shard k) s.waiting) (map (asked_of_shard k) (with_items s.waiting task.vertex task.time more)) one)
-        anothers : (k ≡ task.shard → ⊥) → (k < task.shard → IsAskedFor (asks task.shard task.vertex task.time) (asked_all (k + 1) (waits ss)) (asked_all (k + 1) (then_waits (k + 1) ss))) → IsAskedFor (asks task.shard task.vertex task.time) (asked_all k (waits (s ∷ ss))) (asked_all k (then_waits k (s ∷ ss)))
+
+        anothers : (k ≡ task.shard → ⊥) → (k < task.shard → AskForIt (k + 1) ss) → AskForIt k (s ∷ ss)
         anothers n later =
             let less : k < task.shard = omega (arith, n, from) in
             subst (λ w. IsAskedFor (asks task.shard task.vertex task.time) (asked_all k (waits (s ∷ ss))) (asked_all k (w ∷ then_waits (k + 1) ss))) (sym (elsewhere k n s))
             (after_others (asks task.shard task.vertex task.time) (map (asked_of_shard k) s.waiting) (asked_all (k + 1) (waits ss)) (asked_all (k + 1) (then_waits (k + 1) ss))
             (later less))
-        by : (b : Bool) → (k == task.shard) ≡ b → (k < task.shard → IsAskedFor (asks task.shard task.vertex task.time) (asked_all (k + 1) (waits ss)) (asked_all (k + 1) (then_waits (k + 1) ss))) → IsAskedFor (asks task.shard task.vertex task.time) (asked_all k (waits (s ∷ ss))) (asked_all k (then_waits k (s ∷ ss)))
+
+        by : (b : Bool) → (k == task.shard) ≡ b → (k < task.shard → AskForIt (k + 1) ss) → AskForIt k (s ∷ ss)
         by true e later = its_own (grind (arith, nat_tests))
         by false e later = anothers (λ same. absurd (grind (arith, nat_tests))) later
 
@@ -158,6 +167,7 @@ module _ (task : Task) (port : ℕ) (recs : List Rec) where
             s.waiting h.0.items;
         once = sorted_with here more s.waiting h.0.once;
       })
+
       by : (b : Bool) → (k == task.shard) ≡ b → IsWaiting workers (k, waiting_with task port recs (k, s))
       by true e = come (is_notified task.kind) e
       by false e = subst (λ w. IsWaiting workers (k, w)) (sym (elsewhere k (λ same. absurd (grind (arith, nat_tests))) s)) h.0

@@ -1,20 +1,17 @@
 -- What waits in a shard, with more items: its notifications stand in order still, and its items are of the shard.
-use Rattle.std.proofs.Common.{◌≡◌, ℕ, Bool, true, false, cond, List, [], ◌∷◌, ◌++◌, Option, Some, None, is_some, refl, ap, sym, ◌∙◌, subst}
+use Rattle.std.proofs.Common.{◌≡◌, Bool, true, false, cond, List, [], ◌∷◌, ◌++◌, Option, Some, None, refl, ap, sym, ◌∙◌, subst}
 use Rattle.std.specs.List.{AllByRecursion}
 use Rattle.std.specs.List.Sorted.{IsStrictlySortedBy}
 use Rattle.std.specs.declared.cmp.Ordering.{Ordering}
 use Rattle.std.specs.declared.cmp.Ordering.TheVariants.{Less, Equal, Greater}
 use Rattle.std.specs.Map.{lookup, set_value, keys_of}
 use Rattle.std.specs.BTreeMap.{is_at, insert_entry}
-use Rattle.std.specs.Ordering.{is_eq, match_ordering, ordering_reverse}
+use Rattle.std.specs.Ordering.{match_ordering, ordering_reverse}
 use Rattle.std.proofs.lemmas.Map.{keys-set_value}
 use Rattle.td_stamp.specs.declared.values.Arrival.{Arrival}
-use Rattle.td_stamp.specs.Time.{Timestamp}
-use Rattle.td_machine.specs.State.{shard_of_key}
 use Rattle.td_shard.specs.declared.noted.Noted.{Noted}
-use Rattle.td_shard.specs.Asked.{AskedList, noted_cmp, noted_at, with_items, with_items_by}
+use Rattle.td_shard.specs.Asked.{AskedList, noted_cmp, with_items, with_items_by}
 use Rattle.td_shard.specs.ProvedOrders.{noted_total}
-use Rattle.td_core.proofs.Waits.{none_is_some}
 
 all_append : {X : Type 0} (P : X → Type 0) (xs ys : List X) → AllByRecursion P xs → AllByRecursion P ys → AllByRecursion P (xs ++ ys)
 all_append P [] ys h k = k

@@ -18,12 +18,13 @@ use Rattle.td_machine.specs.State.{Task, stamped_cmp, output_at_cmp}
 use Rattle.td_machine.specs.State.Content.{messages}
 use Rattle.td_machine.specs.Active.{kind_of, stamp_at}
 use Rattle.td_machine.specs.Steps.{posts, stamped}
-use Rattle.td_machine.specs.AtOnce.{added_at_once}
+use Rattle.td_machine.specs.AtOnce.{fresh, added_at_once}
 use Rattle.td_machine.specs.ByEdge.{comes_out_at_once, stamps_by_edge}
 use Rattle.td_machine.specs.Moves.{come_given}
 use Rattle.td_shard.specs.Asked.{AskedList, items_at, with_items}
 use Rattle.td_shard.specs.declared.shard.Shard.{Shard}
 use Rattle.td_core.specs.declared.floor.Floor.{Floor}
+use Rattle.td_core.specs.Came.{output_at}
 use Rattle.td_core.specs.Floor.{state_of}
 use Rattle.td_core.specs.Sites.{IsSites}
 use Rattle.td_core.specs.Posted.{mails, mails_with, waits}
@@ -70,6 +71,18 @@ pub record IsSent (v : ℕ) (t : Timestamp) (sent : List Rec) (seen : List Stamp
   pub stamps : IsSameBag new.table.stamps (stamps_by_edge old.table.plan v t (length sent) ++ old.table.stamps)
   pub mails : mails new.shards.items ≡ mails_with (posts old.table.plan (stamped v t sent)) old.shards.items
   pub waiting : waits new.shards.items ≡ waits old.shards.items
+
+-- where distincts saw and outputs got nothing
+abbrev pub IsSentOn : ℕ → Timestamp → List Rec → Floor → Floor → Type 0
+IsSentOn v t recs old new = IsSent v t recs old.seen old.outputs old new
+
+-- those that are new to a distinct, which has seen them from then on
+abbrev pub IsSentNew : ℕ → Timestamp → List Rec → Floor → Floor → Type 0
+IsSentNew v t recs old new = IsSent v t (fresh old.seen v t recs) (join stamped_cmp (stamped v t (fresh old.seen v t recs)) old.seen) old.outputs old new
+
+-- those that come to an output in an epoch
+abbrev pub IsComeOut : ℕ → Timestamp → List Rec → Floor → Floor → Type 0
+IsComeOut v t recs old new = IsSent v t recs old.seen (join output_at_cmp (map (output_at t.epoch v) recs) old.outputs) old new
 
 -- what waits in a shard
 abbrev pub waiting_at_shard : ℕ → Floor → AskedList

@@ -1,22 +1,15 @@
 //! Delivering the records of a task to its vertex.
 ghost use Rattle.std.specs.Prelude.{◌≡◌, ◌≤◌, ◌<◌, ◌++◌, ◌∷◌, [], ℕ, length, map, Contains, IfErr, OnOk, OnErr};
 ghost use Rattle.std.specs.List.{AllByRecursion};
-ghost use Rattle.td_stamp.specs.Bag.{join};
 ghost use Rattle.td_stamp.specs.Groups.{arrival_of};
-ghost use Rattle.td_stamp.specs.Time.{depth};
-ghost use Rattle.td_plan.specs.declared.vertex.Kind.TheVariants.{Enter};
 ghost use Rattle.td_reach.specs.declared.stamp.Stamp.{Stamp as AnyStamp};
 ghost use Rattle.td_reach.specs.Paths.{IsOf};
 ghost use Rattle.td_progress.specs.Bag.{occurrences, IsSameBag};
-ghost use Rattle.td_machine.specs.Active.{kind_of, bound_of, stamp_at};
-ghost use Rattle.td_machine.specs.AtOnce.{fresh};
-ghost use Rattle.td_machine.specs.ByEdge.{comes_out_at_once, stamps_by_edge, StampsByEdge};
-ghost use Rattle.td_machine.specs.State.{stamped_cmp, output_at_cmp};
+ghost use Rattle.td_machine.specs.Active.{stamp_at};
+ghost use Rattle.td_machine.specs.ByEdge.{times_from};
 ghost use Rattle.td_machine.specs.State.Content.{messages};
-ghost use Rattle.td_machine.specs.Steps.{stamped, sending_times};
-ghost use Rattle.td_core.specs.Came.{output_at};
 ghost use Rattle.td_core.specs.Floor.{IsHall};
-ghost use Rattle.td_core.specs.Delivered.{IsDelivered, IsSent, IsKept, CanSend};
+ghost use Rattle.td_core.specs.Delivered.{IsDelivered, IsSentOn, IsSentNew, IsComeOut, IsKept, CanSend};
 ghost use Rattle.td_core.specs.Given.{IsUntouched};
 ghost use Rattle.td_core.specs.Posted.{HaveRoom, IsRoomier, stamp_on_outlet, stamps_on};
 ghost use Rattle.td_core.specs.declared.error.HallError.TheVariants.{Memory};
@@ -79,7 +72,7 @@ pub(crate) fn send(
     recs: &[Rec],
 ) -> Result<(), HallError>
     requires { CanSend vertex time.now floor.old }
-    ensures ok { OnOk result (IsSent vertex time.now recs.now floor.old.seen floor.old.outputs floor.old floor.new) }
+    ensures ok { OnOk result (IsSentOn vertex time.now recs.now floor.old floor.new) }
     ensures err { OnErr result (IsUntouched floor.old floor.new) }
     ensures memory { IfErr result (λ e. e ≡ Memory) }
 {
@@ -105,8 +98,8 @@ pub(crate) fn send(
 /// nothing changed but for more room.
 fn send_new(floor: &mut Floor, vertex: u8, time: &Time, recs: &[Rec]) -> Result<(), HallError>
     requires can { CanSend vertex time.now floor.old }
-    requires plain { sending_times (kind_of floor.old.table.plan vertex) (bound_of floor.old.table.plan vertex) time.now ≡ time.now ∷ [] }
-    ensures ok { OnOk result (IsSent vertex time.now (fresh floor.old.seen vertex time.now recs.now) (join stamped_cmp (stamped vertex time.now (fresh floor.old.seen vertex time.now recs.now)) floor.old.seen) floor.old.outputs floor.old floor.new) }
+    requires plain { times_from floor.old.table.plan vertex time.now ≡ time.now ∷ [] }
+    ensures ok { OnOk result (IsSentNew vertex time.now recs.now floor.old floor.new) }
     ensures err { OnErr result (IsUntouched floor.old floor.new) }
     ensures memory { IfErr result (λ e. e ≡ Memory) }
 {
@@ -134,8 +127,8 @@ fn send_new(floor: &mut Floor, vertex: u8, time: &Time, recs: &[Rec]) -> Result<
 /// Has records come out at an output in an epoch, and sends them. Refusal: `Memory`, with nothing changed but for more room.
 fn come_out(floor: &mut Floor, vertex: u8, time: &Time, recs: &[Rec]) -> Result<(), HallError>
     requires can { CanSend vertex time.now floor.old }
-    requires plain { sending_times (kind_of floor.old.table.plan vertex) (bound_of floor.old.table.plan vertex) time.now ≡ time.now ∷ [] }
-    ensures ok { OnOk result (IsSent vertex time.now recs.now floor.old.seen (join output_at_cmp (map (output_at time.now.epoch vertex) recs.now) floor.old.outputs) floor.old floor.new) }
+    requires plain { times_from floor.old.table.plan vertex time.now ≡ time.now ∷ [] }
+    ensures ok { OnOk result (IsComeOut vertex time.now recs.now floor.old floor.new) }
     ensures err { OnErr result (IsUntouched floor.old floor.new) }
     ensures memory { IfErr result (λ e. e ≡ Memory) }
 {

@@ -1,4 +1,4 @@
-use Rattle.std.proofs.Common.{◌≡◌, ◌∙◌, ◌<◌, ◌⊎◌, ℕ, ap, sym, subst, refl, List, [], ◌∷◌, map, flat_map, length}
+use Rattle.std.proofs.Common.{◌≡◌, ◌∙◌, ◌<◌, ◌⊎◌, ℕ, ap, sym, subst, refl, [], map, flat_map, length}
 use Rattle.std.proofs.lemmas.Result.{on_ok_weaker}
 use Rattle.td_stamp.specs.Groups.{arrival_of}
 use Rattle.td_stamp.specs.Time.{Timestamp}

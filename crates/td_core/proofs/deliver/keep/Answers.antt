@@ -1,4 +1,4 @@
-use Rattle.std.proofs.Common.{◌≡◌, ◌∙◌, ap, sym, subst, refl, length, map, [], ◌∷◌, ◌++◌, ◌<◌, ℕ, set, get_or, true, false, is_some, true≢false}
+use Rattle.std.proofs.Common.{◌≡◌, ◌∙◌, ap, sym, subst, refl, length, map, [], ◌∷◌, ◌++◌, ◌<◌, set, get_or, true, false, is_some, true≢false}
 use Rattle.std.specs.Vec.{with_item}
 use Rattle.td_reach.specs.declared.stamp.Place.TheVariants as places
 use Rattle.td_progress.specs.Bag.{occurrences}

@@ -1,6 +1,5 @@
-use Rattle.std.proofs.Common.{◌≡◌, ◌≤◌, ◌<◌, ◌++◌, ◌∙◌, ℕ, ap, sym, subst, map, length, replicate, slice_index_or, arith}
+use Rattle.std.proofs.Common.{◌≤◌, ◌<◌, ◌++◌, ◌∙◌, ap, sym, subst, map, length, replicate, slice_index_or}
 use Rattle.std.proofs.lemmas.List.{take_all, get_or-map, length-map}
-use Rattle.td_stamp.specs.Time.{Timestamp}
 use Rattle.td_progress.specs.Bag.{occurrences}
 use Rattle.td_core.specs.declared.sites.Outlet.{Outlet}
 use Rattle.td_core.specs.Posted.{risen, stamp_on_outlet}

@@ -1,4 +1,4 @@
-use Rattle.std.proofs.Common.{◌≡◌, ◌+◌, ◌-◌, ◌≤◌, ◌++◌, ◌∙◌, ℕ, ap, sym, subst, refl, length, arith}
+use Rattle.std.proofs.Common.{◌≡◌, ◌-◌, ◌++◌, ◌∙◌, ap, sym, subst, length, arith}
 use Rattle.std.specs.List.{AllByRecursion}
 use Rattle.td_reach.specs.Paths.{IsOf}
 use Rattle.td_stamp.specs.Bag.{join}
