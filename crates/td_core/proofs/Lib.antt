@@ -11,6 +11,7 @@ pub mod GiveSteps
 pub mod NotifyShards
 pub mod NotifySends
 pub mod NotifySteps
+pub mod Loads
 pub mod SiteLists
 pub mod PostingSteps
 pub mod Rises
@@ -27,3 +28,7 @@ pub mod PostRuns
 pub mod Sending
 pub mod Keeping
 pub mod Delivering
+pub mod PostRuns
+pub mod BatchParts
+pub mod ReleaseParts
+pub mod ReleaseSteps

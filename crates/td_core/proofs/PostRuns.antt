@@ -35,6 +35,10 @@ room_weaker many fewer less k (s ∷ ss) h =
     let runs = h.0.1 in
     ((omega (arith, l, room), omega (arith, l, runs)), room_weaker many fewer less (k + 1) ss h.1)
 
+-- with nothing else to be posted
+pub none_more : (many : ℕ → ℕ) (shards : List Shard) → HaveRoomFor many shards → HaveRoomFor (λ s. many s + 0) shards
+none_more many shards h = room_weaker many (λ s. many s + 0) (λ s. let m = many s in omega arith) 0 shards h
+
 pub room_at : (many : ℕ → ℕ) (k i at : ℕ) (shards : List Shard) (d : Shard) → at ≡ k + i → i < length shards
     → AllByRecursion (λ p. HasRoom (many p.0) p.1) (enumerate_from k shards) → HasRoom (many at) (get_or shards i d)
 room_at many k i at [] d e within h = absurd (omega (arith, within))

@@ -7,3 +7,4 @@ pub mod Delivered
 pub mod Collected
 pub mod Cuts
 pub mod Given
+pub mod Released

@@ -57,6 +57,7 @@ pub(crate) fn deliver<L: Law>(
     turns_of_plan();
     in_parts();
     bags_of_states();
+    counted();
     td_task::laws::a_map_sends::<L>();
     let task = done.task();
     let (vertex, time) = (task.vertex(), task.time());

@@ -15,6 +15,7 @@ mod outputs;
 mod passed;
 mod posting;
 mod raising;
+mod release;
 mod sites;
 #[cfg(test)]
 mod tests;

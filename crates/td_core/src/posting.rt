@@ -1,5 +1,5 @@
 //! Posting messages to the mailboxes of the shards.
-ghost use Rattle.std.specs.Prelude.{◌≡◌, ◌+◌, ◌-◌, ◌≤◌, ◌<◌, ℕ, length, map, get_or, take, drop, IfErr, OnOk, OnErr};
+ghost use Rattle.std.specs.Prelude.{◌≡◌, ◌+◌, ◌-◌, ◌*◌, ◌≤◌, ◌<◌, ℕ, length, map, get_or, take, drop, IfErr, OnOk, OnErr};
 ghost use Rattle.std.specs.List.{AllByRecursion};
 ghost use Rattle.td_stamp.specs.declared.values.Rec.{Rec as AnyRec};
 ghost use Rattle.td_machine.specs.State.{shard_of_key};
@@ -42,7 +42,9 @@ pub(crate) fn post(shards: &mut Vec<Shard>, outlets: &[Outlet], time: &Time, rec
     requires some { 1 ≤ length shards.old.items }
     requires few { length shards.old.items ≤ 16 }
     requires room { HaveRoom recs.now (length outlets.now) shards.old.items }
-    ensures { IsPosted (on_each outlets.now time.now recs.now) shards.old.items shards.new.items }
+    ensures messages { IsPosted (on_each outlets.now time.now recs.now) shards.old.items shards.new.items }
+    ensures room { (many : ℕ → ℕ) → HaveRoomFor (λ s. count_of (length shards.old.items) recs.now s * length outlets.now + many s) shards.old.items
+        → HaveRoomFor many shards.new.items }
 {
     if outlets.len() == 1 {
         post_runs(shards, &outlets[0], time, recs);
@@ -69,7 +71,9 @@ fn post_runs(shards: &mut Vec<Shard>, outlet: &Outlet, time: &Time, recs: &[Rec]
     requires some { 1 ≤ length shards.old.items }
     requires few { length shards.old.items ≤ 16 }
     requires room { HaveRoom recs.now 1 shards.old.items }
-    ensures { IsPosted (map (λ r. on_outlet time.now r outlet.now) recs.now) shards.old.items shards.new.items }
+    ensures posted { IsPosted (map (λ r. on_outlet time.now r outlet.now) recs.now) shards.old.items shards.new.items }
+    ensures room { (many : ℕ → ℕ) → HaveRoomFor (λ s. count_of (length shards.old.items) recs.now s * 1 + many s) shards.old.items
+        → HaveRoomFor many shards.new.items }
 {
     let workers = shards.len() as u8;
     let mut done = 0;
@@ -103,7 +107,9 @@ fn post_each(shards: &mut Vec<Shard>, outlets: &[Outlet], time: &Time, recs: &[R
     requires some { 1 ≤ length shards.old.items }
     requires few { length shards.old.items ≤ 16 }
     requires room { HaveRoom recs.now (length outlets.now) shards.old.items }
-    ensures { IsPosted (on_each outlets.now time.now recs.now) shards.old.items shards.new.items }
+    ensures posted { IsPosted (on_each outlets.now time.now recs.now) shards.old.items shards.new.items }
+    ensures room { (many : ℕ → ℕ) → HaveRoomFor (λ s. count_of (length shards.old.items) recs.now s * length outlets.now + many s) shards.old.items
+        → HaveRoomFor many shards.new.items }
 {
     let workers = shards.len() as u8;
     for rec in recs {

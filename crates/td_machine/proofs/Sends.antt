@@ -1,6 +1,6 @@
 -- What comes with a step is of the plan, and where vertices can turn times.
-use Rattle.std.proofs.Common.{◌≡◌, ℕ, zero, suc, ◌+◌, ◌<◌, ◌≤◌, Bool, true, false, List, [], ◌∷◌, ◌++◌, length, map, filter, flat_map, replicate, refl, ap, sym, ◌∙◌, subst, arith}
-use Rattle.std.specs.Prelude.{Option, Some, None, Contains, find, fold, is_none, drop, nat_le, nat_lt, not, ◌&&◌, ◌==◌, cond, if◌then◌else◌, unwrap_or}
+use Rattle.std.proofs.Common.{◌≡◌, ℕ, zero, suc, ◌+◌, ◌<◌, ◌≤◌, Bool, true, false, List, [], ◌∷◌, ◌++◌, length, map, flat_map, replicate, refl, ap, sym, ◌∙◌, subst, arith}
+use Rattle.std.specs.Prelude.{Option, Some, None, Contains, find, fold, is_none, drop, nat_le, nat_lt, not, ◌&&◌, ◌==◌, if◌then◌else◌, unwrap_or}
 use Rattle.std.specs.List.{AllByRecursion, slice_get}
 use Rattle.std.proofs.lemmas.Bool.{eqb-true, leb-false}
 use Rattle.std.proofs.lemmas.List.{length-map}
@@ -10,13 +10,13 @@ use Rattle.td_stamp.specs.declared.values.Entry.{Entry}
 use Rattle.td_stamp.specs.Time.{Timestamp, depth, outer_turns, raised, again}
 use Rattle.td_stamp.specs.Bag.{join}
 use Rattle.td_plan.specs.declared.vertex.Kind.{Kind}
-use Rattle.td_plan.specs.declared.vertex.Kind.TheVariants.{Input, Map, Distinct, Group, Fold, Enter, Feedback, Leave, Output}
+use Rattle.td_plan.specs.declared.vertex.Kind.TheVariants.{Enter, Feedback, Leave, Output}
 use Rattle.td_plan.specs.declared.vertex.Edge.{Edge}
 use Rattle.td_plan.specs.declared.vertex.Loop.{Loop}
 use Rattle.td_plan.specs.Lines.{Line}
 use Rattle.td_plan.specs.Lines.Line.{vertex, loop, end}
 use Rattle.td_plan.specs.Blocks.{PlacedVertex, Scope, no_scope, scope_after, vertices, edges, edge_at, bounds, reading_loops, read_loops, reading_loops_at, read_loops_at}
-use Rattle.td_plan.specs.Faults.{IsPlan, Fault, fault_of, has_fault, faults, is_faultless, is_in_loop, is_input}
+use Rattle.td_plan.specs.Faults.{IsPlan, fault_of, has_fault, faults, is_faultless, is_in_loop, is_input}
 use Rattle.td_plan.specs.Inputs.{is_input_of}
 use Rattle.td_plan.specs.Standing.{may_stand, IsBounded}
 use Rattle.td_calls.specs.Answers.{Answers}
@@ -24,21 +24,19 @@ use Rattle.td_calls.specs.Callbacks.{is_notified}
 use Rattle.td_reach.specs.declared.stamp.Stamp.{Stamp}
 use Rattle.td_reach.specs.Paths.{IsOf, HasDepth}
 use Rattle.td_machine.specs.declared.records.Message.{Message}
-use Rattle.td_machine.specs.declared.records.Stamped.{Stamped}
-use Rattle.td_machine.specs.declared.records.Notification.{Notification}
-use Rattle.td_machine.specs.State.{HallState, Task, Content, message_cmp, notification_cmp, asked_of}
+use Rattle.td_machine.specs.State.{HallState, Task, Content, message_cmp}
 use Rattle.td_machine.specs.State.Content.{messages, notification}
 use Rattle.td_machine.specs.Active.{kind_of, kind_or, bound_of, inputs_of, stamp_at, stamp_of_message, stamp_of_asked, stamp_of_input}
-use Rattle.td_machine.specs.Steps.{Event, Answer, Step, Gives, IsContent, accepts, coming, entered, posts, posted, stamped, on_edge, edges_from, sending_times, again_below, asked_at, is_asked, notified_sends}
+use Rattle.td_machine.specs.Steps.{Event, Answer, Step, Gives, IsContent, accepts, coming, entered, posts, posted, stamped, edges_from, sending_times, again_below, asked_at, is_asked, notified_sends}
 use Rattle.td_machine.specs.Steps.Event.{release, taking, give, collect, cut, cut_at, close}
-use Rattle.td_machine.specs.Steps.Answer.{refused, has_released, has_taken, has_given, has_collected, has_cut, has_closed}
+use Rattle.td_machine.specs.Steps.Answer.{has_released}
 use Rattle.td_machine.specs.Steps.Gives.{gives, is_stranger}
 use Rattle.td_machine.specs.AtOnce.{added_at_once}
 use Rattle.td_machine.specs.ByEdge.{stamp_on, times_from, stamps_by_edge}
 use Rattle.td_machine.specs.InOrder.{StillThere}
-use Rattle.td_machine.specs.Moves.{stamps_of, newly_asked, come_given, come_released, come_by}
+use Rattle.td_machine.specs.Moves.{stamps_of, newly_asked, come_given, come_by}
 use Rattle.td_machine.specs.Reached.{IsReached}
-use Rattle.td_machine.specs.Sends.{CanTurn, TurnsOfPlan, SendsOfPlan, TasksOfPlan, ComeOfPlan}
+use Rattle.td_machine.specs.Sends.{CanTurn, TurnsOfPlan, SentOfPlan, SendsOfPlan, TasksOfPlan, ComeOfPlan}
 use Rattle.td_machine.proofs.History.{Origin, History, Invariant, IsTime, IsOnEdge}
 use Rattle.td_machine.proofs.Lists.{all_app, all_at, all_both, all_map, all_flat, all_weaken, all_filter, all_everywhere, one_of}
 use Rattle.td_machine.proofs.Bags.{from_join}
@@ -335,3 +333,6 @@ tasks_of_plan below answers S task r out = sends below answers S r task out
 
 pub come_of_plan : (below : Below) (answers : Answers) → ComeOfPlan answers
 come_of_plan below answers S after event answer r step = come below answers S r event answer after step
+
+pub sent_of_plan : Below → SentOfPlan
+sent_of_plan below plan v t lawful h many = sent_by_edge below plan lawful v t h many

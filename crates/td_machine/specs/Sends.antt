@@ -1,5 +1,5 @@
 -- That the pointstamps which come with a step are of the plan, and at which times the vertices of tasks may send.
-use Rattle.std.specs.Prelude.{◌≡◌, ℕ, ◌<◌, ◌≤◌, Contains, List}
+use Rattle.std.specs.Prelude.{ℕ, ◌<◌, ◌≤◌, Contains, List}
 use Rattle.std.specs.List.{AllByRecursion}
 use Rattle.td_stamp.specs.Time.{Timestamp, depth}
 use Rattle.td_plan.specs.declared.vertex.Kind.{Kind}
@@ -26,8 +26,12 @@ CanTurn _ bound t = Unit {0}
 abbrev pub TurnsOfPlan : Type 0
 TurnsOfPlan = (plan : List Line) (v : ℕ) (t : Timestamp) → IsPlan plan → IsOf plan (stamp_at v t) → CanTurn (kind_of plan v) (bound_of plan v) t
 
--- WHAT THE VERTEX OF A TASK SENDS is of the plan, on all edges out of it and with however many records, and so are the vertex and
--- the time of the task, which is of an epoch that was released after the base
+-- and what it sends at these times is of the plan, on all edges out of it and with however many records
+abbrev pub SentOfPlan : Type 0
+SentOfPlan = (plan : List Line) (v : ℕ) (t : Timestamp) → IsPlan plan → IsOf plan (stamp_at v t) → (many : ℕ) → AllByRecursion (IsOf plan) (stamps_by_edge plan v t many)
+
+-- WHAT THE VERTEX OF A TASK SENDS so is, and so are the vertex and the time of the task, which is of an epoch that was released after
+-- the base
 pub record SendsOfPlan (S : HallState) (task : Task) : Type 0 where
   pub own : IsOf S.plan (stamp_at task.vertex task.time)
   pub sent : (many : ℕ) → AllByRecursion (IsOf S.plan) (stamps_by_edge S.plan task.vertex task.time many)

@@ -21,7 +21,7 @@ ghost use Rattle.td_machine.specs.InOrder.{ListsInOrder, TasksInOrder, NumbersIn
 ghost use Rattle.td_machine.specs.Moves.{StampsMove};
 ghost use Rattle.td_machine.specs.NoneLeft.{NoneToTake, FirstUnpassed};
 ghost use Rattle.td_machine.specs.Waits.{WaitsByPlace, WhatWaits, AskedPassing};
-ghost use Rattle.td_machine.specs.Sends.{TasksOfPlan, ComeOfPlan, TurnsOfPlan};
+ghost use Rattle.td_machine.specs.Sends.{TasksOfPlan, ComeOfPlan, TurnsOfPlan, SentOfPlan};
 ghost use Rattle.td_machine.specs.ByEdge.{PostsByEdge, StampsByEdge, BatchByEdge, BatchStampsByEdge, StampsOfTask, OutputsAtOnce, AsksOnce};
 
 use crate::records::{Message, Notification, OutputAt, Stamped, StateLeft};
@@ -230,6 +230,13 @@ pub fn come_of_plan<L: Law>()
 /// no enter leads, a leave and a feedback stand in a loop, and a loop has a bound from 1 to 1,000.
 pub fn turns_of_plan()
     ensures { TurnsOfPlan }
+{
+    laws_below();
+}
+
+/// And what it sends at these times is of the plan, on each edge out of it.
+pub fn sent_of_plan()
+    ensures { SentOfPlan }
 {
     laws_below();
 }

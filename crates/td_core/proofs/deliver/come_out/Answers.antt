@@ -34,4 +34,4 @@ returns-clause-ok c =
     sent_then floor (record floor { table = c.prepare.new.table; shards = c.post.new.shards; outputs = c.come.new.self }) c.args.vertex c.args.time.now c.args.time.now c.requires.plain
     c.outlets-outlets.result.now (c.outlets-outlets.ensures ∙ c.requires.can.sites.outlets c.args.vertex) c.args.recs.now floor.seen came c.prepare.new.shards.items
     (λ i. record floor { table = c.prepare.new.table; shards = c.post.new.shards; outputs = comes i })
-    c.in_ok-prepare.ensures.plan c.in_ok-prepare.ensures.stamps c.in_ok-prepare.ensures.shards c.post.ensures
+    c.in_ok-prepare.ensures.plan c.in_ok-prepare.ensures.stamps c.in_ok-prepare.ensures.shards c.post.ensures.messages

@@ -24,4 +24,4 @@ returns-clause-ok c =
     let times : times_from floor.table.plan c.args.vertex c.args.time.now ≡ c.in-Some.later ∷ [] = sym (c.in-Some.ensures ∙ looked_up floor.table.plan floor.sites c.requires.sites c.args.vertex c.args.time.now) in
     sent_then floor (record floor { table = c.prepare.new.table; shards = c.post.new.shards }) c.args.vertex c.args.time.now c.in-Some.later times c.outlets-outlets.result.now
     (c.outlets-outlets.ensures ∙ c.requires.sites.outlets c.args.vertex) c.args.recs.now floor.seen floor.outputs c.prepare.new.shards.items refl c.in_ok-prepare.ensures.plan c.in_ok-prepare.ensures.stamps
-    c.in_ok-prepare.ensures.shards c.post.ensures
+    c.in_ok-prepare.ensures.shards c.post.ensures.messages

@@ -65,4 +65,4 @@ returns-clause-ok c =
     (c.lower_on-2.ensures.plan ∙ c.in_ok-prepare.ensures.plan)
     (λ p. stamps p ∙ ap (λ n. occurrences p (stamps_on outs t n ++ floor.table.stamps)) (many ∙ ap length same))
     c.in_ok-prepare.ensures.shards
-    (subst (λ new. IsPosted (on_each outs t new) c.prepare.new.shards.items c.post.new.shards.items) (c.as_slice.ensures.value ∙ (c.in-Ok.ensures.answer ∙ same)) c.post.ensures)
+    (subst (λ new. IsPosted (on_each outs t new) c.prepare.new.shards.items c.post.new.shards.items) (c.as_slice.ensures.value ∙ (c.in-Ok.ensures.answer ∙ same)) c.post.ensures.messages)

@@ -1,0 +1,61 @@
+-- A batch that is released, input by input.
+use Rattle.std.specs.Prelude.{◌≡◌, ℕ, ◌+◌, ◌<◌, List, [], ◌∷◌, ◌++◌, map, flat_map, length}
+use Rattle.std.specs.VecDeque.{deque_len, deque_capacity}
+use Rattle.td_stamp.specs.declared.values.Rec.{Rec}
+use Rattle.td_stamp.specs.declared.values.Entry.{Entry}
+use Rattle.td_stamp.specs.Batch.{records_for}
+use Rattle.td_stamp.specs.Time.{Timestamp}
+use Rattle.td_progress.specs.Bag.{IsSameBag, input_stamp}
+use Rattle.td_machine.specs.declared.records.Message.{Message}
+use Rattle.td_machine.specs.Steps.{posts, entered}
+use Rattle.td_machine.specs.Moves.{come_released}
+use Rattle.td_core.specs.declared.floor.Floor.{Floor}
+use Rattle.td_core.specs.declared.raising.Rise.{Rise}
+use Rattle.td_core.specs.declared.release.Load.{Load}
+use Rattle.td_core.specs.declared.sites.Sites.{Sites}
+use Rattle.td_core.specs.Floor.{state_of}
+use Rattle.td_core.specs.Posted.{IsPosted, IsRoomier, on_each, stamp_on_outlet}
+use Rattle.td_core.specs.Sites.{outlets_in}
+
+-- an input with the records that a batch gives it
+abbrev pub load_of : Load → ℕ × List Rec
+load_of load = (load.input, load.recs.items)
+
+-- those of some inputs
+abbrev pub loads_in : List ℕ → List Entry → List (ℕ × List Rec)
+loads_in inputs batch = map (λ i. (i, records_for i batch)) inputs
+
+-- the time at which an epoch begins
+abbrev pub start_of : ℕ → Timestamp
+start_of epoch = record { epoch = epoch; turns = [] }
+
+-- the records, each as often as there are edges out of its input
+abbrev pub recs_out : Sites → ℕ × List Rec → List Rec
+recs_out sites load = flat_map (λ o. load.1) (outlets_in sites load.0)
+
+-- the messages: on each edge out of its input one of each record
+abbrev pub messages_of : Sites → ℕ → ℕ × List Rec → List Message
+messages_of sites epoch load = on_each (outlets_in sites load.0) (start_of epoch) load.1
+
+-- what occurs more often: these messages, and their input at the next epoch
+abbrev pub rises_of : Sites → ℕ → ℕ × List Rec → List Rise
+rises_of sites epoch load = map (λ o. record { stamp = stamp_on_outlet (start_of epoch) o; times = length load.1 }) (outlets_in sites load.0)
+    ++ record { stamp = input_stamp (epoch + 1) load.0; times = 1 } ∷ []
+
+-- A BATCH IS IN, but for its own place among the batches, for which there is room
+pub record IsIn (batch : List Entry) (floor new : Floor) : Type 0 where
+  pub parts : new ≡ record floor { table = new.table; shards = new.shards; batches = new.batches; next = floor.next + 1 }
+  pub posted : IsPosted (posts floor.table.plan (map (entered floor.next) batch)) floor.shards.items new.shards.items
+  pub plan : new.table.plan ≡ floor.table.plan
+  -- its messages and the inputs of the next epoch are active, and the inputs of its own are not
+  pub stamps : IsSameBag (come_released (state_of floor) batch ++ floor.table.stamps) (map (input_stamp floor.next) floor.inputs.items ++ new.table.stamps)
+  pub batches : new.batches.items ≡ floor.batches.items
+  pub room : deque_len new.batches < deque_capacity new.batches
+
+-- NOTHING IS IN: there is but more room
+pub record IsAsBefore (floor new : Floor) : Type 0 where
+  pub parts : new ≡ record floor { table = new.table; shards = new.shards; batches = new.batches }
+  pub roomier : IsRoomier floor.shards.items new.shards.items
+  pub plan : new.table.plan ≡ floor.table.plan
+  pub stamps : IsSameBag new.table.stamps floor.table.stamps
+  pub batches : new.batches.items ≡ floor.batches.items

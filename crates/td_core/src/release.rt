@@ -1,0 +1,197 @@
+//! Releasing a batch into the inputs.
+ghost use Rattle.std.specs.Prelude.{◌≡◌, ◌+◌, ◌^◌, ◌<◌, ◌≤◌, ◌++◌, false, true, List, map, flat_map, length, IfOk, IfErr, OnOk, OnErr};
+ghost use Rattle.td_stamp.specs.Batch.{records_for};
+ghost use Rattle.td_progress.specs.Bag.{IsSameBag, input_stamp};
+ghost use Rattle.td_machine.specs.Active.{active, inputs_of};
+ghost use Rattle.td_machine.specs.Steps.{accepts, release_step};
+ghost use Rattle.td_machine.specs.Steps.Answer.{has_released};
+ghost use Rattle.td_core.specs.Floor.{IsHall};
+ghost use Rattle.td_core.specs.Posted.{IsPosted, HaveRoom};
+ghost use Rattle.td_core.specs.Refusals.{IsRefused};
+ghost use Rattle.td_core.specs.Released.{IsIn, IsAsBefore, load_of, loads_in, recs_out, messages_of, rises_of};
+ghost use Rattle.td_core.specs.declared.sites.Outlet.{Outlet as AnyOutlet};
+ghost use Rattle.td_core.specs.declared.error.HallError.TheVariants.{Memory};
+
+use crate::close::take_off_inputs;
+use crate::error::HallError;
+use crate::floor::Floor;
+use crate::hall::Hall;
+use crate::posting::{make_room, post};
+use crate::raising::{Rise, raise, rises_on};
+use crate::sites::{Outlet, Sites};
+use std::alloc::{AllocError, Global};
+use td_calls::Law;
+use td_machine::laws::{bags_of_states, come_of_plan, in_parts, reached, reached_in_order, sent_of_plan, stamps_move};
+use td_plan::laws::look_ups;
+use td_progress::laws::counted;
+use td_reach::{Place, Stamp};
+use td_shard::Shard;
+use td_stamp::laws::bags_by_any_order;
+use td_stamp::{Batch, Entry, Rec, Time};
+
+/// Epochs are numbered below this.
+const ENDS: u64 = 1 << 63;
+
+/// The records that a batch gives an input.
+#[derive(Drop)]
+pub(crate) struct Load {
+    pub input: u8,
+    pub recs: Vec<Rec>,
+}
+
+impl<L: Law> Hall<L> {
+    /// Releases a batch, and answers its epoch: at the time of that epoch each entry's record goes out on every edge out of its
+    /// input (Naiad, section 2.2, SendBy of an input). The messages are O(n) for n entries, and so is what they cost.
+    ///
+    /// Refusals, with the batch handed back and nothing changed: `Closed`, where the inputs are; else `Epochs`, where the last
+    /// number of an epoch, 2^63 - 1, is used; and `Memory`.
+    pub fn release(&mut self, batch: Batch) -> Result<u64, (HallError, Batch)>
+        requires { accepts self.old.plan batch ≡ true }
+        ensures released { IfOk result (λ epoch. release_step self.old batch ≡ (has_released epoch, self.new)) }
+        ensures refused { IfErr result (λ e. IsRefused (release_step self.old batch) self.old e.0) }
+        ensures err { OnErr result (self.new ≡ self.old) }
+        ensures back { IfErr result (λ e. e.1 ≡ batch) }
+    {
+        reached::<L>();
+        reached_in_order::<L>();
+        stamps_move::<L>();
+        bags_of_states();
+        counted();
+        if self.floor.closed {
+            return Err((HallError::Closed, batch));
+        }
+        if self.floor.next == ENDS {
+            return Err((HallError::Epochs, batch));
+        }
+        match bring_in::<L>(&mut self.floor, &batch) {
+            Ok(epoch) => {
+                self.floor.batches.push_back_reserved(batch);
+                Ok(epoch)
+            }
+            Err(error) => Err((error, batch)),
+        }
+    }
+}
+
+/// Brings a batch in, but for its own place among the batches, for which it makes room; and answers its epoch. All growth comes
+/// first, and the pointstamps are the last that may be refused. Refusal: `Memory`, with nothing changed but for more room.
+fn bring_in<L: Law>(floor: &mut Floor, batch: &Batch) -> Result<u64, HallError>
+    requires hall { IsHall L.answers floor.old }
+    requires accepted { accepts floor.old.table.plan batch.now ≡ true }
+    requires open { floor.old.closed ≡ false }
+    requires below { floor.old.next < 2 ^ 63 }
+    ensures epoch { IfOk result (λ epoch. epoch ≡ floor.old.next) }
+    ensures ok { OnOk result (IsIn batch.now floor.old floor.new) }
+    ensures err { OnErr result (IsAsBefore floor.old floor.new) }
+    ensures memory { IfErr result (λ e. e ≡ Memory) }
+{
+    in_parts();
+    sent_of_plan();
+    come_of_plan::<L>();
+    reached_in_order::<L>();
+    look_ups();
+    bags_by_any_order::<Entry>();
+    counted();
+    let _ = batch.list();
+    let epoch = floor.next;
+    let loads = loads_of(floor.alloc, floor.inputs.as_slice(), batch)?;
+    let rises = rises_in(floor.alloc, &floor.sites, loads.as_slice(), epoch)?;
+    let recs = recs_going_out(floor.alloc, &floor.sites, loads.as_slice())?;
+    make_room(&mut floor.shards, recs.as_slice(), 1)?;
+    floor.batches.reserve(1)?;
+    raise(&mut floor.table, rises.as_slice())?;
+    post_loads(&mut floor.shards, &floor.sites, loads.as_slice(), epoch);
+    take_off_inputs(&mut floor.table, floor.inputs.as_slice(), epoch);
+    floor.next += 1;
+    Ok(epoch)
+}
+
+/// The records that a batch gives each of some inputs. Refusal: out of memory.
+fn loads_of(alloc: Global, inputs: &[u8], batch: &Batch) -> Result<Vec<Load>, AllocError>
+    ensures { IfOk result (λ loads. map load_of loads.items ≡ loads_in inputs.now batch.now) }
+{
+    let mut loads = Vec::with_capacity(alloc, inputs.len())?;
+    for input in inputs {
+        loads.push_reserved(Load {
+            input: *input,
+            recs: records_of(alloc, batch, *input)?,
+        });
+    }
+    Ok(loads)
+}
+
+/// The records that a batch gives an input. Refusal: out of memory.
+fn records_of(alloc: Global, batch: &Batch, input: u8) -> Result<Vec<Rec>, AllocError>
+    ensures { IfOk result (λ recs. recs.items ≡ records_for input batch.now) }
+{
+    batch.records(input).collect(alloc)
+}
+
+/// The records of loads, each as often as there are edges out of its input. Refusal: out of memory.
+fn recs_going_out(alloc: Global, sites: &Sites, loads: &[Load]) -> Result<Vec<Rec>, AllocError>
+    ensures { IfOk result (λ recs. recs.items ≡ flat_map (recs_out sites.now) (map load_of loads.now)) }
+{
+    let mut recs = Vec::new(alloc);
+    for load in loads {
+        push_for_each(&mut recs, sites.outlets(load.input), load.recs.as_slice())?;
+    }
+    Ok(recs)
+}
+
+/// Puts records at the end of a list, once for each of some outlets. Refusal: out of memory.
+fn push_for_each(list: &mut Vec<Rec>, outlets: &[Outlet], recs: &[Rec]) -> Result<(), AllocError>
+    ensures { OnOk result (list.new.items ≡ list.old.items ++ flat_map (λ (o : AnyOutlet). recs.now) outlets.now) }
+{
+    for _outlet in outlets {
+        list.extend_from_slice(recs)?;
+    }
+    Ok(())
+}
+
+/// What occurs more often when loads come in at an epoch: their messages, and their inputs at the next epoch. Refusal: `Memory`.
+fn rises_in(
+    alloc: Global,
+    sites: &Sites,
+    loads: &[Load],
+    epoch: u64,
+) -> Result<Vec<Rise>, HallError>
+    requires { epoch < 2 ^ 63 }
+    ensures rises { IfOk result (λ rises. rises.items ≡ flat_map (rises_of sites.now epoch) (map load_of loads.now)) }
+    ensures memory { IfErr result (λ e. e ≡ Memory) }
+{
+    let time = Time::new(epoch);
+    let mut rises = Vec::new(alloc);
+    for load in loads {
+        let outlets = sites.outlets(load.input);
+        let mut more = rises_on(alloc, outlets, &time, load.recs.len() as u64)?;
+        rises.append(&mut more)?;
+        rises.push(rise_of_input(load.input, epoch + 1))?;
+    }
+    Ok(rises)
+}
+
+/// An input occurs once more, at an epoch.
+fn rise_of_input(input: u8, epoch: u64) -> Rise
+    ensures { result ≡ record { stamp = input_stamp epoch input; times = 1 } }
+{
+    Rise {
+        stamp: Stamp {
+            time: Time::new(epoch),
+            place: Place::Vertex(input),
+        },
+        times: 1,
+    }
+}
+
+/// Posts loads at an epoch, input by input, to every edge out of each. Takes no memory: room was made.
+fn post_loads(shards: &mut Vec<Shard>, sites: &Sites, loads: &[Load], epoch: u64)
+    requires some { 1 ≤ length shards.old.items }
+    requires few { length shards.old.items ≤ 16 }
+    requires room { HaveRoom (flat_map (recs_out sites.now) (map load_of loads.now)) 1 shards.old.items }
+    ensures { IsPosted (flat_map (messages_of sites.now epoch) (map load_of loads.now)) shards.old.items shards.new.items }
+{
+    let time = Time::new(epoch);
+    for load in loads {
+        post(shards, sites.outlets(load.input), &time, load.recs.as_slice());
+    }
+}
