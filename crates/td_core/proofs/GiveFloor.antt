@@ -1,19 +1,24 @@
 -- A hall to which a task was given back, whatever the task had to do.
-use Rattle.std.proofs.Common.{◌≡◌, ℕ, ◌+◌, ◌≤◌, ◌<◌, Option, Some, refl, sym, ap, ◌∙◌, subst, arith, length}
+use Rattle.std.proofs.Common.{◌≡◌, ℕ, ◌+◌, ◌≤◌, ◌<◌, Option, Some, Result, Ok, Err, OnOk, OnErr, refl, sym, ap, ◌∙◌, subst, arith, length}
 use Rattle.std.specs.List.{Contains}
 use Rattle.td_calls.specs.Answers.{Answers}
 use Rattle.td_reach.specs.declared.stamp.Stamp.{Stamp}
 use Rattle.td_progress.specs.Bag.{occurrences}
-use Rattle.td_machine.specs.State.{Task, Content}
+use Rattle.td_machine.specs.State.{HallState, Task, Content}
 use Rattle.td_machine.specs.State.Content.{messages, notification}
 use Rattle.td_machine.specs.Moves.{gone_given}
-use Rattle.td_machine.specs.Steps.{effect, is_given, ends}
+use Rattle.td_machine.specs.Steps.{Gives, effect, is_given, ends}
+use Rattle.td_machine.specs.Steps.Answer.{has_given, refused}
+use Rattle.td_machine.specs.Steps.Gives.{gives, is_stranger}
+use Rattle.td_machine.specs.Steps.Refusal.{stranger}
+use Rattle.td_core.specs.declared.error.HallError.{HallError}
 use Rattle.td_core.specs.declared.floor.Floor.{Floor}
 use Rattle.td_core.specs.Floor.{state_of, IsHall}
-use Rattle.td_core.specs.Given.{IsAnswered, IsEnded}
+use Rattle.td_core.specs.Given.{IsAnswered, IsEnded, IsUntouched}
 use Rattle.td_core.specs.Sites.{IsSites}
 use Rattle.td_core.proofs.DeliverSteps as deliver
 use Rattle.td_core.proofs.DeliverSteps.{DeliverLaws}
+use Rattle.td_core.proofs.GiveSteps.{untouched_state, untouched_hall}
 use Rattle.td_core.proofs.NotifyGiven as notify
 use Rattle.td_core.proofs.NotifySteps.{NotifyLaws}
 
@@ -72,3 +77,22 @@ module _ (answers : Answers) (laws : DeliverLaws answers) (waits : NotifyLaws) (
 
     pub kept : (end : Floor) → IsEnded task mid end → IsHall answers end
     kept end ended = kept_for task.content refl is end ended
+
+-- A CALL OF GIVE: the hall is one still, and its step is the machine's
+module _ {T : Type 0} (answers : Answers) (old new : Floor) where
+  pub hall_still : (r : Result T HallError) → OnOk r (IsHall answers new) → OnErr r (IsUntouched old new) → IsHall answers old → IsHall answers new
+  hall_still (Ok x) is same inv = is
+  hall_still (Err e) is same inv = untouched_hall old new same answers inv
+
+  pub has_given_it : (S : HallState) (task : Task) (r : Result T HallError) (x : T) → r ≡ Ok x → state_of old ≡ S → Contains old.out.items task
+      → OnOk r (state_of new ≡ is_given (effect answers (state_of old) task task.content) task) → Gives answers S task has_given (state_of new)
+  has_given_it S task r x e view there is =
+      let now : state_of new ≡ is_given (effect answers (state_of old) task task.content) task =
+            subst (λ q. OnOk q (state_of new ≡ is_given (effect answers (state_of old) task task.content) task)) e is in
+      subst (λ U. Gives answers U task has_given (state_of new)) view (subst (Gives answers (state_of old) task has_given) (sym now) (gives there))
+
+  pub as_it_was : (S : HallState) (r : Result T HallError) (e : HallError) → r ≡ Err e → state_of old ≡ S → OnErr r (IsUntouched old new) → state_of new ≡ S
+  as_it_was S r e is view same = untouched_state old new (subst (λ q. OnErr q (IsUntouched old new)) is same) ∙ view
+
+pub is_no_task : (answers : Answers) (S : HallState) (task : Task) → (Contains S.out task → ⊥) → Gives answers S task (refused stranger) S
+is_no_task answers S task none = is_stranger none

@@ -90,7 +90,8 @@ module _ (S : HallState) (s v : ℕ) (t : Timestamp) where
   all_below : (n most : ℕ) (shards : List Shard) → n + length shards ≤ most → AllByRecursion (IsBelow most) (flat_map asked_in (enumerate_from n shards))
   all_below n most [] l = tt
   all_below n most (x ∷ shards) l =
-      both (IsBelow most) (map (asked_of_shard n) x.waiting) (flat_map asked_in (enumerate_from (n + 1) shards)) (asked_below n most (omega (arith, l)) x.waiting) (all_below (n + 1) most shards (omega (arith, l)))
+      both (IsBelow most) (map (asked_of_shard n) x.waiting) (flat_map asked_in (enumerate_from (n + 1) shards))
+      (asked_below n most (omega (arith, l)) x.waiting) (all_below (n + 1) most shards (omega (arith, l)))
 
   found_below : (most : ℕ) (xs all : List Notification) → AllByRecursion (IsBelow most) all → AllByRecursion (Contains all) xs → has notification_cmp its xs ≡ true → s < most
   found_below most [] all h c e = absurd (true≢false (sym e))
@@ -116,7 +117,8 @@ none_left epoch v (k ∷ keys) = refl
 none_more : {X : Type 0} {x : X} → None ≡ Some x → ⊥
 none_more e = cc
 
-left_suc : (epoch v : ℕ) (keys : List KeyItems) (states : List (Option State)) (i : ℕ) (k : KeyItems) (d : Option State) → slice_get keys i ≡ Some k → i < length states
+left_suc : (epoch v : ℕ) (keys : List KeyItems) (states : List (Option State)) (i : ℕ) (k : KeyItems) (d : Option State)
+    → slice_get keys i ≡ Some k → i < length states
     → left_for epoch v keys (take (suc i) states) ≡ left_for epoch v keys (take i states) ++ a_state epoch v k (get_or states i d) ∷ []
 left_suc epoch v [] states i k d e l = absurd (none_more e)
 left_suc epoch v (x ∷ keys) [] i k d e l = absurd (omega (arith, l))

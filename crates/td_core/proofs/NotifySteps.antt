@@ -61,7 +61,8 @@ module _ (task : Task) where
       }
       by false = record { items = h.items; once = h.once }
 
-  pub all_still : (workers n : ℕ) (all : List AskedList) → AllByRecursion (IsWaiting workers) (enumerate_from n all) → AllByRecursion (IsWaiting workers) (enumerate_from n (map left_in (enumerate_from n all)))
+  pub all_still : (workers n : ℕ) (all : List AskedList) → AllByRecursion (IsWaiting workers) (enumerate_from n all)
+      → AllByRecursion (IsWaiting workers) (enumerate_from n (map left_in (enumerate_from n all)))
   all_still workers n [] h = tt
   all_still workers n (w ∷ all) h = (still_waiting workers (n, w) h.0, all_still workers (n + 1) all h.1)
 

@@ -29,7 +29,8 @@ end-requires-clause-one_a_shard g c =
     } in
     let waits : NotifyLaws = record { messages = c.bags_of_states.ensures.messages; place = c.what_waits.ensures.place; asked = c.what_waits.ensures.asked } in
     let out = among c.args.floor.now.out.items c.args.place c.args.done.now c.requires.there in
-    subst (λ v. OneAShard v.items) (sym (out_still g.L.Law.answers laws waits c.args.floor.now c.answer.new.floor c.args.done.now out c.requires.hall c.in_ok-answer.ensures.ok)) (c.reached_in_order.ensures.tasks _ c.requires.hall.reached).one_a_shard
+    subst (λ v. OneAShard v.items)
+    (sym (out_still g.L.Law.answers laws waits c.args.floor.now c.answer.new.floor c.args.done.now out c.requires.hall c.in_ok-answer.ensures.ok)) (c.reached_in_order.ensures.tasks _ c.requires.hall.reached).one_a_shard
 
 pub end-requires-clause-active : goal.end-requires-clause-active
 end-requires-clause-active g c =

@@ -52,7 +52,7 @@ take_waiting-requires g c =
     let below = one_of_shards S task.shard task.vertex task.time c.bags_of_states.ensures.notifications floor.shards.items content.0 in
     let shard : c.task-task.result.now.shard ≡ task.shard = ap (λ (t : Task). t.shard) c.task-task.ensures in
     let roomier = as_many_mails floor.shards.items c.make_room.new.shards.items c.make_room.ensures.same.mails in
-    let posted = as_many_waits c.make_room.new.shards.items c.post.new.shards.items c.post.ensures.waiting in
+    let posted = as_many_waits c.make_room.new.shards.items c.post.new.shards.items c.post.ensures.messages.waiting in
     omega (arith, below, shard, roomier, posted)
 
 pub returns-clause-ok : goal.returns-clause-ok
@@ -69,9 +69,9 @@ returns-clause-ok g c =
     let outlets = c.outlets_for-outlets.ensures ∙ ap (λ v. outlets_for floor.sites v recs) (c.vertex.ensures ∙ ap (λ (t : Task). t.vertex) is) in
     let time : c.time.result.now ≡ task.time = c.time.ensures ∙ ap (λ (t : Task). t.time) is in
     let time_then : c.time-2.result.now ≡ task.time = c.time-2.ensures ∙ ap (λ (t : Task). t.time) is in
-    let posted = roomier_then_posted (on_each os c.time-2.result.now recs) floor.shards.items c.make_room.new.shards.items c.post.new.shards.items c.make_room.ensures.same c.post.ensures in
-    let left = c.in_ok-raise_and_leave.ensures.left ∙ (ap (λ l. join left_cmp l floor.versions) (c.as_slice-2.ensures.value ∙ (c.in_ok-left.ensures ∙ ((λ i. left_for (is i).time.epoch (is i).vertex items (c.states.ensures i))
-          ∙ sym (c.a_notification_leaves.ensures task task.time.epoch task.vertex items c.requires.content))))) in
+    let posted = roomier_then_posted (on_each os c.time-2.result.now recs) floor.shards.items c.make_room.new.shards.items c.post.new.shards.items c.make_room.ensures.same c.post.ensures.messages in
+    let keys = (λ i. left_for (is i).time.epoch (is i).vertex items (c.states.ensures i)) ∙ sym (c.a_notification_leaves.ensures task task.time.epoch task.vertex items c.requires.content) in
+    let left = c.in_ok-raise_and_leave.ensures.left ∙ ap (λ l. join left_cmp l floor.versions) (c.as_slice-2.ensures.value ∙ (c.in_ok-left.ensures ∙ keys)) in
     record {
       parts = λ i. record floor { table = c.raise_and_leave.new.table; shards = c.take_waiting.new.shards; versions = left i };
       plan = c.in_ok-raise_and_leave.ensures.plan;

@@ -1,0 +1,44 @@
+use Rattle.std.proofs.Common.{◌≡◌, Some, OnOk, OnErr, inr, refl, sym, ap, ◌∙◌, subst}
+use Rattle.std.specs.List.{Contains, slice_get}
+use Rattle.td_machine.specs.State.{Task}
+use Rattle.td_machine.specs.Steps.{Gives}
+use Rattle.td_machine.specs.Steps.Answer.{has_given}
+use Rattle.td_machine.specs.Steps.Refusal.{stranger}
+use Rattle.td_core.specs.Floor.{state_of}
+use Rattle.td_core.proofs.GiveFloor.{hall_still, has_given_it, as_it_was, is_no_task}
+use Rattle.td_core.proofs.GiveSteps.{among}
+use Rattle.td_core.proofs.hall.Hall.give.Goals as goal
+use Rattle.td_core.proofs.hall.Hall.give.Goals.{in-Ok, in-Err}
+
+pub returns-in_default-clause-refused : goal.returns-in_default-clause-refused
+returns-in_default-clause-refused g c =
+    let tasks = sym (ap (λ S. S.out) c.self.view_is) ∙ sym c.as_slice.ensures.value in
+    inr (stranger, refl, is_no_task g.L.Law.answers c.args.self.now c.args.done (λ there.
+        c.in_default.ensures.missing refl (subst (λ (t : Task). Contains c.as_slice.result.now t) (sym c.task.ensures) (subst (λ l. Contains l c.args.done) tasks there))))
+
+pub invariant_of-self : goal.invariant_of-self
+invariant_of-self g c =
+    hall_still g.L.Law.answers c.self.inside.floor c.give_floor.new.floor c.give_floor.result c.give_floor.ensures.hall c.give_floor.ensures.err c.self.invariant
+
+pub returns-clause-given : goal.returns-clause-given
+returns-clause-given g c =
+    let floor = c.self.inside.floor in
+    let new = c.give_floor.new.floor in
+    let found : slice_get floor.out.items c.in-Some.place ≡ Some c.args.done =
+          ap (λ l. slice_get l c.in-Some.place) (sym c.as_slice.ensures.value) ∙ (c.in-Some.ensures.there ∙ ap Some c.task.ensures) in
+    let there = among floor.out.items c.in-Some.place c.args.done found in
+    elim c.match-give_floor.branch [
+      | in-Ok w ↦ subst (λ r. OnOk r (Gives g.L.Law.answers c.args.self.now c.args.done has_given (state_of new))) (sym w.result-is)
+          (has_given_it g.L.Law.answers floor new c.args.self.now c.args.done c.give_floor.result _ w.in-Ok.is c.self.view_is there c.give_floor.ensures.state)
+      | in-Err w ↦ subst (λ r. OnOk r (Gives g.L.Law.answers c.args.self.now c.args.done has_given (state_of new))) (sym w.result-is) tt
+    ]
+
+pub returns-clause-err : goal.returns-clause-err
+returns-clause-err g c =
+    let floor = c.self.inside.floor in
+    let new = c.give_floor.new.floor in
+    elim c.match-give_floor.branch [
+      | in-Ok w ↦ subst (λ r. OnErr r (state_of new ≡ c.args.self.now)) (sym w.result-is) tt
+      | in-Err w ↦ subst (λ r. OnErr r (state_of new ≡ c.args.self.now)) (sym w.result-is)
+          (as_it_was g.L.Law.answers floor new c.args.self.now c.give_floor.result _ w.in-Err.is c.self.view_is c.give_floor.ensures.err)
+    ]
