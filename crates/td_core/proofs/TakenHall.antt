@@ -1,5 +1,5 @@
 -- A hall from which a task was taken, and one to which it was put back.
-use Rattle.std.proofs.Common.{◌≡◌, ◌⊎◌, inl, inr, ℕ, zero, suc, ◌+◌, ◌-◌, ◌<◌, ◌≤◌, ◌==◌, Bool, true, false, List, [], ◌∷◌, ◌++◌, map, flat_map, length, get_or, slice_get, HoldsAt, Option, Some, None, is_some, refl, ap, sym, ◌∙◌, subst, arith, append-nil, append_assoc}
+use Rattle.std.proofs.Common.{◌≡◌, ◌⊎◌, inl, inr, ℕ, zero, suc, ◌+◌, ◌-◌, ◌<◌, ◌≤◌, ◌==◌, Bool, true, false, List, [], ◌∷◌, ◌++◌, map, flat_map, length, get_or, slice_get, HoldsAt, Option, Some, None, is_some, refl, ap, sym, ◌∙◌, subst, arith, append-nil, append_assoc, pos, Result, Ok, Err, IfOk, IfErr, OnErr}
 use Rattle.std.specs.declared.cmp.Ordering.{Ordering}
 use Rattle.std.specs.declared.cmp.Ordering.TheVariants.{Less, Equal, Greater}
 use Rattle.std.specs.Ordering.{nat_cmp}
@@ -19,14 +19,18 @@ use Rattle.td_calls.specs.Answers.{Answers}
 use Rattle.td_progress.specs.Bag.{IsSameBag}
 use Rattle.td_machine.specs.Reached.{IsReached}
 use Rattle.td_machine.specs.declared.records.Message.{Message}
-use Rattle.td_machine.specs.Active.{active, stamp_at, Frontier}
+use Rattle.td_machine.specs.Active.{active, kind_of, stamp_at, Frontier}
 use Rattle.td_machine.specs.InOrder.{ListsInOrder, TasksInOrder, NumbersInOrder, StillThere}
 use Rattle.td_machine.specs.State.{HallState, Task, Content, message_cmp, notification_cmp, task_cmp, shard_of_key, is_out}
 use Rattle.td_machine.specs.State.Content.{messages, notification}
 use Rattle.td_machine.specs.Steps.{Takes, MayTake, IsContent, coming, with_task, with_state_of, to_notify, is_asked, task_size, ends, waiting}
 use Rattle.td_machine.specs.Steps.Event.{taking}
 use Rattle.td_machine.specs.Steps.Answer.{has_taken}
-use Rattle.td_machine.specs.Steps.Takes.{takes}
+use Rattle.td_machine.specs.Steps.Takes.{takes, has_none, is_spent}
+use Rattle.td_machine.specs.Steps.Refusal.{spent}
+use Rattle.td_machine.specs.NoneLeft.{NoneToTake}
+use Rattle.std.proofs.lemmas.Option.{slice_get-get_or}
+use Rattle.td_core.specs.declared.error.HallError.{HallError}
 use Rattle.td_machine.specs.Waits.{WaitsByPlace, WhatWaits}
 use Rattle.td_shard.specs.declared.noted.Noted.{Noted}
 use Rattle.td_shard.specs.declared.shard.Shard.{Shard}
@@ -37,14 +41,14 @@ use Rattle.td_core.specs.declared.take.Candidate.{Candidate}
 use Rattle.td_core.specs.declared.take.Candidate.TheVariants as candidates
 use Rattle.td_core.specs.Floor.{state_of, IsHall, IsShard, empty_shard, in_mailboxes, with_tasks, taken_up, waiting_in, waiting_at, asked_in}
 use Rattle.td_core.specs.Posted.{mails, waits}
-use Rattle.td_core.specs.Taking.{IsReady, IsPicked, IsFor, IsTaskFor, IsTakenFor, mails_without, changed_at, stamp_of_noted}
+use Rattle.td_core.specs.Taking.{IsReady, IsPicked, IsFor, IsTaskFor, IsTakenFor, IsSame, IsPickTaken, IsPickRefused, IsTakeRefused, mails_without, changed_at, stamp_of_noted}
 use Rattle.td_core.proofs.CollectSteps.{ReachedByStep}
 use Rattle.td_core.proofs.PostingSteps.{as_many_waits, same_buffered, same_asked}
 use Rattle.td_core.proofs.ShardParts.{IsMail, mail_of, waiting_of, united}
 use Rattle.td_core.proofs.Waits.{waiting_all, as_messages}
 use Rattle.td_core.proofs.WaitsAll.{waiting_by_lists, IsWaiting}
 use Rattle.td_core.proofs.TakeLists.{IsKeyOf, every, weaker, of_two, of_first, of_second, in_bag, of_bag, come_back, flat, flat_mails, less_there, more_there, same_bag, mails_stay, at_own, get_map}
-use Rattle.td_core.proofs.TakeSteps.{InAnyOrder, key_there, split_all, all_else, items_own, in_state, asked_there}
+use Rattle.td_core.proofs.TakeSteps.{InAnyOrder, key_there, split_all, all_else, items_own, in_state, asked_there, none_here}
 
 -- what is known of the tasks of a mailbox
 abbrev pub Parted : Type 0
@@ -215,3 +219,124 @@ module _ (answers : Answers) (floor : Floor) (inv : IsHall answers floor) (bags 
       next = inv.next;
       sites = inv.sites;
     })
+
+  -- A FLOOR with no more than room is the same hall
+  pub same_state : (new : Floor) → IsSame floor new → state_of new ≡ S
+  same_state new is = ap state_of is.parts ∙ (λ i. record S { messages = bag_of message_cmp (in_mailboxes shards ++ with_tasks (is.out i)); out = is.out i })
+
+  pub same_hall : (new : Floor) → IsSame floor new → IsHall answers new
+  same_hall new is = subst (IsHall answers) (sym is.parts) (record {
+    reached = subst (IsReached answers) (sym (same_state new is) ∙ ap state_of is.parts) inv.reached;
+    counted = subst (λ T. IsSameBag floor.table.stamps (active T)) (sym (same_state new is) ∙ ap state_of is.parts) inv.counted;
+    inputs = inv.inputs;
+    shards = inv.shards;
+    few = inv.few;
+    next = inv.next;
+    sites = inv.sites;
+  })
+
+  -- WHAT A TAKE ANSWERS
+  module _ (parted : Parted) (some : HaveSome) (few : AreFew) (beside : AreBeside) (place_law : WaitsByPlace) (waits_law : WhatWaits) (none : NoneToTake) (steps : ReachedByStep answers)
+      (s pick : ℕ) (l : s < W) (free : is_out S s ≡ false) where
+    abbrev at_shard : Shard
+    at_shard = get_or shards s empty_shard
+
+    pub may_take : (c : Candidate) (task : Task) → IsPicked floor.table at_shard pick (Some c) → IsTaskFor floor s at_shard c task → MayTake S s task
+    may_take (candidates.Message place) task picked is = record {
+      shard = is.shard_is;
+      number = is.number;
+      kind = is.kind;
+      content = subst (IsContent S s task.vertex task.time) (sym is.content.2) (may_messages parted s l some few place task.vertex is.content.0 task.time is.content.1 picked.0 is.content.3);
+    }
+    may_take (candidates.Notification n) task picked is = record {
+      shard = is.shard_is;
+      number = is.number;
+      kind = is.kind;
+      content = subst (λ (x : ℕ × Timestamp). IsContent S s x.0 x.1 task.content) (λ i. (sym is.content.0 i, sym is.content.1 i))
+          (may_notify parted s l place_law waits_law n picked.1.0 picked.1.1 picked.1.3 picked.1.6 task.content is.content.2);
+    }
+
+    nothing : Message
+    nothing = record { vertex = 0; port = 0; time = record { epoch = 0; turns = [] }; rec = record { key = 0; val = pos 0 } }
+
+    -- there is a task for each candidate
+    pub some_task : (c : Candidate) → IsPicked floor.table at_shard pick (Some c) → (task : Task) × MayTake S s task
+    some_task (candidates.Message place) picked =
+        let ms = at_shard.mailbox.messages in
+        let m = get_or ms place nothing in
+        let found : slice_get ms place ≡ Some m = slice_get-get_or ms place nothing picked.0 in
+        let recs = map (λ (x : Message). x.rec) (task_at place ms) in
+        (record { shard = s; number = floor.taken + 1; vertex = m.vertex; kind = kind_of floor.table.plan m.vertex; time = m.time; content = messages m.port recs },
+          record {
+            shard = refl;
+            number = refl;
+            kind = refl;
+            content = may_messages parted s l some few place m.vertex m.port m.time recs picked.0 (come_back m (task_at place ms) (beside ms place m found));
+          })
+    some_task (candidates.Notification n) picked =
+        (record { shard = s; number = floor.taken + 1; vertex = n.vertex; kind = kind_of floor.table.plan n.vertex; time = n.time; content = notification (to_notify S s n.vertex n.time) },
+          record {
+            shard = refl;
+            number = refl;
+            kind = refl;
+            content = (asked_there answers floor inv bags sets apart frontier lists tasks numbers s n.vertex n.time empty_shard l ∙ key_there n at_shard.waiting picked.1.0 picked.1.1 picked.1.3,
+              in_state answers floor inv bags sets apart frontier lists tasks numbers n picked.1.6, refl);
+          })
+
+    -- what is no longer in mailboxes is with the task
+    mail_moved : (c : Candidate) (new : Floor) (task : Task) → IsPicked floor.table at_shard pick (Some c) → IsTaskFor floor s at_shard c task → mails new.shards.items ≡ mails_without c s (mails shards)
+        → (zs : List Message) → two (flat (mails shards)) zs ≡ two (taken_up task.vertex task.time task.content) (two (flat (mails new.shards.items)) zs)
+    mail_moved (candidates.Message place) new task picked is left zs =
+        let its : taken_up task.vertex task.time task.content ≡ task_at place at_shard.mailbox.messages = ap (taken_up task.vertex task.time) is.content.2 ∙ is.content.3 in
+        less_mail parted s l place picked.0 zs ∙ (λ i. two (sym its i) (two (flat (sym left i)) zs))
+    mail_moved (candidates.Notification n) new task picked is left zs =
+        let at = some_of (items_at at_shard.waiting n.vertex n.time) (key_there n at_shard.waiting picked.1.0 picked.1.1 picked.1.3) in
+        let its : taken_up task.vertex task.time task.content ≡ [] = ap (taken_up task.vertex task.time) (is.content.2 at.0 at.1) in
+        λ i. two (sym its i) (two (flat (sym left i)) zs)
+
+    own_mail : (c : Candidate) (new : Floor) → IsPicked floor.table at_shard pick (Some c) → mails new.shards.items ≡ mails_without c s (mails shards) → AllByRecursion (IsMail W) (enumerate_from 0 (mails new.shards.items))
+    own_mail (candidates.Message place) new picked left =
+        let zero_too : s ≡ 0 + s = omega arith in
+        subst (λ ms. AllByRecursion (IsMail W) (enumerate_from 0 ms)) (sym left)
+        (mails_stay W 0 (left_at place) (mails shards) s
+        (λ m is _. subst (λ n. AllByRecursion (IsKeyOf W n) (left_at place m)) zero_too
+        (subst (λ x. AllByRecursion (IsKeyOf W s) (left_at place x)) (sym (is ∙ mail_here parted s l)) (of_second (IsKeyOf W s) (task_at place at_shard.mailbox.messages) (left_at place at_shard.mailbox.messages) (both_own parted s l place picked.0))))
+        (mail_of W 0 shards inv.shards))
+    own_mail (candidates.Notification n) new picked left = subst (λ ms. AllByRecursion (IsMail W) (enumerate_from 0 ms)) (sym left) (mail_of W 0 shards inv.shards)
+
+    module _ (new : Floor) where
+      taken_state : (task : Task) → IsPickTaken s pick floor new (Some task) → state_of new ≡ with_task S task
+      taken_state task t =
+          stepped s l new task (t.1 empty_shard).1.number t.2.parts t.2.out t.2.waiting (mail_moved t.0 new task (t.1 empty_shard).0 (t.1 empty_shard).1 t.2.mails)
+
+      takes_it : (task : Task) → IsPickTaken s pick floor new (Some task) → Takes S s (has_taken (Some task)) (with_task S task)
+      takes_it task t = takes free task (may_take t.0 task (t.1 empty_shard).0 (t.1 empty_shard).1) t.3
+
+      pub answered : (r : Result (Option Task) HallError) → IfOk r (IsPickTaken s pick floor new) → IfOk r (λ task. Takes S s (has_taken task) (state_of new))
+      answered (Err why) t = tt
+      answered (Ok None) t = subst (λ f. Takes S s (has_taken None) (state_of f)) (sym t.1) (has_none free (none_here answers floor inv bags sets apart frontier lists tasks numbers none s free l t.0))
+      answered (Ok (Some task)) t = subst (Takes S s (has_taken (Some task))) (sym (taken_state task t)) (takes_it task t)
+
+      pub still_hall : (r : Result (Option Task) HallError) → IfOk r (IsPickTaken s pick floor new) → OnErr r (IsSame floor new) → IsHall answers new
+      still_hall (Err why) t same = same_hall new same
+      still_hall (Ok None) t same = subst (IsHall answers) (sym t.1) inv
+      still_hall (Ok (Some task)) t same =
+          kept s l new task (t.1 empty_shard).1.number t.2.parts t.2.out t.2.waiting (mail_moved t.0 new task (t.1 empty_shard).0 (t.1 empty_shard).1 t.2.mails) steps (takes_it task t) (own_mail t.0 new (t.1 empty_shard).0 t.2.mails)
+
+    pub refused_so : (r : Result (Option Task) HallError) → IfErr r (IsPickRefused s pick floor) → IfErr r (IsTakeRefused S s)
+    refused_so (Ok task) h = tt
+    refused_so (Err why) (inl m) = inl m
+    refused_so (Err why) (inr h) = let one = some_task h.2.0 (h.2.1 empty_shard) in inr (spent, h.0, is_spent free one.0 one.1 h.1)
+
+-- PUT BACK
+last_of : {X : Type 0} (xs ys : List X) (x y : X) → xs ++ x ∷ [] ≡ ys ++ y ∷ [] → (xs ≡ ys) × (x ≡ y)
+last_of [] [] x y e = (refl, cc)
+last_of [] (z ∷ []) x y e = absurd (cc)
+last_of [] (z ∷ w ∷ ys) x y e = absurd (cc)
+last_of (z ∷ []) [] x y e = absurd (cc)
+last_of (z ∷ w ∷ xs) [] x y e = absurd (cc)
+last_of (z ∷ xs) (w ∷ ys) x y e =
+    let first : z ≡ w = cc in
+    let rest : xs ++ x ∷ [] ≡ ys ++ y ∷ [] = cc in
+    let later = last_of xs ys x y rest in
+    ((λ i. first i ∷ later.0 i), later.1)
