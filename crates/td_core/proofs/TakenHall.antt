@@ -1,5 +1,5 @@
 -- A hall from which a task was taken, and one to which it was put back.
-use Rattle.std.proofs.Common.{◌≡◌, ◌⊎◌, inl, inr, ℕ, zero, suc, ◌+◌, ◌-◌, ◌<◌, ◌≤◌, ◌==◌, Bool, true, false, List, [], ◌∷◌, ◌++◌, map, flat_map, length, get_or, slice_get, HoldsAt, Option, Some, None, is_some, refl, ap, sym, ◌∙◌, subst, arith, append-nil, append_assoc, pos, Result, Ok, Err, IfOk, IfErr, OnErr}
+use Rattle.std.proofs.Common.{◌≡◌, ◌⊎◌, inl, inr, ℕ, zero, suc, ◌+◌, ◌-◌, ◌<◌, ◌≤◌, ◌==◌, Bool, true, false, List, [], ◌∷◌, ◌++◌, map, flat_map, length, get_or, slice_get, HoldsAt, Option, Some, None, is_some, refl, ap, sym, ◌∙◌, subst, arith, append-nil, append_assoc, length-append, pos, Result, Ok, Err, IfOk, IfErr, OnErr}
 use Rattle.std.specs.declared.cmp.Ordering.{Ordering}
 use Rattle.std.specs.declared.cmp.Ordering.TheVariants.{Less, Equal, Greater}
 use Rattle.std.specs.Ordering.{nat_cmp}
@@ -23,10 +23,10 @@ use Rattle.td_machine.specs.Active.{active, kind_of, stamp_at, Frontier}
 use Rattle.td_machine.specs.InOrder.{ListsInOrder, TasksInOrder, NumbersInOrder, StillThere}
 use Rattle.td_machine.specs.State.{HallState, Task, Content, message_cmp, notification_cmp, task_cmp, shard_of_key, is_out}
 use Rattle.td_machine.specs.State.Content.{messages, notification}
-use Rattle.td_machine.specs.Steps.{Takes, MayTake, IsContent, coming, with_task, with_state_of, to_notify, is_asked, task_size, ends, waiting}
+use Rattle.td_machine.specs.Steps.{Answer, Takes, MayTake, IsContent, coming, with_task, with_state_of, to_notify, is_asked, task_size, ends, waiting}
 use Rattle.td_machine.specs.Steps.Event.{taking}
 use Rattle.td_machine.specs.Steps.Answer.{has_taken}
-use Rattle.td_machine.specs.Steps.Takes.{takes, has_none, is_spent}
+use Rattle.td_machine.specs.Steps.Takes.{takes, has_none, is_spent, is_busy}
 use Rattle.td_machine.specs.Steps.Refusal.{spent}
 use Rattle.td_machine.specs.NoneLeft.{NoneToTake}
 use Rattle.std.proofs.lemmas.Option.{slice_get-get_or}
@@ -41,7 +41,7 @@ use Rattle.td_core.specs.declared.take.Candidate.{Candidate}
 use Rattle.td_core.specs.declared.take.Candidate.TheVariants as candidates
 use Rattle.td_core.specs.Floor.{state_of, IsHall, IsShard, empty_shard, in_mailboxes, with_tasks, taken_up, waiting_in, waiting_at, asked_in}
 use Rattle.td_core.specs.Posted.{mails, waits}
-use Rattle.td_core.specs.Taking.{IsReady, IsPicked, IsFor, IsTaskFor, IsTakenFor, IsSame, IsPickTaken, IsPickRefused, IsTakeRefused, mails_without, changed_at, stamp_of_noted}
+use Rattle.td_core.specs.Taking.{IsReady, IsPicked, IsFor, IsTaskFor, IsTakenFor, IsSame, IsPickTaken, IsPickRefused, IsTakeRefused, IsLastTake, mails_without, changed_at, stamp_of_noted}
 use Rattle.td_core.proofs.CollectSteps.{ReachedByStep}
 use Rattle.td_core.proofs.PostingSteps.{as_many_waits, same_buffered, same_asked}
 use Rattle.td_core.proofs.ShardParts.{IsMail, mail_of, waiting_of, united}
@@ -340,3 +340,98 @@ last_of (z ∷ xs) (w ∷ ys) x y e =
     let rest : xs ++ x ∷ [] ≡ ys ++ y ∷ [] = cc in
     let later = last_of xs ys x y rest in
     ((λ i. first i ∷ later.0 i), later.1)
+
+-- the state to which the last take led
+led_to : (S : HallState) (s : ℕ) (answer : Answer) (T : HallState) → Takes S s answer T → (task : Task) → answer ≡ has_taken (Some task) → (T ≡ with_task S task) × MayTake S s task
+led_to S s _ _ (is_busy e) task is = absurd (cc)
+led_to S s _ _ (has_none e n) task is = absurd (cc)
+led_to S s _ _ (is_spent e one may l) task is = absurd (cc)
+led_to S s _ _ (takes e one may l) task is = let same : one ≡ task = cc in ((λ i. with_task S (same i)), subst (MayTake S s) same may)
+
+module _ (answers : Answers) (floor : Floor) (inv : IsHall answers floor) (bags : BagLaws message_cmp) (numbers : NumbersInOrder (state_of floor))
+    (order : (S : HallState) → IsReached answers S → TasksInOrder S) (s : ℕ) (l : s < length floor.shards.items) where
+  -- the state before the last take is known by the tasks that are out
+  module _ (S : HallState) (task : Task) (last : IsLastTake answers S s task (state_of floor)) where
+    led : (state_of floor ≡ with_task S task) × MayTake S s task
+    led = led_to S s (has_taken (Some task)) (state_of floor) last.1 task refl
+
+    lower : AllByRecursion (λ (t : Task). t.number < task.number) S.out
+    lower = weaker (StillThere S) (λ (t : Task). t.number < task.number) (λ t still. let most = still.1 in let one = led.1.number in omega (arith, most, one)) S.out (order S last.0).there
+
+    pub was_out : floor.out.items ≡ S.out ++ task ∷ []
+    was_out = ap (λ (T : HallState). T.out) led.0 ∙ inserted_last task S.out lower
+
+    pub some_out : 0 < length floor.out.items
+    some_out = let many = ap length was_out ∙ length-append S.out (task ∷ []) in omega (arith, many)
+
+  pub some_taken : (xs : List Task) (t : Task) → floor.out.items ≡ xs ++ t ∷ [] → 1 ≤ floor.taken
+  some_taken xs t e = let all = numbers.given in let many = ap length e ∙ length-append xs (t ∷ []) in omega (arith, all, many)
+
+  -- the parts after
+  module _ (then : Floor) (popped : Task) (out : floor.out.items ≡ then.out.items ++ popped ∷ [])
+      (mail : mails then.shards.items ≡ changed_at (λ ms. ms ++ taken_up popped.vertex popped.time popped.content) s (mails floor.shards.items)) (waiting_same : waits then.shards.items ≡ waits floor.shards.items) where
+    abbrev back : Floor
+    back = record floor { shards = then.shards; out = then.out; taken = floor.taken - 1 }
+
+    abbrev gone : List Message
+    gone = taken_up popped.vertex popped.time popped.content
+
+    messages_back : bag_of message_cmp (in_mailboxes then.shards.items ++ with_tasks then.out.items) ≡ (state_of floor).messages
+    messages_back =
+        let wo = with_tasks then.out.items in
+        let fo = flat (mails floor.shards.items) in
+        let many = length-map floor.shards.items (λ x. x.mailbox.messages) in
+        ap (λ m. bag_of message_cmp (m ++ wo)) (flat_mails then.shards.items ∙ ap flat mail)
+        ∙ (bags.append (flat (changed_at (λ ms. ms ++ gone) s (mails floor.shards.items))) wo []
+        ∙ (more_there bags gone (mails floor.shards.items) s (omega (arith, many, l)) (join message_cmp wo [])
+        ∙ (bags.swaps gone fo (join message_cmp wo [])
+        ∙ (ap (join message_cmp fo) (bags.swaps gone wo [] ∙ sym (bags.append wo gone []))
+        ∙ (sym (bags.append fo (wo ++ gone) [])
+        ∙ (λ i. bag_of message_cmp (sym (flat_mails floor.shards.items) i ++ sym (ap with_tasks out ∙ with_one_more then.out.items popped) i)))))))
+
+    module _ (S : HallState) (task : Task) (last : IsLastTake answers S s task (state_of floor)) where
+      same : (then.out.items ≡ S.out) × (popped ≡ task)
+      same = last_of then.out.items S.out popped task (sym out ∙ was_out S task last)
+
+      -- THE STATE is the one before the take
+      pub is_back : state_of back ≡ S
+      is_back =
+          let count : floor.taken - 1 ≡ S.taken = let one = ap (λ (T : HallState). T.taken) (led S task last).0 in omega (arith, one) in
+          (λ i. record (state_of floor) {
+            workers = as_many_waits floor.shards.items then.shards.items waiting_same i;
+            messages = messages_back i;
+            buffered = bag_of message_cmp (same_buffered floor.shards.items then.shards.items waiting_same i);
+            asked = set_of notification_cmp (same_asked 0 floor.shards.items then.shards.items waiting_same i);
+            out = same.0 i;
+            taken = count i;
+          })
+          ∙ (λ i. record ((led S task last).0 i) { out = S.out; taken = S.taken })
+
+      its_own : AllByRecursion (IsKeyOf (length floor.shards.items) s) gone
+      its_own =
+          let workers : length floor.shards.items ≡ S.workers = ap (λ (T : HallState). T.workers) (led S task last).0 in
+          subst (λ (t : Task). AllByRecursion (IsKeyOf (length floor.shards.items) s) (taken_up t.vertex t.time t.content)) (sym same.1)
+          (subst (λ n. AllByRecursion (IsKeyOf n s) (taken_up task.vertex task.time task.content)) (sym workers) (own task.content (led S task last).1.content))
+        where
+          own : (content : Content) → IsContent S s task.vertex task.time content → AllByRecursion (IsKeyOf S.workers s) (taken_up task.vertex task.time content)
+          own (notification items) is = tt
+          own (messages port recs) is = keys_of_coming S.workers s task.vertex port task.time recs is.2
+
+      pub hall_back : IsHall answers back
+      hall_back =
+          let zero_too : s ≡ 0 + s = omega arith in
+          let W = length floor.shards.items in
+          record {
+            reached = subst (IsReached answers) (sym is_back) last.0;
+            counted = subst (λ T. IsSameBag floor.table.stamps (active T)) (sym is_back) (subst (λ T. IsSameBag floor.table.stamps (active T)) (led S task last).0 inv.counted);
+            inputs = inv.inputs;
+            shards = subst (λ n. AllByRecursion (IsShard n) (enumerate_from 0 then.shards.items)) (sym (as_many_waits floor.shards.items then.shards.items waiting_same))
+                (united W 0 then.shards.items
+                (subst (λ ms. AllByRecursion (IsMail W) (enumerate_from 0 ms)) (sym mail)
+                (mails_stay W 0 (λ ms. ms ++ gone) (mails floor.shards.items) s
+                (λ m is own. of_two (IsKeyOf W (0 + s)) m gone own (subst (λ n. AllByRecursion (IsKeyOf W n) gone) zero_too its_own)) (mail_of W 0 floor.shards.items inv.shards)))
+                (subst (λ ws. AllByRecursion (IsWaiting W) (enumerate_from 0 ws)) (sym waiting_same) (waiting_of W 0 floor.shards.items inv.shards)));
+            few = subst (λ n. n ≤ 16) (sym (as_many_waits floor.shards.items then.shards.items waiting_same)) inv.few;
+            next = inv.next;
+            sites = inv.sites;
+          }
