@@ -147,12 +147,16 @@ module _ (answers : Answers) (floor : Floor) (inv : IsHall answers floor) (bags 
         let least = some here.mailbox.messages place under in
         let most = few here.mailbox.messages place in
         let others = flat (changed_at (left_at place) s (mails shards)) in
-        let tasks_of = with_tasks floor.out.items in
-        (omega (arith, many, least), omega (arith, many, most),
+        let tasks_of = with_tasks floor.out.items in (
+          omega (arith, many, least),
+          omega (arith, many, most),
           key_of_recs W s v port t recs (subst (AllByRecursion (IsKeyOf W s)) (sym are) (of_first (IsKeyOf W s) (task_at place here.mailbox.messages) (left_at place here.mailbox.messages) (both_own place under))),
-          (bag_of message_cmp (others ++ tasks_of),
+          (
+            bag_of message_cmp (others ++ tasks_of),
             ap (λ m. bag_of message_cmp (m ++ tasks_of)) (flat_mails shards) ∙ (by_mails (mails shards) tasks_of ∙ (less_mail place under (bag_of message_cmp tasks_of)
-            ∙ ((λ i. two (sym are i) (sym (by_mails (changed_at (left_at place) s (mails shards)) tasks_of) i)))))))
+                ∙ ((λ i. two (sym are i) (sym (by_mails (changed_at (left_at place) s (mails shards)) tasks_of) i))))),
+          ),
+        )
 
     -- A NOTIFICATION that is in the frontier may be taken
     pub may_notify : WaitsByPlace → WhatWaits → (n : Noted) (before after : List Noted) → map (λ w. w.0) here.waiting ≡ before ++ n ∷ after → IsReady floor.table n
@@ -169,13 +173,15 @@ module _ (answers : Answers) (floor : Floor) (inv : IsHall answers floor) (bags 
         let short : s < length ws = let many = length-map shards (λ x. x.waiting) in omega (arith, many, l) in
         let rest = flat_map waiting_all (changed_at (remove_entry (is_at (noted_cmp n))) s ws) in
         let waiting_for = (waits_for S s n.vertex n.time items (bag_of message_cmp rest)
-            (ap (bag_of message_cmp) (waiting_by_lists shards) ∙ split_all bags apart n items ws s short found [])
-            (bags.associative rest [] [])
-            (subst (λ m. AllByRecursion (λ a. shard_of_key W a.key ≡ m) items) (sym zero_too) (items_own bags apart n items W 0 ws s short (waiting_of W 0 shards inv.shards) found))
-            (in_bag message_cmp _ rest (all_else bags apart n items S s place 0 ws s zero_too (waiting_of W 0 shards inv.shards)))).0 in
-        subst (IsContent S s n.vertex n.time) (sym (are items at.1))
-        (asked_there answers floor inv bags sets apart frontier lists tasks numbers s n.vertex n.time empty_shard l ∙ asked,
-          in_state answers floor inv bags sets apart frontier lists tasks numbers n ready, sym waiting_for)
+        (ap (bag_of message_cmp) (waiting_by_lists shards) ∙ split_all bags apart n items ws s short found [])
+        (bags.associative rest [] [])
+        (subst (λ m. AllByRecursion (λ a. shard_of_key W a.key ≡ m) items) (sym zero_too) (items_own bags apart n items W 0 ws s short (waiting_of W 0 shards inv.shards) found))
+        (in_bag message_cmp _ rest (all_else bags apart n items S s place 0 ws s zero_too (waiting_of W 0 shards inv.shards)))).0 in
+        subst (IsContent S s n.vertex n.time) (sym (are items at.1)) (
+          asked_there answers floor inv bags sets apart frontier lists tasks numbers s n.vertex n.time empty_shard l ∙ asked,
+          in_state answers floor inv bags sets apart frontier lists tasks numbers n ready,
+          sym waiting_for,
+        )
 
   -- THE STATE when a task was taken
   module _ (s : ℕ) (l : s < W) (new : Floor) (task : Task) (number : task.number ≡ floor.taken + 1)
@@ -265,23 +271,28 @@ module _ (answers : Answers) (floor : Floor) (inv : IsHall answers floor) (bags 
         let ms = at_shard.mailbox.messages in
         let m = get_or ms place nothing in
         let found : slice_get ms place ≡ Some m = slice_get-get_or ms place nothing picked.0 in
-        let recs = map (λ (x : Message). x.rec) (task_at place ms) in
-        (record { shard = s; number = floor.taken + 1; vertex = m.vertex; kind = kind_of floor.table.plan m.vertex; time = m.time; content = messages m.port recs },
+        let recs = map (λ (x : Message). x.rec) (task_at place ms) in (
+          record { shard = s; number = floor.taken + 1; vertex = m.vertex; kind = kind_of floor.table.plan m.vertex; time = m.time; content = messages m.port recs },
           record {
             shard = refl;
             number = refl;
             kind = refl;
             content = may_messages parted s l some few place m.vertex m.port m.time recs picked.0 (come_back m (task_at place ms) (beside ms place m found));
-          })
-    some_task (candidates.Notification n) picked =
-        (record { shard = s; number = floor.taken + 1; vertex = n.vertex; kind = kind_of floor.table.plan n.vertex; time = n.time; content = notification (to_notify S s n.vertex n.time) },
-          record {
-            shard = refl;
-            number = refl;
-            kind = refl;
-            content = (asked_there answers floor inv bags sets apart frontier lists tasks numbers s n.vertex n.time empty_shard l ∙ key_there n at_shard.waiting picked.1.0 picked.1.1 picked.1.3,
-              in_state answers floor inv bags sets apart frontier lists tasks numbers n picked.1.6, refl);
-          })
+          },
+        )
+    some_task (candidates.Notification n) picked = (
+      record { shard = s; number = floor.taken + 1; vertex = n.vertex; kind = kind_of floor.table.plan n.vertex; time = n.time; content = notification (to_notify S s n.vertex n.time) },
+      record {
+        shard = refl;
+        number = refl;
+        kind = refl;
+        content = (
+          asked_there answers floor inv bags sets apart frontier lists tasks numbers s n.vertex n.time empty_shard l ∙ key_there n at_shard.waiting picked.1.0 picked.1.1 picked.1.3,
+          in_state answers floor inv bags sets apart frontier lists tasks numbers n picked.1.6,
+          refl,
+        );
+      },
+    )
 
     -- what is no longer in mailboxes is with the task
     mail_moved : (c : Candidate) (new : Floor) (task : Task) → IsPicked floor.table at_shard pick (Some c) → IsTaskFor floor s at_shard c task → mails new.shards.items ≡ mails_without c s (mails shards)
