@@ -89,10 +89,10 @@ module _ (active : Active) where
   none_picked s pick place messages many after is none =
       let ready = none.0 in
       let no_room : (0 < length s.mailbox.messages + length ready) → ⊥ = λ some.
-          let at = is ready none.1 some in
-          let below = mod_below pick (length s.mailbox.messages + length ready) some in
-          let few = none.2 in
-          absurd (omega (arith, at, below, few, many, after)) in
+      let at = is ready none.1 some in
+      let below = mod_below pick (length s.mailbox.messages + length ready) some in
+      let few = none.2 in
+      absurd (omega (arith, at, below, few, many, after)) in
       (empty s.mailbox.messages (λ some. no_room (omega (arith, some))), subst (AreReady active (asked_at s)) (empty ready (λ some. no_room (omega (arith, some)))) none.1)
     where
       empty : {X : Type 0} (xs : List X) → (0 < length xs → ⊥) → xs ≡ []

@@ -206,9 +206,10 @@ module _ (laws : BagLaws message_cmp) (apart : IsAntisymmetric time_cmp) (n : No
 
     else_by_place : (w : Noted × List Arrival) (came : List Arrival) → test w.0 ≡ false → AllByRecursion IsElse (map (waiting w.0.vertex w.0.time) came)
     else_by_place w [] other = tt
-    else_by_place w (a ∷ came) other =
-        (place S s n.vertex n.time (waiting w.0.vertex w.0.time a) ∙ (ap (λ b. (shard_of_key S.workers a.key == s) && b) (there_is n.vertex n.time w.0 ∙ other) ∙ and_false (shard_of_key S.workers a.key == s)),
-          else_by_place w came other)
+    else_by_place w (a ∷ came) other = (
+      place S s n.vertex n.time (waiting w.0.vertex w.0.time a) ∙ (ap (λ b. (shard_of_key S.workers a.key == s) && b) (there_is n.vertex n.time w.0 ∙ other) ∙ and_false (shard_of_key S.workers a.key == s)),
+      else_by_place w came other,
+    )
 
     others_here : (es : AskedList) → AllByRecursion IsElse (waiting_all (filter (is_other n) es))
     others_here [] = tt

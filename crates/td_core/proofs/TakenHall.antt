@@ -1,5 +1,5 @@
 -- A hall from which a task was taken, and one to which it was put back.
-use Rattle.std.proofs.Common.{◌≡◌, ◌⊎◌, inl, inr, ℕ, zero, suc, ◌+◌, ◌-◌, ◌<◌, ◌≤◌, ◌==◌, Bool, true, false, List, [], ◌∷◌, ◌++◌, map, flat_map, length, get_or, slice_get, HoldsAt, Option, Some, None, is_some, refl, ap, sym, ◌∙◌, subst, arith, append-nil, append_assoc}
+use Rattle.std.proofs.Common.{◌≡◌, ◌⊎◌, inl, inr, ℕ, zero, suc, ◌+◌, ◌-◌, ◌<◌, ◌≤◌, ◌==◌, Bool, true, false, List, [], ◌∷◌, ◌++◌, map, flat_map, length, get_or, slice_get, HoldsAt, Option, Some, None, is_some, refl, ap, sym, ◌∙◌, subst, arith, append-nil, append_assoc, length-append, pos, Result, Ok, Err, IfOk, IfErr, OnErr}
 use Rattle.std.specs.declared.cmp.Ordering.{Ordering}
 use Rattle.std.specs.declared.cmp.Ordering.TheVariants.{Less, Equal, Greater}
 use Rattle.std.specs.Ordering.{nat_cmp}
@@ -19,14 +19,18 @@ use Rattle.td_calls.specs.Answers.{Answers}
 use Rattle.td_progress.specs.Bag.{IsSameBag}
 use Rattle.td_machine.specs.Reached.{IsReached}
 use Rattle.td_machine.specs.declared.records.Message.{Message}
-use Rattle.td_machine.specs.Active.{active, stamp_at, Frontier}
+use Rattle.td_machine.specs.Active.{active, kind_of, stamp_at, Frontier}
 use Rattle.td_machine.specs.InOrder.{ListsInOrder, TasksInOrder, NumbersInOrder, StillThere}
 use Rattle.td_machine.specs.State.{HallState, Task, Content, message_cmp, notification_cmp, task_cmp, shard_of_key, is_out}
 use Rattle.td_machine.specs.State.Content.{messages, notification}
-use Rattle.td_machine.specs.Steps.{Takes, MayTake, IsContent, coming, with_task, with_state_of, to_notify, is_asked, task_size, ends, waiting}
+use Rattle.td_machine.specs.Steps.{Answer, Takes, MayTake, IsContent, coming, with_task, with_state_of, to_notify, is_asked, task_size, ends, waiting}
 use Rattle.td_machine.specs.Steps.Event.{taking}
 use Rattle.td_machine.specs.Steps.Answer.{has_taken}
-use Rattle.td_machine.specs.Steps.Takes.{takes}
+use Rattle.td_machine.specs.Steps.Takes.{takes, has_none, is_spent, is_busy}
+use Rattle.td_machine.specs.Steps.Refusal.{spent}
+use Rattle.td_machine.specs.NoneLeft.{NoneToTake}
+use Rattle.std.proofs.lemmas.Option.{slice_get-get_or}
+use Rattle.td_core.specs.declared.error.HallError.{HallError}
 use Rattle.td_machine.specs.Waits.{WaitsByPlace, WhatWaits}
 use Rattle.td_shard.specs.declared.noted.Noted.{Noted}
 use Rattle.td_shard.specs.declared.shard.Shard.{Shard}
@@ -37,14 +41,14 @@ use Rattle.td_core.specs.declared.take.Candidate.{Candidate}
 use Rattle.td_core.specs.declared.take.Candidate.TheVariants as candidates
 use Rattle.td_core.specs.Floor.{state_of, IsHall, IsShard, empty_shard, in_mailboxes, with_tasks, taken_up, waiting_in, waiting_at, asked_in}
 use Rattle.td_core.specs.Posted.{mails, waits}
-use Rattle.td_core.specs.Taking.{IsReady, IsPicked, IsFor, IsTaskFor, IsTakenFor, mails_without, changed_at, stamp_of_noted}
+use Rattle.td_core.specs.Taking.{IsReady, IsPicked, IsFor, IsTaskFor, IsTakenFor, IsSame, IsPickTaken, IsPickRefused, IsTakeRefused, IsLastTake, mails_without, changed_at, stamp_of_noted}
 use Rattle.td_core.proofs.CollectSteps.{ReachedByStep}
 use Rattle.td_core.proofs.PostingSteps.{as_many_waits, same_buffered, same_asked}
 use Rattle.td_core.proofs.ShardParts.{IsMail, mail_of, waiting_of, united}
 use Rattle.td_core.proofs.Waits.{waiting_all, as_messages}
 use Rattle.td_core.proofs.WaitsAll.{waiting_by_lists, IsWaiting}
 use Rattle.td_core.proofs.TakeLists.{IsKeyOf, every, weaker, of_two, of_first, of_second, in_bag, of_bag, come_back, flat, flat_mails, less_there, more_there, same_bag, mails_stay, at_own, get_map}
-use Rattle.td_core.proofs.TakeSteps.{InAnyOrder, key_there, split_all, all_else, items_own, in_state, asked_there}
+use Rattle.td_core.proofs.TakeSteps.{InAnyOrder, key_there, split_all, all_else, items_own, in_state, asked_there, none_here}
 
 -- what is known of the tasks of a mailbox
 abbrev pub Parted : Type 0
@@ -143,12 +147,16 @@ module _ (answers : Answers) (floor : Floor) (inv : IsHall answers floor) (bags 
         let least = some here.mailbox.messages place under in
         let most = few here.mailbox.messages place in
         let others = flat (changed_at (left_at place) s (mails shards)) in
-        let tasks_of = with_tasks floor.out.items in
-        (omega (arith, many, least), omega (arith, many, most),
+        let tasks_of = with_tasks floor.out.items in (
+          omega (arith, many, least),
+          omega (arith, many, most),
           key_of_recs W s v port t recs (subst (AllByRecursion (IsKeyOf W s)) (sym are) (of_first (IsKeyOf W s) (task_at place here.mailbox.messages) (left_at place here.mailbox.messages) (both_own place under))),
-          (bag_of message_cmp (others ++ tasks_of),
+          (
+            bag_of message_cmp (others ++ tasks_of),
             ap (λ m. bag_of message_cmp (m ++ tasks_of)) (flat_mails shards) ∙ (by_mails (mails shards) tasks_of ∙ (less_mail place under (bag_of message_cmp tasks_of)
-            ∙ ((λ i. two (sym are i) (sym (by_mails (changed_at (left_at place) s (mails shards)) tasks_of) i)))))))
+                ∙ ((λ i. two (sym are i) (sym (by_mails (changed_at (left_at place) s (mails shards)) tasks_of) i))))),
+          ),
+        )
 
     -- A NOTIFICATION that is in the frontier may be taken
     pub may_notify : WaitsByPlace → WhatWaits → (n : Noted) (before after : List Noted) → map (λ w. w.0) here.waiting ≡ before ++ n ∷ after → IsReady floor.table n
@@ -165,13 +173,15 @@ module _ (answers : Answers) (floor : Floor) (inv : IsHall answers floor) (bags 
         let short : s < length ws = let many = length-map shards (λ x. x.waiting) in omega (arith, many, l) in
         let rest = flat_map waiting_all (changed_at (remove_entry (is_at (noted_cmp n))) s ws) in
         let waiting_for = (waits_for S s n.vertex n.time items (bag_of message_cmp rest)
-            (ap (bag_of message_cmp) (waiting_by_lists shards) ∙ split_all bags apart n items ws s short found [])
-            (bags.associative rest [] [])
-            (subst (λ m. AllByRecursion (λ a. shard_of_key W a.key ≡ m) items) (sym zero_too) (items_own bags apart n items W 0 ws s short (waiting_of W 0 shards inv.shards) found))
-            (in_bag message_cmp _ rest (all_else bags apart n items S s place 0 ws s zero_too (waiting_of W 0 shards inv.shards)))).0 in
-        subst (IsContent S s n.vertex n.time) (sym (are items at.1))
-        (asked_there answers floor inv bags sets apart frontier lists tasks numbers s n.vertex n.time empty_shard l ∙ asked,
-          in_state answers floor inv bags sets apart frontier lists tasks numbers n ready, sym waiting_for)
+        (ap (bag_of message_cmp) (waiting_by_lists shards) ∙ split_all bags apart n items ws s short found [])
+        (bags.associative rest [] [])
+        (subst (λ m. AllByRecursion (λ a. shard_of_key W a.key ≡ m) items) (sym zero_too) (items_own bags apart n items W 0 ws s short (waiting_of W 0 shards inv.shards) found))
+        (in_bag message_cmp _ rest (all_else bags apart n items S s place 0 ws s zero_too (waiting_of W 0 shards inv.shards)))).0 in
+        subst (IsContent S s n.vertex n.time) (sym (are items at.1)) (
+          asked_there answers floor inv bags sets apart frontier lists tasks numbers s n.vertex n.time empty_shard l ∙ asked,
+          in_state answers floor inv bags sets apart frontier lists tasks numbers n ready,
+          sym waiting_for,
+        )
 
   -- THE STATE when a task was taken
   module _ (s : ℕ) (l : s < W) (new : Floor) (task : Task) (number : task.number ≡ floor.taken + 1)
@@ -215,3 +225,224 @@ module _ (answers : Answers) (floor : Floor) (inv : IsHall answers floor) (bags 
       next = inv.next;
       sites = inv.sites;
     })
+
+  -- A FLOOR with no more than room is the same hall
+  pub same_state : (new : Floor) → IsSame floor new → state_of new ≡ S
+  same_state new is = ap state_of is.parts ∙ (λ i. record S { messages = bag_of message_cmp (in_mailboxes shards ++ with_tasks (is.out i)); out = is.out i })
+
+  pub same_hall : (new : Floor) → IsSame floor new → IsHall answers new
+  same_hall new is = subst (IsHall answers) (sym is.parts) (record {
+    reached = subst (IsReached answers) (sym (same_state new is) ∙ ap state_of is.parts) inv.reached;
+    counted = subst (λ T. IsSameBag floor.table.stamps (active T)) (sym (same_state new is) ∙ ap state_of is.parts) inv.counted;
+    inputs = inv.inputs;
+    shards = inv.shards;
+    few = inv.few;
+    next = inv.next;
+    sites = inv.sites;
+  })
+
+  -- WHAT A TAKE ANSWERS
+  module _ (parted : Parted) (some : HaveSome) (few : AreFew) (beside : AreBeside) (place_law : WaitsByPlace) (waits_law : WhatWaits) (none : NoneToTake) (steps : ReachedByStep answers)
+      (s pick : ℕ) (l : s < W) (free : is_out S s ≡ false) where
+    abbrev at_shard : Shard
+    at_shard = get_or shards s empty_shard
+
+    pub may_take : (c : Candidate) (task : Task) → IsPicked floor.table at_shard pick (Some c) → IsTaskFor floor s at_shard c task → MayTake S s task
+    may_take (candidates.Message place) task picked is = record {
+      shard = is.shard_is;
+      number = is.number;
+      kind = is.kind;
+      content = subst (IsContent S s task.vertex task.time) (sym is.content.2) (may_messages parted s l some few place task.vertex is.content.0 task.time is.content.1 picked.0 is.content.3);
+    }
+    may_take (candidates.Notification n) task picked is = record {
+      shard = is.shard_is;
+      number = is.number;
+      kind = is.kind;
+      content = subst (λ (x : ℕ × Timestamp). IsContent S s x.0 x.1 task.content) (λ i. (sym is.content.0 i, sym is.content.1 i))
+          (may_notify parted s l place_law waits_law n picked.1.0 picked.1.1 picked.1.3 picked.1.6 task.content is.content.2);
+    }
+
+    nothing : Message
+    nothing = record { vertex = 0; port = 0; time = record { epoch = 0; turns = [] }; rec = record { key = 0; val = pos 0 } }
+
+    -- there is a task for each candidate
+    pub some_task : (c : Candidate) → IsPicked floor.table at_shard pick (Some c) → (task : Task) × MayTake S s task
+    some_task (candidates.Message place) picked =
+        let ms = at_shard.mailbox.messages in
+        let m = get_or ms place nothing in
+        let found : slice_get ms place ≡ Some m = slice_get-get_or ms place nothing picked.0 in
+        let recs = map (λ (x : Message). x.rec) (task_at place ms) in (
+          record { shard = s; number = floor.taken + 1; vertex = m.vertex; kind = kind_of floor.table.plan m.vertex; time = m.time; content = messages m.port recs },
+          record {
+            shard = refl;
+            number = refl;
+            kind = refl;
+            content = may_messages parted s l some few place m.vertex m.port m.time recs picked.0 (come_back m (task_at place ms) (beside ms place m found));
+          },
+        )
+    some_task (candidates.Notification n) picked = (
+      record { shard = s; number = floor.taken + 1; vertex = n.vertex; kind = kind_of floor.table.plan n.vertex; time = n.time; content = notification (to_notify S s n.vertex n.time) },
+      record {
+        shard = refl;
+        number = refl;
+        kind = refl;
+        content = (
+          asked_there answers floor inv bags sets apart frontier lists tasks numbers s n.vertex n.time empty_shard l ∙ key_there n at_shard.waiting picked.1.0 picked.1.1 picked.1.3,
+          in_state answers floor inv bags sets apart frontier lists tasks numbers n picked.1.6,
+          refl,
+        );
+      },
+    )
+
+    -- what is no longer in mailboxes is with the task
+    mail_moved : (c : Candidate) (new : Floor) (task : Task) → IsPicked floor.table at_shard pick (Some c) → IsTaskFor floor s at_shard c task → mails new.shards.items ≡ mails_without c s (mails shards)
+        → (zs : List Message) → two (flat (mails shards)) zs ≡ two (taken_up task.vertex task.time task.content) (two (flat (mails new.shards.items)) zs)
+    mail_moved (candidates.Message place) new task picked is left zs =
+        let its : taken_up task.vertex task.time task.content ≡ task_at place at_shard.mailbox.messages = ap (taken_up task.vertex task.time) is.content.2 ∙ is.content.3 in
+        less_mail parted s l place picked.0 zs ∙ (λ i. two (sym its i) (two (flat (sym left i)) zs))
+    mail_moved (candidates.Notification n) new task picked is left zs =
+        let at = some_of (items_at at_shard.waiting n.vertex n.time) (key_there n at_shard.waiting picked.1.0 picked.1.1 picked.1.3) in
+        let its : taken_up task.vertex task.time task.content ≡ [] = ap (taken_up task.vertex task.time) (is.content.2 at.0 at.1) in
+        λ i. two (sym its i) (two (flat (sym left i)) zs)
+
+    own_mail : (c : Candidate) (new : Floor) → IsPicked floor.table at_shard pick (Some c) → mails new.shards.items ≡ mails_without c s (mails shards) → AllByRecursion (IsMail W) (enumerate_from 0 (mails new.shards.items))
+    own_mail (candidates.Message place) new picked left =
+        let zero_too : s ≡ 0 + s = omega arith in
+        subst (λ ms. AllByRecursion (IsMail W) (enumerate_from 0 ms)) (sym left)
+        (mails_stay W 0 (left_at place) (mails shards) s
+        (λ m is _. subst (λ n. AllByRecursion (IsKeyOf W n) (left_at place m)) zero_too
+        (subst (λ x. AllByRecursion (IsKeyOf W s) (left_at place x)) (sym (is ∙ mail_here parted s l)) (of_second (IsKeyOf W s) (task_at place at_shard.mailbox.messages) (left_at place at_shard.mailbox.messages) (both_own parted s l place picked.0))))
+        (mail_of W 0 shards inv.shards))
+    own_mail (candidates.Notification n) new picked left = subst (λ ms. AllByRecursion (IsMail W) (enumerate_from 0 ms)) (sym left) (mail_of W 0 shards inv.shards)
+
+    module _ (new : Floor) where
+      taken_state : (task : Task) → IsPickTaken s pick floor new (Some task) → state_of new ≡ with_task S task
+      taken_state task t =
+          stepped s l new task (t.1 empty_shard).1.number t.2.parts t.2.out t.2.waiting (mail_moved t.0 new task (t.1 empty_shard).0 (t.1 empty_shard).1 t.2.mails)
+
+      takes_it : (task : Task) → IsPickTaken s pick floor new (Some task) → Takes S s (has_taken (Some task)) (with_task S task)
+      takes_it task t = takes free task (may_take t.0 task (t.1 empty_shard).0 (t.1 empty_shard).1) t.3
+
+      pub answered : (r : Result (Option Task) HallError) → IfOk r (IsPickTaken s pick floor new) → IfOk r (λ task. Takes S s (has_taken task) (state_of new))
+      answered (Err why) t = tt
+      answered (Ok None) t = subst (λ f. Takes S s (has_taken None) (state_of f)) (sym t.1) (has_none free (none_here answers floor inv bags sets apart frontier lists tasks numbers none s free l t.0))
+      answered (Ok (Some task)) t = subst (Takes S s (has_taken (Some task))) (sym (taken_state task t)) (takes_it task t)
+
+      pub still_hall : (r : Result (Option Task) HallError) → IfOk r (IsPickTaken s pick floor new) → OnErr r (IsSame floor new) → IsHall answers new
+      still_hall (Err why) t same = same_hall new same
+      still_hall (Ok None) t same = subst (IsHall answers) (sym t.1) inv
+      still_hall (Ok (Some task)) t same =
+          kept s l new task (t.1 empty_shard).1.number t.2.parts t.2.out t.2.waiting (mail_moved t.0 new task (t.1 empty_shard).0 (t.1 empty_shard).1 t.2.mails) steps (takes_it task t) (own_mail t.0 new (t.1 empty_shard).0 t.2.mails)
+
+    pub refused_so : (r : Result (Option Task) HallError) → IfErr r (IsPickRefused s pick floor) → IfErr r (IsTakeRefused S s)
+    refused_so (Ok task) h = tt
+    refused_so (Err why) (inl m) = inl m
+    refused_so (Err why) (inr h) = let one = some_task h.2.0 (h.2.1 empty_shard) in inr (spent, h.0, is_spent free one.0 one.1 h.1)
+
+-- PUT BACK
+last_of : {X : Type 0} (xs ys : List X) (x y : X) → xs ++ x ∷ [] ≡ ys ++ y ∷ [] → (xs ≡ ys) × (x ≡ y)
+last_of [] [] x y e = (refl, cc)
+last_of [] (z ∷ []) x y e = absurd (cc)
+last_of [] (z ∷ w ∷ ys) x y e = absurd (cc)
+last_of (z ∷ []) [] x y e = absurd (cc)
+last_of (z ∷ w ∷ xs) [] x y e = absurd (cc)
+last_of (z ∷ xs) (w ∷ ys) x y e =
+    let first : z ≡ w = cc in
+    let rest : xs ++ x ∷ [] ≡ ys ++ y ∷ [] = cc in
+    let later = last_of xs ys x y rest in
+    ((λ i. first i ∷ later.0 i), later.1)
+
+-- the state to which the last take led
+led_to : (S : HallState) (s : ℕ) (answer : Answer) (T : HallState) → Takes S s answer T → (task : Task) → answer ≡ has_taken (Some task) → (T ≡ with_task S task) × MayTake S s task
+led_to S s _ _ (is_busy e) task is = absurd (cc)
+led_to S s _ _ (has_none e n) task is = absurd (cc)
+led_to S s _ _ (is_spent e one may l) task is = absurd (cc)
+led_to S s _ _ (takes e one may l) task is = let same : one ≡ task = cc in ((λ i. with_task S (same i)), subst (MayTake S s) same may)
+
+module _ (answers : Answers) (floor : Floor) (inv : IsHall answers floor) (bags : BagLaws message_cmp) (numbers : NumbersInOrder (state_of floor))
+    (order : (S : HallState) → IsReached answers S → TasksInOrder S) (s : ℕ) (l : s < length floor.shards.items) where
+  -- the state before the last take is known by the tasks that are out
+  module _ (S : HallState) (task : Task) (last : IsLastTake answers S s task (state_of floor)) where
+    led : (state_of floor ≡ with_task S task) × MayTake S s task
+    led = led_to S s (has_taken (Some task)) (state_of floor) last.1 task refl
+
+    lower : AllByRecursion (λ (t : Task). t.number < task.number) S.out
+    lower = weaker (StillThere S) (λ (t : Task). t.number < task.number) (λ t still. let most = still.1 in let one = led.1.number in omega (arith, most, one)) S.out (order S last.0).there
+
+    pub was_out : floor.out.items ≡ S.out ++ task ∷ []
+    was_out = ap (λ (T : HallState). T.out) led.0 ∙ inserted_last task S.out lower
+
+    pub some_out : 0 < length floor.out.items
+    some_out = let many = ap length was_out ∙ length-append S.out (task ∷ []) in omega (arith, many)
+
+  pub some_taken : (xs : List Task) (t : Task) → floor.out.items ≡ xs ++ t ∷ [] → 1 ≤ floor.taken
+  some_taken xs t e = let all = numbers.given in let many = ap length e ∙ length-append xs (t ∷ []) in omega (arith, all, many)
+
+  -- the parts after
+  module _ (then : Floor) (popped : Task) (out : floor.out.items ≡ then.out.items ++ popped ∷ [])
+      (mail : mails then.shards.items ≡ changed_at (λ ms. ms ++ taken_up popped.vertex popped.time popped.content) s (mails floor.shards.items)) (waiting_same : waits then.shards.items ≡ waits floor.shards.items) where
+    abbrev back : Floor
+    back = record floor { shards = then.shards; out = then.out; taken = floor.taken - 1 }
+
+    abbrev gone : List Message
+    gone = taken_up popped.vertex popped.time popped.content
+
+    messages_back : bag_of message_cmp (in_mailboxes then.shards.items ++ with_tasks then.out.items) ≡ (state_of floor).messages
+    messages_back =
+        let wo = with_tasks then.out.items in
+        let fo = flat (mails floor.shards.items) in
+        let many = length-map floor.shards.items (λ x. x.mailbox.messages) in
+        ap (λ m. bag_of message_cmp (m ++ wo)) (flat_mails then.shards.items ∙ ap flat mail)
+        ∙ (bags.append (flat (changed_at (λ ms. ms ++ gone) s (mails floor.shards.items))) wo []
+        ∙ (more_there bags gone (mails floor.shards.items) s (omega (arith, many, l)) (join message_cmp wo [])
+        ∙ (bags.swaps gone fo (join message_cmp wo [])
+        ∙ (ap (join message_cmp fo) (bags.swaps gone wo [] ∙ sym (bags.append wo gone []))
+        ∙ (sym (bags.append fo (wo ++ gone) [])
+        ∙ (λ i. bag_of message_cmp (sym (flat_mails floor.shards.items) i ++ sym (ap with_tasks out ∙ with_one_more then.out.items popped) i)))))))
+
+    module _ (S : HallState) (task : Task) (last : IsLastTake answers S s task (state_of floor)) where
+      same : (then.out.items ≡ S.out) × (popped ≡ task)
+      same = last_of then.out.items S.out popped task (sym out ∙ was_out S task last)
+
+      -- THE STATE is the one before the take
+      pub is_back : state_of back ≡ S
+      is_back =
+          let count : floor.taken - 1 ≡ S.taken = let one = ap (λ (T : HallState). T.taken) (led S task last).0 in omega (arith, one) in
+          (λ i. record (state_of floor) {
+            workers = as_many_waits floor.shards.items then.shards.items waiting_same i;
+            messages = messages_back i;
+            buffered = bag_of message_cmp (same_buffered floor.shards.items then.shards.items waiting_same i);
+            asked = set_of notification_cmp (same_asked 0 floor.shards.items then.shards.items waiting_same i);
+            out = same.0 i;
+            taken = count i;
+          })
+          ∙ (λ i. record ((led S task last).0 i) { out = S.out; taken = S.taken })
+
+      its_own : AllByRecursion (IsKeyOf (length floor.shards.items) s) gone
+      its_own =
+          let workers : length floor.shards.items ≡ S.workers = ap (λ (T : HallState). T.workers) (led S task last).0 in
+          subst (λ (t : Task). AllByRecursion (IsKeyOf (length floor.shards.items) s) (taken_up t.vertex t.time t.content)) (sym same.1)
+          (subst (λ n. AllByRecursion (IsKeyOf n s) (taken_up task.vertex task.time task.content)) (sym workers) (own task.content (led S task last).1.content))
+        where
+          own : (content : Content) → IsContent S s task.vertex task.time content → AllByRecursion (IsKeyOf S.workers s) (taken_up task.vertex task.time content)
+          own (notification items) is = tt
+          own (messages port recs) is = keys_of_coming S.workers s task.vertex port task.time recs is.2
+
+      pub hall_back : IsHall answers back
+      hall_back =
+          let zero_too : s ≡ 0 + s = omega arith in
+          let W = length floor.shards.items in
+          record {
+            reached = subst (IsReached answers) (sym is_back) last.0;
+            counted = subst (λ T. IsSameBag floor.table.stamps (active T)) (sym is_back) (subst (λ T. IsSameBag floor.table.stamps (active T)) (led S task last).0 inv.counted);
+            inputs = inv.inputs;
+            shards = subst (λ n. AllByRecursion (IsShard n) (enumerate_from 0 then.shards.items)) (sym (as_many_waits floor.shards.items then.shards.items waiting_same))
+                (united W 0 then.shards.items
+                (subst (λ ms. AllByRecursion (IsMail W) (enumerate_from 0 ms)) (sym mail)
+                (mails_stay W 0 (λ ms. ms ++ gone) (mails floor.shards.items) s
+                (λ m is own. of_two (IsKeyOf W (0 + s)) m gone own (subst (λ n. AllByRecursion (IsKeyOf W n) gone) zero_too its_own)) (mail_of W 0 floor.shards.items inv.shards)))
+                (subst (λ ws. AllByRecursion (IsWaiting W) (enumerate_from 0 ws)) (sym waiting_same) (waiting_of W 0 floor.shards.items inv.shards)));
+            few = subst (λ n. n ≤ 16) (sym (as_many_waits floor.shards.items then.shards.items waiting_same)) inv.few;
+            next = inv.next;
+            sites = inv.sites;
+          }

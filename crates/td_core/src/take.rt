@@ -30,10 +30,10 @@ use td_machine::laws::{
 use td_progress::Table;
 use td_progress::laws::{counted, in_any_order};
 use td_reach::{Place, Stamp};
-use td_shard::{Noted, Shard, Versions, Waiting};
 use td_shard::laws::tasks;
-use td_stamp::{Arrival, Bag, States};
+use td_shard::{Noted, Shard, Versions, Waiting};
 use td_stamp::laws::{groups_of_a_bag, time_list_order};
+use td_stamp::{Arrival, Bag, States};
 use td_task::{KeyedItems, Task, Work};
 
 /// Tasks are numbered up to this.
@@ -247,12 +247,7 @@ fn task_for(
 }
 
 /// The task of the message at a place of a shard. Refusal: `Memory`.
-fn messages_task(
-    floor: &Floor,
-    there: &Shard,
-    shard: u8,
-    place: usize,
-) -> Result<Task, HallError>
+fn messages_task(floor: &Floor, there: &Shard, shard: u8, place: usize) -> Result<Task, HallError>
     requires sites { IsSites floor.now.table.plan floor.now.sites }
     requires numbers { floor.now.taken < ends }
     requires place { place < length there.now.mailbox.messages }
@@ -263,14 +258,7 @@ fn messages_task(
     let taken = there.mailbox.task(place)?;
     let kind = floor.sites.kind(taken.vertex);
     let work = Arc::new(floor.alloc, Work::Messages(taken.port, taken.recs))?;
-    Ok(Task::new(
-        shard,
-        floor.taken + 1,
-        taken.vertex,
-        kind,
-        taken.time,
-        work,
-    ))
+    Ok(Task::new(shard, floor.taken + 1, taken.vertex, kind, taken.time, work))
 }
 
 /// The task of a notification of a shard. Refusal: `Memory`.
@@ -287,7 +275,13 @@ fn notification_task(
 {
     let mut items = grouped(floor.alloc, items_of(&there.waiting, noted))?;
     let before = noted.time.epoch().saturating_sub(1);
-    set_states(&floor.versions, &floor.states, before, noted.vertex, &mut items);
+    set_states(
+        &floor.versions,
+        &floor.states,
+        before,
+        noted.vertex,
+        &mut items,
+    );
     let kind = floor.sites.kind(noted.vertex);
     let work = Arc::new(floor.alloc, Work::Notification(items))?;
     Ok(Task::new(
@@ -321,13 +315,7 @@ fn grouped(alloc: Global, items: &[Arrival]) -> Result<KeyedItems, HallError>
 }
 
 /// Gives each key the state that a vertex kept for it after an epoch.
-fn set_states(
-    versions: &Versions,
-    base: &States,
-    epoch: u64,
-    vertex: u8,
-    items: &mut KeyedItems,
-)
+fn set_states(versions: &Versions, base: &States, epoch: u64, vertex: u8, items: &mut KeyedItems)
     ensures { items.new ≡ map (λ k. with_state k (kept_of (with_left base.now (filter (λ k. nat_le k.epoch epoch) versions.now)) vertex k.key)) items.old }
 {
     for index in 0..items.len() {

@@ -68,13 +68,7 @@ fn read(slots: &VecDeque<Slot>, place: usize, picked: usize, recs: &mut Vec<Rec>
 }
 
 /// Reads the messages of a lane, from its first slot on and without the picked one, until the task is full.
-fn read_lane(
-    slots: &VecDeque<Slot>,
-    lane: &Lane,
-    first: usize,
-    picked: usize,
-    recs: &mut Vec<Rec>,
-)
+fn read_lane(slots: &VecDeque<Slot>, lane: &Lane, first: usize, picked: usize, recs: &mut Vec<Rec>)
     requires first { first_on lane_eq lane.now slots.now.items ≡ Some first }
     requires linked { AreLinked lane_eq slots.now.items }
     requires some { vec_len recs.old < 64 }

@@ -12,6 +12,10 @@ returns-clause-ok c =
       shard_is = ap (λ x. x.shard) made;
       number = ap (λ x. x.number) made;
       kind = ap (λ x. x.kind) made ∙ (c.kind-kind.ensures ∙ (c.requires.sites.kind t.vertex ∙ sym (ap (λ x. kind_of c.args.floor.now.table.plan x.vertex) made)));
-      content = (t.port, t.recs.items, ap (λ x. x.content) made ∙ ap content_of c.in_ok-work.ensures.ok,
-        (λ i. coming (made i).vertex t.port (made i).time t.recs.items) ∙ c.in_ok-taken.ensures);
+      content = (
+        t.port,
+        t.recs.items,
+        ap (λ x. x.content) made ∙ ap content_of c.in_ok-work.ensures.ok,
+        (λ i. coming (made i).vertex t.port (made i).time t.recs.items) ∙ c.in_ok-taken.ensures,
+      );
     }

@@ -13,8 +13,8 @@ returns-in-Messages-clause-mails c =
     let s = c.index_mut.result.now in
     let task = c.args.task.now in
     let its : taken_up task.vertex task.time task.content ≡ coming c.vertex.result c.in-Messages.port c.time.result.now c.as_slice.result.now =
-        ap (taken_up task.vertex task.time) (sym c.work.ensures.content ∙ ap content_of c.in-Messages.is)
-        ∙ (λ i. coming (sym c.vertex.ensures i) c.in-Messages.port (sym c.time.ensures i) (sym c.as_slice.ensures.value i)) in
+    ap (taken_up task.vertex task.time) (sym c.work.ensures.content ∙ ap content_of c.in-Messages.is)
+    ∙ (λ i. coming (sym c.vertex.ensures i) c.in-Messages.port (sym c.time.ensures i) (sym c.as_slice.ensures.value i)) in
     map_changed (λ (x : Shard). x.mailbox.messages) (λ ms. ms ++ taken_up task.vertex task.time task.content) c.args.shards.now.items c.from.result _ s (omega (arith, c.requires.within, c.from.ensures))
     (c.post.ensures.messages ∙ (λ i. (c.index_mut.ensures.value i).mailbox.messages ++ sym its i))
     ∙ ap (λ n. changed_at (λ ms. ms ++ taken_up task.vertex task.time task.content) n (mails c.args.shards.now.items)) c.from.ensures

@@ -3,7 +3,7 @@ use Rattle.td_machine.specs.Steps.Takes.{is_busy, has_none}
 use Rattle.td_machine.specs.Steps.Refusal.{busy}
 use Rattle.std.specs.List.{list_any}
 use Rattle.td_core.proofs.TakeSteps.{none_beyond, noted_of_plan}
-use Rattle.td_core.proofs.TakenHall.{inserted_last}
+use Rattle.td_core.proofs.TakenHall.{answered, still_hall, refused_so}
 use Rattle.td_core.proofs.take.take_floor.Goals as goal
 
 pub returns-then-is_busy-clause-refused : goal.returns-then-is_busy-clause-refused
@@ -27,3 +27,24 @@ take_there-requires-clause-stamps g c d =
     noted_of_plan g.L.Law.answers c.args.floor.now c.requires.hall c.bags_of_states.ensures.messages c.bags_of_states.ensures.notifications c.time_list_order.ensures.told_apart c.in_any_order.ensures.frontier
     (c.reached_in_order.ensures.lists _ c.requires.hall.reached) (c.reached_in_order.ensures.tasks _ c.requires.hall.reached) (c.reached_in_order.ensures.numbers _ c.requires.hall.reached)
     (c.active_of_plan.ensures _ c.requires.hall.reached) c.args.shard d (omega (arith, c.if-from-len.false, c.from.ensures, c.len.ensures))
+
+pub returns-clause-taken : goal.returns-clause-taken
+returns-clause-taken g c = answered g.L.Law.answers c.args.floor.now c.requires.hall c.bags_of_states.ensures.messages c.bags_of_states.ensures.notifications c.time_list_order.ensures.told_apart c.in_any_order.ensures.frontier
+    (c.reached_in_order.ensures.lists _ c.requires.hall.reached) (c.reached_in_order.ensures.tasks _ c.requires.hall.reached) (c.reached_in_order.ensures.numbers _ c.requires.hall.reached)
+    c.tasks.ensures.parted c.tasks.ensures.some c.tasks.ensures.few c.tasks.ensures.beside c.what_waits.ensures.place c.what_waits.ensures.items c.none_left.ensures.task c.reached.ensures.step c.args.shard c.args.pick
+    (omega (arith, c.if-from-len.false, c.from.ensures, c.len.ensures)) (sym (c.is_busy.ensures ∙ ap (λ l. list_any (λ t. t.shard == c.args.shard) l) c.as_slice.ensures.value) ∙ c.if-is_busy.false)
+    c.take_there.new.floor c.take_there.result c.take_there.ensures.taken
+
+pub returns-clause-refused : goal.returns-clause-refused
+returns-clause-refused g c = refused_so g.L.Law.answers c.args.floor.now c.requires.hall c.bags_of_states.ensures.messages c.bags_of_states.ensures.notifications c.time_list_order.ensures.told_apart c.in_any_order.ensures.frontier
+    (c.reached_in_order.ensures.lists _ c.requires.hall.reached) (c.reached_in_order.ensures.tasks _ c.requires.hall.reached) (c.reached_in_order.ensures.numbers _ c.requires.hall.reached)
+    c.tasks.ensures.parted c.tasks.ensures.some c.tasks.ensures.few c.tasks.ensures.beside c.what_waits.ensures.place c.what_waits.ensures.items c.none_left.ensures.task c.reached.ensures.step c.args.shard c.args.pick
+    (omega (arith, c.if-from-len.false, c.from.ensures, c.len.ensures)) (sym (c.is_busy.ensures ∙ ap (λ l. list_any (λ t. t.shard == c.args.shard) l) c.as_slice.ensures.value) ∙ c.if-is_busy.false)
+    c.take_there.result c.take_there.ensures.refused
+
+pub returns-clause-hall : goal.returns-clause-hall
+returns-clause-hall g c = still_hall g.L.Law.answers c.args.floor.now c.requires.hall c.bags_of_states.ensures.messages c.bags_of_states.ensures.notifications c.time_list_order.ensures.told_apart c.in_any_order.ensures.frontier
+    (c.reached_in_order.ensures.lists _ c.requires.hall.reached) (c.reached_in_order.ensures.tasks _ c.requires.hall.reached) (c.reached_in_order.ensures.numbers _ c.requires.hall.reached)
+    c.tasks.ensures.parted c.tasks.ensures.some c.tasks.ensures.few c.tasks.ensures.beside c.what_waits.ensures.place c.what_waits.ensures.items c.none_left.ensures.task c.reached.ensures.step c.args.shard c.args.pick
+    (omega (arith, c.if-from-len.false, c.from.ensures, c.len.ensures)) (sym (c.is_busy.ensures ∙ ap (λ l. list_any (λ t. t.shard == c.args.shard) l) c.as_slice.ensures.value) ∙ c.if-is_busy.false)
+    c.take_there.new.floor c.take_there.result c.take_there.ensures.taken c.take_there.ensures.err

@@ -23,8 +23,8 @@ returns c =
     let one : c.push_reserved.new.self.items ≡ s.rec ∷ [] = c.push_reserved.ensures.items ∙ ap (λ l. l ++ s.rec ∷ []) c.requires.none in
     let many : vec_len c.push_reserved.new.self ≡ 1 = c.push_reserved.new.self.ok.0 ∙ ap length one in
     let recs : c.read_lane.new.recs.items ≡ (get_or ss p s).rec ∷ recs_on lane_eq k 63 (taken_at p ss) =
-        c.read_lane.ensures.recs ∙ (ap (λ l. l ++ recs_on lane_eq s.lane (64 - vec_len c.push_reserved.new.self) (taken_at p ss)) one
-        ∙ (ap (λ n. s.rec ∷ recs_on lane_eq s.lane (64 - n) (taken_at p ss)) many ∙ (ap (λ j. s.rec ∷ recs_on lane_eq j 63 (taken_at p ss)) (sym c.copy.ensures) ∙ ap (λ (t : Slot). t.rec ∷ recs_on lane_eq k 63 (taken_at p ss)) c.index-slot.ensures))) in
+    c.read_lane.ensures.recs ∙ (ap (λ l. l ++ recs_on lane_eq s.lane (64 - vec_len c.push_reserved.new.self) (taken_at p ss)) one
+    ∙ (ap (λ n. s.rec ∷ recs_on lane_eq s.lane (64 - n) (taken_at p ss)) many ∙ (ap (λ j. s.rec ∷ recs_on lane_eq j 63 (taken_at p ss)) (sym c.copy.ensures) ∙ ap (λ (t : Slot). t.rec ∷ recs_on lane_eq k 63 (taken_at p ss)) c.index-slot.ensures))) in
     record {
       task = (is_task ss p c.args.pick (get_or ss p s) s k c.read_lane.new.recs.items (taken_on lane_eq k 63 (taken_at p ss)) within refl (c.place_of-picked.ensures.waits s) c.place_of-picked.ensures.before c.requires.linked
           (c.copy.ensures ∙ ap (λ (t : Slot). t.lane) c.index-slot.ensures) recs refl).task;
