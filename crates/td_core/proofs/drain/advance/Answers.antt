@@ -1,4 +1,4 @@
-use Rattle.std.proofs.Common.{◌≡◌, ◌++◌, [], ◌∷◌, ◌<◌, length, ◌∙◌, ap, sym, subst, Some, None, arith}
+use Rattle.std.proofs.Common.{◌++◌, [], ◌∷◌, ◌<◌, length, ◌∙◌, ap, sym, subst, arith}
 use Rattle.std.proofs.lemmas.Result.{err_from_is_err_and}
 use Rattle.td_machine.specs.Steps.{Takes}
 use Rattle.td_machine.specs.Steps.Answer.{has_taken}
