@@ -12,6 +12,8 @@ mod open;
 mod outputs;
 mod passed;
 #[cfg(test)]
+mod drain_tests;
+#[cfg(test)]
 mod tests;
 
 pub use cut::Cut;
