@@ -1,6 +1,7 @@
 -- A task is taken of a shard, run and given; or it is put back, and the state is as it was before.
-use Rattle.std.proofs.Common.{◌≡◌, ℕ, zero, suc, ◌+◌, ◌==◌, ◌≤◌, ◌<◌, ◌⊎◌, Bool, true, false, List, [], ◌∷◌, ◌++◌, map, length, get_or, set, Option, Some, None, option_map, Result, Ok, Err, OnErr, Vec, Global, Contains, HoldsAt, slice_index_or, refl, ap, sym, ◌∙◌, subst, arith, inl, inr}
+use Rattle.std.proofs.Common.{◌≡◌, ℕ, zero, suc, ◌==◌, ◌≤◌, ◌<◌, Bool, true, false, List, [], ◌∷◌, ◌++◌, map, length, get_or, set, Option, Some, None, option_map, Vec, Global, Contains, HoldsAt, refl, ap, sym, ◌∙◌, subst, arith, inl, inr}
 use Rattle.std.specs.List.{slice_get, list_any}
+use Rattle.td_stamp.specs.Bag.{bag_of}
 use Rattle.td_plan.specs.declared.vertex.Kind.{Kind}
 use Rattle.td_plan.specs.Lines.{Line}
 use Rattle.td_plan.specs.Blocks.{PlacedVertex, vertices}
@@ -8,11 +9,11 @@ use Rattle.td_calls.specs.Answers.{Answers}
 use Rattle.td_calls.specs.Fits.{lacking_code, first_lack}
 use Rattle.td_calls.specs.declared.error.CallsError.{CallsError}
 use Rattle.td_calls.specs.declared.error.CallsError.TheVariants.{NoCall}
-use Rattle.td_machine.specs.State.{HallState, Task}
+use Rattle.td_machine.specs.State.{HallState, Task, message_cmp}
 use Rattle.td_machine.specs.Active.{kind_or, kind_of}
-use Rattle.td_machine.specs.Steps.{Answer, Refusal, Takes, Gives, with_task, effect, is_given, task_size}
+use Rattle.td_machine.specs.Steps.{Answer, Refusal, Takes, Gives, effect, is_given}
 use Rattle.td_machine.specs.Steps.Answer.{has_taken, has_given, refused}
-use Rattle.td_machine.specs.Steps.Refusal.{spent, busy}
+use Rattle.td_machine.specs.Steps.Refusal.{spent}
 use Rattle.td_machine.specs.Steps.Takes.{is_busy, has_none, is_spent, takes}
 use Rattle.td_machine.specs.Steps.Gives.{gives}
 use Rattle.td_machine.specs.Tally.{records_in, notes_in}
@@ -23,16 +24,16 @@ use Rattle.td_task.specs.declared.error.TaskError.TheVariants as task_errors
 use Rattle.td_core.specs.declared.floor.Floor.{Floor}
 use Rattle.td_core.specs.declared.drain.Drained.{Drained}
 use Rattle.td_core.specs.declared.error.HallError.{HallError}
-use Rattle.td_core.specs.declared.error.HallError.TheVariants.{Memory, Spent}
-use Rattle.td_core.specs.Floor.{state_of, IsHall}
+use Rattle.td_core.specs.declared.error.HallError.TheVariants.{Memory}
+use Rattle.td_core.specs.Floor.{state_of, in_mailboxes, with_tasks, IsHall}
 use Rattle.td_core.specs.Given.{IsUntouched}
 use Rattle.td_core.specs.Posted.{HasNoLess, IsRoomier, mails, waits}
 use Rattle.td_core.specs.Refusals.{error_of}
-use Rattle.td_core.specs.Taking.{IsTaken, IsTakeRefused, HasRoomBack, IsLastTake, room_of}
+use Rattle.td_core.specs.Taking.{IsSame, IsTakeRefused, HasRoomBack, IsLastTake, room_of}
 use Rattle.td_core.specs.Drained.{IsTurn, IsWhy}
 use Rattle.td_core.proofs.GiveSteps.{untouched_state, untouched_hall}
 use Rattle.td_core.proofs.PostingSteps.{roomier_same}
-use Rattle.td_core.proofs.DrainFloors.{took, Took}
+use Rattle.td_core.proofs.DrainFloors.{took}
 
 -- MORE ROOM in one mailbox
 module _ (s t : Shard) (mail : t.mailbox.messages ≡ s.mailbox.messages) (waiting : t.waiting ≡ s.waiting) (room : s.mailbox.room ≤ t.mailbox.room) (runs : s.mailbox.runs ≤ t.mailbox.runs) where
@@ -70,6 +71,10 @@ module _ (floor : Floor) (shards : Vec Shard Global) (same : IsRoomier floor.sha
 
   pub room_hall : (answers : Answers) → IsHall answers floor → IsHall answers with_room
   room_hall answers inv = untouched_hall floor with_room untouched answers inv
+
+-- nor where a take was refused
+pub same_state : (old new : Floor) → IsSame old new → state_of new ≡ state_of old
+same_state old new same = ap state_of same.parts ∙ (λ i. record (state_of old) { messages = bag_of message_cmp (in_mailboxes old.shards.items ++ with_tasks (same.out i)); out = same.out i })
 
 -- ROOM stays while a task is taken and nothing has less
 room_taken : (a b : List Shard) (i : ℕ) → i < length a → map room_of b ≡ map room_of a → HoldsAt HasRoomBack a i → HoldsAt HasRoomBack b i

@@ -1,8 +1,8 @@
 -- A drain leads from one floor of a hall to another, turn by turn.
-use Rattle.std.proofs.Common.{◌≡◌, ℕ, zero, suc, ◌+◌, ◌*◌, ◌-◌, ◌==◌, ◌≤◌, ◌<◌, Bool, true, false, not, cond, List, [], ◌∷◌, length, filter, Contains, Option, Some, None, refl, ap, sym, ◌∙◌, subst, arith, eq-eqb}
+use Rattle.std.proofs.Common.{◌≡◌, ℕ, ◌+◌, ◌*◌, ◌-◌, ◌==◌, ◌≤◌, ◌<◌, Bool, true, false, not, cond, List, [], ◌∷◌, filter, Option, Some, None, refl, ap, sym, ◌∙◌, subst, arith, eq-eqb, below_more}
 use Rattle.td_stamp.specs.Time.{Timestamp}
 use Rattle.td_calls.specs.Answers.{Answers}
-use Rattle.td_machine.specs.State.{HallState, Task, Content, is_out}
+use Rattle.td_machine.specs.State.{HallState, Task, Content}
 use Rattle.td_machine.specs.State.Content.{messages, notification}
 use Rattle.td_machine.specs.Steps.{Answer, Takes, Gives, MayTake, IsContent, with_task, effect, is_given, ends, task_size}
 use Rattle.td_machine.specs.Steps.Answer.{has_taken, has_given}
@@ -15,7 +15,7 @@ use Rattle.td_core.specs.declared.floor.Floor.{Floor}
 use Rattle.td_core.specs.declared.drain.Drained.{Drained}
 use Rattle.td_core.specs.Floor.{state_of, IsHall}
 use Rattle.td_core.specs.Drained.{Works, IsTurn, IsTurnIf, IsIdle, IsFurther}
-use Rattle.td_core.proofs.DrainSteps.{Joined, GivenByBoth, none_worked, works_on, IsEffect, effect_kept}
+use Rattle.td_core.proofs.DrainSteps.{Joined, GivenByBoth, none_worked, works_on, effect_kept}
 
 -- A TAKE that answers a task
 abbrev taken_in : Answer → Task → Task
@@ -190,3 +190,14 @@ no_delivery = record { messages = 0; notes = 0 }
 module _ (answers : Answers) (floor new : Floor) (after : Drained) (further : IsFurther answers floor no_delivery new after) (S : HallState) (is : state_of floor ≡ S) where
   pub did : Works answers S after.messages after.notes (state_of new)
   did = subst (λ S. Works answers S after.messages after.notes (state_of new)) is (further.worked (state_of floor) (none_worked answers (state_of floor)))
+
+-- where nothing was taken in a round so far, no shard that was asked has a task
+module _ (answers : Answers) (floor between new : Floor) (before then after : Drained) (k : ℕ) (f : IsFurther answers floor before between then) (g : IsFurther answers between then new after) where
+  pub none_on : (between.taken ≡ floor.taken → (s : ℕ) → s < k → Takes (state_of between) s (has_taken None) (state_of between)) → Takes (state_of new) k (has_taken None) (state_of new)
+      → new.taken ≡ floor.taken → (s : ℕ) → s < k + 1 → Takes (state_of new) s (has_taken None) (state_of new)
+  none_on asked last e =
+      let t = f.taken in
+      let u = g.taken in
+      let first : between.taken ≡ floor.taken = omega (arith, t, u, e) in
+      let second : new.taken ≡ between.taken = omega (arith, t, u, e) in
+      below_more _ _ (λ s l. subst (λ S. Takes S s (has_taken None) S) (sym (g.same second)) (asked first s l)) last

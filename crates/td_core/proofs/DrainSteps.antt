@@ -1,5 +1,5 @@
 -- A drain plays takes and gives, one after another.
-use Rattle.std.proofs.Common.{◌≡◌, ℕ, zero, suc, ◌+◌, ◌-◌, ◌==◌, ◌≤◌, ◌<◌, nat_lt, Bool, true, false, not, cond, List, [], ◌∷◌, ◌++◌, find, filter, Option, Some, None, Result, Ok, Err, IfOk, OnOk, refl, ap, sym, ◌∙◌, subst, arith}
+use Rattle.std.proofs.Common.{◌≡◌, ℕ, zero, suc, ◌+◌, ◌-◌, ◌≤◌, ◌<◌, Bool, true, false, not, cond, List, [], ◌∷◌, ◌++◌, find, Option, Some, None, refl, ap, sym, ◌∙◌, subst, arith}
 use Rattle.std.specs.List.{AllByRecursion}
 use Rattle.td_stamp.specs.declared.values.Entry.{Entry}
 use Rattle.td_calls.specs.Answers.{Answers}
@@ -8,8 +8,8 @@ use Rattle.td_batch.specs.Flow.{numbers_from}
 use Rattle.td_machine.specs.declared.records.Message.{Message}
 use Rattle.td_machine.specs.State.{HallState, Task, Content}
 use Rattle.td_machine.specs.State.Content.{messages, notification}
-use Rattle.td_machine.specs.Active.{has_passed, unpassed, released_after}
-use Rattle.td_machine.specs.Steps.{Event, Answer, Step, Plays, Takes, Gives, opened, release_by, release_step, cut_by, cut_at_by, effect, all_delivered, delivered, coming, is_given}
+use Rattle.td_machine.specs.Active.{has_passed, unpassed}
+use Rattle.td_machine.specs.Steps.{Event, Answer, Step, Plays, Takes, Gives, release_by, cut_by, cut_at_by, effect, all_delivered, delivered, coming}
 use Rattle.td_machine.specs.Steps.Event.{release, taking, give, collect, cut, cut_at, close}
 use Rattle.td_machine.specs.Steps.Answer.{has_taken, has_given}
 use Rattle.td_machine.specs.Steps.Takes.{is_busy, has_none, is_spent, takes}

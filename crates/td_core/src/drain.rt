@@ -1,5 +1,5 @@
 //! Draining: all that can be taken is taken, run and given.
-ghost use Rattle.std.specs.Prelude.{◌≡◌, ◌↔◌, ◌≤◌, ◌<◌, ◌∷◌, [], ℕ, length, true, None, HoldsAt, IfOk, IfErr, OnOk, OnErr, IsErrAnd};
+ghost use Rattle.std.specs.Prelude.{◌≡◌, ◌↔◌, ◌<◌, ◌∷◌, [], ℕ, length, true, None, HoldsAt, IfOk, IfErr, OnOk, OnErr, IsErrAnd};
 ghost use Rattle.td_plan.specs.Blocks.{vertices};
 ghost use Rattle.td_calls.specs.Fits.{first_lack};
 ghost use Rattle.td_machine.specs.Active.{has_passed, unpassed, kind_of};

@@ -4,20 +4,12 @@ use std::alloc::Global;
 use std::test::Fail;
 use td_calls::{Calls, Closures, GroupBox, MapBox, Stock, StockCalls, StockGroup, StockMap, stock};
 use td_plan::Plan;
-use td_stamp::{Bag, Entry, EpochOut, Item, Rec, States};
+use td_stamp::{Bag, Entry, Item, Rec, States};
 
 const COUNT: &str = "0 input\n1 group 20 0\n2 output 1\n";
 
 const LOOP: &str =
     "0 input\nloop 3\n1 enter 0\n2 feedback 3\n3 map 2 1 2\n4 leave 3\nend\n5 output 4\n";
-
-/// Collects, a second time where memory was refused.
-fn collect(hall: &mut Hall<Stock>) -> Result<Vec<EpochOut>, HallError> {
-    match hall.collect() {
-        Err(HallError::Memory) => hall.collect(),
-        answer => answer,
-    }
-}
 
 /// The closures of the plans that are drained.
 fn calls(alloc: Global) -> Result<StockCalls, Fail> {
@@ -73,7 +65,10 @@ fn a_loop_is_drained(rt: HostRuntime) -> Result<(), Fail> {
     if at_once {
         assert_eq!(rt; (drained.messages, drained.notes), (13, 0));
     }
-    let outs = collect(&mut hall)?;
+    let outs = match hall.collect() {
+        Err(HallError::Memory) => hall.collect()?,
+        outs => outs?,
+    };
     let mut vals = Vec::new(rt.alloc());
     for output in outs[0].recs.list() {
         vals.push(output.rec.val)?;

@@ -23,6 +23,8 @@ mod release;
 mod sites;
 mod take;
 #[cfg(test)]
+mod drain_tests;
+#[cfg(test)]
 mod tests;
 
 pub use cut::Cut;

@@ -1,4 +1,4 @@
-use Rattle.std.proofs.Common.{◌≡◌, ◌++◌, [], ◌∷◌, ◌<◌, length, ◌∙◌, ap, sym, subst, Some, None, arith}
+use Rattle.std.proofs.Common.{◌++◌, [], ◌∷◌, ◌<◌, length, ◌∙◌, ap, sym, subst, arith}
 use Rattle.std.proofs.lemmas.Result.{err_from_is_err_and}
 use Rattle.td_machine.specs.Steps.{Takes}
 use Rattle.td_machine.specs.Steps.Answer.{has_taken}
@@ -7,7 +7,7 @@ use Rattle.td_core.specs.Taking.{IsTakenIf, IsTaken}
 use Rattle.td_core.specs.Drained.{IsWhy}
 use Rattle.td_core.proofs.GiveSteps.{untouched_hall}
 use Rattle.td_core.proofs.PostingSteps.{as_many_mails}
-use Rattle.td_core.proofs.Advance.{with_room, room_state, room_hall, room_back, none_taken, why, of_its_kind, is_turn, last_take}
+use Rattle.td_core.proofs.Advance.{with_room, room_state, room_hall, room_back, same_state, none_taken, why, of_its_kind, is_turn, last_take}
 use Rattle.td_core.proofs.drain.advance.Goals as goal
 
 pub returns-in_err-make_room_back-clause-hall : goal.returns-in_err-make_room_back-clause-hall
@@ -24,7 +24,7 @@ take_floor-requires g c = record { hall = room_hall c.args.floor.now c.make_room
 pub returns-in_err-task-clause-err : goal.returns-in_err-task-clause-err
 returns-in_err-task-clause-err g c =
     let p = err_from_is_err_and c.from_residual-in_err-task.result c.from_residual-in_err-task.ensures.1 in
-    rw p.1 (ap state_of c.in_err-task.ensures.err ∙ room_state c.args.floor.now c.make_room_back.new.shards c.make_room_back.ensures.same)
+    rw p.1 (same_state (with_room c.args.floor.now c.make_room_back.new.shards c.make_room_back.ensures.same) c.take_floor.new.floor c.in_err-task.ensures.err ∙ room_state c.args.floor.now c.make_room_back.new.shards c.make_room_back.ensures.same)
 
 pub returns-in_err-task-clause-refused : goal.returns-in_err-task-clause-refused
 returns-in_err-task-clause-refused g c =
@@ -33,7 +33,7 @@ returns-in_err-task-clause-refused g c =
     let many = as_many_mails c.args.floor.now.shards.items c.make_room_back.new.shards.items c.make_room_back.ensures.same.mails in
     let here = c.requires.within in
     let within : c.args.shard < length c.make_room_back.new.shards.items = omega (arith, many, here) in
-    rw (p.1, p.2) (subst (λ f. IsWhy (state_of f) c.in_err-task.field-0.0) (sym c.in_err-task.ensures.err) (why (state_of floor) c.args.shard c.in_err-task.field-0.0 c.requires.none_out within c.in_err-task.ensures.refused))
+    rw (p.1, p.2) (subst (λ S. IsWhy S c.in_err-task.field-0.0) (sym (same_state floor c.take_floor.new.floor c.in_err-task.ensures.err)) (why (state_of floor) c.args.shard c.in_err-task.field-0.0 c.requires.none_out within c.in_err-task.ensures.refused))
 
 pub returns-in_default-clause-turn : goal.returns-in_default-clause-turn
 returns-in_default-clause-turn g c =

@@ -1,7 +1,6 @@
-use Rattle.std.proofs.Common.{◌-◌, ◌^◌}
+use Rattle.std.proofs.Common.{◌-◌}
 use Rattle.td_machine.specs.Steps.{ends}
 use Rattle.td_core.specs.Drained.{IsFurther}
-use Rattle.td_core.proofs.DrainFloors.{as_before}
 use Rattle.td_core.proofs.drain.clear.Given as goal
 
 abbrev pub invariant-loop-delivered : goal.invariant-loop-delivered

@@ -9,3 +9,6 @@ loop-smaller g c =
     let few : c.go_round.new.floor.taken ≤ ends = taken_few g.L.Law.answers c.reached_in_order.ensures.numbers c.go_round.new.floor c.go_round.new.drained c.in_ok-go_round.ensures.further.idle in
     let other = c.if-floor-taken.false in
     omega (arith, more, few, other)
+
+pub returns-then-floor-taken-clause-none_left : goal.returns-then-floor-taken-clause-none_left
+returns-then-floor-taken-clause-none_left g c = c.in_ok-go_round.ensures.none_left c.if-floor-taken.true

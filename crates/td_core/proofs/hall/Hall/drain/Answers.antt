@@ -1,5 +1,4 @@
-use Rattle.std.proofs.Common.{◌≡◌, ◌+◌, length, sym, subst, arith}
-use Rattle.td_machine.specs.State.{HallState}
+use Rattle.std.proofs.Common.{subst, arith}
 use Rattle.td_machine.specs.Reached.{IsReached}
 use Rattle.td_core.specs.Floor.{state_of}
 use Rattle.td_core.proofs.DrainSteps.{works_kept, exact, exact_fresh, all_passed, none_unpassed}
