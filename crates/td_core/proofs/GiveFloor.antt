@@ -88,7 +88,7 @@ module _ {T : Type 0} (answers : Answers) (old new : Floor) where
       → OnOk r (state_of new ≡ is_given (effect answers (state_of old) task task.content) task) → Gives answers S task has_given (state_of new)
   has_given_it S task r x e view there is =
       let now : state_of new ≡ is_given (effect answers (state_of old) task task.content) task =
-            subst (λ q. OnOk q (state_of new ≡ is_given (effect answers (state_of old) task task.content) task)) e is in
+      subst (λ q. OnOk q (state_of new ≡ is_given (effect answers (state_of old) task task.content) task)) e is in
       subst (λ U. Gives answers U task has_given (state_of new)) view (subst (Gives answers (state_of old) task has_given) (sym now) (gives there))
 
   pub as_it_was : (S : HallState) (r : Result T HallError) (e : HallError) → r ≡ Err e → state_of old ≡ S → OnErr r (IsUntouched old new) → state_of new ≡ S

@@ -100,7 +100,7 @@ module _ (sites : Sites) (epoch : ℕ) (loads : List Load) (i : ℕ) (item : Loa
     pub posted_next : (old new : List Shard) → IsPosted (posted_by i) old shards → IsPosted (on_each outlets time recs) shards new → IsPosted (posted_by (i + 1)) old new
     posted_next old new before now =
         let here : posted_by i ++ on_each outlets time recs ≡ posted_by (i + 1) =
-              (λ j. posted_by i ++ on_each (o j) (t j) (r j)) ∙ sym (one_more_of (messages_of sites epoch) load_of loads i item within ∙ ap (λ l. posted_by i ++ messages_of sites epoch (load_of l)) (sym at)) in
+        (λ j. posted_by i ++ on_each (o j) (t j) (r j)) ∙ sym (one_more_of (messages_of sites epoch) load_of loads i item within ∙ ap (λ l. posted_by i ++ messages_of sites epoch (load_of l)) (sym at)) in
         subst (λ cs. IsPosted cs old new) here (posted_then (posted_by i) (on_each outlets time recs) old shards new before now)
 
     pub room_next : (new : List Shard) → IsPosted (on_each outlets time recs) shards new
@@ -108,6 +108,6 @@ module _ (sites : Sites) (epoch : ℕ) (loads : List Load) (i : ℕ) (item : Loa
     room_next new now left =
         let after = room_after sites (load_of item) (left_from (i + 1)) shards all_room in
         let here : HaveRoomFor (λ s. count_of (length shards) recs s * length outlets + count_of (length shards) (left_from (i + 1)) s * 1) shards =
-              subst (λ l. HaveRoomFor (λ s. count_of (length shards) l s * length outlets + count_of (length shards) (left_from (i + 1)) s * 1) shards) (sym r)
-              (subst (λ l. HaveRoomFor (λ s. count_of (length shards) item.recs.items s * length l + count_of (length shards) (left_from (i + 1)) s * 1) shards) (sym o) after) in
+        subst (λ l. HaveRoomFor (λ s. count_of (length shards) l s * length outlets + count_of (length shards) (left_from (i + 1)) s * 1) shards) (sym r)
+        (subst (λ l. HaveRoomFor (λ s. count_of (length shards) item.recs.items s * length l + count_of (length shards) (left_from (i + 1)) s * 1) shards) (sym o) after) in
         subst (λ n. HaveRoomFor (λ s. count_of n (left_from (i + 1)) s * 1) new) (sym (as_many_waits shards new now.waiting)) (left (λ s. count_of (length shards) (left_from (i + 1)) s * 1) here)

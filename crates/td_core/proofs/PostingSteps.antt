@@ -13,7 +13,7 @@ use Rattle.td_machine.specs.State.{message_cmp, shard_of_key}
 use Rattle.td_shard.specs.Asked.{noted_cmp}
 use Rattle.td_shard.specs.declared.shard.Shard.{Shard}
 use Rattle.td_core.specs.Floor.{in_mailboxes, waiting_in, asked_in, asked_of_shard, waiting_at, IsShard}
-use Rattle.td_core.specs.Posted.{of_shard, mails, waits, IsPosted, HasNoLess, IsRoomier, count_of, HasRoom, HaveRoom}
+use Rattle.td_core.specs.Posted.{of_shard, mails, mails_with, waits, IsPosted, HasNoLess, IsRoomier, count_of, HasRoom, HaveRoom}
 
 -- the mailboxes of shards from a number on
 abbrev pub posted_from : ℕ → ℕ → List Message → List Shard → List (List Message)

@@ -65,15 +65,15 @@ module _ (plan : List Line) (sites : Sites) (fits : IsSites plan sites) (epoch :
   sent_out i k [] = refl
   sent_out i k (r ∷ recs) =
       let here : flat_map (λ later. map (on_edge later r) (edges_from plan i)) (sending_times (kind_of plan i) (bound_of plan i) t) ≡ map (on_outlet t r) (outlets_of plan i) =
-            ap (λ kind. flat_map (λ later. map (on_edge later r) (edges_from plan i)) (sending_times kind (bound_of plan i) t)) k
-            ∙ (append-nil (map (on_edge t r) (edges_from plan i)) ∙ out_on r (edges_from plan i)) in
+      ap (λ kind. flat_map (λ later. map (on_edge later r) (edges_from plan i)) (sending_times kind (bound_of plan i) t)) k
+      ∙ (append-nil (map (on_edge t r) (edges_from plan i)) ∙ out_on r (edges_from plan i)) in
       λ j. here j ++ sent_out i k recs j
 
   by_input : (is : List ℕ) → AllByRecursion (λ i. kind_of plan i ≡ Input) is → flat_map (messages_of sites epoch) (loads_in is batch) ≡ flat_map sent_of is
   by_input [] h = refl
   by_input (i ∷ is) h =
       let here : on_each (outlets_in sites i) t (records_for i batch) ≡ sent_of i =
-            ap (λ o. on_each o t (records_for i batch)) (fits.outlets i) ∙ sym (sent_out i h.0 (records_for i batch)) in
+      ap (λ o. on_each o t (records_for i batch)) (fits.outlets i) ∙ sym (sent_out i h.0 (records_for i batch)) in
       λ j. here j ++ by_input is h.1 j
 
   -- THEIR POINTSTAMPS
@@ -136,9 +136,9 @@ module _ (plan : List Line) (sites : Sites) (fits : IsSites plan sites) (epoch :
         let last : Rise = record { stamp = input_stamp (epoch + 1) i; times = 1 } in
         let many = length (records_for i batch) in
         let sent : AllByRecursion (IsOf plan) (flat_map (λ e. replicate 1 (stamp_on plan t e)) (edges_from plan i) ++ []) =
-              subst (λ kind. AllByRecursion (IsOf plan) (flat_map (λ later. flat_map (λ e. replicate 1 (stamp_on plan later e)) (edges_from plan i)) (sending_times kind (bound_of plan i) t))) k.0 (sends plan i t lawful h.0 1) in
+        subst (λ kind. AllByRecursion (IsOf plan) (flat_map (λ later. flat_map (λ e. replicate 1 (stamp_on plan later e)) (edges_from plan i)) (sending_times kind (bound_of plan i) t))) k.0 (sends plan i t lawful h.0 1) in
         let edges : AllByRecursion IsFit (map (λ o. record { stamp = stamp_on_outlet t o; times = many }) (outlets_in sites i)) =
-              subst (λ os. AllByRecursion IsFit (map (λ o. record { stamp = stamp_on_outlet t o; times = many }) os)) (sym (fits.outlets i)) (on_edges many (edges_from plan i) sent) in
+        subst (λ os. AllByRecursion IsFit (map (λ o. record { stamp = stamp_on_outlet t o; times = many }) os)) (sym (fits.outlets i)) (on_edges many (edges_from plan i) sent) in
         all_two IsFit (rises_of sites epoch (i, records_for i batch)) (flat_map (rises_of sites epoch) (loads_in is batch))
         (all_two IsFit (map (λ o. record { stamp = stamp_on_outlet t o; times = many }) (outlets_in sites i)) (last ∷ []) edges (h.0, tt)) (rises_fit is k.1 h.1)
 

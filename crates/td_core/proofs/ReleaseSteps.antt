@@ -72,8 +72,8 @@ module _ (answers : Answers) (floor : Floor) (batch : List Entry) (inv : IsHall 
   rises_are_of_plan sent come lawful =
       let coming = come (state_of floor) (with_batch (state_of floor) batch) (release batch) (has_released floor.next) inv.reached (accepted, released_step (state_of floor) batch running below) in
       let own : AllByRecursion (λ i. IsOf plan (input_stamp (floor.next + 1) i)) (inputs_of plan) =
-            before_map (IsOf plan) (input_stamp (floor.next + 1)) (inputs_of plan)
-            (second (IsOf plan) (stamps_of plan (posts plan (map (entered floor.next) batch))) (map (input_stamp (floor.next + 1)) (inputs_of plan)) coming) in
+      before_map (IsOf plan) (input_stamp (floor.next + 1)) (inputs_of plan)
+      (second (IsOf plan) (stamps_of plan (posts plan (map (entered floor.next) batch))) (map (input_stamp (floor.next + 1)) (inputs_of plan)) coming) in
       rises_fit plan floor.sites inv.sites floor.next batch sent lawful (inputs_of plan) (inputs_are plan numbered) own
 
   module _ (append : CountsAppend) where

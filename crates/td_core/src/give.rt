@@ -63,7 +63,11 @@ fn place_of(out: &[Task], task: &Task) -> Option<usize>
 
 /// Takes back the task that stands at a place of those that are out. Refusal: `Memory`, with nothing changed but for more
 /// room.
-pub(crate) fn give_floor<L: Law>(floor: &mut Floor, place: usize, done: &Done<L>) -> Result<(), HallError>
+pub(crate) fn give_floor<L: Law>(
+    floor: &mut Floor,
+    place: usize,
+    done: &Done<L>,
+) -> Result<(), HallError>
     requires hall { IsHall L.answers floor.old }
     requires there { slice_get floor.old.out.items place ≡ Some done.now }
     ensures state { OnOk result (state_of floor.new ≡ is_given (effect L.answers (state_of floor.old) done.now done.now.content) done.now) }

@@ -23,8 +23,6 @@ mod release;
 mod sites;
 mod take;
 #[cfg(test)]
-mod drain_tests;
-#[cfg(test)]
 mod tests;
 
 pub use cut::Cut;

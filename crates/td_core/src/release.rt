@@ -20,7 +20,9 @@ use crate::raising::{Rise, raise, rises_on};
 use crate::sites::{Outlet, Sites};
 use std::alloc::{AllocError, Global};
 use td_calls::Law;
-use td_machine::laws::{bags_of_states, come_of_plan, in_parts, reached, reached_in_order, sent_of_plan, stamps_move};
+use td_machine::laws::{
+    bags_of_states, come_of_plan, in_parts, reached, reached_in_order, sent_of_plan, stamps_move,
+};
 use td_plan::laws::look_ups;
 use td_progress::laws::counted;
 use td_reach::{Place, Stamp};
@@ -191,6 +193,11 @@ fn post_loads(shards: &mut Vec<Shard>, sites: &Sites, loads: &[Load], epoch: u64
 {
     let time = Time::new(epoch);
     for load in loads {
-        post(shards, sites.outlets(load.input), &time, load.recs.as_slice());
+        post(
+            shards,
+            sites.outlets(load.input),
+            &time,
+            load.recs.as_slice(),
+        );
     }
 }

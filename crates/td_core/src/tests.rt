@@ -95,7 +95,10 @@ fn batches_are_released(rt: HostRuntime) -> Result<(), Fail> {
     batch.add(Entry { input: 0, rec })?;
     assert_eq!(rt; release(&mut hall, batch.copy()?), Ok(last));
     assert_eq!(rt; (hall.inputs().len(), hall.unpassed()), (1, Some(last)));
-    assert_eq!(rt; release(&mut hall, batch.copy()?), Err((HallError::Epochs, 1)));
+    assert_eq!(rt;
+        release(&mut hall, batch.copy()?),
+        Err((HallError::Epochs, 1))
+    );
     hall.close();
     assert_eq!(rt; release(&mut hall, batch), Err((HallError::Closed, 1)));
     Ok(())

@@ -247,8 +247,8 @@ module _ (below : Below) where
       where
         by : (o : Option PlacedVertex) → slice_get (vertices S.plan) on.0.reader ≡ o → c.vertex < length (vertices S.plan)
         by None at = absurd (
-          let source = below.edge_sources S.plan lawful (edge_at S.plan c.vertex c.port) on.0 on.1 in
-          let none : None ≡ Some on.0.source = sym (ap (λ (o : Option PlacedVertex). slice_get (elim o [ None ↦ [] | Some q ↦ q.vertex.sources ]) on.0.port) at) ∙ source in cc)
+            let source = below.edge_sources S.plan lawful (edge_at S.plan c.vertex c.port) on.0 on.1 in
+            let none : None ≡ Some on.0.source = sym (ap (λ (o : Option PlacedVertex). slice_get (elim o [ None ↦ [] | Some q ↦ q.vertex.sources ]) on.0.port) at) ∙ source in cc)
         by (Some p) at = subst (λ v. v < length (vertices S.plan)) on.2 (slice_get_within (vertices S.plan) on.0.reader p at)
 
     -- a vertex and a time of the plan, in a released epoch after the base

@@ -32,8 +32,8 @@ raise_and_leave-requires g c =
     let still = of_one (StillThere (state_of floor)) floor.out.items task (c.reached_in_order.ensures.tasks (state_of floor) c.requires.hall.reached).there c.requires.out in
     let time : c.time.result.now ≡ task.time = c.time.ensures ∙ ap (λ (t : Task). t.time) is in
     let of_plan = are_of_plan g.L.Law.answers floor task c.args.items.now recs os c.requires.hall.sites still.0 (c.sends_of_plan.ensures (state_of floor) task c.requires.hall.reached c.requires.out)
-          (c.sent-sent.ensures ∙ c.a_notification_sends.ensures task c.args.items.now c.requires.content)
-          (c.outlets_for-outlets.ensures ∙ ap (λ v. outlets_for floor.sites v recs) (c.vertex.ensures ∙ ap (λ (t : Task). t.vertex) is)) in
+    (c.sent-sent.ensures ∙ c.a_notification_sends.ensures task c.args.items.now c.requires.content)
+    (c.outlets_for-outlets.ensures ∙ ap (λ v. outlets_for floor.sites v recs) (c.vertex.ensures ∙ ap (λ (t : Task). t.vertex) is)) in
     subst (AllByRecursion (λ r. IsOf floor.table.plan r.stamp)) (sym (c.as_slice.ensures.value ∙ c.in_ok-rises.ensures.rises))
     (all_rise floor.table.plan c.time.result.now _ os (subst (λ (t : Timestamp). AllByRecursion (λ o. IsOf floor.table.plan (stamp_on_outlet t o)) os) (sym time) of_plan))
 

@@ -33,7 +33,7 @@ raise-requires g c =
     let inv = c.requires.hall in
     let lawful = (c.reached_in_order.ensures.numbers (state_of floor) inv.reached).plan in
     let loads : map load_of c.as_slice-2.result.now ≡ loads_in (inputs_of floor.table.plan) batch =
-          ap (map load_of) c.as_slice-2.ensures.value ∙ (c.in_ok-loads.ensures ∙ ap (λ l. loads_in l batch) (c.as_slice.ensures.value ∙ inv.inputs)) in
+    ap (map load_of) c.as_slice-2.ensures.value ∙ (c.in_ok-loads.ensures ∙ ap (λ l. loads_in l batch) (c.as_slice.ensures.value ∙ inv.inputs)) in
     let rises = c.as_slice-5.ensures.value ∙ (c.in_ok-rises.ensures.rises ∙ ap (flat_map (rises_of floor.sites floor.next)) loads) in
     subst (AllByRecursion (λ r. IsOf floor.table.plan r.stamp)) (sym rises)
     (rises_are_of_plan g.L.Law.answers floor batch inv c.requires.accepted c.requires.open c.requires.below (λ v p at. (c.look_ups.ensures.vertices floor.table.plan v p lawful at).number)
@@ -71,12 +71,12 @@ returns-clause-ok g c =
     let up = ((c.bags_by_any_order.ensures entry_cmp entry_total entry_apart).rises batch).0 c.list.ensures.sorted in
     let inputs = c.as_slice.ensures.value ∙ inv.inputs in
     let loads : map load_of c.as_slice-2.result.now ≡ loads_in (inputs_of floor.table.plan) batch =
-          ap (map load_of) c.as_slice-2.ensures.value ∙ (c.in_ok-loads.ensures ∙ ap (λ l. loads_in l batch) inputs) in
+    ap (map load_of) c.as_slice-2.ensures.value ∙ (c.in_ok-loads.ensures ∙ ap (λ l. loads_in l batch) inputs) in
     let posted_loads : map load_of c.as_slice-6.result.now ≡ loads_in (inputs_of floor.table.plan) batch =
-          ap (map load_of) c.as_slice-6.ensures.value ∙ (c.in_ok-loads.ensures ∙ ap (λ l. loads_in l batch) inputs) in
+    ap (map load_of) c.as_slice-6.ensures.value ∙ (c.in_ok-loads.ensures ∙ ap (λ l. loads_in l batch) inputs) in
     let rises = c.as_slice-5.ensures.value ∙ (c.in_ok-rises.ensures.rises ∙ ap (flat_map (rises_of floor.sites floor.next)) loads) in
     let messages = ap (flat_map (messages_of floor.sites floor.next)) posted_loads
-          ∙ posts_then g.L.Law.answers floor batch inv c.requires.accepted c.requires.open c.requires.below numbered c.counted.ensures.append up in
+    ∙ posts_then g.L.Law.answers floor batch inv c.requires.accepted c.requires.open c.requires.below numbered c.counted.ensures.append up in
     record {
       parts = refl;
       posted = subst (λ cs. IsPosted cs floor.shards.items c.post_loads.new.shards.items) messages

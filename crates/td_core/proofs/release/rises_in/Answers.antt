@@ -17,6 +17,6 @@ loop-load-preserved c =
     let on_edges = map (λ o. record { stamp = stamp_on_outlet (start_of c.args.epoch) o; times = length load.recs.items }) (outlets_in sites load.input) in
     let many = c.len.ensures ∙ load.recs.ok.0 in
     let more : c.in_ok-more.more.items ≡ on_edges =
-          c.in_ok-more.ensures.rises ∙ (λ j. map (λ o. record { stamp = stamp_on_outlet (c.new-time.ensures j) o; times = many j }) (c.outlets-outlets.ensures j)) in
+    c.in_ok-more.ensures.rises ∙ (λ j. map (λ o. record { stamp = stamp_on_outlet (c.new-time.ensures j) o; times = many j }) (c.outlets-outlets.ensures j)) in
     c.in_ok-push.ensures.items ∙ ((λ j. (c.in_ok-append.ensures.items ∙ (λ k. c.loop-load.invariant k ++ more k)) j ++ c.rise_of_input.ensures j ∷ [])
     ∙ (append_assoc before on_edges (last ∷ []) ∙ sym (one_more_of rises load_of c.args.loads.now c.loop-load.load-index load c.loop-load-test.true ∙ ap (λ l. before ++ rises (load_of l)) (sym c.load-item.is))))

@@ -13,8 +13,12 @@ use Rattle.td_core.proofs.hall.Hall.give.Goals.{in-Ok, in-Err}
 pub returns-in_default-clause-refused : goal.returns-in_default-clause-refused
 returns-in_default-clause-refused g c =
     let tasks = sym (ap (λ S. S.out) c.self.view_is) ∙ sym c.as_slice.ensures.value in
-    inr (stranger, refl, is_no_task g.L.Law.answers c.args.self.now c.args.done (λ there.
-        c.in_default.ensures.missing refl (subst (λ (t : Task). Contains c.as_slice.result.now t) (sym c.task.ensures) (subst (λ l. Contains l c.args.done) tasks there))))
+    inr (
+      stranger,
+      refl,
+      is_no_task g.L.Law.answers c.args.self.now c.args.done (λ there.
+          c.in_default.ensures.missing refl (subst (λ (t : Task). Contains c.as_slice.result.now t) (sym c.task.ensures) (subst (λ l. Contains l c.args.done) tasks there))),
+    )
 
 pub invariant_of-self : goal.invariant_of-self
 invariant_of-self g c =
@@ -25,7 +29,7 @@ returns-clause-given g c =
     let floor = c.self.inside.floor in
     let new = c.give_floor.new.floor in
     let found : slice_get floor.out.items c.in-Some.place ≡ Some c.args.done =
-          ap (λ l. slice_get l c.in-Some.place) (sym c.as_slice.ensures.value) ∙ (c.in-Some.ensures.there ∙ ap Some c.task.ensures) in
+    ap (λ l. slice_get l c.in-Some.place) (sym c.as_slice.ensures.value) ∙ (c.in-Some.ensures.there ∙ ap Some c.task.ensures) in
     let there = among floor.out.items c.in-Some.place c.args.done found in
     elim c.match-give_floor.branch [
       | in-Ok w ↦ subst (λ r. OnOk r (Gives g.L.Law.answers c.args.self.now c.args.done has_given (state_of new))) (sym w.result-is)
