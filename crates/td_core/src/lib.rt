@@ -8,6 +8,8 @@ mod deliver;
 mod drain;
 #[cfg(test)]
 mod drain_tests;
+#[cfg(test)]
+mod give_tests;
 mod error;
 mod floor;
 mod give;

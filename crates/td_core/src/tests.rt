@@ -35,7 +35,7 @@ fn cut(hall: &mut Hall<Stock>) -> Result<Cut, HallError> {
 }
 
 /// Cuts at an epoch that is released, and not before the base, a second time where memory was refused.
-fn cut_at(hall: &mut Hall<Stock>, epoch: u64) -> Result<Option<Cut>, HallError> {
+pub(crate) fn cut_at(hall: &mut Hall<Stock>, epoch: u64) -> Result<Option<Cut>, HallError> {
     each_is_sound(hall);
     let base = hall.base().0;
     let released = hall.inputs().len() as u64;
