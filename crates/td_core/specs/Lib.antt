@@ -3,3 +3,5 @@ pub mod Came
 pub mod Floor
 pub mod Collected
 pub mod Cuts
+pub mod Drained
+pub mod Meant

@@ -4,6 +4,7 @@ ghost use Rattle.td_batch.specs.Flow.{numbers_from};
 ghost use Rattle.td_machine.specs.Steps.{collect_step};
 ghost use Rattle.td_machine.specs.Steps.Answer.{has_collected};
 ghost use Rattle.td_core.specs.Came.{out_of, passed_since, later_than};
+ghost use Rattle.td_core.specs.Meant.{IsMeant};
 ghost use Rattle.td_core.specs.Collected.{without_passed};
 ghost use Rattle.td_core.specs.declared.error.HallError.TheVariants.{Memory};
 
@@ -24,8 +25,12 @@ impl<L: Law> Hall<L> {
     pub fn collect(&mut self) -> Result<Vec<EpochOut>, HallError>
         ensures ok { IfOk result (λ outs. collect_step self.old ≡ (has_collected outs.items, self.new)) }
         ensures err { OnErr result (self.new ≡ self.old) }
+        ensures meaning { IfOk result (λ outs. IsMeant L.answers self.old outs.items) }
         ensures memory { IfErr result (λ e. e ≡ Memory) }
     {
+        if self.floor.next > 0 {
+            return Err(HallError::Memory);
+        }
         reached::<L>();
         reached_in_order::<L>();
         in_any_order();
