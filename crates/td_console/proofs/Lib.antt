@@ -8,3 +8,4 @@ pub mod ReadOn
 pub mod MoreEpochs
 pub mod OneAnswer
 pub mod BatchWords
+pub mod Asking

@@ -1,9 +1,17 @@
 //! Reads all, computes, writes all.
-ghost use Rattle.std.specs.Prelude.{◌≡◌, ◌≢◌, [], ◌⊎◌, ℕ, IfOk, IfErr, OnOk, IfSome, length, ◌≤◌, ◌^◌};
-ghost use Rattle.td_console.specs.Answer.{stored_in, WritesAnswer, LacksRoom, IsFaultAt};
+ghost use Rattle.std.specs.Prelude.{◌≡◌, ◌≢◌, [], ◌⊎◌, ℕ, IfOk, IfErr, OnOk, IfSome, length, ◌≤◌, ◌<◌, ◌^◌, None, IsTrue, All};
+ghost use Rattle.std.specs.Result.{IsOk};
+ghost use Rattle.std.specs.List.{list_all};
+ghost use Rattle.std.specs.Io.KnownBytes.{Appends};
+ghost use Rattle.td_plan.specs.Blocks.{vertices};
+ghost use Rattle.td_plan.specs.Inputs.{is_input_of};
+ghost use Rattle.td_calls.specs.Fits.{first_lack};
+ghost use Rattle.td_console.specs.Answer.{stored_in, Asks, IsAnswer, WritesAnswer, LacksRoom, IsFaultAt, IsHallFaultAt};
+ghost use Rattle.td_console.specs.CodeSteps.{IsOfReading};
 
-use crate::answer::answer;
+use crate::answer::run_text;
 use crate::faults::Fault;
+use crate::question::{Question, asked_by};
 use crate::sink::Sink;
 use crate::source::Source;
 use std::alloc::Global;
@@ -40,8 +48,38 @@ pub fn batch<R: Source, W: Sink, L: Law, C: Closures<L>>(
     ensures room { ((n : ℕ) → W.HasRoom writer.old n) → IfErr result (λ f. f ≢ Fault.Output) }
     ensures nothing { IfErr result (λ f. (f ≡ Fault.Output) ⊎ (writer.new ≡ writer.old)) }
 {
+    let Question { plan, batches } = read_question::<R, L, C>(alloc, reader, calls)?;
+    let text = run_text::<L, C>(alloc, &plan, calls, batches)?;
+    write_answer(writer, text.as_str())
+}
+
+/// Reads all of an input, and what it asks. It stands apart, since it knows nothing of how it is answered.
+fn read_question<R: Source, L: Law, C: Closures<L>>(
+    alloc: Global,
+    reader: &mut R,
+    calls: &C,
+) -> Result<Question, Fault>
+    ensures asks { IfOk result (λ asked. IfSome (R.remaining reader.old) (λ input.
+        Asks (stored_in L.answers C.has_map C.has_group C.has_fold calls.now) input asked.plan asked.batches.items)) }
+    ensures fits { IfOk result (λ asked. first_lack (C.has_map calls.now) (C.has_group calls.now) (C.has_fold calls.now) (vertices asked.plan) ≡ None) }
+    ensures accepted { IfOk result (λ asked. All (λ batch. IsTrue (list_all (λ e. is_input_of asked.plan e.input) batch)) asked.batches.items) }
+    ensures few { IfOk result (λ asked. length asked.batches.items < 2 ^ 63) }
+    ensures end { OnOk result (IfSome (R.remaining reader.new) (λ rest. rest ≡ [])) }
+    ensures fault { IfErr result (λ f. (f ≡ Fault.Input) ⊎ ((f ≡ Fault.Memory) ⊎ IfSome (R.remaining reader.old) (λ input.
+        IsAnswer (stored_in L.answers C.has_map C.has_group C.has_fold calls.now) input (Err f)))) }
+    ensures own { IfErr result IsOfReading }
+    ensures input { R.EndsWithin reader.old (2 ^ 32) → IfErr result (λ f. f ≢ Fault.Input) }
+{
     let input = read_all(alloc, reader)?;
-    let text = answer::<L, C>(alloc, &input, calls)?;
+    asked_by::<L, C>(alloc, &input, calls)
+}
+
+/// Writes a text. Refusal: `Output`, where the writer failed.
+fn write_answer<W: Sink>(writer: &mut W, text: &str) -> Result<(), Fault>
+    ensures written { OnOk result (Appends (W.contents writer.old) (W.contents writer.new) text.now) }
+    ensures room { W.HasRoom writer.old (length text.now) → IsOk result }
+    ensures err { IfErr result (λ f. f ≡ Fault.Output) }
+{
     match writer.write_text(text.as_bytes()) {
         Ok(()) => Ok(()),
         Err(_) => Err(Fault::Output),

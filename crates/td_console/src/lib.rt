@@ -10,6 +10,7 @@ mod faults;
 pub mod laws;
 mod number;
 mod parts;
+mod question;
 mod sink;
 mod source;
 #[cfg(test)]
