@@ -9,3 +9,4 @@ pub mod MoreEpochs
 pub mod OneAnswer
 pub mod BatchWords
 pub mod Asking
+pub mod Released

@@ -11,6 +11,7 @@ ghost use Rattle.td_console.specs.CodeSteps.{IsOfReading};
 
 use crate::answer::run_text;
 use crate::faults::Fault;
+use crate::hall::hall_text;
 use crate::question::{Question, asked_by};
 use crate::sink::Sink;
 use crate::source::Source;
@@ -50,6 +51,33 @@ pub fn batch<R: Source, W: Sink, L: Law, C: Closures<L>>(
 {
     let Question { plan, batches } = read_question::<R, L, C>(alloc, reader, calls)?;
     let text = run_text::<L, C>(alloc, &plan, calls, batches)?;
+    write_answer(writer, text.as_str())
+}
+
+/// Writes the answer text of what it reads, as `batch` does, by a hall of so many shards, which is drained on one thread.
+/// Faults as of `batch`; and `Spent`, where nothing was written: the hall used all numbers of tasks.
+pub fn run<R: Source, W: Sink, L: Law, C: Closures<L>>(
+    alloc: Global,
+    reader: &mut R,
+    writer: &mut W,
+    calls: &C,
+    workers: u8,
+) -> Result<(), Fault>
+    requires some { 1 ≤ workers }
+    requires most { workers ≤ 16 }
+    ensures ok { OnOk result (IfSome (R.remaining reader.old)
+        (WritesAnswer (stored_in L.answers C.has_map C.has_group C.has_fold calls.now) (W.contents writer.old) (W.contents writer.new))) }
+    ensures fault { IfErr result
+        (IsHallFaultAt (stored_in L.answers C.has_map C.has_group C.has_fold calls.now) (R.remaining reader.old)) }
+    ensures end { OnOk result (IfSome (R.remaining reader.new) (λ rest. rest ≡ [])) }
+    ensures input { R.EndsWithin reader.old (2 ^ 32) → IfErr result (λ f. f ≢ Fault.Input) }
+    ensures output { IfErr result (λ f. f ≡ Fault.Output → IfSome (R.remaining reader.old)
+        (LacksRoom (stored_in L.answers C.has_map C.has_group C.has_fold calls.now) (W.HasRoom writer.old))) }
+    ensures room { ((n : ℕ) → W.HasRoom writer.old n) → IfErr result (λ f. f ≢ Fault.Output) }
+    ensures nothing { IfErr result (λ f. (f ≡ Fault.Output) ⊎ (writer.new ≡ writer.old)) }
+{
+    let Question { plan, batches } = read_question::<R, L, C>(alloc, reader, calls)?;
+    let text = hall_text::<L, C>(alloc, &plan, calls, batches, workers)?;
     write_answer(writer, text.as_str())
 }
 

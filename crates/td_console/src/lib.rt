@@ -7,6 +7,7 @@ mod data_line;
 mod engine;
 mod epochs;
 mod faults;
+mod hall;
 pub mod laws;
 mod number;
 mod parts;
