@@ -5,7 +5,7 @@ ghost use Rattle.td_calls.specs.Fits.{first_lack};
 ghost use Rattle.td_machine.specs.Active.{has_passed, unpassed};
 ghost use Rattle.td_machine.specs.Steps.{Takes};
 ghost use Rattle.td_machine.specs.Steps.Answer.{has_taken};
-ghost use Rattle.td_core.specs.Drained.{Works, IsKept, IsWhy, IsExact, IsExactAlone};
+ghost use Rattle.td_core.specs.Drained.{Works, IsKept, IsWhy, IsExact, IsExactFresh, HasNone};
 ghost use Rattle.td_core.specs.declared.error.HallError.TheVariants.{Busy};
 
 use crate::error::HallError;
@@ -33,13 +33,13 @@ impl<L: Law> Hall<L> {
         ensures worked { self.old.out ≡ [] → (records : ℕ) × (notifications : ℕ) × Works L.answers self.old records notifications self.new }
         ensures none_out { self.old.out ≡ [] → self.new.out ≡ [] }
         ensures kept { IsKept self.old self.new }
-        ensures refused { IfErr result (IsWhy self.new) }
+        ensures refused { self.old.out ≡ [] → IfErr result (IsWhy self.new) }
         ensures delivered { IfOk result (λ drained. Works L.answers self.old drained.messages drained.notes self.new) }
-        ensures none_left { OnOk result ((shard : ℕ) → shard < self.new.workers → Takes self.new shard (has_taken None) self.new) }
+        ensures none_left { OnOk result (HasNone self.new) }
         ensures passed { OnOk result ((epoch : ℕ) → epoch < self.new.next → has_passed self.new epoch ≡ true) }
         ensures unpassed { OnOk result (unpassed self.new ≡ None) }
         ensures exact { IfOk result (λ drained. IsExact L.answers self.old drained.messages drained.notes) }
-        ensures alone { IfOk result (λ drained. IsExactAlone L.answers self.old drained.messages drained.notes) }
+        ensures fresh { IfOk result (λ drained. IsExactFresh L.answers self.old drained.messages drained.notes) }
     {
         if !self.floor.out.is_empty() {
             return Err(HallError::Busy);
