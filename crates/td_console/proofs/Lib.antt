@@ -10,3 +10,4 @@ pub mod OneAnswer
 pub mod BatchWords
 pub mod Asking
 pub mod Released
+pub mod Turning

@@ -40,15 +40,30 @@ pub record IsReleased (S : HallState) (more : List (List Entry)) (T : HallState)
 
 pub is_released : (S : HallState) (batches : List (List Entry)) → IsReleased S batches (all_released S batches)
 is_released S [] = record {
-  plan = refl; workers = refl; base = refl; base_states = refl; batches = sym (append-nil S.batches); next = omega arith; closed = refl; out = refl; collected = refl; taken = refl;
+  plan = refl;
+  workers = refl;
+  base = refl;
+  base_states = refl;
+  batches = sym (append-nil S.batches);
+  next = omega arith;
+  closed = refl;
+  out = refl;
+  collected = refl;
+  taken = refl;
 }
 is_released S (batch ∷ later) =
     let r = is_released (with_batch S batch) later in
     record {
-      plan = r.plan; workers = r.workers; base = r.base; base_states = r.base_states;
+      plan = r.plan;
+      workers = r.workers;
+      base = r.base;
+      base_states = r.base_states;
       batches = r.batches ∙ append_assoc S.batches (batch ∷ []) later;
       next = omega (arith, r.next);
-      closed = r.closed; out = r.out; collected = r.collected; taken = r.taken;
+      closed = r.closed;
+      out = r.out;
+      collected = r.collected;
+      taken = r.taken;
     }
 
 -- one more batch
@@ -57,17 +72,17 @@ released-push S batches batch = fold-append with_batch S batches (batch ∷ [])
 
 -- an open hall with numbers left takes a batch
 module _ (S : HallState) (batch : List Entry) (is_open : S.closed ≡ false) (below : S.next < ends) where
-  steps : release_step S batch ≡ (has_released S.next, with_batch S batch)
-  steps =
+  pub release_steps : release_step S batch ≡ (has_released S.next, with_batch S batch)
+  release_steps =
       let at_end : (S.next == ends) ≡ false = ne_eqb S.next ends (λ e. let n = S.next in absurd (omega (arith, below, e))) in
       λ i. release_by S (is_open i) (at_end i) batch
 
   pub is_taken : (epoch : ℕ) (T : HallState) → release_step S batch ≡ (has_released epoch, T) → T ≡ with_batch S batch
-  is_taken epoch T e = ap (λ (p : Answer × HallState). p.1) (sym e ∙ steps)
+  is_taken epoch T e = ap (λ (p : Answer × HallState). p.1) (sym e ∙ release_steps)
 
   pub only_memory : (error : HallError) → IsRefused (release_step S batch) S error → error ≡ Memory
   only_memory error (inl e) = e
-  only_memory error (inr (r, e, is)) = let no : (refused r) ≡ has_released S.next = ap (λ (p : Answer × HallState). p.0) (sym is ∙ steps) in cc
+  only_memory error (inr (r, e, is)) = let no : (refused r) ≡ has_released S.next = ap (λ (p : Answer × HallState). p.0) (sym is ∙ release_steps) in cc
 
 filter_all : {X : Type 0} (p : X → Bool) (xs : List X) → AllByRecursion (λ x. p x ≡ true) xs → filter p xs ≡ xs
 filter_all p [] h = refl
@@ -83,9 +98,9 @@ module _ (answers : Answers) (S : HallState) (base : S.base ≡ 0) where
   numbers before [] k at all h = refl
   numbers before (r ∷ runs) k at all h =
       let here : outputs_at S k ≡ r =
-          h.0 (omega (arith, base, at))
-          ∙ (λ i. get_or (all i) (place i) [])
-          ∙ get_or-append-add before (r ∷ runs) 0 [] in
+      h.0 (omega (arith, base, at))
+      ∙ (λ i. get_or (all i) (place i) [])
+      ∙ get_or-append-add before (r ∷ runs) 0 [] in
       let rest = numbers (before ++ r ∷ []) runs (suc k) (omega (arith, at, sizes)) (all ∙ sym (append_assoc before (r ∷ []) runs)) h.1 in
       λ i. record { epoch = k; recs = here i } ∷ (rest ∙ next) i
     where
@@ -108,8 +123,8 @@ module _ (answers : Answers) (S : HallState) (base : S.base ≡ 0) where
       let runs = (run_of answers S).outs in
       let sizes : length runs ≡ length S.batches = length-outs answers (tree_of S.plan) S.base_states S.batches in
       let all : to_collect S ≡ numbers_from 1 (length runs) =
-          filter_all (has_passed S) _ (all_passed (S.collected + 1) (S.next - (S.collected + 1)) (omega (arith, collected, released)) passed)
-          ∙ (λ i. numbers_from (from collected i) (count collected released sizes i)) in
+      filter_all (has_passed S) _ (all_passed (S.collected + 1) (S.next - (S.collected + 1)) (omega (arith, collected, released)) passed)
+      ∙ (λ i. numbers_from (from collected i) (count collected released sizes i)) in
       let came : outs ≡ map out_at (to_collect S) = outs_of (ap (λ (p : Answer × HallState). p.0) (sym step)) in
       let is : outs ≡ map out_at (numbers_from 1 (length runs)) = came ∙ ap (map out_at) all in
       is ∙ numbers [] runs 1 refl refl (subst (AllByRecursion (IsMeantAt answers S)) is meant)

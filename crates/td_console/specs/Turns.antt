@@ -1,14 +1,17 @@
 -- What a hall does that is simulated turn by turn, and what is written of it.
-use Rattle.std.specs.Prelude.{◌≡◌, ℕ, ◌+◌, ◌%◌, List, [], ◌∷◌, ◌++◌, flat_map, fold, reverse, codes, Option, Some, None}
+use Rattle.std.specs.Prelude.{◌≡◌, ℕ, ◌+◌, ◌%◌, ◌<◌, ◌≤◌, ◌==◌, List, length, map, [], ◌∷◌, ◌++◌, flat_map, fold, reverse, codes, Option, Some, None}
+use Rattle.std.specs.List.{slice_split}
 use Rattle.std.specs.Fmt.{decimal}
 use Rattle.td_stamp.specs.declared.values.Entry.{Entry}
 use Rattle.td_stamp.specs.Time.{Timestamp}
+use Rattle.td_plan.specs.Text.{natural_of}
 use Rattle.td_plan.specs.Lines.{Line as PlanLine}
 use Rattle.td_calls.specs.Answers.{Answers}
 use Rattle.td_machine.specs.State.{HallState, Task, Content}
 use Rattle.td_machine.specs.State.Content.{messages, notification}
 use Rattle.td_machine.specs.Steps.{Takes, Gives, opened, with_batch}
 use Rattle.td_machine.specs.Steps.Answer.{has_taken, has_given}
+use Rattle.td_core.specs.Drained.{IsKept}
 
 -- a hall into which batches were released, one after another
 abbrev pub all_released : HallState → List (List Entry) → HallState
@@ -31,12 +34,6 @@ idle_after idle (Some task) = 0
 
 abbrev pub idle_turns : List (Option Task) → ℕ
 idle_turns turns = fold idle_after 0 turns
-
--- A SIMULATION by so many shards: all batches are released, from epoch 1 on, and then come turns, until W in a row had no task
-pub record IsSimulated (answers : Answers) (plan : List PlanLine) (batches : List (List Entry)) (workers : ℕ) (turns : List (Option Task)) : Type 0 where
-  pub end : HallState
-  pub played : AreTurns answers workers 0 (all_released (opened plan [] 1 workers) batches) turns end
-  pub ended : idle_turns turns ≡ workers
 
 -- a time: `1`, `1<0>` or `1<0,1>`, with the counter of the outermost loop first
 abbrev pub counters_text : List ℕ → List ℕ
@@ -63,3 +60,24 @@ note_of (Some task) = note_by task task.content
 -- what is written of all turns, in their order
 abbrev pub notes_of : List (Option Task) → List ℕ
 notes_of turns = flat_map note_of turns
+
+-- what is kept turn by turn: so many turns at the end had no task, and nothing else than notes was written
+pub record Played (answers : Answers) (workers idle : ℕ) (before after : List ℕ) (S T : HallState) : Type 0 where
+  pub turns : List (Option Task)
+  pub played : AreTurns answers workers 0 S turns T
+  pub ended : idle_turns turns ≡ idle
+  pub written : after ≡ before ++ notes_of turns
+  -- those had none in the state that is now
+  pub none_now : (i : ℕ) → i < length turns → length turns ≤ i + idle → Takes T (i % workers) (has_taken None) T
+  pub kept : IsKept S T
+  pub none_out : S.out ≡ [] → T.out ≡ []
+
+-- A SIMULATION by so many shards: all batches are released, from epoch 1 on, and then come turns, until W in a row had no task
+pub record IsSimulated (answers : Answers) (plan : List PlanLine) (batches : List (List Entry)) (workers : ℕ) (turns : List (Option Task)) : Type 0 where
+  pub end : HallState
+  pub played : AreTurns answers workers 0 (all_released (opened plan [] 1 workers) batches) turns end
+  pub ended : idle_turns turns ≡ workers
+
+-- A LIST OF PICKS: numbers joined by commas
+abbrev pub IsPicks : List ℕ → List ℕ → Type 0
+IsPicks text picks = map natural_of (slice_split (λ b. b == 44) text) ≡ map Some picks

@@ -7,6 +7,7 @@ ghost use Rattle.td_plan.specs.Blocks.{vertices};
 ghost use Rattle.td_plan.specs.Inputs.{is_input_of};
 ghost use Rattle.td_calls.specs.Fits.{first_lack};
 ghost use Rattle.td_console.specs.Answer.{stored_in, Asks, IsAnswer, WritesAnswer, LacksRoom, IsFaultAt, IsHallFaultAt};
+ghost use Rattle.td_console.specs.Simulated.{WritesSimulated, LacksRoomSimulated};
 ghost use Rattle.td_console.specs.CodeSteps.{IsOfReading};
 
 use crate::answer::run_text;
@@ -15,6 +16,7 @@ use crate::hall::hall_text;
 use crate::question::{Question, asked_by};
 use crate::sink::Sink;
 use crate::source::Source;
+use crate::turns::sim_text;
 use std::alloc::Global;
 use std::io::ErrorKind;
 use td_calls::{Closures, Law};
@@ -78,6 +80,36 @@ pub fn run<R: Source, W: Sink, L: Law, C: Closures<L>>(
 {
     let Question { plan, batches } = read_question::<R, L, C>(alloc, reader, calls)?;
     let text = hall_text::<L, C>(alloc, &plan, calls, batches, workers)?;
+    write_answer(writer, text.as_str())
+}
+
+/// Writes the notes of a simulation and then the answer text of what it reads, as `run` does: all epochs are released into a
+/// hall of so many shards; turn i, from 0, takes from shard `i mod workers` with pick `picks[i mod length]`, and what it takes
+/// is run and given; it ends when as many turns in a row as there are shards had no task. Faults as of `run`.
+pub fn sim<R: Source, W: Sink, L: Law, C: Closures<L>>(
+    alloc: Global,
+    reader: &mut R,
+    writer: &mut W,
+    calls: &C,
+    workers: u8,
+    picks: &[u64],
+) -> Result<(), Fault>
+    requires some { 1 ≤ workers }
+    requires most { workers ≤ 16 }
+    requires picks { 0 < length picks.now }
+    ensures ok { OnOk result (IfSome (R.remaining reader.old)
+        (WritesSimulated (stored_in L.answers C.has_map C.has_group C.has_fold calls.now) workers (W.contents writer.old) (W.contents writer.new))) }
+    ensures fault { IfErr result
+        (IsHallFaultAt (stored_in L.answers C.has_map C.has_group C.has_fold calls.now) (R.remaining reader.old)) }
+    ensures end { OnOk result (IfSome (R.remaining reader.new) (λ rest. rest ≡ [])) }
+    ensures input { R.EndsWithin reader.old (2 ^ 32) → IfErr result (λ f. f ≢ Fault.Input) }
+    ensures output { IfErr result (λ f. f ≡ Fault.Output → IfSome (R.remaining reader.old)
+        (LacksRoomSimulated (stored_in L.answers C.has_map C.has_group C.has_fold calls.now) workers (W.HasRoom writer.old))) }
+    ensures room { ((n : ℕ) → W.HasRoom writer.old n) → IfErr result (λ f. f ≢ Fault.Output) }
+    ensures nothing { IfErr result (λ f. (f ≡ Fault.Output) ⊎ (writer.new ≡ writer.old)) }
+{
+    let Question { plan, batches } = read_question::<R, L, C>(alloc, reader, calls)?;
+    let text = sim_text::<L, C>(alloc, &plan, calls, batches, workers, picks)?;
     write_answer(writer, text.as_str())
 }
 

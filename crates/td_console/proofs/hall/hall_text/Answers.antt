@@ -15,17 +15,16 @@ drain-requires g c =
     let facts = subst (IsReleased start c.args.batches.items) (sym c.in_ok-hall.ensures.ok) (is_released start c.args.batches.items) in
     record {
       fits = subst (λ p. first_lack (g.C.Closures.has_map c.args.calls.now) (g.C.Closures.has_group c.args.calls.now) (g.C.Closures.has_fold c.args.calls.now) (vertices p) ≡ None)
-      (sym facts.plan) c.requires.fits;
+          (sym facts.plan) c.requires.fits;
     }
 
 pub hall_fault-requires : goal.hall_fault-requires
 hall_fault-requires g c =
     let start = opened c.args.plan.now [] 1 c.args.workers in
     let facts = subst (IsReleased start c.args.batches.items) (sym c.in_ok-hall.ensures.ok) (is_released start c.args.batches.items) in
-    elim c.in-Err.ensures.refused [
-      | inl busy ↦ let some : 0 < length c.in_ok-hall.hall.out = c.in-Err.ensures.busy.0 busy in absurd (omega (arith, some, ap length facts.out))
-      | inr (inl memory) ↦ inl memory
-      | inr (inr spent) ↦ inr spent.0
+    elim (c.in-Err.ensures.refused facts.out) [
+      | inl memory ↦ inl memory
+      | inr spent ↦ inr spent.0
     ]
 
 pub print_collected-requires-clause-base : goal.print_collected-requires-clause-base
