@@ -11,3 +11,5 @@ pub mod BatchWords
 pub mod Asking
 pub mod Released
 pub mod Turning
+pub mod Asked
+pub mod Picking

@@ -9,7 +9,9 @@ use Rattle.std.proofs.lemmas.List.Sums.{fold-append}
 use Rattle.std.proofs.lemmas.Grind.{flat_map-append}
 use Rattle.std.proofs.Math.Nat.{zero-mod}
 use Rattle.std.proofs.lemmas.Nat.{mod_below, mod-mul-add, div-add-mod'}
+use Rattle.std.specs.List.Sorted.{IsStrictlySortedBy}
 use Rattle.td_stamp.specs.declared.values.Entry.{Entry}
+use Rattle.td_stamp.specs.States.{AreStates}
 use Rattle.td_plan.specs.declared.vertex.Kind.{Kind}
 use Rattle.td_plan.specs.Lines.{Line as PlanLine}
 use Rattle.td_plan.specs.Blocks.{PlacedVertex, vertices}
@@ -187,17 +189,19 @@ module _ (answers : Answers) where
     played_on idle later p turn after t written is =
         let left = turn_leaves (length p.turns % workers) T U turn t in
         let size = length-append p.turns (turn ∷ []) in
-        let at : length p.turns ≡ 0 + length p.turns = omega arith in
-        (record {
-          turns = p.turns ++ turn ∷ [];
-          played = turns-push workers 0 S T U p.turns turn p.played (subst (λ n. IsTurn answers (n % workers) T turn U) at t);
-          ended = fold-append idle_after 0 p.turns (turn ∷ []) ∙ ap (λ n. idle_after n turn) p.ended ∙ sym is;
-          written = written ∙ ap (λ l. l ++ note_of turn) p.written ∙ append_assoc before (notes_of p.turns) (note_of turn)
-              ∙ ap (λ l. before ++ l) (sym (flat_map-append note_of p.turns (turn ∷ []) ∙ ap (λ l. notes_of p.turns ++ l) (append-nil (note_of turn))));
-          none_now = λ i below late. none_still idle p turn t i (subst (λ n. i < n) size below) (subst (λ n. n ≤ i + idle_after idle turn) size (subst (λ n. length (p.turns ++ turn ∷ []) ≤ i + n) is late));
-          kept = kept_on S T U p.kept left.kept;
-          none_out = λ none. left.none_out (p.none_out none);
-        }, size)
+        let at : length p.turns ≡ 0 + length p.turns = omega arith in (
+          record {
+            turns = p.turns ++ turn ∷ [];
+            played = turns-push workers 0 S T U p.turns turn p.played (subst (λ n. IsTurn answers (n % workers) T turn U) at t);
+            ended = fold-append idle_after 0 p.turns (turn ∷ []) ∙ ap (λ n. idle_after n turn) p.ended ∙ sym is;
+            written = written ∙ ap (λ l. l ++ note_of turn) p.written ∙ append_assoc before (notes_of p.turns) (note_of turn)
+                ∙ ap (λ l. before ++ l) (sym (flat_map-append note_of p.turns (turn ∷ []) ∙ ap (λ l. notes_of p.turns ++ l) (append-nil (note_of turn))));
+            none_now = λ i below late. none_still idle p turn t i (subst (λ n. i < n) size below) (subst (λ n. n ≤ i + idle_after idle turn) size (subst (λ n. length (p.turns ++ turn ∷ []) ≤ i + n) is late));
+            kept = kept_on S T U p.kept left.kept;
+            none_out = λ none. left.none_out (p.none_out none);
+          },
+          size,
+        )
 
 -- what a turn answers, whether there was a task or not
 pub turned : (answers : Answers) (s : ℕ) (S T : HallState) (old new : List ℕ) (worked : Bool)
@@ -241,15 +245,18 @@ out_there out task other e same = subst (λ ts. Contains ts other) (sym e) (0, o
 
 -- before the first turn
 pub not_played : (answers : Answers) (workers : ℕ) (text : List ℕ) (S : HallState) → (p : Played answers workers 0 text text S S) × (0 ≡ length p.turns % workers)
-not_played answers workers text S = (record {
-  turns = [];
-  played = refl;
-  ended = refl;
-  written = sym (append-nil text);
-  none_now = λ i below late. absurd (omega (arith, below));
-  kept = kept_as_is S;
-  none_out = λ none. none;
-}, sym (zero-mod workers))
+not_played answers workers text S = (
+  record {
+    turns = [];
+    played = refl;
+    ended = refl;
+    written = sym (append-nil text);
+    none_now = λ i below late. absurd (omega (arith, below));
+    kept = kept_as_is S;
+    none_out = λ none. none;
+  },
+  sym (zero-mod workers),
+)
 
 -- the next shard
 pub next_shard : (n workers shard : ℕ) → shard ≡ n % workers → 0 < workers → cond (shard + 1 == workers) 0 (shard + 1) ≡ (n + 1) % workers
@@ -319,9 +326,14 @@ plays_of_releases answers S T (batch ∷ batches) events replies accepted is_ope
 
 accepted_all : (plan : List PlanLine) (batches : List (List Entry)) → All (λ batch. IsTrue (list_all (λ e. is_input_of plan e.input) batch)) batches → AreAccepted plan batches
 accepted_all plan [] h = tt
-accepted_all plan (batch ∷ batches) h =
-    (All-get_or (λ batch. IsTrue (list_all (λ e. is_input_of plan e.input) batch)) (batch ∷ batches) 0 batch (omega arith) h,
-     accepted_all plan batches (All-drop (λ batch. IsTrue (list_all (λ e. is_input_of plan e.input) batch)) 1 (batch ∷ batches) h))
+accepted_all plan (batch ∷ batches) h = (
+  All-get_or (λ batch. IsTrue (list_all (λ e. is_input_of plan e.input) batch)) (batch ∷ batches) 0 batch (omega arith) h,
+  accepted_all plan batches (All-drop (λ batch. IsTrue (list_all (λ e. is_input_of plan e.input) batch)) 1 (batch ∷ batches) h),
+)
+
+no_states : AreStates []
+unfolding IsStrictlySortedBy
+no_states = tt
 
 pub all_passed : (answers : Answers) → NeverStuck answers → (plan : List PlanLine) (batches : List (List Entry)) (workers : ℕ) → IsPlan plan
     → All (λ batch. IsTrue (list_all (λ e. is_input_of plan e.input) batch)) batches → length batches < 2 ^ 63 → 1 ≤ workers
@@ -331,5 +343,5 @@ all_passed answers never plan batches workers lawful accepted few some before af
     let start = opened plan [] 1 workers in
     let turns = plays_of_turns answers workers 0 (all_released start batches) T played.turns played.played in
     let plays = plays_of_releases answers start T batches turns.0 turns.1 (accepted_all plan batches accepted) refl (omega (arith, few)) turns.2 in
-    never plan [] 1 workers plays.0 plays.1 T lawful ? (omega arith) some plays.2
+    never plan [] 1 workers plays.0 plays.1 T lawful no_states (omega arith) some plays.2
     (λ s small. none_left answers workers before after (all_released start batches) T played (omega (arith, some)) s small)

@@ -13,7 +13,7 @@ use Rattle.td_console.specs.declared.faults.LineFault.TheVariants.{Syntax, NoSuc
 use Rattle.td_console.specs.declared.faults.Fault.{Fault}
 use Rattle.td_console.specs.declared.faults.Fault.TheVariants.{Line, Input, Output, Memory, Picks, Spent}
 use Rattle.td_console.specs.declared.words.Job.{Job}
-use Rattle.td_console.specs.declared.words.Job.TheVariants.{Batch, Help}
+use Rattle.td_console.specs.declared.words.Job.TheVariants.{Sim, Help}
 use Rattle.td_console.specs.Data.{data_line_of}
 
 -- Epochs read so far: the batches of those that are closed, and the entries of the one which is not, as they were read
@@ -71,5 +71,10 @@ IsOfReading _ = Unit {0}
 
 -- a job that prints a text
 abbrev pub IsHelp : Job → Type 0
-IsHelp Batch = ⊥
 IsHelp (Help text) = Unit {0}
+IsHelp _ = ⊥
+
+-- a simulation
+abbrev pub IsSim : Job → Type 0
+IsSim (Sim workers picks) = Unit {0}
+IsSim _ = ⊥

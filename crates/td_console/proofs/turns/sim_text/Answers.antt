@@ -55,9 +55,10 @@ returns-clause-ok g c =
     let facts = subst (IsReleased start c.args.batches.items) (sym c.in_ok-hall.ensures.ok) (is_released start c.args.batches.items) in
     let played = c.in_ok-play.ensures.ok in
     let from_start = subst (λ S. Played g.L.Law.answers c.args.workers c.args.workers (string_bytes c.new-text.result) (string_bytes c.play.new.text) S c.play.new.hall) c.in_ok-hall.ensures.ok played in
-    let kept = played.kept in
-    (from_start.turns,
-     record { end = c.play.new.hall; played = from_start.played; ended = from_start.ended },
-     c.in_ok-print_collected.ensures.ok
-     ∙ (λ i. (from_start.written ∙ ap (λ l. l ++ notes_of from_start.turns) c.new-text.ensures.bytes) i
-         ++ output_text (numbered 1 (run g.L.Law.answers (tree_of ((kept.plan ∙ facts.plan) i)) ((kept.base_states ∙ facts.base_states) i) ((kept.batches ∙ facts.batches) i)).outs)))
+    let kept = played.kept in (
+      from_start.turns,
+      record { end = c.play.new.hall; played = from_start.played; ended = from_start.ended },
+      c.in_ok-print_collected.ensures.ok
+          ∙ (λ i. (from_start.written ∙ ap (λ l. l ++ notes_of from_start.turns) c.new-text.ensures.bytes) i
+          ++ output_text (numbered 1 (run g.L.Law.answers (tree_of ((kept.plan ∙ facts.plan) i)) ((kept.base_states ∙ facts.base_states) i) ((kept.batches ∙ facts.batches) i)).outs)),
+    )
