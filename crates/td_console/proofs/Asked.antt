@@ -1,8 +1,8 @@
 -- What the matches of a parse ask for.
-use Rattle.std.proofs.Common.{◌≡◌, ◌≢◌, ◌⊎◌, inl, inr, ℕ, ◌<◌, ◌≤◌, ◌^◌, List, [], ◌∷◌, Option, Some, None, option_map, get_or, Result, Ok, Err, IfOk, IfErr, refl, ap, ap₂, sym, ◌∙◌, subst, arith, codes}
+use Rattle.std.proofs.Common.{◌≡◌, ◌≢◌, ◌⊎◌, inl, inr, ℕ, ◌<◌, ◌≤◌, ◌^◌, List, [], ◌∷◌, Option, Some, None, option_map, get_or, Result, Ok, Err, IfOk, IfErr, refl, ap, ap₂, sym, ◌∙◌, subst, arith, codes, lit<}
 use Rattle.std.specs.Prelude.{Box}
 use Rattle.std.specs.Box.{box_value}
-use Rattle.std.specs.Str.Parse.{ParsesUnsigned, IsNumeral, digits_value, without_leading_plus}
+use Rattle.std.specs.Str.Parse.{ParsesUnsigned, IsNumeral, AllDigits, digits_value, without_leading_plus}
 use Rattle.clap.specs.declared.parser.matches.Found.{Found}
 use Rattle.clap.specs.declared.parser.matches.SubCommand.{SubCommand}
 use Rattle.clap.specs.declared.parser.matches.ArgMatches.TheViews.{out-SubCommand}
@@ -21,25 +21,25 @@ use Rattle.td_console.specs.CodeSteps.{IsHelp, IsSim}
 use Rattle.td_console.specs.Command.{td, IsWorkers, IsNamed, HasValues, HasWorkers, IsAsked, IsRefused, name_of}
 
 -- the number of shards, as it is read
-module _ {E : Type 0} (f : Found) (r : Option ℕ) (none : one_text f (codes "workers") ≡ None → r ≡ None)
-    (value : (t : List ℕ) → one_text f (codes "workers") ≡ Some t → ReadsOne {T = ℕ} {E = E} (ParsesUnsigned 8 10) t r) where
+module _ {E : Type 0} (Reads : List ℕ → Result ℕ E → Type 0) (numbers : (t : List ℕ) (x : Result ℕ E) → Reads t x → ParsesUnsigned 8 10 t x) (f : Found) (r : Option ℕ) (none : one_text f (codes "workers") ≡ None → r ≡ None)
+    (value : (t : List ℕ) → one_text f (codes "workers") ≡ Some t → ReadsOne Reads t r) where
   pub workers_read : (w : ℕ) → r ≡ Some w → 1 ≤ w → w ≤ 16 → IsWorkers (rows_of f) w
   workers_read w is low high = by (one_text f (codes "workers")) refl
     where
       by : (o : Option (List ℕ)) → one_text f (codes "workers") ≡ o → IsWorkers (rows_of f) w
-      by None e = let no = none e in absurd cc
+      by None e = let lacks = none e in absurd cc
       by (Some t) e =
-          let h = subst (ReadsOne {T = ℕ} {E = E} (ParsesUnsigned 8 10) t) is (value t e) in
+          let h = numbers t (Ok w) (subst (ReadsOne Reads t) is (value t e)) in
           (t, sym (one_text-rows f (codes "workers")) ∙ e, h.0.0, h.1, low, high)
 
   pub no_workers : ((w : ℕ) → r ≡ Some w → 1 ≤ w → w ≤ 16 → ⊥) → (w : ℕ) → IsWorkers (rows_of f) w → ⊥
-  no_workers no w is = by r refl (value is.0 (one_text-rows f (codes "workers") ∙ is.1))
+  no_workers lacks w is = by r refl (value is.0 (one_text-rows f (codes "workers") ∙ is.1))
     where
-      by : (o : Option ℕ) → r ≡ o → ReadsOne {T = ℕ} {E = E} (ParsesUnsigned 8 10) is.0 o → ⊥
+      by : (o : Option ℕ) → r ≡ o → ReadsOne Reads is.0 o → ⊥
       by (Some v) e h =
-          let same : v ≡ w = h.1 ∙ sym is.3 in
-          no w (e ∙ ap Some same) is.4 is.5
-      by None e h = let n = is.3 in let most = is.5 in h.1 (is.2, omega (arith, n, most))
+          let read = numbers is.0 (Ok v) h in let same : v ≡ w = read.1 ∙ sym is.3 in
+          lacks w (e ∙ ap Some same) is.4 is.5
+      by None e h = let n = is.3 in let most = is.5 in numbers is.0 (Err h.0) h.1 (is.2, omega (arith, n, most))
 
 -- the name of a subcommand and its rows
 pub same_name : {Z : Type 0} (o : Option (Box SubCommand Z)) → option_map (λ b. (out-SubCommand (box_value b)).name.now) o ≡ option_map (λ (p : Text × List Row). p.0) (subcommand_rows o)
@@ -63,28 +63,31 @@ only_memory (Err error) kind ok err e = elim err [ inl memory ↦ ap Err memory 
 apart : (a b : Text) (j k : ℕ) → get_or a 0 0 ≡ j → get_or b 0 0 ≡ k → j < k → a ≡ b → ⊥
 apart a b j k at other below e = let f = ap (λ l. get_or l 0 0) e in omega (arith, at, other, below, f)
 
--- a simulation that lacks a value
+-- a simulation that no a value
 pub no_sim_workers : (rows : List Row) → ((w : ℕ) → IsWorkers rows w → ⊥) → (job : Job) → IsSim job → HasValues rows job → ⊥
-no_sim_workers rows no Batch s h = s
-no_sim_workers rows no (Run w) s h = s
-no_sim_workers rows no (Sim w picks) s h = no w h.0
-no_sim_workers rows no (Help text) s h = s
+no_sim_workers rows lacks Batch s h = s
+no_sim_workers rows lacks (Run w) s h = s
+no_sim_workers rows lacks (Sim w picks) s h = lacks w h.0
+no_sim_workers rows lacks (Help text) s h = s
 
 pub no_sim_picks : (rows : List Row) → first_of (codes "picks") rows ≡ None → (job : Job) → IsSim job → HasValues rows job → ⊥
-no_sim_picks rows no Batch s h = s
-no_sim_picks rows no (Run w) s h = s
-no_sim_picks rows no (Sim w picks) s h = let e = h.1 in cc
-no_sim_picks rows no (Help text) s h = s
+no_sim_picks rows lacks Batch s h = s
+no_sim_picks rows lacks (Run w) s h = s
+no_sim_picks rows lacks (Sim w picks) s h = let e = h.1 in cc
+no_sim_picks rows lacks (Help text) s h = s
+
+abbrev met_at : Text → List Row → Option (Text × List Row)
+met_at name rows = Some (name, rows)
 
 -- what is met is `run`, without a number of shards
 pub no_run : (met : Option (Text × List Row)) (rows : List Row) → option_map (λ p. p.0) met ≡ Some (codes "run") → option_map (λ p. p.1) met ≡ Some rows
     → ((w : ℕ) → IsWorkers rows w → ⊥) → (job : Job) → IsNamed met job → ⊥
-no_run met rows name is no job named = by job named.0 (sym named.1 ∙ met_is met (codes "run") rows name is) named.2
+no_run met rows name is lacks job named = by job named.0 (sym named.1 ∙ met_is met (codes "run") rows name is) named.2
   where
-    by : (job : Job) (others : List Row) → Some (name_of job, others) ≡ Some (codes "run", rows) → HasValues others job → ⊥
-    by Batch others e h = let n : codes "batch" ≡ codes "run" = cc in apart (codes "batch") (codes "run") 98 114 refl refl (omega arith) n
-    by (Run w) others e h = let same : others ≡ rows = cc in no w (subst (λ l. IsWorkers l w) same h)
-    by (Sim w picks) others e h = let n : codes "run" ≡ codes "sim" = cc in apart (codes "run") (codes "sim") 114 115 refl refl (omega arith) n
+    by : (job : Job) (others : List Row) → met_at (name_of job) others ≡ met_at (codes "run") rows → HasValues others job → ⊥
+    by Batch others e h = let n : Some (codes "batch") ≡ Some (codes "run") = ap (option_map (λ p. p.0)) e in let m : codes "batch" ≡ codes "run" = cc in apart (codes "batch") (codes "run") 98 114 refl refl (omega arith) m
+    by (Run w) others e h = let n : Some others ≡ Some rows = ap (option_map (λ p. p.1)) e in let same : others ≡ rows = cc in lacks w (subst (λ l. IsWorkers l w) same h)
+    by (Sim w picks) others e h = let n : Some (codes "run") ≡ Some (codes "sim") = ap (option_map (λ p. p.0)) (sym e) in let m : codes "run" ≡ codes "sim" = cc in apart (codes "run") (codes "sim") 114 115 refl refl (omega arith) m
     by (Help text) others e h = h
 
 pub batch_met : (met : Option (Text × List Row)) → option_map (λ p. p.0) met ≡ Some (codes "batch") → IsNamed met Batch
@@ -127,15 +130,15 @@ pub refused_by : (words : List (List ℕ)) (r : Result Job WordsError) (kind : E
 refused_by words (Ok job) kind err among = tt
 refused_by words (Err error) kind (inl memory) among = inl memory
 refused_by words (Err error) kind (inr h) (inl memory) = absurd (h.2 memory)
-refused_by words (Err error) kind (inr h) (inr among) = inr (h.0, (λ job n none. subst (IsAmong kind) none among), (λ only. by (subst (IsAmong kind) only among)))
+refused_by words (Err error) kind (inr h) (inr among) = inr (h.0, ((λ job n none. subst (IsAmong kind) none among), (λ only. by (subst (IsAmong kind) only among))))
   where
     by : (kind ≡ DisplayHelp) ⊎ ⊥ → ⊥
     by (inl e) = h.1 e
-    by (inr no) = no
+    by (inr lacks) = lacks
 
 -- words that name no job
 pub none_named : (words : List (List ℕ)) → ((job : Job) → IsNamed (subcommand_of td words) job → ⊥) → fault_of td words ≡ [] → IsRefused words
-none_named words no e = ((λ job n f. no job n), (λ only. let k = sym e ∙ only in cc))
+none_named words lacks e = ((λ job n f. lacks job n), (λ only. let k = sym e ∙ only in cc))
 
 -- the one job that is named
 pub named_batch : (met : Option (Text × List Row)) (job : Job) → IsNamed met job → option_map (λ p. p.0) met ≡ Some (codes "batch") → job ≡ Batch
@@ -157,3 +160,13 @@ named_run met job n name value = by job n.0 (sym (ap (option_map (λ p. p.0)) n.
         ap Run (h.3 ∙ ap (λ t. digits_value 10 (without_leading_plus t)) text)
     by (Sim w picks) rows e v h = let f : codes "run" ≡ codes "sim" = cc in absurd (apart (codes "run") (codes "sim") 114 115 refl refl (omega arith) f)
     by (Help text) rows e v h = absurd h
+
+pub run_met : (met : Option (Text × List Row)) → option_map (λ p. p.0) met ≡ Some (codes "run") → option_map (λ p. one_of (codes "workers") p.1) met ≡ Some (Some (codes "1")) → IsNamed met (Run 1)
+run_met met name value =
+    let m = met_some met (codes "run") name in
+    let here : Some (one_of (codes "workers") m.0) ≡ Some (Some (codes "1")) = sym (ap (option_map (λ p. one_of (codes "workers") p.1)) m.1) ∙ value in
+    let one : one_of (codes "workers") m.0 ≡ Some (codes "1") = cc in
+    (m.0, m.1, (codes "1", one, (omega arith, numeral), refl, omega arith, omega arith))
+  where
+    numeral : AllDigits 10 (codes "1")
+    numeral = (lit< tt, tt)

@@ -1,8 +1,8 @@
 //! What the program is asked to do, from the words that it is given.
 ghost use Rattle.std.specs.Prelude.{◌≡◌, ◌≢◌, ◌⊎◌, ◌↔◌, ◌≤◌, ℕ, false, IsTrue, IfOk, IfErr, IfSome, IfNone, map, string_bytes, Ok, Err};
-ghost use Rattle.clap.specs.Words.{app_of, found_of, kind_of, rule_of, rows_of, subcommand_rows_of};
+ghost use Rattle.clap.specs.Words.{app_of, found_of, kind_of, rule_of, rows_of, subcommand_rows_of, with_subcommand};
 ghost use Rattle.td_console.specs.declared.words.Job.{Job as AnyJob};
-ghost use Rattle.td_console.specs.Command.{td, workers_rule, picks_rule, batch_words, run_words, IsAsked, IsNamed, HasValues, IsWorkers, HasWorkers, IsRefused};
+ghost use Rattle.td_console.specs.Command.{td, batch_app, run_app, sim_app, workers_rule, picks_rule, batch_words, run_words, IsAsked, IsNamed, HasValues, IsWorkers, HasWorkers, IsRefused};
 ghost use Rattle.td_console.specs.CodeSteps.{IsHelp, IsSim};
 
 use clap::builder::ValueParser;
@@ -135,23 +135,46 @@ fn is_shard_count(workers: u8) -> bool
 fn command<'a>(alloc: Global) -> Result<Command<'a>, AllocError>
     ensures { IfOk result (λ c. app_of c ≡ td) }
 {
+    let td = Command::new(alloc, "td")
+        .about(TD)
+        .after_help(TD_MORE)
+        .subcommand_required(true);
+    let td = with_batch(alloc, td)?;
+    let td = with_run(alloc, td)?;
+    with_sim(alloc, td)
+}
+
+/// With `batch`.
+fn with_batch<'a>(alloc: Global, td: Command<'a>) -> Result<Command<'a>, AllocError>
+    ensures { IfOk result (λ c. app_of c ≡ with_subcommand (app_of td.entry) batch_app.top) }
+{
     let batch = Command::new(alloc, "batch")
         .about(BATCH)
         .after_help(BATCH_MORE);
+    td.subcommand(batch)
+}
+
+/// With `run`.
+fn with_run<'a>(alloc: Global, td: Command<'a>) -> Result<Command<'a>, AllocError>
+    ensures { IfOk result (λ c. app_of c ≡ with_subcommand (app_of td.entry) run_app.top) }
+{
     let run = Command::new(alloc, "run")
         .about(RUN)
         .after_help(BATCH_MORE)
         .arg(workers_arg(alloc))?;
+    td.subcommand(run)
+}
+
+/// With `sim`.
+fn with_sim<'a>(alloc: Global, td: Command<'a>) -> Result<Command<'a>, AllocError>
+    ensures { IfOk result (λ c. app_of c ≡ with_subcommand (app_of td.entry) sim_app.top) }
+{
     let sim = Command::new(alloc, "sim")
         .about(SIM)
         .after_help(SIM_MORE)
         .arg(workers_arg(alloc))?
         .arg(picks_arg(alloc))?;
-    let td = Command::new(alloc, "td")
-        .about(TD)
-        .after_help(TD_MORE)
-        .subcommand_required(true);
-    td.subcommand(batch)?.subcommand(run)?.subcommand(sim)
+    td.subcommand(sim)
 }
 
 /// `--workers W`.

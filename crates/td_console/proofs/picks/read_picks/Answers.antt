@@ -7,7 +7,10 @@ use Rattle.td_console.proofs.Picking.{no_picks, all_picks}
 use Rattle.td_console.proofs.picks.read_picks.Goals as goal
 
 pub returns-in_default-clause-err : goal.returns-in_default-clause-err
-returns-in_default-clause-err c = ?
+returns-in_default-clause-err c =
+    let given = c.split-word-iterator.ensures in
+    let turn = YieldsList-turn (YieldsList-from_str_split 44 c.args.text.now (lit< tt) given.text given.has_more given.pattern) c.loop-word.yielded c.loop-word.word-iterator c.loop-word.yielded_by c.next.result c.next.new.self c.in-Some.word c.in-Some.is c.next.ensures.steps in
+    inr (refl, no_picks (slice_split (λ b. b == 44) c.args.text.now) c.in-Some.word.now (length c.loop-word.yielded) turn.0 turn.1 ?)
 
 pub returns-clause-ok : goal.returns-clause-ok
 returns-clause-ok c = ?

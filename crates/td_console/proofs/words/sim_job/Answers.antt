@@ -9,7 +9,7 @@ use Rattle.td_console.proofs.words.sim_job.Goals as goal
 
 pub returns-in_err-workers-clause-none : goal.returns-in_err-workers-clause-none
 returns-in_err-workers-clause-none c =
-    subst (λ o. IfNone o ((job : Job) → IsSim job → HasValues (rows_of (found_of c.args.matches.now)) job → ⊥)) (sym c.from_residual-in_err-workers.ensures)
+    subst (λ o. IfNone o ((job : Job) → IsSim job → HasValues (rows_of (found_of c.args.matches.now)) job → ⊥)) (sym c.from_residual.ensures)
     (no_sim_workers (rows_of (found_of c.args.matches.now)) c.in_err-workers.ensures.none)
 
 pub returns-in_err-picks-clause-none : goal.returns-in_err-picks-clause-none
