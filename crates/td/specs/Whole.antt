@@ -1,5 +1,7 @@
 -- Which closures are stored.
-use Rattle.std.specs.Prelude.{◌≡◌, ℕ, true, List, [], ◌∷◌, ◌++◌, map}
+use Rattle.td.specs.declared.main.Engine.{Engine}
+use Rattle.td.specs.declared.main.Engine.TheVariants.{Batch, Run, Sim}
+use Rattle.std.specs.Prelude.{◌≡◌, ◌≤◌, ◌<◌, length, ℕ, true, List, [], ◌∷◌, ◌++◌, map}
 use Rattle.std.specs.List.{AllByRecursion}
 use Rattle.td_calls.specs.Codes.{has_code}
 use Rattle.td_calls.specs.Stock.{map_answers, group_answers, fold_answers}
@@ -21,3 +23,9 @@ group_codes = map (λ row. row.0) group_answers
 
 abbrev pub fold_codes : List ℕ
 fold_codes = map (λ row. row.0) fold_answers
+
+-- an engine with 1 to 16 shards, and some pick
+abbrev pub IsLawfulEngine : Engine → Type 0
+IsLawfulEngine Batch = Unit {0}
+IsLawfulEngine (Run workers) = (1 ≤ workers) × (workers ≤ 16)
+IsLawfulEngine (Sim workers picks) = (1 ≤ workers) × (workers ≤ 16) × (0 < length picks.items)

@@ -1,7 +1,7 @@
 //! Makes the closures of the catalogue, and does what the program's words ask for.
 #![tactic(auto)]
 
-ghost use Rattle.td.specs.Whole.{HasEach, map_codes, group_codes, fold_codes};
+ghost use Rattle.td.specs.Whole.{IsLawfulEngine, HasEach, map_codes, group_codes, fold_codes};
 
 mod store;
 
@@ -11,46 +11,74 @@ use std::rt::Env;
 use std::{env, io};
 use td_calls::{Calls, FoldBox, GroupBox, MapBox, Stock, StockCalls, stock};
 use td_console::words::{self, Job, WordsError};
-use td_console::{Fault, StdReader, StdWriter, batch, fault_line};
+use td_console::{Fault, StdReader, StdWriter, batch, fault_line, read_picks, run, sim};
 use td_stamp::{Item, Rec, State};
 
+/// Which engine is to answer, with so many shards.
+#[derive(Drop)]
+enum Engine {
+    Batch,
+    Run(u8),
+    Sim(u8, Vec<u64>),
+}
+
 fn main(rt: HostRuntime) -> ExitCode {
-    match asked(&rt) {
-        Ok(Job::Batch) => {}
-        Ok(Job::Help(text)) => {
-            return match print!(rt; "{text}") {
-                Ok(()) => ExitCode::SUCCESS,
-                Err(_) => told(&rt, Fault::Output),
-            };
-        }
-        Err(WordsError::Words) => {
-            let _ = eprintln!(rt; "td: words");
-            return ExitCode::from(2);
-        }
-        Err(WordsError::Memory) => return told(&rt, Fault::Memory),
-    }
-    match run_batch(&rt) {
-        Ok(()) => ExitCode::SUCCESS,
-        Err(fault) => told(&rt, fault),
+    let given = match given_words(&rt) {
+        Ok(given) => given,
+        Err(error) => return refused(&rt, error),
+    };
+    match words::words(rt.alloc(), &given) {
+        Ok(Job::Batch) => ended(&rt, run_engine(&rt, Engine::Batch)),
+        Ok(Job::Run(workers)) => ended(&rt, run_engine(&rt, Engine::Run(workers))),
+        Ok(Job::Sim(workers, picks)) => match read_picks(rt.alloc(), picks) {
+            Ok(picks) => ended(&rt, run_engine(&rt, Engine::Sim(workers, picks))),
+            Err(fault) => told(&rt, fault),
+        },
+        Ok(Job::Help(text)) => match print!(rt; "{text}") {
+            Ok(()) => ExitCode::SUCCESS,
+            Err(_) => told(&rt, Fault::Output),
+        },
+        Err(error) => refused(&rt, error),
     }
 }
 
-/// What the program's own words ask for. A word that is no text is none of the program's.
-fn asked<R: Env + AllocGlobal>(rt: &R) -> Result<Job, WordsError> {
+/// The program's own words. A word that is no text is none of the program's.
+fn given_words<R: Env + AllocGlobal>(rt: &R) -> Result<Vec<String>, WordsError> {
     let given = match env::args(rt) {
         Ok(args) => args,
         Err(error) if error.kind() == io::ErrorKind::OutOfMemory => return Err(WordsError::Memory),
         Err(_) => return Err(WordsError::Words),
     };
-    let Ok(given) = given.collect::<Vec<String>>(rt.alloc()) else {
-        return Err(WordsError::Memory);
-    };
-    words::words(rt.alloc(), &given)
+    match given.collect::<Vec<String>>(rt.alloc()) {
+        Ok(given) => Ok(given),
+        Err(_) => Err(WordsError::Memory),
+    }
+}
+
+/// Nothing can be done for the words.
+fn refused<R: Eprint + AllocGlobal>(rt: &R, error: WordsError) -> ExitCode {
+    match error {
+        WordsError::Words => {
+            let _ = rt.eprint("td: words\n");
+            ExitCode::from(2)
+        }
+        WordsError::Memory => told(rt, Fault::Memory),
+    }
+}
+
+/// How an engine ended.
+fn ended<R: Eprint + AllocGlobal>(rt: &R, answer: Result<(), Fault>) -> ExitCode {
+    match answer {
+        Ok(()) => ExitCode::SUCCESS,
+        Err(fault) => told(rt, fault),
+    }
 }
 
 /// Answers standard input with the closures of the catalogue. The closures are made here, since a function may not hand
 /// out one that it makes.
-fn run_batch<R: Input + Print + AllocGlobal>(rt: &R) -> Result<(), Fault> {
+fn run_engine<R: Input + Print + AllocGlobal>(rt: &R, engine: Engine) -> Result<(), Fault>
+    requires lawful { IsLawfulEngine engine }
+{
     let alloc = rt.alloc();
     let mut calls: StockCalls = Calls::new(alloc);
     let same: MapBox = Box::new(alloc, |port: u8, rec: Rec| stock::same(port, rec))?;
@@ -97,18 +125,47 @@ fn run_batch<R: Input + Print + AllocGlobal>(rt: &R) -> Result<(), Fault> {
         |key: u64, state: Option<State>, items: &[Item]| stock::toggled(key, state, items),
     )?;
     store_fold(&mut calls, 41, toggled)?;
-    answer(rt, &calls)
+    answer(rt, &calls, engine)
 }
 
 /// Answers standard input with the whole catalogue.
-fn answer<R: Input + Print + AllocGlobal>(rt: &R, calls: &StockCalls) -> Result<(), Fault>
+fn answer<R: Input + Print + AllocGlobal>(
+    rt: &R,
+    calls: &StockCalls,
+    engine: Engine,
+) -> Result<(), Fault>
+    requires lawful { IsLawfulEngine engine }
     requires maps { HasEach (λ c. c.code) calls.now.maps map_codes }
     requires groups { HasEach (λ c. c.code) calls.now.groups group_codes }
     requires folds { HasEach (λ c. c.code) calls.now.folds fold_codes }
 {
     let mut reader = StdReader(rt.reader());
     let mut writer = StdWriter(io::writer(rt));
-    batch::<_, _, Stock, StockCalls>(rt.alloc(), &mut reader, &mut writer, calls)
+    match engine {
+        Engine::Batch => batch::<_, _, Stock, StockCalls>(
+            rt.alloc(),
+            &mut reader,
+            &mut writer,
+            calls,
+        ),
+        Engine::Run(workers) => run::<_, _, Stock, StockCalls>(
+            rt.alloc(),
+            &mut reader,
+            &mut writer,
+            calls,
+            workers,
+        ),
+        Engine::Sim(workers, picks) => {
+            sim::<_, _, Stock, StockCalls>(
+                rt.alloc(),
+                &mut reader,
+                &mut writer,
+                calls,
+                workers,
+                picks.as_slice(),
+            )
+        }
+    }
 }
 
 /// Prints a fault on standard error.

@@ -8,3 +8,8 @@ pub mod ReadOn
 pub mod MoreEpochs
 pub mod OneAnswer
 pub mod BatchWords
+pub mod Asking
+pub mod Released
+pub mod Turning
+pub mod Asked
+pub mod Picking

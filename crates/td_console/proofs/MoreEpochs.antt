@@ -19,7 +19,7 @@ numbered-push first (out ∷ outs) last =
     λ i. record { epoch = first; recs = out } ∷ (numbered-push (first + 1) outs last ∙ ap (λ n. numbered (first + 1) outs ++ record { epoch = n; recs = last } ∷ []) e) i
 
 -- there is an output for each batch
-length-outs : (answers : Answers) (nodes : Nodes) (states : StateList) (batches : List (List Entry)) → length (run answers nodes states batches).outs ≡ length batches
+pub length-outs : (answers : Answers) (nodes : Nodes) (states : StateList) (batches : List (List Entry)) → length (run answers nodes states batches).outs ≡ length batches
 length-outs answers nodes states [] = refl
 length-outs answers nodes states (batch ∷ later) =
     let epoch : EpochInput = record { answers = answers; states = states; batch = batch } in

@@ -2,6 +2,7 @@
 use Rattle.std.specs.Prelude.{◌≡◌, ◌⊎◌, ℕ, Bool, List, [], ◌∷◌, ◌++◌, flat_map, length, Option, Some, None, IfSome, Result, Ok, Err}
 use Rattle.std.specs.Io.KnownBytes.{Appends}
 use Rattle.std.specs.Fmt.{decimal, signed_decimal}
+use Rattle.td_stamp.specs.declared.values.Entry.{Entry}
 use Rattle.td_stamp.specs.declared.values.Output.{Output}
 use Rattle.td_stamp.specs.declared.epoch_out.EpochOut.{EpochOut}
 use Rattle.td_plan.specs.declared.error.PlanError.{PlanError}
@@ -15,7 +16,7 @@ use Rattle.td_calls.specs.Answers.{Answers}
 use Rattle.td_calls.specs.Fits.{first_lack}
 use Rattle.td_batch.specs.Meaning.{run, numbered}
 use Rattle.td_console.specs.declared.faults.Fault.{Fault}
-use Rattle.td_console.specs.declared.faults.Fault.TheVariants.{Plan, NoCall, Memory}
+use Rattle.td_console.specs.declared.faults.Fault.TheVariants.{Plan, NoCall, Memory, Spent}
 use Rattle.td_console.specs.declared.faults.Fault.TheVariants as faults
 use Rattle.td_console.specs.Data.{batches_of, data_fault}
 use Rattle.td_console.specs.Parts.{plan_text, data_lines, first_data_line, wide_fault}
@@ -41,8 +42,12 @@ abbrev pub output_text : List EpochOut → List ℕ
 output_text epochs = flat_map (λ e. flat_map (output_line e.epoch) e.recs) epochs
 
 -- what a run of a plan gives, from no states, with the epochs numbered from 1
+abbrev pub lines_of_run : Answers → List PlanLine → List (List Entry) → List ℕ
+lines_of_run answers plan batches = output_text (numbered 1 (run answers (tree_of plan) [] batches).outs)
+
+-- on the batches that data lines spell
 abbrev pub run_text : Answers → List PlanLine → List (List ℕ) → List ℕ
-run_text answers plan lines = output_text (numbered 1 (run answers (tree_of plan) [] (batches_of lines)).outs)
+run_text answers plan lines = lines_of_run answers plan (batches_of lines)
 
 -- the fault for a vertex without its closure
 abbrev pub lack_fault : CallsError → Fault
@@ -75,6 +80,12 @@ IsAnswerAt stored input None answer = IsAsciiAnswer stored input answer
 abbrev pub IsAnswer : Stored → List ℕ → Result (List ℕ) Fault → Type 0
 IsAnswer stored input answer = IsAnswerAt stored input (wide_fault input) answer
 
+-- WHAT AN INPUT ASKS: a plan and the batches of its epochs, where its answer is the output lines of their run
+pub record Asks (stored : Stored) (input : List ℕ) (plan : List PlanLine) (batches : List (List Entry)) : Type 0 where
+  pub plan_is : PlanText (plan_text input) plan
+  pub batches_are : batches ≡ batches_of (data_lines input)
+  pub answer : IsAnswer stored input (Ok (lines_of_run stored.answers plan batches))
+
 -- what a writer holds after is what it held before and the answer text of an input
 abbrev pub WritesAnswer : Stored → Option (List ℕ) → Option (List ℕ) → List ℕ → Type 0
 WritesAnswer stored before after input = (text : List ℕ) × IsAnswer stored input (Ok text) × Appends before after text
@@ -86,3 +97,7 @@ LacksRoom stored HasRoom input = (text : List ℕ) × IsAnswer stored input (Ok 
 -- why nothing was answered: a reader's or a writer's failure, want of memory, or the fault of the input, where that is known
 abbrev pub IsFaultAt : Stored → Option (List ℕ) → Fault → Type 0
 IsFaultAt stored input f = (f ≡ faults.Input) ⊎ ((f ≡ faults.Output) ⊎ ((f ≡ Memory) ⊎ IfSome input (λ bytes. IsAnswer stored bytes (Err f))))
+
+-- the same, of an engine that runs a hall: or the hall used all numbers of tasks
+abbrev pub IsHallFaultAt : Stored → Option (List ℕ) → Fault → Type 0
+IsHallFaultAt stored input f = (f ≡ Spent) ⊎ IsFaultAt stored input f

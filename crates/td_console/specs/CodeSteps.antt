@@ -11,9 +11,9 @@ use Rattle.td_console.specs.declared.data_line.DataLine.{DataLine}
 use Rattle.td_console.specs.declared.data_line.DataLine.TheVariants.{PassedOver, Record, Close}
 use Rattle.td_console.specs.declared.faults.LineFault.TheVariants.{Syntax, NoSuchInput, NotClosed}
 use Rattle.td_console.specs.declared.faults.Fault.{Fault}
-use Rattle.td_console.specs.declared.faults.Fault.TheVariants.{Line, Input, Output, Memory}
+use Rattle.td_console.specs.declared.faults.Fault.TheVariants.{Line, Input, Output, Memory, Picks, Spent}
 use Rattle.td_console.specs.declared.words.Job.{Job}
-use Rattle.td_console.specs.declared.words.Job.TheVariants.{Batch, Help}
+use Rattle.td_console.specs.declared.words.Job.TheVariants.{Sim, Help}
 use Rattle.td_console.specs.Data.{data_line_of}
 
 -- Epochs read so far: the batches of those that are closed, and the entries of the one which is not, as they were read
@@ -54,13 +54,27 @@ abbrev pub Gives : Result Epochs Fault → Result Epochs Fault → Type 0
 Gives (Ok epochs) wanted = wanted ≡ Ok epochs
 Gives (Err fault) wanted = (fault ≡ Memory) ⊎ (wanted ≡ Err fault)
 
--- a fault that the input can have, or want of memory: none of a reader's or a writer's
+-- a fault that the input can have, or want of memory: none of a reader's or a writer's, of picks or of a hall
 abbrev pub IsOfInput : Fault → Type 0
 IsOfInput Input = ⊥
 IsOfInput Output = ⊥
+IsOfInput Picks = ⊥
+IsOfInput Spent = ⊥
 IsOfInput _ = Unit {0}
+
+-- the same, or a reader's
+abbrev pub IsOfReading : Fault → Type 0
+IsOfReading Output = ⊥
+IsOfReading Picks = ⊥
+IsOfReading Spent = ⊥
+IsOfReading _ = Unit {0}
 
 -- a job that prints a text
 abbrev pub IsHelp : Job → Type 0
-IsHelp Batch = ⊥
 IsHelp (Help text) = Unit {0}
+IsHelp _ = ⊥
+
+-- a simulation
+abbrev pub IsSim : Job → Type 0
+IsSim (Sim workers picks) = Unit {0}
+IsSim _ = ⊥

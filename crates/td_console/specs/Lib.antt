@@ -3,6 +3,8 @@ pub mod Data
 pub mod Parts
 pub mod Refusals
 pub mod Answer
+pub mod Turns
+pub mod Simulated
 pub mod CodeSteps
 pub mod Streams
 pub mod StreamProofs

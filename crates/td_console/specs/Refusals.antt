@@ -5,7 +5,7 @@ use Rattle.td_plan.specs.Refusals.{refusal_text}
 use Rattle.td_console.specs.declared.faults.LineFault.{LineFault}
 use Rattle.td_console.specs.declared.faults.LineFault.TheVariants.{Syntax, NoSuchInput, NotClosed}
 use Rattle.td_console.specs.declared.faults.Fault.{Fault}
-use Rattle.td_console.specs.declared.faults.Fault.TheVariants.{Plan, NoCall, Line, Input, Output, Memory}
+use Rattle.td_console.specs.declared.faults.Fault.TheVariants.{Plan, NoCall, Line, Input, Output, Memory, Picks, Spent}
 
 -- the number of a fault
 abbrev pub number_of : Fault → ℕ
@@ -15,6 +15,8 @@ number_of (Line line fault) = 3
 number_of Input = 4
 number_of Output = 5
 number_of Memory = 6
+number_of Picks = 8
+number_of Spent = 12
 
 -- what is wrong with a data line
 abbrev pub line_fault_text : LineFault → List ℕ
@@ -30,3 +32,5 @@ fault_text (Line line fault) = codes "line " ++ (decimal line ++ (codes ": " ++ 
 fault_text Input = codes "input"
 fault_text Output = codes "output"
 fault_text Memory = codes "memory"
+fault_text Picks = codes "picks"
+fault_text Spent = codes "spent"

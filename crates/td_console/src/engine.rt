@@ -1,11 +1,22 @@
 //! Reads all, computes, writes all.
-ghost use Rattle.std.specs.Prelude.{◌≡◌, ◌≢◌, [], ◌⊎◌, ℕ, IfOk, IfErr, OnOk, IfSome, length, ◌≤◌, ◌^◌};
-ghost use Rattle.td_console.specs.Answer.{stored_in, WritesAnswer, LacksRoom, IsFaultAt};
+ghost use Rattle.std.specs.Prelude.{◌≡◌, ◌≢◌, [], ◌⊎◌, ℕ, IfOk, IfErr, OnOk, IfSome, length, ◌≤◌, ◌<◌, ◌^◌, None, IsTrue, All};
+ghost use Rattle.std.specs.Result.{IsOk};
+ghost use Rattle.std.specs.List.{list_all};
+ghost use Rattle.std.specs.Io.KnownBytes.{Appends};
+ghost use Rattle.td_plan.specs.Blocks.{vertices};
+ghost use Rattle.td_plan.specs.Inputs.{is_input_of};
+ghost use Rattle.td_calls.specs.Fits.{first_lack};
+ghost use Rattle.td_console.specs.Answer.{stored_in, Asks, IsAnswer, WritesAnswer, LacksRoom, IsFaultAt, IsHallFaultAt};
+ghost use Rattle.td_console.specs.Simulated.{WritesSimulated, LacksRoomSimulated};
+ghost use Rattle.td_console.specs.CodeSteps.{IsOfReading};
 
-use crate::answer::answer;
+use crate::answer::run_text;
 use crate::faults::Fault;
+use crate::hall::hall_text;
+use crate::question::{Question, asked_by};
 use crate::sink::Sink;
 use crate::source::Source;
+use crate::turns::sim_text;
 use std::alloc::Global;
 use std::io::ErrorKind;
 use td_calls::{Closures, Law};
@@ -40,8 +51,95 @@ pub fn batch<R: Source, W: Sink, L: Law, C: Closures<L>>(
     ensures room { ((n : ℕ) → W.HasRoom writer.old n) → IfErr result (λ f. f ≢ Fault.Output) }
     ensures nothing { IfErr result (λ f. (f ≡ Fault.Output) ⊎ (writer.new ≡ writer.old)) }
 {
+    let Question { plan, batches } = read_question::<R, L, C>(alloc, reader, calls)?;
+    let text = run_text::<L, C>(alloc, &plan, calls, batches)?;
+    write_answer(writer, text.as_str())
+}
+
+/// Writes the answer text of what it reads, as `batch` does, by a hall of so many shards, which is drained on one thread.
+/// Faults as of `batch`; and `Spent`, where nothing was written: the hall used all numbers of tasks.
+pub fn run<R: Source, W: Sink, L: Law, C: Closures<L>>(
+    alloc: Global,
+    reader: &mut R,
+    writer: &mut W,
+    calls: &C,
+    workers: u8,
+) -> Result<(), Fault>
+    requires some { 1 ≤ workers }
+    requires most { workers ≤ 16 }
+    ensures ok { OnOk result (IfSome (R.remaining reader.old)
+        (WritesAnswer (stored_in L.answers C.has_map C.has_group C.has_fold calls.now) (W.contents writer.old) (W.contents writer.new))) }
+    ensures fault { IfErr result
+        (IsHallFaultAt (stored_in L.answers C.has_map C.has_group C.has_fold calls.now) (R.remaining reader.old)) }
+    ensures end { OnOk result (IfSome (R.remaining reader.new) (λ rest. rest ≡ [])) }
+    ensures input { R.EndsWithin reader.old (2 ^ 32) → IfErr result (λ f. f ≢ Fault.Input) }
+    ensures output { IfErr result (λ f. f ≡ Fault.Output → IfSome (R.remaining reader.old)
+        (LacksRoom (stored_in L.answers C.has_map C.has_group C.has_fold calls.now) (W.HasRoom writer.old))) }
+    ensures room { ((n : ℕ) → W.HasRoom writer.old n) → IfErr result (λ f. f ≢ Fault.Output) }
+    ensures nothing { IfErr result (λ f. (f ≡ Fault.Output) ⊎ (writer.new ≡ writer.old)) }
+{
+    let Question { plan, batches } = read_question::<R, L, C>(alloc, reader, calls)?;
+    let text = hall_text::<L, C>(alloc, &plan, calls, batches, workers)?;
+    write_answer(writer, text.as_str())
+}
+
+/// Writes the notes of a simulation and then the answer text of what it reads, as `run` does: all epochs are released into a
+/// hall of so many shards; turn i, from 0, takes from shard `i mod workers` with pick `picks[i mod length]`, and what it takes
+/// is run and given; it ends when as many turns in a row as there are shards had no task. Faults as of `run`.
+pub fn sim<R: Source, W: Sink, L: Law, C: Closures<L>>(
+    alloc: Global,
+    reader: &mut R,
+    writer: &mut W,
+    calls: &C,
+    workers: u8,
+    picks: &[u64],
+) -> Result<(), Fault>
+    requires some { 1 ≤ workers }
+    requires most { workers ≤ 16 }
+    requires picks { 0 < length picks.now }
+    ensures ok { OnOk result (IfSome (R.remaining reader.old)
+        (WritesSimulated (stored_in L.answers C.has_map C.has_group C.has_fold calls.now) workers (W.contents writer.old) (W.contents writer.new))) }
+    ensures fault { IfErr result
+        (IsHallFaultAt (stored_in L.answers C.has_map C.has_group C.has_fold calls.now) (R.remaining reader.old)) }
+    ensures end { OnOk result (IfSome (R.remaining reader.new) (λ rest. rest ≡ [])) }
+    ensures input { R.EndsWithin reader.old (2 ^ 32) → IfErr result (λ f. f ≢ Fault.Input) }
+    ensures output { IfErr result (λ f. f ≡ Fault.Output → IfSome (R.remaining reader.old)
+        (LacksRoomSimulated (stored_in L.answers C.has_map C.has_group C.has_fold calls.now) workers (W.HasRoom writer.old))) }
+    ensures room { ((n : ℕ) → W.HasRoom writer.old n) → IfErr result (λ f. f ≢ Fault.Output) }
+    ensures nothing { IfErr result (λ f. (f ≡ Fault.Output) ⊎ (writer.new ≡ writer.old)) }
+{
+    let Question { plan, batches } = read_question::<R, L, C>(alloc, reader, calls)?;
+    let text = sim_text::<L, C>(alloc, &plan, calls, batches, workers, picks)?;
+    write_answer(writer, text.as_str())
+}
+
+/// Reads all of an input, and what it asks. It stands apart, since it knows nothing of how it is answered.
+fn read_question<R: Source, L: Law, C: Closures<L>>(
+    alloc: Global,
+    reader: &mut R,
+    calls: &C,
+) -> Result<Question, Fault>
+    ensures asks { IfOk result (λ asked. IfSome (R.remaining reader.old) (λ input.
+        Asks (stored_in L.answers C.has_map C.has_group C.has_fold calls.now) input asked.plan asked.batches.items)) }
+    ensures fits { IfOk result (λ asked. first_lack (C.has_map calls.now) (C.has_group calls.now) (C.has_fold calls.now) (vertices asked.plan) ≡ None) }
+    ensures accepted { IfOk result (λ asked. All (λ batch. IsTrue (list_all (λ e. is_input_of asked.plan e.input) batch)) asked.batches.items) }
+    ensures few { IfOk result (λ asked. length asked.batches.items < 2 ^ 63) }
+    ensures end { OnOk result (IfSome (R.remaining reader.new) (λ rest. rest ≡ [])) }
+    ensures fault { IfErr result (λ f. (f ≡ Fault.Input) ⊎ ((f ≡ Fault.Memory) ⊎ IfSome (R.remaining reader.old) (λ input.
+        IsAnswer (stored_in L.answers C.has_map C.has_group C.has_fold calls.now) input (Err f)))) }
+    ensures own { IfErr result IsOfReading }
+    ensures input { R.EndsWithin reader.old (2 ^ 32) → IfErr result (λ f. f ≢ Fault.Input) }
+{
     let input = read_all(alloc, reader)?;
-    let text = answer::<L, C>(alloc, &input, calls)?;
+    asked_by::<L, C>(alloc, &input, calls)
+}
+
+/// Writes a text. Refusal: `Output`, where the writer failed.
+fn write_answer<W: Sink>(writer: &mut W, text: &str) -> Result<(), Fault>
+    ensures written { OnOk result (Appends (W.contents writer.old) (W.contents writer.new) text.now) }
+    ensures room { W.HasRoom writer.old (length text.now) → IsOk result }
+    ensures err { IfErr result (λ f. f ≡ Fault.Output) }
+{
     match writer.write_text(text.as_bytes()) {
         Ok(()) => Ok(()),
         Err(_) => Err(Fault::Output),

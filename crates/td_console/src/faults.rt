@@ -48,10 +48,14 @@ pub enum Fault {
     Output,
     /// An allocation was refused.
     Memory,
+    /// A list of picks has another shape than numbers joined by commas.
+    Picks,
+    /// There is something to take, and a hall has used all numbers of tasks.
+    Spent,
 }
 
 impl Fault {
-    /// The fault's number, 1 to 6, in the order in which they are declared.
+    /// The fault's number: 1 to 6, 8 and 12, in the order in which they are declared. The others are not used.
     pub fn number(&self) -> u8
         ensures { result ≡ number_of self.now }
     {
@@ -62,6 +66,8 @@ impl Fault {
             Fault::Input => 4,
             Fault::Output => 5,
             Fault::Memory => 6,
+            Fault::Picks => 8,
+            Fault::Spent => 12,
         }
     }
 }
@@ -77,6 +83,8 @@ impl fmt::Display for Fault {
             Fault::Input => write!(f, "input"),
             Fault::Output => write!(f, "output"),
             Fault::Memory => write!(f, "memory"),
+            Fault::Picks => write!(f, "picks"),
+            Fault::Spent => write!(f, "spent"),
         }
     }
 }

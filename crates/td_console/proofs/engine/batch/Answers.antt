@@ -1,8 +1,5 @@
 use Rattle.std.proofs.Common.{rules}
 use Rattle.td_console.proofs.engine.batch.Goals as goal
 
-pub returns-in-Ok-clause-ok : goal.returns-in-Ok-clause-ok
-returns-in-Ok-clause-ok g c = search rules
-
 pub returns-clause-output : goal.returns-clause-output
 returns-clause-output g c = search rules

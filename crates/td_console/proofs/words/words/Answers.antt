@@ -1,38 +1,68 @@
-use Rattle.std.proofs.Common.{◌≡◌, ◌≢◌, ◌∙◌, ◌⊎◌, inr, inl, ap, ap₂, refl, Option, Some, None, option_map, List, ℕ, codes, Result, Ok, Err, IfOk, IfErr}
-use Rattle.std.specs.Prelude.{Box}
-use Rattle.std.specs.Box.{box_value}
-use Rattle.clap.specs.declared.error.kind.ErrorKind.{ErrorKind}
-use Rattle.clap.specs.declared.error.kind.ErrorKind.TheVariants.{DisplayHelp, OutOfMemory}
-use Rattle.clap.specs.declared.parser.matches.ArgMatches.TheViews.{out-SubCommand}
-use Rattle.clap.specs.declared.parser.matches.SubCommand.{SubCommand}
-use Rattle.clap.specs.Words.{Row, is_simple, takes, subcommand_of, subcommand_rows, subcommand_rows_of}
-use Rattle.td_console.specs.declared.words.Job.{Job}
-use Rattle.td_console.specs.declared.words.Job.TheVariants.{Batch}
-use Rattle.td_console.specs.declared.words.WordsError.{WordsError}
-use Rattle.td_console.specs.declared.words.WordsError.TheVariants.{Words, Memory}
-use Rattle.td_console.specs.CodeSteps.{IsHelp}
-use Rattle.td_console.proofs.BatchWords.{td_is_taken, td_is_simple, batch_is_named}
+use Rattle.std.proofs.Common.{◌≡◌, ◌∙◌, ◌⊎◌, [], refl, Some, Ok, inl, inr, ap, ap₂, sym, subst, map, option_map, codes}
+use Rattle.std.specs.Prelude.{string_bytes}
+use Rattle.clap.specs.Words.{kind_of, is_simple, takes, subcommand_of, subcommand_rows_of, one_of}
+use Rattle.clap.specs.Faults.{fault_of, is_simple_and_free}
+use Rattle.clap.specs.Kinds.{IsAmong}
+use Rattle.clap.specs.declared.error.kind.ErrorKind.TheVariants.{OutOfMemory}
+use Rattle.td_console.specs.declared.words.Job.TheVariants.{Batch, Run}
+use Rattle.td_console.specs.Command.{td, IsNamed}
+use Rattle.td_console.proofs.Asked.{asked_by, has_workers, helped_by, help_has_workers, refused_by, none_named, named_batch, named_run, run_met, batch_met, only_memory}
+use Rattle.td_console.proofs.BatchWords.{td_is_simple, td_is_free, batch_is_taken, batch_is_named, run_is_taken, run_is_named, run_has_one}
 use Rattle.td_console.proofs.words.words.Goals as goal
 
--- `td batch` is refused for want of memory alone
-only_memory : (r : Result Job WordsError) (kind : ErrorKind) → IfOk r (λ job. IsHelp job × (kind ≡ DisplayHelp)) → IfErr r (λ e. (e ≡ Memory) ⊎ ((e ≡ Words) × (kind ≢ DisplayHelp) × (kind ≢ OutOfMemory))) → kind ≡ OutOfMemory → r ≡ Err Memory
-only_memory (Ok job) kind ok err e = let h = ok.1 in absurd cc
-only_memory (Err error) kind ok err e = elim err [ inl memory ↦ ap Err memory | inr h ↦ absurd (h.2 e) ]
-
-batch_named : (r : Result Job WordsError) (name : Option (List ℕ)) → IfOk r (λ job. (job ≡ Batch) × (name ≡ Some (codes "batch"))) → IfErr r (λ e. (e ≡ Words) × (name ≢ Some (codes "batch"))) → name ≡ Some (codes "batch") → r ≡ Ok Batch
-batch_named (Ok job) name ok err e = ap Ok ok.0
-batch_named (Err error) name ok err e = absurd (err.1 e)
+pub returns-in-Err-clause-err : goal.returns-in-Err-clause-err
+returns-in-Err-clause-err c =
+    refused_by (map string_bytes c.args.given.now) c.asked_instead.result (kind_of c.in-Err.error) c.asked_instead.ensures.err
+    (subst (λ a. (kind_of c.in-Err.error ≡ OutOfMemory) ⊎ IsAmong (kind_of c.in-Err.error) (fault_of a (map string_bytes c.args.given.now))) c.in-Ok.ensures (c.in-Err.ensures.kinds (ap is_simple_and_free c.in-Ok.ensures ∙ td_is_free)))
 
 pub returns-in-Err-clause-batch : goal.returns-in-Err-clause-batch
-returns-in-Err-clause-batch c = λ e.
-    inr (only_memory _ _ c.asked_instead.ensures.ok c.asked_instead.ensures.err (c.in-Err.ensures.passes (ap₂ takes c.in-Ok.ensures e ∙ td_is_taken)))
+returns-in-Err-clause-batch c = λ e. inr (only_memory _ _ c.asked_instead.ensures.ok c.asked_instead.ensures.err (c.in-Err.ensures.passes (ap₂ takes c.in-Ok.ensures e ∙ batch_is_taken)))
 
-same_name : {Z : Type 0} (o : Option (Box SubCommand Z)) → option_map (λ b. (out-SubCommand (box_value b)).name.now) o ≡ option_map (λ (p : List ℕ × List Row). p.0) (subcommand_rows o)
-same_name None = refl
-same_name (Some b) = refl
+pub returns-in-Err-clause-run : goal.returns-in-Err-clause-run
+returns-in-Err-clause-run c = λ e. inr (only_memory _ _ c.asked_instead.ensures.ok c.asked_instead.ensures.err (c.in-Err.ensures.passes (ap₂ takes c.in-Ok.ensures e ∙ run_is_taken)))
+
+pub returns-in-Some-clause-ok : goal.returns-in-Some-clause-ok
+returns-in-Some-clause-ok c =
+    let given = map string_bytes c.args.given.now in
+    let found = c.in-Ok-try_get_matches_from in
+    let met : subcommand_rows_of found.matches ≡ subcommand_of td given = (found.ensures.matches (ap is_simple c.in-Ok.ensures ∙ td_is_simple)).1 ∙ ap (λ a. subcommand_of a given) c.in-Ok.ensures in
+    let faultless : fault_of td given ≡ [] = ap (λ a. fault_of a given) (sym c.in-Ok.ensures) ∙ found.ensures.kinds (ap is_simple_and_free c.in-Ok.ensures ∙ td_is_free) in
+    asked_by given c.in-Some.job faultless (subst (λ o. IsNamed o c.in-Some.job) met c.in-Some.ensures.some)
+
+pub returns-in-Some-clause-batch : goal.returns-in-Some-clause-batch
+returns-in-Some-clause-batch c = λ e.
+    let given = map string_bytes c.args.given.now in
+    let found = c.in-Ok-try_get_matches_from in
+    let met : subcommand_rows_of found.matches ≡ subcommand_of td given = (found.ensures.matches (ap is_simple c.in-Ok.ensures ∙ td_is_simple)).1 ∙ ap (λ a. subcommand_of a given) c.in-Ok.ensures in
+    inl (ap Ok (named_batch (subcommand_rows_of found.matches) c.in-Some.job c.in-Some.ensures.some (ap (option_map (λ p. p.0)) (met ∙ ap (subcommand_of td) e) ∙ batch_is_named)))
+
+pub returns-in-Some-clause-run : goal.returns-in-Some-clause-run
+returns-in-Some-clause-run c = λ e.
+    let given = map string_bytes c.args.given.now in
+    let found = c.in-Ok-try_get_matches_from in
+    let met : subcommand_rows_of found.matches ≡ subcommand_of td given = (found.ensures.matches (ap is_simple c.in-Ok.ensures ∙ td_is_simple)).1 ∙ ap (λ a. subcommand_of a given) c.in-Ok.ensures in
+    let is = met ∙ ap (subcommand_of td) e in
+    inl (ap Ok (named_run (subcommand_rows_of found.matches) c.in-Some.job c.in-Some.ensures.some (ap (option_map (λ p. p.0)) is ∙ run_is_named) (ap (option_map (λ p. one_of (codes "workers") p.1)) is ∙ run_has_one)))
+
+pub returns-clause-err : goal.returns-clause-err
+returns-clause-err c =
+    let given = map string_bytes c.args.given.now in
+    let found = c.in-Ok-try_get_matches_from in
+    let met : subcommand_rows_of found.matches ≡ subcommand_of td given = (found.ensures.matches (ap is_simple c.in-Ok.ensures ∙ td_is_simple)).1 ∙ ap (λ a. subcommand_of a given) c.in-Ok.ensures in
+    let faultless : fault_of td given ≡ [] = ap (λ a. fault_of a given) (sym c.in-Ok.ensures) ∙ found.ensures.kinds (ap is_simple_and_free c.in-Ok.ensures ∙ td_is_free) in
+    inr (refl, none_named given (λ job n. c.in-None.ensures.none job (subst (λ o. IsNamed o job) (sym met) n)) faultless)
 
 pub returns-clause-batch : goal.returns-clause-batch
 returns-clause-batch c = λ e.
-    let rows = (c.in-Ok-try_get_matches_from.ensures.matches (ap is_simple c.in-Ok.ensures ∙ td_is_simple)).1 in
-    let name : option_map (λ (p : List ℕ × List Row). p.0) (subcommand_rows_of c.in-Ok-try_get_matches_from.matches) ≡ Some (codes "batch") = ap (option_map (λ (p : List ℕ × List Row). p.0)) (rows ∙ ap₂ subcommand_of c.in-Ok.ensures e) ∙ batch_is_named in
-    inl (batch_named _ _ c.named.ensures.ok c.named.ensures.err (c.subcommand_name.ensures ∙ same_name _ ∙ name))
+    let given = map string_bytes c.args.given.now in
+    let found = c.in-Ok-try_get_matches_from in
+    let met : subcommand_rows_of found.matches ≡ subcommand_of td given = (found.ensures.matches (ap is_simple c.in-Ok.ensures ∙ td_is_simple)).1 ∙ ap (λ a. subcommand_of a given) c.in-Ok.ensures in
+    absurd (c.in-None.ensures.none Batch (batch_met (subcommand_rows_of found.matches) (ap (option_map (λ p. p.0)) (met ∙ ap (subcommand_of td) e) ∙ batch_is_named)))
+
+pub returns-clause-run : goal.returns-clause-run
+returns-clause-run c = λ e.
+    let given = map string_bytes c.args.given.now in
+    let found = c.in-Ok-try_get_matches_from in
+    let met : subcommand_rows_of found.matches ≡ subcommand_of td given = (found.ensures.matches (ap is_simple c.in-Ok.ensures ∙ td_is_simple)).1 ∙ ap (λ a. subcommand_of a given) c.in-Ok.ensures in
+    let is = met ∙ ap (subcommand_of td) e in
+    absurd (c.in-None.ensures.none (Run 1) (run_met (subcommand_rows_of found.matches) (ap (option_map (λ p. p.0)) is ∙ run_is_named) (ap (option_map (λ p. one_of (codes "workers") p.1)) is ∙ run_has_one)))

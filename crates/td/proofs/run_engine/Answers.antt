@@ -1,6 +1,6 @@
 -- Each closure is stored beside those before it, and those of the other kinds stay.
 use Rattle.std.proofs.Common.{[], ◌∷◌}
-use Rattle.td.proofs.run_batch.Goals as goal
+use Rattle.td.proofs.run_engine.Goals as goal
 
 pub answer-requires-clause-maps : goal.answer-requires-clause-maps
 answer-requires-clause-maps g c =

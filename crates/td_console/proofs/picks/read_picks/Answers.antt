@@ -1,0 +1,22 @@
+use Rattle.std.proofs.Common.{◌≡◌, ℕ, ◌==◌, ◌<◌, List, Option, Some, None, map, length, get_or, refl, ap, sym, ◌∙◌, subst, arith, inr, lit<}
+use Rattle.std.specs.List.{slice_split}
+use Rattle.std.proofs.lemmas.Iterator.Consumers.{YieldsList-turn, YieldsList-end}
+use Rattle.std.proofs.lemmas.Iterator.Splits.{YieldsList-from_str_split}
+use Rattle.std.specs.Str.Iter.{split_text, split_has_more, split_pattern}
+use Rattle.td_plan.specs.Text.{natural_of}
+use Rattle.td_console.proofs.Picking.{no_picks, all_picks}
+use Rattle.td_console.proofs.picks.read_picks.Goals as goal
+
+pub returns-in_default-clause-err : goal.returns-in_default-clause-err
+returns-in_default-clause-err c =
+    let from = c.into_iter-word-iterator.ensures.into_iter_gives in
+    let given = c.split-word-items.ensures in
+    let turn = YieldsList-turn (YieldsList-from_str_split 44 c.args.text.now (lit< tt) (ap split_text from ∙ given.text) (ap split_has_more from ∙ given.has_more) (ap split_pattern from ∙ given.pattern)) c.loop-word.yielded c.loop-word.word-iterator c.loop-word.yielded_by c.next.result c.next.new.self c.in-Some.word c.in-Some.is c.next.ensures.steps in
+    inr (refl, no_picks (slice_split (λ b. b == 44) c.args.text.now) c.in-Some.word.now (length c.loop-word.yielded) turn.0 turn.1 (sym c.in_default.ensures.exact))
+
+pub returns-clause-ok : goal.returns-clause-ok
+returns-clause-ok c =
+    let from = c.into_iter-word-iterator.ensures.into_iter_gives in
+    let given = c.split-word-items.ensures in
+    let end = YieldsList-end (YieldsList-from_str_split 44 c.args.text.now (lit< tt) (ap split_text from ∙ given.text) (ap split_has_more from ∙ given.has_more) (ap split_pattern from ∙ given.pattern)) c.loop-word.yielded c.loop-word.word-iterator c.loop-word.yielded_by c.next.result c.next.new.self c.in-None.is c.next.ensures.steps in
+    all_picks c.loop-word.yielded (slice_split (λ b. b == 44) c.args.text.now) c.loop-word.picks.items end.0 c.loop-word.invariant
