@@ -59,7 +59,8 @@ def main():
         source = ROOT / "bench/refuse_allocation.c"
         subprocess.run([compiler, "-O2", "-shared", "-fPIC", "-o", library, source], check=True)
         for file in [pathlib.Path(name) for name in sys.argv[1:]] or EXAMPLES:
-            refuse_each(library, file.name, ["batch"], file.read_bytes())
+            for words in (["batch"], ["run", "--workers", "3"], ["sim", "--workers", "2", "--picks", "0,1"]):
+                refuse_each(library, f"{file.name}, td {' '.join(words)}", words, file.read_bytes())
         for words in (["help"], ["batch", "now"]):
             refuse_each(library, " ".join(["td", *words]), words, b"")
 

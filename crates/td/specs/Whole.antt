@@ -1,6 +1,6 @@
 -- Which closures are stored.
-use Rattle.td.specs.declared.main.Engine.{Engine}
-use Rattle.td.specs.declared.main.Engine.TheVariants.{Batch, Run, Sim}
+use Rattle.td.specs.declared.engine.Engine.{Engine}
+use Rattle.td.specs.declared.engine.Engine.TheVariants.{Batch, Run, Sim}
 use Rattle.std.specs.Prelude.{◌≡◌, ◌≤◌, ◌<◌, length, ℕ, true, List, [], ◌∷◌, ◌++◌, map}
 use Rattle.std.specs.List.{AllByRecursion}
 use Rattle.td_calls.specs.Codes.{has_code}

@@ -3,8 +3,10 @@
 
 ghost use Rattle.td.specs.Whole.{IsLawfulEngine, HasEach, map_codes, group_codes, fold_codes};
 
+mod engine;
 mod store;
 
+use crate::engine::Engine;
 use crate::store::{store_fold, store_group, store_map};
 use std::process::ExitCode;
 use std::rt::Env;
@@ -13,14 +15,6 @@ use td_calls::{Calls, FoldBox, GroupBox, MapBox, Stock, StockCalls, stock};
 use td_console::words::{self, Job, WordsError};
 use td_console::{Fault, StdReader, StdWriter, batch, fault_line, read_picks, run, sim};
 use td_stamp::{Item, Rec, State};
-
-/// Which engine is to answer, with so many shards.
-#[derive(Drop)]
-enum Engine {
-    Batch,
-    Run(u8),
-    Sim(u8, Vec<u64>),
-}
 
 fn main(rt: HostRuntime) -> ExitCode {
     let given = match given_words(&rt) {

@@ -121,7 +121,11 @@ fn workers_of(matches: &ArgMatches<'_>) -> Option<u8>
     ensures none { IfNone result ((workers : ℕ) → IsWorkers (rows_of (found_of matches.now)) workers → ⊥) }
 {
     let workers = matches.get_one::<u8>("workers")?;
-    if is_shard_count(workers) { Some(workers) } else { None }
+    if is_shard_count(workers) {
+        Some(workers)
+    } else {
+        None
+    }
 }
 
 /// Whether a hall may have so many shards.

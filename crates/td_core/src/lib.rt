@@ -6,10 +6,6 @@ mod collect;
 mod cut;
 mod deliver;
 mod drain;
-#[cfg(test)]
-mod drain_tests;
-#[cfg(test)]
-mod give_tests;
 mod error;
 mod floor;
 mod give;

@@ -1,5 +1,4 @@
-//! Calls of a hall in which no task is taken, with ample memory and with each allocation refused in turn.
-use crate::laws::each_is_sound;
+//! A hall, with ample memory and with each allocation refused in turn.
 use crate::{Cut, Hall, HallError};
 use std::alloc::Global;
 use std::test::Fail;
@@ -34,20 +33,6 @@ fn cut(hall: &mut Hall<Stock>) -> Result<Cut, HallError> {
     }
 }
 
-/// Cuts at an epoch that is released, and not before the base, a second time where memory was refused.
-pub(crate) fn cut_at(hall: &mut Hall<Stock>, epoch: u64) -> Result<Option<Cut>, HallError> {
-    each_is_sound(hall);
-    let base = hall.base().0;
-    let released = hall.inputs().len() as u64;
-    if epoch < base || released < epoch - base {
-        return Ok(None);
-    }
-    match hall.cut_at(epoch) {
-        Err(HallError::Memory) => Ok(Some(hall.cut_at(epoch)?)),
-        answer => Ok(Some(answer?)),
-    }
-}
-
 #[test]
 fn nothing_was_released(rt: HostRuntime) -> Result<(), Fail> {
     let plan = Plan::read(rt.alloc(), TOTAL)?;
@@ -64,9 +49,6 @@ fn nothing_was_released(rt: HostRuntime) -> Result<(), Fail> {
     assert_eq!(rt; collect(&mut hall)?.len(), 0);
     let made = cut(&mut hall)?;
     assert_eq!(rt; (made.epoch, made.states.get(1, 7)), (2, Some(STATE)));
-    let again = cut_at(&mut hall, 2)?.map(|cut| (cut.epoch, cut.states.get(1, 7)));
-    assert_eq!(rt; again, Some((2, Some(STATE))));
-    assert!(rt; cut_at(&mut hall, 3)?.is_none());
     assert!(rt; !hall.is_closed());
     hall.close();
     assert!(rt; hall.is_closed());
@@ -101,23 +83,5 @@ fn batches_are_released(rt: HostRuntime) -> Result<(), Fail> {
     );
     hall.close();
     assert_eq!(rt; release(&mut hall, batch), Err((HallError::Closed, 1)));
-    Ok(())
-}
-
-#[test]
-fn passed_epochs_are_cut(rt: HostRuntime) -> Result<(), Fail> {
-    let plan = Plan::read(rt.alloc(), TOTAL)?;
-    let mut hall = hall(rt.alloc(), &plan)?;
-    let mut batch = Batch::new(rt.alloc());
-    batch.add(Entry {
-        input: 0,
-        rec: Rec { key: 7, val: 1 },
-    })?;
-    assert_eq!(rt; release(&mut hall, Batch::new(rt.alloc())), Ok(3));
-    assert_eq!(rt; release(&mut hall, batch), Ok(4));
-    assert!(rt; matches!(cut_at(&mut hall, 4), Err(HallError::NotPassed(4))));
-    let made = cut_at(&mut hall, 3)?.map(|cut| (cut.epoch, cut.states.get(1, 7)));
-    assert_eq!(rt; made, Some((3, Some(STATE))));
-    assert_eq!(rt; (hall.base().0, hall.inputs().len()), (3, 1));
     Ok(())
 }

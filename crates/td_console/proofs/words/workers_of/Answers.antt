@@ -24,7 +24,7 @@ pub returns-else-is_shard_count-clause-none : goal.returns-else-is_shard_count-c
 returns-else-is_shard_count-clause-none c =
     no_workers Reads (λ t x h. h.0) (found_of c.args.matches.now) c.get_one.result c.get_one.ensures.none c.get_one.ensures.value
     (λ w is low high.
-        let was : c.get_one.result ≡ Some c.in_ok-workers.workers = c.in_ok-workers.was in
-        let same : w ≡ c.in_ok-workers.workers = cc in
-        let yes = c.is_shard_count.ensures.1 (subst (λ n. 1 ≤ n) same low, subst (λ n. n ≤ 16) same high) in
-        let not = c.if-is_shard_count.false in cc)
+    let was : c.get_one.result ≡ Some c.in_ok-workers.workers = c.in_ok-workers.was in
+    let same : w ≡ c.in_ok-workers.workers = cc in
+    let yes = c.is_shard_count.ensures.1 (subst (λ n. 1 ≤ n) same low, subst (λ n. n ≤ 16) same high) in
+    let not = c.if-is_shard_count.false in cc)
