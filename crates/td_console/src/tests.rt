@@ -108,21 +108,23 @@ fn slow_and_failing_streams(rt: HostRuntime) -> Result<(), Fail> {
     Ok(())
 }
 
-fn asked(alloc: Global, given: &[&str]) -> Result<Result<Job, WordsError>, Fail> {
-    let mut owned = Vec::new(alloc);
-    for word in given {
-        owned.push(String::from_str(alloc, word)?)?;
+/// A program's words.
+fn given(alloc: Global, said: &[&str]) -> Result<Vec<String>, Fail> {
+    let mut given = Vec::new(alloc);
+    for word in said {
+        given.push(String::from_str(alloc, word)?)?;
     }
-    Ok(words(alloc, &owned))
+    Ok(given)
 }
 
 #[test]
 fn words_are_read_as_jobs(rt: HostRuntime) -> Result<(), Fail> {
-    let batch = asked(rt.alloc(), &["td", "batch"])?;
-    assert!(rt; matches!(batch, Ok(Job::Batch)));
-    let refusal = asked(rt.alloc(), &[])?;
-    assert!(rt; matches!(refusal, Err(WordsError::Words)));
-    let Ok(Job::Help(text)) = asked(rt.alloc(), &["td", "help"])? else {
+    let batch = given(rt.alloc(), &["td", "batch"])?;
+    assert!(rt; matches!(words(rt.alloc(), &batch), Ok(Job::Batch)));
+    let none = given(rt.alloc(), &[])?;
+    assert!(rt; matches!(words(rt.alloc(), &none), Err(WordsError::Words)));
+    let help = given(rt.alloc(), &["td", "help"])?;
+    let Ok(Job::Help(text)) = words(rt.alloc(), &help) else {
         return Err("help")?;
     };
     assert!(rt; text.contains("batch"));
