@@ -1,18 +1,102 @@
--- What contracts see of a keeper.
-use Rattle.std.specs.Prelude.{ℕ, List}
+-- What contracts see of a keeper, and what each keeper keeps right.
+use Rattle.std.specs.Prelude.{◌≡◌, ℕ, ◌+◌, ◌-◌, ◌^◌, ◌<◌, ◌≤◌, Bool, true, false, List, [], ◌∷◌, ◌++◌, length, drop, All, Option, Some, None}
+use Rattle.td_stamp.specs.declared.values.Entry.{Entry}
+use Rattle.td_stamp.specs.declared.epoch_out.EpochOut.{EpochOut}
+use Rattle.td_stamp.specs.States.{StateList}
 use Rattle.td_plan.specs.Lines.{Line}
+use Rattle.td_plan.specs.Tree.{tree_of}
+use Rattle.td_calls.specs.Answers.{Answers}
+use Rattle.td_batch.specs.Meaning.{states_after}
 use Rattle.td_head.specs.declared.head.Head.{Head}
+use Rattle.td_slots.specs.Slot.{are_states}
 use Rattle.td_slots.specs.declared.slots.Checkpoint.{Checkpoint}
+use Rattle.td_journal.specs.Cell.{is_batch}
 use Rattle.td_journal.specs.declared.submitted.Submitted.{Submitted}
-use Rattle.td_keeper.specs.Standing.{Standing, standing_from}
+use Rattle.td_standing.specs.Standing.{Standing, standing_from, last_epoch, batches_of, submission, with_more, cut_at}
+use Rattle.td_standing.specs.Told.{inputs_of, folds_of}
+use Rattle.td_standing.specs.Tells.{side_after}
+use Rattle.td_keeper.specs.declared.keeper.Taken.{Taken}
 
--- A KEEPER: its disk, the plan, the disk's head, the slot in which its checkpoint stands, and what it stands for
+-- A KEEPER: its disk, the plan, the disk's head, the slot in which its checkpoint stands, and what it stands for; whether the
+-- device failed in an earlier call that writes; its base, which is the last cut that it took, or the checkpoint, and whether
+-- that cut waits to be written; the last epoch that it collected, and the outputs that were collected and not yet handed out
 pub record Keeping (D : Type 0) : Type 0 where
   pub device : D
   pub plan : List Line
   pub head : Head
   pub side : ℕ
   pub standing : Standing
+  pub broken : Bool
+  pub base : ℕ
+  pub base_states : StateList
+  pub waiting : Bool
+  pub collected : ℕ
+  pub queue : List EpochOut
 
-abbrev pub keeping_of : {D : Type 0} → D → List Line → Head → Checkpoint → List Submitted → Keeping D
-keeping_of device plan head c w = record { device = device; plan = plan; head = head; side = c.slot; standing = standing_from c w }
+-- the base, where a cut was taken since the checkpoint, and where none was
+abbrev pub base_of : Checkpoint → Option Taken → ℕ
+base_of c None = c.epoch
+base_of c (Some t) = t.epoch
+
+abbrev pub base_states_of : Checkpoint → Option Taken → StateList
+base_states_of c None = c.states
+base_states_of c (Some t) = t.states
+
+abbrev pub is_waiting : Option Taken → Bool
+is_waiting None = false
+is_waiting (Some t) = t.waits
+
+-- of what it keeps in memory
+abbrev pub keeping_of : {D : Type 0} → D → List Line → Head → Checkpoint → List Submitted → Bool → Option Taken → ℕ → List EpochOut → Keeping D
+keeping_of device plan head c w broken t collected queue = record {
+  device = device;
+  plan = plan;
+  head = head;
+  side = c.slot;
+  standing = standing_from c w;
+  broken = broken;
+  base = base_of c t;
+  base_states = base_states_of c t;
+  waiting = is_waiting t;
+  collected = collected;
+  queue = queue;
+}
+
+module _ {D : Type 0} (k : Keeping D) where
+  -- the epoch of the checkpoint is the base, nothing is broken or waits, and nothing was collected since
+  pub record IsFreshlyOpened : Type 0 where
+    pub whole : k.broken ≡ false
+    pub base : k.base ≡ k.standing.epoch
+    pub base_states : k.base_states ≡ k.standing.states
+    pub none_waits : k.waiting ≡ false
+    pub collected : k.collected ≡ k.standing.epoch
+    pub queue : k.queue ≡ []
+
+  -- the batches of the epochs after the base
+  abbrev pub since_base : List (List Entry)
+  since_base = drop (k.base - k.standing.epoch) (batches_of k.standing.submitted)
+
+  -- with one epoch more
+  abbrev pub with_batch : D → ℕ → List Entry → Keeping D
+  with_batch device request batch = record k { device = device; standing = with_more k.standing (submission request batch ∷ []) }
+
+  -- with the cut that waited as its checkpoint
+  abbrev pub with_checkpoint : D → Keeping D
+  with_checkpoint device = record k {
+    device = device;
+    side = side_after k.side (k.base - k.standing.epoch);
+    standing = cut_at k.standing (k.base - k.standing.epoch) k.base_states;
+    waiting = false;
+  }
+
+  -- WHAT EACH KEEPER KEEPS RIGHT in its memory: what it stands for may stand on its disk, and its base is one of its epochs, with
+  -- the batch meaning's states
+  pub record IsKeeping (answers : Answers) : Type 0 where
+    pub batches : All (λ s. is_batch (inputs_of k.plan) s.batch ≡ true) k.standing.submitted
+    pub few : length k.standing.submitted ≤ k.head.shape.n
+    pub small : last_epoch k.standing < 2 ^ 63
+    pub states : are_states (folds_of k.plan) k.standing.states ≡ true
+    pub from_checkpoint : k.standing.epoch ≤ k.base
+    pub released : k.base ≤ last_epoch k.standing
+    pub base_states : k.base_states ≡ states_after answers (tree_of k.plan) k.standing.states (batches_of k.standing.submitted) (k.base - k.standing.epoch)
+    pub collected : k.base ≤ k.collected

@@ -1,8 +1,3 @@
-pub mod Refusals
-pub mod Standing
-pub mod Told
-pub mod Stops
-pub mod Tells
 pub mod Keeping
-pub mod Read
-pub mod Examples
+pub mod Refused
+pub mod Halls

@@ -3,17 +3,15 @@ ghost use Rattle.std.specs.Prelude.{◌≡◌, ◌⊎◌, ◌↔◌, ◌≤◌, 
 ghost use Rattle.td_disk.specs.Disk.{IsDurable, Rises};
 ghost use Rattle.td_gate.specs.CrashSafe.{CrashSafe, Unchanged};
 ghost use Rattle.td_head.specs.Layout.{size_of};
-ghost use Rattle.td_keeper.specs.Standing.{batches_of, nothing_told};
-ghost use Rattle.td_keeper.specs.Told.{Told};
-ghost use Rattle.td_keeper.specs.Tells.{Keeps, first_head};
-ghost use Rattle.td_keeper.specs.Keeping.{Keeping};
-ghost use Rattle.td_keeper.specs.Read.{Stood, Refused};
+ghost use Rattle.td_standing.specs.Standing.{batches_of, nothing_told};
+ghost use Rattle.td_standing.specs.Told.{Told};
+ghost use Rattle.td_standing.specs.Tells.{Keeps, first_head};
+ghost use Rattle.td_standing.specs.Read.{Stood, Refused};
+ghost use Rattle.td_standing.specs.Advanced.{HeldWhere};
+ghost use Rattle.td_keeper.specs.Keeping.{Keeping, IsFreshlyOpened};
 
-use crate::error::KeeperError;
-use crate::format::format_device;
-use crate::laws;
-use crate::parts::recover_device;
 use std::alloc::Global;
+use std::collections::VecDeque;
 use std::marker::{Model, PhantomData};
 use td_calls::Law;
 use td_disk::Disk;
@@ -21,32 +19,50 @@ use td_head::{Head, Shape};
 use td_journal::Submitted;
 use td_plan::Plan;
 use td_slots::Checkpoint;
-use td_stamp::{Batch, States};
+use td_standing::{KeeperError, format_device, laws, recover_device};
+use td_stamp::{Batch, EpochOut, States};
 
-/// The epochs of a plan on a disk. Contracts see it as a `Keeping`: its disk, its plan, the disk's head, the slot in which
-/// its checkpoint stands, and what it stands for. A lawful disk keeps that: a crash leaves what is read, and tells it.
+/// A cut that was taken since the checkpoint was written, and whether it waits to be written.
+#[derive(Drop)]
+pub(crate) struct Taken {
+    pub epoch: u64,
+    pub states: States,
+    pub waits: bool,
+}
+
+/// The epochs of a plan on a disk, and what a hall that works on them has collected. Contracts see it as a `Keeping`. A lawful
+/// disk keeps its standing, whatever a crash leaves of it: an image tells that standing; where the device failed in a call that
+/// writes, an image tells an advance of it that holds all of its epochs.
 #[derive(Drop)]
 pub struct Keeper<D: Disk, L: Law> {
-    alloc: Global,
-    device: D,
-    plan: Plan,
-    head: Head,
-    checkpoint: Checkpoint,
-    submitted: Vec<Submitted>,
-    law: PhantomData<L>,
+    pub(crate) alloc: Global,
+    pub(crate) device: D,
+    pub(crate) plan: Plan,
+    pub(crate) head: Head,
+    pub(crate) checkpoint: Checkpoint,
+    pub(crate) submitted: VecDeque<Submitted>,
+    pub(crate) broken: bool,
+    pub(crate) taken: Option<Taken>,
+    pub(crate) collected: u64,
+    pub(crate) queue: VecDeque<EpochOut>,
+    pub(crate) law: PhantomData<L>,
 }
 
 impl<D: Disk, L: Law> Model for Keeper<D, L> {
-    ghost use Rattle.td_keeper.specs.Standing.{standing_from};
-    ghost use Rattle.td_keeper.specs.Tells.{Keeps};
-    ghost use Rattle.td_keeper.specs.Keeping.{Keeping, keeping_of};
+    ghost use Rattle.std.specs.Prelude.{◌≤◌, ◌×◌};
+    ghost use Rattle.td_head.specs.Layout.{size_of};
+    ghost use Rattle.td_standing.specs.Standing.{standing_from};
+    ghost use Rattle.td_standing.specs.Advanced.{HeldWhere};
+    ghost use Rattle.td_keeper.specs.Keeping.{Keeping, IsKeeping, keeping_of};
 
     ghost Value = { Keeping D };
 
-    ghost view = { λ k. keeping_of k.device k.plan k.head k.checkpoint k.submitted.items };
+    ghost view = { λ k. keeping_of k.device k.plan k.head k.checkpoint k.submitted.items k.broken k.taken k.collected k.queue.items };
 
-    ghost invariant = { λ k. D.is_lawful k.device
-        → Keeps k.plan k.head k.checkpoint.slot (standing_from k.checkpoint k.submitted.items) (D.state k.device) };
+    ghost invariant = { λ k. (size_of k.head.shape ≤ D.capacity k.device)
+        × IsKeeping (keeping_of k.device k.plan k.head k.checkpoint k.submitted.items k.broken k.taken k.collected k.queue.items) L.answers
+        × (D.is_lawful k.device
+        → HeldWhere k.broken L.answers k.plan k.head k.checkpoint.slot (standing_from k.checkpoint k.submitted.items) (D.state k.device)) };
 }
 
 impl<D: Disk, L: Law> Keeper<D, L> {
@@ -67,6 +83,7 @@ impl<D: Disk, L: Law> Keeper<D, L> {
         ensures head { IfOk result (λ k. k.head ≡ first_head shape) }
         ensures side { IfOk result (λ k. k.side ≡ 0) }
         ensures standing { IfOk result (λ k. k.standing ≡ nothing_told) }
+        ensures fresh { IfOk result IsFreshlyOpened }
         ensures kept { IfOk result (λ k. D.is_lawful disk
             → Keeps plan.now (first_head shape) 0 nothing_told (D.state k.device)) }
         ensures refusals { IfErr result (λ e. (e.0 ≡ KeeperError.Memory) ⊎ (e.0 ≡ KeeperError.Device)) }
@@ -84,8 +101,12 @@ impl<D: Disk, L: Law> Keeper<D, L> {
                     generation: 1,
                     shape,
                 },
+                collected: 0,
                 checkpoint,
-                submitted: Vec::new(alloc),
+                submitted: VecDeque::new(alloc),
+                broken: false,
+                taken: None,
+                queue: VecDeque::new(alloc),
                 law: PhantomData,
             }),
             Err(refusal) => Err((refusal, device)),
@@ -101,6 +122,7 @@ impl<D: Disk, L: Law> Keeper<D, L> {
         ensures lawful { IfOk result (λ k. D.is_lawful disk ↔ D.is_lawful k.device) }
         ensures lawful_back { IfErr result (λ e. D.is_lawful disk ↔ D.is_lawful e.1) }
         ensures plan { IfOk result (λ k. k.plan ≡ plan.now) }
+        ensures fresh { IfOk result IsFreshlyOpened }
         ensures told { IfOk result (λ k. D.is_lawful disk → Told plan.now (D.state k.device).bytes (Stood k.standing)) }
         ensures kept { IfOk result (λ k. D.is_lawful disk
             → Keeps plan.now k.head k.side k.standing (D.state k.device)) }
@@ -125,8 +147,12 @@ impl<D: Disk, L: Law> Keeper<D, L> {
                 device,
                 plan,
                 head: recovered.head,
+                collected: recovered.checkpoint.epoch,
                 checkpoint: recovered.checkpoint,
-                submitted: recovered.submitted,
+                submitted: VecDeque::from(recovered.submitted),
+                broken: false,
+                taken: None,
+                queue: VecDeque::new(alloc),
                 law: PhantomData,
             }),
             Err(refusal) => Err((refusal, device)),
@@ -152,8 +178,8 @@ impl<D: Disk, L: Law> Keeper<D, L> {
     /// The disk.
     pub fn into_disk(self) -> D
         ensures disk { result ≡ self.device }
-        ensures kept { D.is_lawful self.device
-            → Keeps self.plan self.head self.side self.standing (D.state self.device) }
+        ensures held { D.is_lawful self.device
+            → HeldWhere self.broken L.answers self.plan self.head self.side self.standing (D.state self.device) }
     {
         let Keeper {
             alloc: _,
@@ -162,6 +188,10 @@ impl<D: Disk, L: Law> Keeper<D, L> {
             head: _,
             checkpoint: _,
             submitted: _,
+            broken: _,
+            taken: _,
+            collected: _,
+            queue: _,
             law: _,
         } = self;
         device

@@ -1,18 +1,16 @@
-//! The keeper: what a disk tells after a stop, and how a keeper's calls change that. Its one contract is the crash
-//! clause: in each image since a call's start the disk tells a beginning of what was submitted that holds every epoch
-//! acknowledged.
+//! The keeper: submits epochs to a disk, lets halls work on them, hands out what they collect, and writes their cuts. Its one
+//! contract is the crash clause: in each image since a call's start the disk tells a beginning of what was submitted that holds
+//! every epoch that was acknowledged.
 #![tactic(auto)]
 
-mod error;
-mod format;
+mod collect;
+mod cut;
 mod keeper;
-pub mod laws;
-mod parts;
-mod steps;
+mod own;
+mod release;
+mod submit;
 #[cfg(test)]
 mod tests;
+mod write_cut;
 
-pub use error::{KeeperError, Part};
 pub use keeper::Keeper;
-pub use parts::{Recovered, read_parts};
-pub use steps::{submit_batch, write_states};

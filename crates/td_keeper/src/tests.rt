@@ -1,4 +1,4 @@
-use crate::{Keeper, KeeperError, Part, laws, read_parts, submit_batch, write_states};
+use crate::Keeper;
 use std::alloc::Global;
 use std::test::Fail;
 use td_calls::Stock;
@@ -7,6 +7,7 @@ use td_head::Shape;
 use td_journal::Journal;
 use td_plan::Plan;
 use td_slots::Slots;
+use td_standing::{KeeperError, Part, laws, read_parts, submit_batch, write_states};
 use td_stamp::{Bag, Entry, Rec, State, States};
 
 const TOTAL: &str = "0 input\n1 fold 40 0\n2 output 1\n";

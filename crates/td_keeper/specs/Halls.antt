@@ -1,0 +1,61 @@
+-- A keeper and a hall.
+use Rattle.std.specs.Prelude.{◌≡◌, ℕ, ◌+◌, ◌-◌, true, false, List, [], ◌∷◌, ◌++◌, length, take, drop, Option, Some, None}
+use Rattle.td_stamp.specs.declared.values.Entry.{Entry}
+use Rattle.td_stamp.specs.declared.epoch_out.EpochOut.{EpochOut}
+use Rattle.td_plan.specs.Tree.{tree_of}
+use Rattle.td_calls.specs.Answers.{Answers}
+use Rattle.td_batch.specs.Meaning.{run, numbered}
+use Rattle.td_machine.specs.State.{HallState}
+use Rattle.td_machine.specs.Active.{unpassed, has_passed}
+use Rattle.td_machine.specs.Steps.{release_step, collect_step, cut_at_by}
+use Rattle.td_machine.specs.Sound.{outs_by}
+use Rattle.td_standing.specs.Standing.{batches_of}
+use Rattle.td_keeper.specs.Keeping.{Keeping, since_base}
+
+module _ {D : Type 0} (k : Keeping D) where
+  -- A HALL OF THIS KEEPER'S: its plan, its base and the last epoch that was collected are the keeper's, and its batches are a
+  -- beginning of the keeper's since that base
+  pub record IsOwn (S : HallState) : Type 0 where
+    pub plan : S.plan ≡ k.plan
+    pub base : S.base ≡ k.base
+    pub base_states : S.base_states ≡ k.base_states
+    pub collected : S.collected ≡ k.collected
+    pub rest : List (List Entry)
+    pub batches : since_base k ≡ S.batches ++ rest
+
+  -- the batches that such a hall lacks
+  abbrev pub lacking : HallState → List (List Entry)
+  lacking S = drop (length S.batches) (since_base k)
+
+  -- the outputs that the batch meaning of what the keeper stands for has after an epoch, up to another, each once and in order
+  abbrev pub meant_outs : Answers → ℕ → ℕ → List EpochOut
+  meant_outs answers from to = numbered (from + 1) (take (to - from) (drop (from - k.standing.epoch) (run answers (tree_of k.plan) k.standing.states (batches_of k.standing.submitted)).outs))
+
+  -- the keeper after all that a hall collects was brought into the queue
+  abbrev pub with_collected : HallState → Keeping D
+  with_collected S = record k { collected = (collect_step S).1.collected; queue = k.queue ++ outs_by (collect_step S).0 }
+
+  -- with a cut of a hall as its base, which waits to be written
+  abbrev pub with_cut : HallState → Keeping D
+  with_cut S = record k { base = S.base; base_states = S.base_states; waiting = true }
+
+-- a hall after these batches were released into it, one after another
+abbrev pub with_released : HallState → List (List Entry) → HallState
+with_released S [] = S
+with_released S (batch ∷ more) = with_released (release_step S batch).1 more
+
+-- a hall after it collected
+abbrev pub collected_hall : HallState → HallState
+collected_hall S = (collect_step S).1
+
+-- the last released epoch up to which all have passed
+abbrev pub before_unpassed : ℕ → Option ℕ → ℕ
+before_unpassed next None = next - 1
+before_unpassed next (Some e) = e - 1
+
+abbrev pub last_passed : HallState → ℕ
+last_passed S = before_unpassed S.next (unpassed S)
+
+-- a hall after it was cut there
+abbrev pub cut_hall : HallState → HallState
+cut_hall S = (cut_at_by S (has_passed S (last_passed S)) (last_passed S)).1

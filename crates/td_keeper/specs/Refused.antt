@@ -1,0 +1,41 @@
+-- Where a keeper refuses a call, the device and memory aside.
+use Rattle.std.specs.Prelude.{ℕ, ◌+◌, ◌^◌, nat_lt, nat_le, Bool, true, false, not, List, length, Option, Some, None, if◌then◌else◌}
+use Rattle.td_stamp.specs.declared.values.Entry.{Entry}
+use Rattle.td_machine.specs.State.{HallState}
+use Rattle.td_machine.specs.Active.{unpassed}
+use Rattle.td_machine.specs.Steps.{accepts}
+use Rattle.td_standing.specs.declared.error.KeeperError.{KeeperError}
+use Rattle.td_standing.specs.declared.error.KeeperError.TheVariants.{Broken, NoSuchInput, TooManyRecords, Epochs, Full, NotPassed, CutWaiting, TooManyKeys}
+use Rattle.td_standing.specs.Standing.{last_epoch}
+use Rattle.td_keeper.specs.Keeping.{Keeping}
+
+module _ {D : Type 0} (k : Keeping D) where
+  -- A SUBMIT: the first of these that holds
+  abbrev pub submit_refusal : List Entry → Option KeeperError
+  submit_refusal batch =
+      if k.broken then Some Broken
+      else (if not (accepts k.plan batch) then Some NoSuchInput
+      else (if nat_lt k.head.shape.m (length batch) then Some TooManyRecords
+      else (if nat_le (2 ^ 63) (last_epoch k.standing + 1) then Some Epochs
+      else (if nat_le k.head.shape.n (length k.standing.submitted) then Some Full
+      else None))))
+
+  -- A CUT THAT IS WRITTEN
+  abbrev pub write_refusal : Option KeeperError
+  write_refusal =
+      if k.broken then Some Broken
+      else (if not k.waiting then None
+      else (if nat_lt k.head.shape.k (length k.base_states) then Some TooManyKeys
+      else None))
+
+  -- A CUT of a hall of this keeper's: an epoch was released after the base, and the first of these has not passed; or a cut waits
+  abbrev pub first_unpassed : ℕ → Option ℕ → Option KeeperError
+  first_unpassed base None = None
+  first_unpassed base (Some e) = if nat_le e (base + 1) then Some (NotPassed e) else None
+
+  abbrev pub or_waiting : Option KeeperError → Option KeeperError
+  or_waiting (Some e) = Some e
+  or_waiting None = if k.waiting then Some CutWaiting else None
+
+  abbrev pub cut_refusal : HallState → Option KeeperError
+  cut_refusal S = or_waiting (first_unpassed S.base (unpassed S))

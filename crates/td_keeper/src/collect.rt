@@ -1,0 +1,42 @@
+//! Collecting outputs, and handing them out.
+ghost use Rattle.std.specs.Prelude.{◌≡◌, ◌⊎◌, ◌×◌, ◌+◌, ◌∷◌, ⊥, length, Some, None, [], IfOk, IfErr, IfSome, IfNone, OnErr};
+ghost use Rattle.td_machine.specs.Steps.{collect_step};
+ghost use Rattle.td_machine.specs.Sound.{outs_by};
+ghost use Rattle.td_keeper.specs.Halls.{IsOwn, with_collected, collected_hall, meant_outs};
+ghost use Rattle.td_standing.specs.declared.error.KeeperError.TheVariants.{Foreign, Memory};
+
+use crate::keeper::Keeper;
+use td_calls::Law;
+use td_core::Hall;
+use td_disk::Disk;
+use td_standing::KeeperError;
+use td_stamp::EpochOut;
+
+impl<D: Disk, L: Law> Keeper<D, L> {
+    /// Brings into the queue the outputs of the epochs that have passed in a hall since the last that was collected, and answers
+    /// how many epochs these are. They are those of the batch meaning of what this keeper stands for, each epoch's once.
+    ///
+    /// Refusals, with nothing changed: `Foreign`, where the hall is none of this keeper's, and `Memory`.
+    pub fn collect(&mut self, hall: &mut Hall<L>) -> Result<u64, KeeperError>
+        ensures own { IfOk result (λ _. IsOwn self.old hall.old) }
+        ensures collected { IfOk result (λ n. (self.new ≡ with_collected self.old hall.old) × (hall.new ≡ collected_hall hall.old)
+            × (n ≡ length (outs_by (collect_step hall.old).0))) }
+        ensures meaning { IfOk result (λ n. outs_by (collect_step hall.old).0 ≡ meant_outs self.old L.answers self.old.collected (self.old.collected + n)) }
+        ensures foreign { IfErr result (λ e. e ≡ Foreign → IsOwn self.old hall.old → ⊥) }
+        ensures refused { IfErr result (λ e. (e ≡ Foreign) ⊎ ((e ≡ Memory) × IsOwn self.old hall.old)) }
+        ensures unchanged { OnErr result ((self.new ≡ self.old) × (hall.new ≡ hall.old)) }
+    {
+        todo()
+    }
+
+    /// Hands out the outputs of the first epoch of those that were collected and not yet handed out; None where there is none. It
+    /// takes no memory.
+    pub fn next_out(&mut self) -> Option<EpochOut>
+        ensures some { IfSome result (λ out. self.old.queue ≡ out ∷ self.new.queue) }
+        ensures none { IfNone result (self.old.queue ≡ []) }
+        ensures same { self.new ≡ record self.old { queue = self.new.queue } }
+        ensures none_same { IfNone result (self.new ≡ self.old) }
+    {
+        self.queue.pop_front()
+    }
+}

@@ -1,0 +1,38 @@
+//! Taking cuts.
+ghost use Rattle.std.specs.Prelude.{◌≡◌, ◌⊎◌, ◌×◌, ◌-◌, ⊥, Some, None, IfOk, IfErr};
+ghost use Rattle.td_plan.specs.Tree.{tree_of};
+ghost use Rattle.td_batch.specs.Meaning.{states_after};
+ghost use Rattle.td_standing.specs.Standing.{batches_of};
+ghost use Rattle.td_keeper.specs.Refused.{cut_refusal};
+ghost use Rattle.td_keeper.specs.Halls.{IsOwn, with_collected, with_cut, collected_hall, cut_hall, last_passed};
+ghost use Rattle.td_standing.specs.declared.error.KeeperError.TheVariants.{Foreign, Memory};
+
+use crate::keeper::{Keeper, Taken};
+use td_calls::Law;
+use td_core::Hall;
+use td_disk::Disk;
+use td_standing::KeeperError;
+
+impl<D: Disk, L: Law> Keeper<D, L> {
+    /// Cuts a hall at the last released epoch up to which all have passed, and answers that epoch: the cut is the base of the
+    /// hall and of this keeper, and waits for `write_cut`. Its states are those of the batch meaning of what this keeper stands
+    /// for. Where nothing was released since the base, it cuts there again. Before, what `collect` would bring is brought into
+    /// the queue.
+    ///
+    /// Refusals, the first that holds: `Foreign`, where the hall is none of this keeper's, with nothing changed; `NotPassed` of
+    /// the first epoch after the base, where that was released and has not passed; `CutWaiting`, where an earlier cut waits to
+    /// be written; and `Memory`. What was collected stays.
+    pub fn cut(&mut self, hall: &mut Hall<L>) -> Result<u64, KeeperError>
+        ensures own { IfOk result (λ _. IsOwn self.old hall.old × (cut_refusal self.old hall.old ≡ None)) }
+        ensures cut { IfOk result (λ epoch. (epoch ≡ last_passed hall.old) × (hall.new ≡ cut_hall (collected_hall hall.old))
+            × (self.new ≡ with_cut (with_collected self.old hall.old) hall.new)) }
+        ensures meaning { IfOk result (λ epoch. self.new.base_states ≡ states_after L.answers (tree_of self.old.plan) self.old.standing.states (batches_of self.old.standing.submitted) (epoch - self.old.standing.epoch)) }
+        ensures foreign { IfErr result (λ e. e ≡ Foreign → (IsOwn self.old hall.old → ⊥) × (self.new ≡ self.old) × (hall.new ≡ hall.old)) }
+        ensures refused { IfErr result (λ e. (e ≡ Foreign)
+            ⊎ (IsOwn self.old hall.old × ((cut_refusal self.old hall.old ≡ Some e) ⊎ (e ≡ Memory)))) }
+        ensures collected { IfErr result (λ e. ((e ≡ Foreign) ⊎ (e ≡ Memory) × (self.new ≡ self.old) × (hall.new ≡ hall.old))
+            ⊎ ((self.new ≡ with_collected self.old hall.old) × (hall.new ≡ collected_hall hall.old))) }
+    {
+        todo()
+    }
+}

@@ -1,0 +1,112 @@
+//! Submitting batches.
+ghost use Rattle.std.specs.Prelude.{◌≡◌, ◌⊎◌, ◌×◌, ◌↔◌, ◌+◌, [], ◌∷◌, false, true, Some, None, IfOk, IfErr, OnErr};
+ghost use Rattle.td_disk.specs.Disk.{Rises};
+ghost use Rattle.td_gate.specs.CrashSafe.{CrashSafe, Unchanged};
+ghost use Rattle.td_standing.specs.Standing.{last_epoch, submission};
+ghost use Rattle.td_standing.specs.Advanced.{SinceAdvance};
+ghost use Rattle.td_keeper.specs.Keeping.{with_batch};
+ghost use Rattle.td_keeper.specs.Refused.{submit_refusal};
+ghost use Rattle.td_standing.specs.declared.error.KeeperError.TheVariants.{Memory, Device};
+
+use crate::keeper::Keeper;
+use td_calls::Law;
+use td_disk::Disk;
+use td_journal::{Journal, JournalError, Submitted};
+use td_standing::{KeeperError, laws, submit_batch};
+use td_stamp::Batch;
+
+/// Epochs are numbered below this.
+const ENDS: u64 = 1 << 63;
+
+impl<D: Disk, L: Law> Keeper<D, L> {
+    /// Puts a batch on the journal as the next epoch, and answers its number: from then on it is acknowledged, and whatever a
+    /// crash leaves of the disk tells it. It takes the batch as it is, and writes 25 + 24 M bytes for a journal of M records an
+    /// epoch.
+    ///
+    /// Refusals, with the batch handed back, the first that holds: `Broken`, where the device failed in an earlier call that
+    /// writes; `NoSuchInput`, where a record names no input of the plan; `TooManyRecords`, where there are more than a cell
+    /// holds; `Epochs`, where the last number of an epoch is used; `Full`, where no cell is free. Then `Memory`; in all these
+    /// cases nothing is written. Then `Device`: the keeper is broken, and the epoch may stand on the disk or not.
+    pub fn submit(&mut self, batch: Batch) -> Result<u64, (KeeperError, Batch)>
+        ensures acknowledged { IfOk result (λ epoch. epoch ≡ last_epoch self.new.standing) }
+        ensures submitted { IfOk result (λ _. self.new ≡ with_batch self.old self.new.device 0 batch) }
+        ensures accepted { IfOk result (λ _. submit_refusal self.old batch ≡ None) }
+        ensures refused { IfErr result (λ e. (submit_refusal self.old batch ≡ Some e.0)
+            ⊎ ((submit_refusal self.old batch ≡ None) × ((e.0 ≡ Memory) ⊎ (e.0 ≡ Device)))) }
+        ensures back { IfErr result (λ e. e.1 ≡ batch) }
+        ensures unchanged { IfErr result (λ e. (self.new ≡ self.old) ⊎ ((e.0 ≡ Memory) × (self.new ≡ record self.old { device = self.new.device }))
+            ⊎ ((e.0 ≡ Device) × (self.new ≡ record self.old { device = self.new.device; broken = true }))) }
+        ensures device { IfErr result (λ e. e.0 ≡ Device → Rises (D.failures self.old.device) (D.failures self.new.device)) }
+        ensures size { D.capacity self.new.device ≡ D.capacity self.old.device }
+        ensures lawful { D.is_lawful self.old.device ↔ D.is_lawful self.new.device }
+        ensures unwritten { IfErr result (λ e. e.0 ≡ Memory → D.is_lawful self.old.device
+            → CrashSafe Unchanged (D.state self.old.device) (D.state self.new.device)) }
+
+        // In each image since the start of the call the disk tells an advance of the standing with this batch, which holds
+        // every epoch of the standing.
+        ensures images { D.is_lawful self.old.device → self.old.broken ≡ false
+            → SinceAdvance L.answers self.old.plan self.old.standing (submission 0 batch ∷ []) (last_epoch self.old.standing) (D.state self.old.device).moment (D.state self.new.device) }
+    {
+        laws::told_in_parts();
+        laws::standings_advance::<L>();
+        if let Some(refusal) = self.refusal_of(&batch) {
+            return Err((refusal, batch));
+        }
+        if self.submitted.reserve(1).is_err() {
+            return Err((KeeperError::Memory, batch));
+        }
+        let epoch = self.last_epoch() + 1;
+        let journal = self.journal();
+        match submit_batch(self.alloc, &journal, &mut self.device, epoch, 0, &batch) {
+            Ok(()) => {
+                self.submitted.push_back_reserved(Submitted { request: 0, batch });
+                Ok(epoch)
+            }
+            Err(JournalError::Device) => {
+                self.broken = true;
+                Err((KeeperError::Device, batch))
+            }
+            Err(_) => Err((KeeperError::Memory, batch)),
+        }
+    }
+
+    /// Why a batch is refused, the device and memory aside.
+    fn refusal_of(&self, batch: &Batch) -> Option<KeeperError>
+        ensures { result ≡ submit_refusal self.now batch.now }
+    {
+        let shape = &self.head.shape;
+        if self.broken {
+            Some(KeeperError::Broken)
+        } else if !self.plan.accepts(batch) {
+            Some(KeeperError::NoSuchInput)
+        } else if (shape.records() as usize) < batch.len() {
+            Some(KeeperError::TooManyRecords)
+        } else if self.last_epoch() + 1 >= ENDS {
+            Some(KeeperError::Epochs)
+        } else if self.submitted.len() >= shape.cells() as usize {
+            Some(KeeperError::Full)
+        } else {
+            None
+        }
+    }
+
+    /// The last epoch that stands on the disk.
+    pub(crate) fn last_epoch(&self) -> u64
+        ensures { result ≡ last_epoch self.now.standing }
+    {
+        self.checkpoint.epoch + self.submitted.len() as u64
+    }
+
+    /// The journal of the epochs after the checkpoint.
+    fn journal(&self) -> Journal
+        ensures { result ≡ ring_of self.now.head.shape self.now.standing.epoch }
+    {
+        let shape = &self.head.shape;
+        Journal {
+            at: 8_308 + 64 * u64::from(shape.states()),
+            m: shape.records(),
+            n: shape.cells(),
+            kept: self.checkpoint.epoch,
+        }
+    }
+}

@@ -1,0 +1,9 @@
+mod Requests
+mod Composes
+mod Places
+mod Crash
+mod Moments
+mod Kept
+mod Versions
+mod Formats
+mod Refusing

@@ -1,0 +1,54 @@
+use Rattle.std.proofs.Common.{◌≤◌, ℕ, [], length, subst, sym, ◌∙◌}
+use Rattle.td_stamp.specs.States.{StateList}
+use Rattle.td_plan.specs.Lines.{text_of}
+use Rattle.td_disk.specs.Disk.{IsDurable}
+use Rattle.td_gate.specs.CrashSafe.{CrashSafe}
+use Rattle.td_gate.specs.Region.{Puts, IsOpen}
+use Rattle.td_head.specs.Layout.{size_of, head_a}
+use Rattle.td_head.specs.Head.{head_bytes}
+use Rattle.td_slots.specs.declared.slots.Slots.{Slots}
+use Rattle.td_slots.specs.Slot.{slot, slot_bytes}
+use Rattle.td_standing.specs.Told.{slots_of}
+use Rattle.td_standing.proofs.Formats.{read_put, is_formatted}
+use Rattle.td_standing.proofs.format.format_device.Goals as goal
+
+pub returns-clause-kept : goal.returns-clause-kept
+returns-clause-kept g c lawful =
+    let state = g.D.Disk.state in
+    let laws = g.met.D.Disk in
+    let sizes = c.args.shape in
+    let plan = c.args.plan.now in
+    let wiped = c.wipe.new.device in
+    let slotted = c.write.new.device in
+    let new = c.put_first.new.device in
+    let l1 = c.in_ok-wipe.ensures.lawful.0 lawful in
+    let l2 = c.in_ok-write.ensures.lawful.0 l1 in
+    let l3 = c.in_ok-put_first.ensures.lawful.0 l2 in
+    let d1 : IsDurable (state wiped) = c.in_ok-wipe.ensures.durable lawful in
+    let d2 : IsDurable (state slotted) = c.in_ok-write.ensures.durable l1 in
+    let d3 : IsDurable (state new) = c.in_ok-put_first.ensures.durable l2 in
+    let slots : Slots = record { at = 8258; k = c.states.result } in
+    let settled_0 = c.durable_is_settled.ensures wiped (slot slots 0) d1 in
+    let settled_a = c.durable_is_settled.ensures slotted head_a d2 in
+    let payload = slot_bytes sizes.k 0 0 [] in
+    let head = head_bytes 2 1 sizes (text_of plan) in
+    let puts_0 : CrashSafe (Puts (slot (slots_of sizes) 0) payload) (state wiped) (state slotted) =
+    subst (λ (x : StateList). CrashSafe (Puts (slot (slots_of sizes) 0) (slot_bytes sizes.k 0 0 x)) (state wiped) (state slotted)) c.new-states.ensures
+    (subst (λ (k : ℕ). CrashSafe (Puts (slot (record { at = 8258; k = k }) 0) (slot_bytes k 0 0 c.new-states.result)) (state wiped) (state slotted)) c.states.ensures (c.in_ok-write.ensures.crash_safe l1 settled_0)) in
+    let open_0 : IsOpen (slot (slots_of sizes) 0) payload (state slotted) =
+    subst (λ (x : StateList). IsOpen (slot (slots_of sizes) 0) (slot_bytes sizes.k 0 0 x) (state slotted)) c.new-states.ensures
+    (subst (λ (k : ℕ). IsOpen (slot (record { at = 8258; k = k }) 0) (slot_bytes k 0 0 c.new-states.result) (state slotted)) c.states.ensures (c.in_ok-write.ensures.open l1 settled_0)) in
+    let puts_a : CrashSafe (Puts head_a head) (state slotted) (state new) = c.in_ok-put_first.ensures.crash_safe l2 settled_a in
+    let open_a : IsOpen head_a head (state new) = c.in_ok-put_first.ensures.open l2 settled_a in
+    let read_0 = laws.reads_image slotted l2 in
+    let read_a = laws.reads_image new l3 in
+    let put_0 : Puts (slot (slots_of sizes) 0) payload (state wiped).bytes (state slotted).bytes =
+    read_put (slot (slots_of sizes) 0) payload (state wiped) (state slotted) d1 puts_0 (laws.counts_now slotted (state wiped).moment (state slotted).bytes l2 puts_0.later read_0) in
+    let put_a : Puts head_a head (state slotted).bytes (state new).bytes =
+    read_put head_a head (state slotted) (state new) d2 puts_a (laws.counts_now new (state slotted).moment (state new).bytes l3 puts_a.later read_a) in
+    let room : size_of sizes ≤ length (state new).bytes =
+    subst (λ (n : ℕ). size_of sizes ≤ n)
+    (sym (laws.image_size new (state new).bytes l3 read_a ∙ c.in_ok-put_first.ensures.size ∙ c.in_ok-write.ensures.size ∙ c.in_ok-wipe.ensures.size)) c.requires in
+    let is = is_formatted c.put_leaves_others.ensures plan sizes c.bytes-bytes.ensures.limits (state wiped).bytes (state slotted).bytes (state new).bytes
+    (c.in_ok-wipe.ensures.zero lawful) room put_0 open_0.read put_a open_a.read in
+    record { durable = d3; tells = c.formatted.ensures plan sizes (state new).bytes c.vertices-vertices.ensures.lawful is }

@@ -1,0 +1,49 @@
+-- The refusals of a keeper: their numbers, and those of a disk's parts as a keeper gives them.
+use Rattle.std.specs.Prelude.{ℕ}
+use Rattle.td_head.specs.declared.error.HeadError.{HeadError}
+use Rattle.td_head.specs.declared.error.HeadError.TheVariants as head
+use Rattle.td_slots.specs.declared.error.SlotsError.{SlotsError}
+use Rattle.td_slots.specs.declared.error.SlotsError.TheVariants as slots
+use Rattle.td_journal.specs.declared.error.JournalError.{JournalError}
+use Rattle.td_journal.specs.declared.error.JournalError.TheVariants as journal
+use Rattle.td_standing.specs.declared.error.Part.TheVariants.{Head, NoSlot, Slot, Cell}
+use Rattle.td_standing.specs.declared.error.KeeperError.{KeeperError}
+use Rattle.td_standing.specs.declared.error.KeeperError.TheVariants.{NotFormatted, WrongPlan, Damaged, Full, TooManyRecords, NoSuchInput, Foreign, NotPassed, CutWaiting, TooManyKeys, Broken, Device, Memory, Epochs}
+
+abbrev pub of_head : HeadError → KeeperError
+of_head head.NotFormatted = NotFormatted
+of_head head.Damaged = Damaged Head
+of_head head.WrongPlan = WrongPlan
+of_head head.Device = Device
+of_head head.Memory = Memory
+
+abbrev pub of_slots : SlotsError → KeeperError
+of_slots slots.TooManyKeys = TooManyKeys
+of_slots (slots.Damaged i) = Damaged (Slot i)
+of_slots slots.NoSlot = Damaged NoSlot
+of_slots slots.Device = Device
+of_slots slots.Memory = Memory
+
+abbrev pub of_journal : JournalError → KeeperError
+of_journal journal.Full = Full
+of_journal journal.TooManyRecords = TooManyRecords
+of_journal (journal.Damaged i) = Damaged (Cell i)
+of_journal journal.Device = Device
+of_journal journal.Memory = Memory
+
+-- the number of a refusal
+abbrev pub number_of : KeeperError → ℕ
+number_of NotFormatted = 1
+number_of WrongPlan = 2
+number_of (Damaged part) = 3
+number_of Full = 4
+number_of TooManyRecords = 5
+number_of NoSuchInput = 6
+number_of Foreign = 7
+number_of (NotPassed epoch) = 8
+number_of CutWaiting = 9
+number_of TooManyKeys = 10
+number_of Broken = 11
+number_of Device = 12
+number_of Memory = 13
+number_of Epochs = 14

@@ -1,0 +1,61 @@
+//! Formatting a disk.
+ghost use Rattle.std.specs.Prelude.{◌≡◌, ◌⊎◌, ◌↔◌, ◌≤◌, [], IfOk, IfErr, IsErrOf};
+ghost use Rattle.td_disk.specs.Disk.{Rises};
+ghost use Rattle.td_head.specs.Layout.{size_of};
+ghost use Rattle.td_standing.specs.Standing.{standing_from, nothing_told};
+ghost use Rattle.td_standing.specs.Tells.{Keeps, first_head};
+
+use crate::error::KeeperError;
+use crate::laws;
+use std::alloc::Global;
+use td_disk::Disk;
+use td_head::Shape;
+use td_plan::Plan;
+use td_slots::{Checkpoint, Slots};
+use td_stamp::States;
+
+/// Formats a disk, and gives what its keeper has in memory: a copy of the plan, and the checkpoint of no epochs.
+pub fn format_device<D: Disk>(
+    alloc: Global,
+    device: &mut D,
+    plan: &Plan,
+    shape: Shape,
+) -> Result<(Plan, Checkpoint), KeeperError>
+    requires { size_of shape ≤ D.capacity device.old }
+    ensures size { D.capacity device.new ≡ D.capacity device.old }
+    ensures lawful { D.is_lawful device.old ↔ D.is_lawful device.new }
+    ensures plan { IfOk result (λ r. r.0 ≡ plan.now) }
+    ensures slot { IfOk result (λ r. r.1.slot ≡ 0) }
+    ensures standing { IfOk result (λ r. standing_from r.1 [] ≡ nothing_told) }
+    ensures kept { IfOk result (λ _. D.is_lawful device.old
+        → Keeps plan.now (first_head shape) 0 nothing_told (D.state device.new)) }
+    ensures refusals { IfErr result (λ e. (e ≡ KeeperError.Memory) ⊎ (e ≡ KeeperError.Device)) }
+    ensures device { IsErrOf result KeeperError.Device → Rises (D.failures device.old) (D.failures device.new) }
+{
+    laws::formatted();
+    laws::parts_are_apart();
+    td_gate::laws::put_leaves_others();
+    td_gate::laws::durable_is_settled::<D>();
+    let _vertices = plan.vertices();
+    let Ok(copy) = plan.copy() else {
+        return Err(KeeperError::Memory);
+    };
+    let states = States::new(alloc);
+    let _bytes = shape.bytes();
+    let slots = Slots {
+        at: 8_258,
+        k: shape.states(),
+    };
+    td_head::wipe(device, shape)?;
+    slots.write(alloc, device, 1, 0, 0, &states)?;
+    td_head::put_first(alloc, device, plan, shape)?;
+    Ok((
+        copy,
+        Checkpoint {
+            slot: 0,
+            epoch: 0,
+            last: 0,
+            states,
+        },
+    ))
+}
