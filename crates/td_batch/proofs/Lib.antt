@@ -1,5 +1,6 @@
 pub mod AnyOrder
 pub mod Flows
+pub mod Folds
 pub mod Lists
 pub mod Meanings
 pub mod Quiet

@@ -3,6 +3,7 @@ pub mod Flow
 pub mod SameFlow
 pub mod BagAt
 pub mod Quiet
+pub mod Folds
 pub mod Examples
 pub mod BagAtExamples
 pub mod Steps

@@ -1,5 +1,5 @@
 //! Laws of the definitions. Each is the contract of a function that does nothing, or calls the laws that it follows from.
-ghost use Rattle.std.specs.Prelude.{◌≡◌, ◌≤◌, [], ◌∷◌, ◌++◌, ℕ, List, Option, flat_map, length};
+ghost use Rattle.std.specs.Prelude.{◌≡◌, ◌≤◌, true, [], ◌∷◌, ◌++◌, ℕ, List, Option, flat_map, length};
 ghost use Rattle.td_stamp.specs.declared.values.Arrival.{Arrival};
 ghost use Rattle.td_stamp.specs.declared.values.Entry.{Entry};
 ghost use Rattle.td_stamp.specs.Orders.{arrival_cmp, output_cmp};
@@ -15,6 +15,7 @@ ghost use Rattle.td_batch.specs.Quiet.{IsLoopBody, NothingEnters, NothingReturns
 ghost use Rattle.td_batch.specs.Flow.{Flow, Solves};
 ghost use Rattle.td_batch.specs.SameFlow.{ReadAlike};
 ghost use Rattle.td_batch.specs.BagAt.{bag_at};
+ghost use Rattle.td_batch.specs.Folds.{folds_of, are_kept_by};
 
 use td_calls::Law;
 use td_calls::laws::in_any_order;
@@ -93,4 +94,12 @@ pub fn outputs_are_sorted()
     ensures { (epoch : EpochInput) (nodes : Nodes) → IsBag output_cmp (epoch_result epoch nodes).outs }
 {
     laws::bags::<Output>();
+}
+
+/// The batch meaning of a plan keeps states of its folds alone.
+pub fn states_of_folds<L: Law>()
+    ensures { (plan : List Line) (states : StateList) (batches : List (List Entry)) → IsPlan plan → are_kept_by (folds_of plan) states ≡ true
+        → are_kept_by (folds_of plan) (run L.answers (tree_of plan) states batches).states ≡ true }
+{
+    td_plan::laws::trees();
 }
