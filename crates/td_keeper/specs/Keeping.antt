@@ -92,6 +92,7 @@ module _ {D : Type 0} (k : Keeping D) where
   -- WHAT EACH KEEPER KEEPS RIGHT in its memory: what it stands for may stand on its disk, and its base is one of its epochs, with
   -- the batch meaning's states
   pub record IsKeeping (answers : Answers) : Type 0 where
+    pub which : k.side ≤ 1
     pub batches : All (λ s. is_batch (inputs_of k.plan) s.batch ≡ true) k.standing.submitted
     pub few : length k.standing.submitted ≤ k.head.shape.n
     pub small : last_epoch k.standing < 2 ^ 63
