@@ -1,6 +1,7 @@
 -- The cut that a keeper writes.
 use Rattle.std.proofs.Common.{◌≡◌, ◌==◌, ℕ, ◌+◌, ◌-◌, ◌^◌, ◌<◌, ◌≤◌, true, false, Bool, List, [], length, take, drop, append-nil, refl, sym, ap, ◌∙◌, subst, arith}
-use Rattle.std.specs.Prelude.{Some, None}
+use Rattle.std.specs.Prelude.{Some, None, nat_lt, not, if◌then◌else◌}
+use Rattle.std.proofs.lemmas.Bool.{ltb-true, ltb-false, le-ltb}
 use Rattle.std.specs.List.{list_all, list_any}
 use Rattle.std.proofs.lemmas.List.{take-map}
 use Rattle.td_stamp.specs.declared.values.Entry.{Entry}
@@ -18,11 +19,13 @@ use Rattle.td_slots.specs.Slot.{are_states, FitsState}
 use Rattle.td_slots.specs.declared.slots.Checkpoint.{Checkpoint}
 use Rattle.td_journal.specs.Numbers.{greatest}
 use Rattle.td_journal.specs.declared.submitted.Submitted.{Submitted}
-use Rattle.td_standing.specs.Standing.{Standing, standing_from, batches_of, last_epoch, with_more, cut_at}
-use Rattle.td_standing.specs.Stops.{Advance, Holds}
+use Rattle.td_standing.specs.Standing.{Standing, batches_of, with_more, cut_at}
+use Rattle.td_standing.specs.Stops.{Advance}
 use Rattle.td_standing.specs.Told.{folds_of}
 use Rattle.td_standing.specs.Tells.{IsCut, side_after}
 use Rattle.td_standing.specs.Advanced.{states_by}
+use Rattle.td_standing.specs.declared.error.KeeperError.TheVariants.{Broken, TooManyKeys}
+use Rattle.td_keeper.specs.Refused.{write_refusal}
 use Rattle.td_keeper.specs.declared.keeper.Taken.{Taken}
 use Rattle.td_keeper.specs.Keeping.{Keeping, keeping_of, IsKeeping, with_checkpoint}
 
@@ -92,3 +95,20 @@ as_written old new plan head c d w v broken cut collected q after slot epoch las
       collected = collected;
       queue = q;
     }
+
+pub not_above : (a b : ℕ) → (a < b → ⊥) → b ≤ a
+not_above a b no_ = by (nat_lt a b) refl
+  where
+    by : (t : Bool) → nat_lt a b ≡ t → b ≤ a
+    by true is = absurd (no_ (ltb-true a b is))
+    by false is = ltb-false a b is
+
+-- a cut that fits is not refused
+pub write_none : {D : Type 0} (k : Keeping D) → k.broken ≡ false → length k.base_states ≤ k.head.shape.k → write_refusal k ≡ None
+write_none k whole few = by k.broken k.waiting (nat_lt k.head.shape.k (length k.base_states)) whole (le-ltb k.head.shape.k (length k.base_states) few)
+  where
+    by : (a b c : Bool) → a ≡ false → c ≡ false → (if a then Some Broken else (if not b then None else (if c then Some TooManyKeys else None))) ≡ None
+    by true b c x y = absurd cc
+    by false b true x y = absurd cc
+    by false true false x y = refl
+    by false false false x y = refl

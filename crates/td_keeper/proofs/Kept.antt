@@ -1,6 +1,6 @@
 -- What a keeper keeps right in its memory, from one call to the next.
 use Rattle.std.proofs.Common.{◌≡◌, ℕ, zero, suc, ◌+◌, ◌-◌, ◌^◌, ◌<◌, ◌≤◌, true, List, [], ◌∷◌, ◌++◌, length, take, drop, refl, sym, ap, ◌∙◌, subst, arith}
-use Rattle.std.specs.Prelude.{All, Option, None, Bool, false}
+use Rattle.std.specs.Prelude.{All, None, Bool, false}
 use Rattle.std.proofs.lemmas.List.{length-append, length-drop, length-map, map-append, take-append-le}
 use Rattle.std.proofs.lemmas.List.Elements.{All-append, All-cons, All-nil, All-drop}
 use Rattle.td_stamp.specs.declared.values.Entry.{Entry}
@@ -112,6 +112,20 @@ nothing_stands plan head s side is at = record {
 -- the device is another, and failed or not
 pub elsewhere : {D : Type 0} (answers : Answers) (k : Keeping D) (device : D) (broken : Bool) → IsKeeping k answers → IsKeeping (record k { device = device; broken = broken }) answers
 elsewhere answers k device broken is = record {
+  which = is.which;
+  batches = is.batches;
+  few = is.few;
+  small = is.small;
+  states = is.states;
+  from_checkpoint = is.from_checkpoint;
+  released = is.released;
+  base_states = is.base_states;
+  collected = is.collected;
+}
+
+-- and the cut waits no more
+pub set_down : {D : Type 0} (answers : Answers) (k : Keeping D) (device : D) (broken waiting : Bool) → IsKeeping k answers → IsKeeping (record k { device = device; broken = broken; waiting = waiting }) answers
+set_down answers k device broken waiting is = record {
   which = is.which;
   batches = is.batches;
   few = is.few;

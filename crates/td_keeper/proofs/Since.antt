@@ -1,5 +1,5 @@
 -- What the images since the start of a call tell, as advances of the standing.
-use Rattle.std.proofs.Common.{◌≡◌, ⊎_elim, ℕ, true, List, sym, subst, arith}
+use Rattle.std.proofs.Common.{⊎_elim, ℕ, true, List, sym, subst, arith}
 use Rattle.std.specs.Prelude.{Ok}
 use Rattle.td_plan.specs.Lines.{Line}
 use Rattle.td_calls.specs.Answers.{Answers}

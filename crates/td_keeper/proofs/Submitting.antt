@@ -1,9 +1,8 @@
 -- A batch that a keeper submits.
-use Rattle.std.proofs.Common.{◌≡◌, ◌==◌, ℕ, ◌+◌, ◌^◌, ◌<◌, ◌≤◌, Bool, true, false, nat_le, List, [], ◌∷◌, ◌++◌, length, refl, sym, ap, ◌∙◌, subst, arith}
+use Rattle.std.proofs.Common.{◌≡◌, ◌==◌, ℕ, ◌+◌, Bool, true, false, nat_le, List, refl, sym, ◌∙◌, subst, arith}
 use Rattle.std.specs.Prelude.{Option, Some, None}
 use Rattle.std.specs.List.{list_all, list_any}
 use Rattle.td_stamp.specs.declared.values.Entry.{Entry}
-use Rattle.td_stamp.specs.declared.epoch_out.EpochOut.{EpochOut}
 use Rattle.td_stamp.specs.Orders.{entry_cmp}
 use Rattle.td_stamp.specs.Bag.{IsBag}
 use Rattle.td_plan.specs.Lines.{Line}
@@ -15,7 +14,7 @@ use Rattle.td_journal.specs.Numbers.{may_come}
 use Rattle.td_journal.specs.Cell.{is_batch}
 use Rattle.td_machine.specs.Steps.{accepts}
 use Rattle.td_standing.specs.Standing.{Standing, last_epoch, last_request}
-use Rattle.td_standing.specs.Told.{inputs_of, floor_of}
+use Rattle.td_standing.specs.Told.{inputs_of}
 use Rattle.td_standing.specs.Tells.{Keeps, HasRoom, IsFresh}
 use Rattle.td_standing.specs.Advanced.{HeldWhere}
 use Rattle.td_keeper.specs.Keeping.{Keeping}

@@ -1,5 +1,5 @@
 -- What contracts see of a keeper, and what each keeper keeps right.
-use Rattle.std.specs.Prelude.{◌≡◌, ℕ, ◌+◌, ◌-◌, ◌^◌, ◌<◌, ◌≤◌, Bool, true, false, List, [], ◌∷◌, ◌++◌, length, drop, All, Option, Some, None}
+use Rattle.std.specs.Prelude.{◌≡◌, ℕ, ◌-◌, ◌^◌, ◌<◌, ◌≤◌, Bool, true, false, List, [], ◌∷◌, length, drop, All, Option, Some, None}
 use Rattle.td_stamp.specs.declared.values.Entry.{Entry}
 use Rattle.td_stamp.specs.declared.epoch_out.EpochOut.{EpochOut}
 use Rattle.td_stamp.specs.States.{StateList}

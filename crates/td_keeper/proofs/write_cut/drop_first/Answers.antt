@@ -1,4 +1,4 @@
-use Rattle.std.proofs.Common.{◌≡◌, ℕ, ◌+◌, List, ap, ◌∙◌, drop, arith}
+use Rattle.std.proofs.Common.{ap, ◌∙◌, drop}
 use Rattle.std.proofs.lemmas.List.{drop-drop}
 use Rattle.td_keeper.proofs.write_cut.drop_first.Goals as goal
 

@@ -1,5 +1,5 @@
 use Rattle.std.proofs.Common.{◌≡◌, ⊎_elim, Result, Err, ℕ, ◌+◌, ◌≤◌, true, false, List, [], ◌∷◌, ◌++◌, sym, ap, ◌∙◌, subst, arith}
-use Rattle.std.specs.Prelude.{Some, None}
+use Rattle.std.specs.Prelude.{None}
 use Rattle.td_plan.specs.Tree.{tree_of}
 use Rattle.td_gate.specs.CrashSafe.{CrashSafe, Unchanged}
 use Rattle.td_head.specs.Layout.{size_of}
@@ -10,7 +10,7 @@ use Rattle.td_journal.specs.declared.submitted.Submitted.{Submitted}
 use Rattle.td_standing.specs.Standing.{standing_from, submission, last_epoch, with_more}
 use Rattle.td_standing.specs.Stops.{Advance, Holds}
 use Rattle.td_standing.specs.Told.{inputs_of, ring_of}
-use Rattle.td_standing.specs.Tells.{HasRoom, Keeps}
+use Rattle.td_standing.specs.Tells.{HasRoom}
 use Rattle.td_standing.specs.Advanced.{SinceAdvance, HeldWhere, states_by}
 use Rattle.td_keeper.specs.Keeping.{Keeping, IsKeeping, keeping_of}
 use Rattle.td_keeper.specs.Refused.{submit_refusal}
