@@ -1,10 +1,10 @@
 //! A ring of cells.
-ghost use Rattle.std.specs.Prelude.{◌≡◌, ◌⊎◌, ◌↔◌, ◌+◌, ◌-◌, ◌^◌, ◌<◌, ◌≤◌, length, OnOk, IfOk, IfErr, IsErrOf, IsTrue};
+ghost use Rattle.std.specs.Prelude.{◌≡◌, ◌⊎◌, ◌↔◌, ◌+◌, ◌-◌, ◌^◌, ◌<◌, ◌≤◌, length, true, All, OnOk, IfOk, IfErr, IfSome, IsErrOf, IsTrue};
 ghost use Rattle.td_disk.specs.Disk.{IsDurable, Rises};
 ghost use Rattle.td_gate.specs.CrashSafe.{CrashSafe, Unchanged};
 ghost use Rattle.td_gate.specs.Reading.{Each};
 ghost use Rattle.td_gate.specs.Region.{IsSettled, IsOpen, Puts};
-ghost use Rattle.td_journal.specs.Cell.{cell_of, ring_len, cell_bytes, FitsEntry};
+ghost use Rattle.td_journal.specs.Cell.{cell_of, ring_len, cell_bytes, is_batch, FitsEntry};
 ghost use Rattle.td_journal.specs.Images.{Clears, IsGone};
 ghost use Rattle.td_journal.specs.Ring.{found, told_after};
 ghost use Rattle.td_journal.specs.Parsed.{found_by, IsDamage, Told, Refused};
@@ -128,6 +128,8 @@ impl Journal {
         requires records { self.now.m ≤ 65536 }
         requires room { self.now.at + ring_len self.now.m self.now.n ≤ D.capacity device.old }
         ensures found { IfOk result (λ s. D.is_lawful device.old → found inputs.now self.now (D.state device.old).bytes floor epoch ≡ found_by s) }
+        ensures batch { IfOk result (λ found. IfSome found (λ s. is_batch inputs.now s.batch ≡ true)) }
+        ensures small { IfOk result (λ found. IfSome found (λ _. epoch < 2 ^ 63)) }
         ensures refused { IfErr result (λ e. (e ≡ JournalError.Device) ⊎ ((e ≡ JournalError.Memory) ⊎ (D.is_lawful device.old
             → IsDamage e (found inputs.now self.now (D.state device.old).bytes floor epoch)))) }
         ensures device { IsErrOf result JournalError.Device → Rises (D.failures device.old) (D.failures device.new) }
@@ -177,6 +179,11 @@ impl Journal {
         requires room { self.now.at + ring_len self.now.m self.now.n ≤ D.capacity device.old }
         requires small { checkpoint < 2 ^ 63 }
         ensures told { IfOk result (λ w. D.is_lawful device.old → told_after inputs.now self.now (D.state device.old).bytes floor checkpoint ≡ Told w.items) }
+
+        // Whatever the disk, what is read may be told: lawful batches, no more than cells, of epochs that are looked for.
+        ensures batches { IfOk result (λ w. All (λ s. is_batch inputs.now s.batch ≡ true) w.items) }
+        ensures few_told { IfOk result (λ w. length w.items ≤ self.now.n) }
+        ensures below { IfOk result (λ w. checkpoint + length w.items < 2 ^ 63) }
         ensures refused { IfErr result (λ e. (e ≡ JournalError.Device) ⊎ ((e ≡ JournalError.Memory) ⊎ (D.is_lawful device.old
             → told_after inputs.now self.now (D.state device.old).bytes floor checkpoint ≡ Refused e))) }
         ensures device { IsErrOf result JournalError.Device → Rises (D.failures device.old) (D.failures device.new) }

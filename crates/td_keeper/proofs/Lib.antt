@@ -1,0 +1,5 @@
+mod Kept
+mod Since
+mod Accepting
+mod Cutting
+mod Submitting

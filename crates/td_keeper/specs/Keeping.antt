@@ -1,5 +1,5 @@
 -- What contracts see of a keeper, and what each keeper keeps right.
-use Rattle.std.specs.Prelude.{◌≡◌, ℕ, ◌+◌, ◌-◌, ◌^◌, ◌<◌, ◌≤◌, Bool, true, false, List, [], ◌∷◌, ◌++◌, length, drop, All, Option, Some, None}
+use Rattle.std.specs.Prelude.{◌≡◌, ℕ, ◌-◌, ◌^◌, ◌<◌, ◌≤◌, Bool, true, false, List, [], ◌∷◌, length, drop, All, Option, Some, None}
 use Rattle.td_stamp.specs.declared.values.Entry.{Entry}
 use Rattle.td_stamp.specs.declared.epoch_out.EpochOut.{EpochOut}
 use Rattle.td_stamp.specs.States.{StateList}
@@ -92,6 +92,7 @@ module _ {D : Type 0} (k : Keeping D) where
   -- WHAT EACH KEEPER KEEPS RIGHT in its memory: what it stands for may stand on its disk, and its base is one of its epochs, with
   -- the batch meaning's states
   pub record IsKeeping (answers : Answers) : Type 0 where
+    pub which : k.side ≤ 1
     pub batches : All (λ s. is_batch (inputs_of k.plan) s.batch ≡ true) k.standing.submitted
     pub few : length k.standing.submitted ≤ k.head.shape.n
     pub small : last_epoch k.standing < 2 ^ 63

@@ -1,5 +1,5 @@
 -- Where a keeper refuses a call, the device and memory aside.
-use Rattle.std.specs.Prelude.{ℕ, ◌+◌, ◌^◌, nat_lt, nat_le, Bool, true, false, not, List, length, Option, Some, None, if◌then◌else◌}
+use Rattle.std.specs.Prelude.{ℕ, ◌+◌, ◌^◌, nat_lt, nat_le, not, List, length, Option, Some, None, if◌then◌else◌}
 use Rattle.td_stamp.specs.declared.values.Entry.{Entry}
 use Rattle.td_machine.specs.State.{HallState}
 use Rattle.td_machine.specs.Active.{unpassed}

@@ -19,8 +19,8 @@ use td_head::{Head, Shape};
 use td_journal::Submitted;
 use td_plan::Plan;
 use td_slots::Checkpoint;
-use td_standing::{KeeperError, format_device, laws, recover_device};
 use td_stamp::{Batch, EpochOut, States};
+use td_standing::{KeeperError, format_device, laws, recover_device};
 
 /// A cut that was taken since the checkpoint was written, and whether it waits to be written.
 #[derive(Drop)]
@@ -49,7 +49,7 @@ pub struct Keeper<D: Disk, L: Law> {
 }
 
 impl<D: Disk, L: Law> Model for Keeper<D, L> {
-    ghost use Rattle.std.specs.Prelude.{◌≤◌, ◌×◌};
+    ghost use Rattle.std.specs.Prelude.{◌≤◌};
     ghost use Rattle.td_head.specs.Layout.{size_of};
     ghost use Rattle.td_standing.specs.Standing.{standing_from};
     ghost use Rattle.td_standing.specs.Advanced.{HeldWhere};
@@ -169,8 +169,8 @@ impl<D: Disk, L: Law> Keeper<D, L> {
     {
         let states = self.checkpoint.states.copy()?;
         let mut batches = Vec::with_capacity(self.alloc, self.submitted.len())?;
-        for each in &self.submitted {
-            batches.push(each.batch.copy()?)?;
+        for i in 0..self.submitted.len() {
+            batches.push(self.submitted[i].batch.copy()?)?;
         }
         Ok((self.checkpoint.epoch, states, batches))
     }

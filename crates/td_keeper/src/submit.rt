@@ -1,8 +1,9 @@
 //! Submitting batches.
-ghost use Rattle.std.specs.Prelude.{◌≡◌, ◌⊎◌, ◌×◌, ◌↔◌, ◌+◌, [], ◌∷◌, false, true, Some, None, IfOk, IfErr, OnErr};
+ghost use Rattle.std.specs.Prelude.{◌≡◌, ◌⊎◌, ◌↔◌, ◌+◌, [], ◌∷◌, false, true, Some, None, IfOk, IfErr};
 ghost use Rattle.td_disk.specs.Disk.{Rises};
 ghost use Rattle.td_gate.specs.CrashSafe.{CrashSafe, Unchanged};
 ghost use Rattle.td_standing.specs.Standing.{last_epoch, submission};
+ghost use Rattle.td_standing.specs.Told.{ring_of};
 ghost use Rattle.td_standing.specs.Advanced.{SinceAdvance};
 ghost use Rattle.td_keeper.specs.Keeping.{with_batch};
 ghost use Rattle.td_keeper.specs.Refused.{submit_refusal};
@@ -12,8 +13,8 @@ use crate::keeper::Keeper;
 use td_calls::Law;
 use td_disk::Disk;
 use td_journal::{Journal, JournalError, Submitted};
-use td_standing::{KeeperError, laws, submit_batch};
 use td_stamp::Batch;
+use td_standing::{KeeperError, laws, submit_batch};
 
 /// Epochs are numbered below this.
 const ENDS: u64 = 1 << 63;
@@ -49,24 +50,33 @@ impl<D: Disk, L: Law> Keeper<D, L> {
     {
         laws::told_in_parts();
         laws::standings_advance::<L>();
+        laws::inputs_are_accepted();
+        td_journal::laws::batches_are_in_order();
+        td_gate::laws::unchanged::<D>();
         if let Some(refusal) = self.refusal_of(&batch) {
             return Err((refusal, batch));
         }
+        let _plan = self.plan.vertices();
+        let _in_order = batch.list();
+        let _sizes = self.head.shape.bytes();
+        let epoch = self.last_epoch() + 1;
+        let journal = self.journal();
         if self.submitted.reserve(1).is_err() {
             return Err((KeeperError::Memory, batch));
         }
-        let epoch = self.last_epoch() + 1;
-        let journal = self.journal();
         match submit_batch(self.alloc, &journal, &mut self.device, epoch, 0, &batch) {
             Ok(()) => {
-                self.submitted.push_back_reserved(Submitted { request: 0, batch });
+                self.submitted
+                    .push_back_reserved(Submitted { request: 0, batch });
                 Ok(epoch)
             }
-            Err(JournalError::Device) => {
-                self.broken = true;
-                Err((KeeperError::Device, batch))
-            }
-            Err(_) => Err((KeeperError::Memory, batch)),
+            Err(refusal) => match refusal {
+                JournalError::Device => {
+                    self.broken = true;
+                    Err((KeeperError::Device, batch))
+                }
+                _ => Err((KeeperError::Memory, batch)),
+            },
         }
     }
 

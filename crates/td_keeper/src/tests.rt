@@ -7,8 +7,8 @@ use td_head::Shape;
 use td_journal::Journal;
 use td_plan::Plan;
 use td_slots::Slots;
-use td_standing::{KeeperError, Part, laws, read_parts, submit_batch, write_states};
 use td_stamp::{Bag, Entry, Rec, State, States};
+use td_standing::{KeeperError, Part, laws, read_parts, submit_batch, write_states};
 
 const TOTAL: &str = "0 input\n1 fold 40 0\n2 output 1\n";
 

@@ -1,16 +1,21 @@
 //! Writing cuts.
-ghost use Rattle.std.specs.Prelude.{◌≡◌, ◌⊎◌, ◌×◌, ◌↔◌, [], false, true, Some, None, Ok, IfOk, IfErr, IsErrOf};
+ghost use Rattle.std.specs.Prelude.{◌≡◌, ◌⊎◌, ◌↔◌, ◌≤◌, [], false, true, length, take, drop, Some, None, Ok, IfOk, IfErr, IfSome, IfNone, IsErrOf};
 ghost use Rattle.td_disk.specs.Disk.{Rises};
 ghost use Rattle.td_standing.specs.Standing.{last_epoch};
+ghost use Rattle.td_journal.specs.Numbers.{greatest};
+ghost use Rattle.td_standing.specs.Told.{slots_of};
+ghost use Rattle.td_standing.specs.Tells.{side_after};
 ghost use Rattle.td_standing.specs.Advanced.{SinceAdvance};
-ghost use Rattle.td_keeper.specs.Keeping.{with_checkpoint};
+ghost use Rattle.td_keeper.specs.Keeping.{is_waiting, with_checkpoint};
 ghost use Rattle.td_keeper.specs.Refused.{write_refusal};
 ghost use Rattle.td_standing.specs.declared.error.KeeperError.TheVariants.{Memory, Device, TooManyKeys};
 
 use crate::keeper::{Keeper, Taken};
+use std::collections::VecDeque;
 use td_calls::Law;
 use td_disk::Disk;
-use td_slots::{Slots, SlotsError};
+use td_journal::Submitted;
+use td_slots::{Checkpoint, Slots, SlotsError};
 use td_standing::{KeeperError, laws, write_states};
 
 impl<D: Disk, L: Law> Keeper<D, L> {
@@ -40,15 +45,122 @@ impl<D: Disk, L: Law> Keeper<D, L> {
     {
         laws::told_in_parts();
         laws::standings_advance::<L>();
+        td_batch::laws::states_of_folds::<L>();
+        td_slots::laws::states_are_in_order();
         if self.broken {
             return Err(KeeperError::Broken);
         }
-        let Some(taken) = &mut self.taken else {
+        let _plan = self.plan.vertices();
+        let slots = self.slots();
+        let Some(cut) = take_waiting(&mut self.taken) else {
             return Ok(None);
         };
-        if !taken.waits {
-            return Ok(None);
+        let _in_order = cut.states.list();
+        let (newest, count) = (self.checkpoint.slot, cut.epoch - self.checkpoint.epoch);
+        let last = last_of_first(&self.submitted, count, self.checkpoint.last);
+        match write_states(
+            self.alloc,
+            &slots,
+            &mut self.device,
+            newest,
+            cut.epoch,
+            last,
+            &cut.states,
+        ) {
+            Ok(()) => {
+                drop_first(&mut self.submitted, count);
+                self.checkpoint = checkpoint_of(newest, count, last, cut);
+                Ok(Some(self.checkpoint.epoch))
+            }
+            Err(refusal) => match refusal {
+                SlotsError::Device => {
+                    self.broken = true;
+                    self.taken = Some(Taken {
+                        waits: false,
+                        ..cut
+                    });
+                    Err(KeeperError::Device)
+                }
+                SlotsError::TooManyKeys => {
+                    self.taken = Some(Taken {
+                        waits: false,
+                        ..cut
+                    });
+                    Err(KeeperError::TooManyKeys)
+                }
+                _ => {
+                    self.taken = Some(cut);
+                    Err(KeeperError::Memory)
+                }
+            },
         }
-        todo()
+    }
+
+    /// The slots of the disk.
+    fn slots(&self) -> Slots
+        ensures slots { result ≡ slots_of self.now.head.shape }
+        ensures few { self.now.head.shape.k ≤ 1048576 }
+    {
+        let shape = self.head.shape;
+        let _bytes = shape.bytes();
+        Slots {
+            at: 8_258,
+            k: shape.states(),
+        }
+    }
+}
+
+/// Takes the cut, where it waits to be written.
+fn take_waiting(taken: &mut Option<Taken>) -> Option<Taken>
+    ensures some { IfSome result (λ cut. (taken.old ≡ Some cut) × (cut.waits ≡ true) × (taken.new ≡ None)) }
+    ensures none { IfNone result ((is_waiting taken.old ≡ false) × (taken.new ≡ taken.old)) }
+{
+    let waits = match taken {
+        Some(cut) => cut.waits,
+        None => false,
+    };
+    if waits { taken.take() } else { None }
+}
+
+/// The greatest of a request number and those of the first so many epochs.
+fn last_of_first(submitted: &VecDeque<Submitted>, count: u64, last: u64) -> u64
+    requires { count ≤ length submitted.now.items }
+    ensures { result ≡ greatest last (take count submitted.now.items) }
+{
+    td_journal::laws::numbers();
+    let mut greatest = last;
+    for each in 0..count {
+        greatest = greatest.max(submitted[each as usize].request);
+    }
+    greatest
+}
+
+/// Lets go the first so many epochs.
+fn drop_first(submitted: &mut VecDeque<Submitted>, count: u64)
+    ensures { submitted.new.items ≡ drop count submitted.old.items }
+{
+    for _each in 0..count {
+        submitted.pop_front();
+    }
+}
+
+/// A cut as the checkpoint, so many epochs after that in the slot `newest`.
+fn checkpoint_of(newest: u8, count: u64, last: u64, cut: Taken) -> Checkpoint
+    ensures slot { result.slot ≡ side_after newest count }
+    ensures epoch { result.epoch ≡ cut.epoch }
+    ensures last { result.last ≡ last }
+    ensures states { result.states ≡ cut.states }
+{
+    let slot = u8::from(newest == 0 && 0 < count);
+    let Taken {
+        epoch,
+        states,
+        waits: _,
+    } = cut;
+    Checkpoint {
+        slot,
+        epoch,
+        last,
+        states,
     }
 }

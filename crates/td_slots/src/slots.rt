@@ -4,7 +4,7 @@ ghost use Rattle.td_disk.specs.Disk.{IsDurable, Rises};
 ghost use Rattle.td_gate.specs.CrashSafe.{CrashSafe, Unchanged};
 ghost use Rattle.td_gate.specs.Reading.{Each};
 ghost use Rattle.td_gate.specs.Region.{opened, payload_of, HasLength, IsSettled, IsOpen, Puts};
-ghost use Rattle.td_slots.specs.Slot.{slot, slot_len, slot_bytes, is_last, FitsState};
+ghost use Rattle.td_slots.specs.Slot.{slot, slot_len, slot_bytes, is_last, are_states, FitsState};
 ghost use Rattle.td_slots.specs.Newest.{newest};
 ghost use Rattle.td_slots.specs.Parsed.{newer_of, chosen_of, AtLeast, IsValid, IsDamaged, Told, Refused};
 
@@ -174,6 +174,7 @@ impl Slots {
         ensures slot { IfOk result (λ c. c.slot ≤ 1) }
         ensures small { IfOk result (λ c. c.epoch < 2 ^ 63) }
         ensures last { IfOk result (λ c. is_last version c.last ≡ true) }
+        ensures states { IfOk result (λ c. are_states folds.now c.states ≡ true) }
         ensures device { IsErrOf result SlotsError.Device → Rises (D.failures device.old) (D.failures device.new) }
         ensures later { D.failures device.old ≤ D.failures device.new }
         ensures size { D.capacity device.new ≡ D.capacity device.old }

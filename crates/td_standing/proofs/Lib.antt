@@ -7,3 +7,4 @@ mod Kept
 mod Versions
 mod Formats
 mod Refusing
+mod Inputs

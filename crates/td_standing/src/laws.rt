@@ -1,9 +1,12 @@
 //! Laws of the definitions. Each is the contract of a function that does nothing.
-ghost use Rattle.std.specs.Prelude.{◌≡◌, ◌≢◌, ◌⊎◌, ◌+◌, ◌-◌, ◌^◌, ◌<◌, ◌≤◌, ◌++◌, [], ◌∷◌, List, length, take, ℕ, suc, Result, None, Ok, Err};
+ghost use Rattle.std.specs.Prelude.{◌≡◌, ◌==◌, ◌≢◌, ◌⊎◌, ◌+◌, ◌-◌, ◌^◌, ◌<◌, ◌≤◌, ◌++◌, [], ◌∷◌, List, length, take, ℕ, suc, Result, None, Ok, Err};
+ghost use Rattle.std.specs.List.{list_all, list_any};
+ghost use Rattle.td_stamp.specs.declared.values.Entry.{Entry as AnyEntry};
 ghost use Rattle.td_stamp.specs.States.{StateList};
 ghost use Rattle.td_plan.specs.Tree.{Nodes};
 ghost use Rattle.td_plan.specs.Lines.{Line};
 ghost use Rattle.td_plan.specs.Faults.{IsPlan};
+ghost use Rattle.td_plan.specs.Inputs.{is_input_of};
 ghost use Rattle.td_batch.specs.Meaning.{run};
 ghost use Rattle.td_disk.specs.Disk.{IsDurable};
 ghost use Rattle.td_gate.specs.Region.{opened, IsOpen, Closes, Puts};
@@ -231,4 +234,12 @@ pub fn formatted()
     td_head::laws::first_head_tells();
     td_slots::laws::slots_read_back();
     td_journal::laws::closed_tells_nothing();
+}
+
+/// A plan accepts the batches whose records name its inputs, and no other.
+pub fn inputs_are_accepted()
+    ensures { (plan : List Line) (batch : List AnyEntry) → IsPlan plan
+        → list_all (λ e. is_input_of plan e.input) batch ≡ list_all (λ e. list_any (λ v. v == e.input) (inputs_of plan)) batch }
+{
+    td_plan::laws::look_ups();
 }

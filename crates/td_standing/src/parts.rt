@@ -2,9 +2,10 @@
 ghost use Rattle.std.specs.Prelude.{◌≡◌, ◌⊎◌, ◌↔◌, ◌≤◌, IfOk, IfErr, IsErrOf};
 ghost use Rattle.td_disk.specs.Disk.{IsDurable, Rises};
 ghost use Rattle.td_gate.specs.CrashSafe.{CrashSafe, Unchanged};
+ghost use Rattle.td_head.specs.Layout.{size_of};
 ghost use Rattle.td_standing.specs.Told.{Told, inputs_of, folds_of};
 ghost use Rattle.td_standing.specs.Tells.{Tells, Keeps};
-ghost use Rattle.td_standing.specs.Read.{standing_of, Refused};
+ghost use Rattle.td_standing.specs.Read.{standing_of, MayStand, Refused};
 
 use crate::error::KeeperError;
 use crate::laws;
@@ -55,6 +56,10 @@ pub fn read_parts<D: Disk>(
 ) -> Result<Recovered, KeeperError>
     ensures told { IfOk result (λ r. D.is_lawful device.old
         → Tells plan.now r.head r.checkpoint.slot (standing_of r) (D.state device.old).bytes) }
+
+    // Whatever the disk, what is read fits it and may stand on it.
+    ensures fits { IfOk result (λ r. size_of r.head.shape ≤ D.capacity device.old) }
+    ensures may_stand { IfOk result (λ r. MayStand plan.now r.head r.checkpoint.slot (standing_of r)) }
     ensures refused { IfErr result (λ e. (e ≡ KeeperError.Device) ⊎ ((e ≡ KeeperError.Memory) ⊎ (D.is_lawful device.old
         → Told plan.now (D.state device.old).bytes (Refused e)))) }
     ensures device { IsErrOf result KeeperError.Device → Rises (D.failures device.old) (D.failures device.new) }
@@ -107,6 +112,8 @@ pub fn recover_device<D: Disk>(
     ensures plan { IfOk result (λ r. r.0 ≡ plan.now) }
     ensures kept { IfOk result (λ r. D.is_lawful device.old
         → Keeps plan.now r.1.head r.1.checkpoint.slot (standing_of r.1) (D.state device.new)) }
+    ensures fits { IfOk result (λ r. size_of r.1.head.shape ≤ D.capacity device.old) }
+    ensures may_stand { IfOk result (λ r. MayStand plan.now r.1.head r.1.checkpoint.slot (standing_of r.1)) }
     ensures refused { IfErr result (λ e. (e ≡ KeeperError.Device) ⊎ ((e ≡ KeeperError.Memory) ⊎ (D.is_lawful device.old
         → IsDurable (D.state device.new) × Told plan.now (D.state device.new).bytes (Refused e)))) }
     ensures device { IsErrOf result KeeperError.Device → Rises (D.failures device.old) (D.failures device.new) }

@@ -1,10 +1,11 @@
 //! The two calls of a keeper that write, without what the keeper keeps in memory.
 ghost use Rattle.std.specs.Prelude.{◌≡◌, ◌⊎◌, ◌↔◌, ◌+◌, ◌*◌, ◌^◌, ◌<◌, ◌≤◌, ℕ, List, [], ◌∷◌, length, take, true, OnOk, IfErr, IsErrOf};
-ghost use Rattle.td_disk.specs.Disk.{Rises};
+ghost use Rattle.td_disk.specs.Disk.{IsDurable, Rises};
 ghost use Rattle.td_gate.specs.CrashSafe.{CrashSafe, Unchanged};
 ghost use Rattle.td_plan.specs.Lines.{Line};
 ghost use Rattle.td_head.specs.declared.head.Head.{Head};
-ghost use Rattle.td_slots.specs.Slot.{slot_len};
+ghost use Rattle.td_gate.specs.Reading.{Each};
+ghost use Rattle.td_slots.specs.Slot.{slot_len, FitsState};
 ghost use Rattle.td_journal.specs.Numbers.{greatest};
 ghost use Rattle.td_journal.specs.Cell.{ring_len, is_batch};
 ghost use Rattle.td_standing.specs.Standing.{Standing, submission, with_more, cut_at};
@@ -39,6 +40,10 @@ pub fn submit_batch<D: Disk>(
     ensures lawful { D.is_lawful device.old ↔ D.is_lawful device.new }
     ensures unwritten { IsErrOf result JournalError.Memory → D.is_lawful device.old
         → CrashSafe Unchanged (D.state device.old) (D.state device.new) }
+
+    // What a crash may leave after the call is among what it may leave since the start.
+    ensures later { D.is_lawful device.old → IsDurable (D.state device.old)
+        → (D.state device.old).moment ≤ (D.state device.new).moment }
 
     // Each image since the start of the call tells the standing, or it with the batch.
     ensures begun { D.is_lawful device.old → (plan : List Line) (head : Head) (side : ℕ) (s : Standing)
@@ -89,10 +94,16 @@ pub fn write_states<D: Disk>(
     ensures too_many { IsErrOf result SlotsError.TooManyKeys ↔ (slots.now.k < length states.now) }
     ensures refusals { IfErr result (λ e. (e ≡ SlotsError.TooManyKeys) ⊎ (e ≡ SlotsError.Memory)
         ⊎ (e ≡ SlotsError.Device)) }
+    ensures fits { OnOk result (Each FitsState states.now) }
+    ensures fits_too { IsErrOf result SlotsError.Device → Each FitsState states.now }
     ensures untouched { IfErr result (λ e. (e ≡ SlotsError.Device) ⊎ (device.new ≡ device.old)) }
     ensures device { IsErrOf result SlotsError.Device → Rises (D.failures device.old) (D.failures device.new) }
     ensures size { D.capacity device.new ≡ D.capacity device.old }
     ensures lawful { D.is_lawful device.old ↔ D.is_lawful device.new }
+
+    // What a crash may leave after the call is among what it may leave since the start.
+    ensures later { D.is_lawful device.old → IsDurable (D.state device.old)
+        → (D.state device.old).moment ≤ (D.state device.new).moment }
 
     // Each image since the start of the call tells the standing, or it cut there.
     ensures begun { D.is_lawful device.old → (plan : List Line) (head : Head) (s : Standing) (k : ℕ)

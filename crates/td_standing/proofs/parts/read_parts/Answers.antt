@@ -1,10 +1,13 @@
-use Rattle.std.proofs.Common.{inl, inr, ⊎_elim, List, ℕ, ap, sym, ◌∙◌}
+use Rattle.std.proofs.Common.{◌≡◌, inl, inr, ⊎_elim, true, List, ℕ, ap, sym, ◌∙◌, subst, arith}
+use Rattle.std.specs.Prelude.{All}
 use Rattle.td_head.specs.declared.error.HeadError.TheVariants as head_error
 use Rattle.td_slots.specs.declared.error.SlotsError.TheVariants as slots_error
+use Rattle.td_slots.specs.Slot.{are_states}
 use Rattle.td_slots.specs.Newest.{newest}
+use Rattle.td_journal.specs.Cell.{is_batch}
 use Rattle.td_standing.specs.declared.error.KeeperError.{KeeperError}
 use Rattle.td_standing.specs.Refusals.{of_head, of_slots}
-use Rattle.td_standing.specs.Told.{Told, folds_of, slots_of}
+use Rattle.td_standing.specs.Told.{Told, inputs_of, folds_of, slots_of}
 use Rattle.td_standing.specs.Read.{Refused}
 use Rattle.td_standing.proofs.Refusing.{refused_by}
 use Rattle.td_standing.proofs.parts.read_parts.Goals as goal
@@ -48,3 +51,18 @@ pub returns-clause-durable : goal.returns-clause-durable
 returns-clause-durable g c lawful durable =
     let headed = c.in_ok-head.ensures.lawful.0 lawful in
     c.in_ok-submitted.ensures.durable (c.in_ok-checkpoint.ensures.lawful.0 headed) (c.in_ok-checkpoint.ensures.durable headed (c.in_ok-head.ensures.durable lawful durable))
+
+pub returns-clause-may_stand : goal.returns-clause-may_stand
+returns-clause-may_stand g c =
+    let plan = c.args.plan.now in
+    let checkpoint = c.in_ok-checkpoint.checkpoint in
+    let w = c.in_ok-submitted.submitted.items in
+    let folds : c.deref.result.now ≡ folds_of plan = c.deref.ensures.value ∙ c.in_ok-folds.ensures in
+    let inputs : c.deref-2.result.now ≡ inputs_of plan = c.deref-2.ensures.value ∙ c.in_ok-inputs.ensures in
+    record {
+      which = c.in_ok-checkpoint.ensures.slot;
+      states = subst (λ (f : List ℕ). are_states f checkpoint.states ≡ true) folds c.in_ok-checkpoint.ensures.states;
+      batches = subst (λ (i : List ℕ). All (λ x. is_batch i x.batch ≡ true) w) inputs c.in_ok-submitted.ensures.batches;
+      few = omega (arith, c.in_ok-submitted.ensures.few_told, c.cells.ensures);
+      small = c.in_ok-submitted.ensures.below;
+    }

@@ -166,3 +166,27 @@ returns-clause-done g c lawful plan head side s ring room fresh valid keeps =
       durable = c.in_ok-put.ensures.durable still;
       tells = c.submit_is_safe.ensures.done plan head side s e (submission r x) old mid new room fresh ok (each_keeps plan head side s (state old) keeps) still also clears gone puts is_open (state new).bytes (laws.reads_image new also);
     }
+
+pub returns-in_err-clear-clause-later : goal.returns-in_err-clear-clause-later
+returns-in_err-clear-clause-later g c lawful durable =
+    let old = c.args.device.now in
+    let cell = cell_of c.args.journal.now (c.args.epoch + 1) in
+    (c.in_err-clear.ensures.crash_safe lawful (c.durable_is_settled.ensures old cell durable)).later
+
+pub returns-in_err-put-clause-later : goal.returns-in_err-put-clause-later
+returns-in_err-put-clause-later g c lawful durable =
+    let cell = cell_of c.args.journal.now (c.args.epoch + 1) in
+    let clears = (c.in_ok-clear.ensures.crash_safe lawful (c.durable_is_settled.ensures c.args.device.now cell durable)).later in
+    let still = c.in_ok-clear.ensures.lawful.0 lawful in
+    let after = c.in_ok-clear.ensures.durable tt lawful durable in
+    let puts = (c.in_err-put.ensures.crash_safe still (c.durable_is_settled.ensures c.clear.new.device c.cell_of.result after)).later in
+    omega arith
+
+pub returns-clause-later : goal.returns-clause-later
+returns-clause-later g c lawful durable =
+    let cell = cell_of c.args.journal.now (c.args.epoch + 1) in
+    let clears = (c.in_ok-clear.ensures.crash_safe lawful (c.durable_is_settled.ensures c.args.device.now cell durable)).later in
+    let still = c.in_ok-clear.ensures.lawful.0 lawful in
+    let after = c.in_ok-clear.ensures.durable tt lawful durable in
+    let puts = (c.in_ok-put.ensures.crash_safe still (c.durable_is_settled.ensures c.clear.new.device c.cell_of.result after)).later in
+    omega arith

@@ -63,3 +63,13 @@ returns-clause-done g c lawful plan head s k where_ epoch last cut keeps =
       durable = c.in_ok-write.ensures.durable lawful;
       tells = c.write_cut_is_safe.ensures.done plan head n s k x old new (each_keeps plan head n s (state old) keeps) cut fits also puts is_open (state new).bytes (laws.reads_image new also);
     }
+
+pub returns-in_err-write-clause-later : goal.returns-in_err-write-clause-later
+returns-in_err-write-clause-later g c lawful durable =
+    let slot_is = slot c.args.slots.now (1 - c.args.newest) in
+    (c.in_err-write.ensures.crash_safe lawful (c.durable_is_settled.ensures c.args.device.now slot_is durable)).later
+
+pub returns-clause-later : goal.returns-clause-later
+returns-clause-later g c lawful durable =
+    let slot_is = slot c.args.slots.now (1 - c.args.newest) in
+    (c.in_ok-write.ensures.crash_safe lawful (c.durable_is_settled.ensures c.args.device.now slot_is durable)).later

@@ -1,6 +1,9 @@
-use Rattle.std.proofs.Common.{◌≡◌, ◌+◌, ℕ, List, Option, inl, inr, ⊎_elim, ap, sym, ◌∙◌, subst, arith}
+use Rattle.std.proofs.Common.{◌≡◌, ◌+◌, ◌^◌, ◌<◌, ℕ, true, List, [], ◌∷◌, length, Option, inl, inr, ⊎_elim, ap, sym, ◌∙◌, subst, arith}
+use Rattle.std.specs.Prelude.{All, IfSome}
+use Rattle.std.proofs.lemmas.List.{length-append}
+use Rattle.std.proofs.lemmas.List.Elements.{All-append, All-cons, All-nil}
 use Rattle.td_journal.specs.declared.submitted.Submitted.{Submitted}
-use Rattle.td_journal.specs.Cell.{Found}
+use Rattle.td_journal.specs.Cell.{Found, is_batch}
 use Rattle.td_journal.specs.Cell.Found.{ended, submitted}
 use Rattle.td_journal.specs.Ring.{found, past}
 use Rattle.td_journal.specs.Parsed.{IsDamage, found_by}
@@ -56,6 +59,10 @@ loop-i-preserved g c =
     let floor = c.loop-i.greatest in
     let s = c.in-Ok-Some.submitted in
     let inv = c.loop-i.invariant in
+    let lawful_batch : is_batch c.args.inputs.now s.batch ≡ true =
+    subst (λ (o : Option Submitted). IfSome o (λ x. is_batch c.args.inputs.now x.batch ≡ true)) c.in-Ok-Some.field-0-is c.in-Ok-Some.ensures.batch in
+    let looked_for : c.args.checkpoint + 1 + c.from.result < 2 ^ 63 =
+    subst (λ (o : Option Submitted). IfSome o (λ _. c.args.checkpoint + 1 + c.from.result < 2 ^ 63)) c.in-Ok-Some.field-0-is c.in-Ok-Some.ensures.small in
     record {
       told = λ lawful.
           let here : find floor (c.args.checkpoint + 1 + i) ≡ submitted s =
@@ -67,6 +74,10 @@ loop-i-preserved g c =
           ∙ ap (joined w) (left_found find c.args.self.now.n c.args.checkpoint floor i (submitted s) c.loop-i-test.true here)
           ∙ sym (joined_push w s rest) ∙ ap (λ (l : List Submitted). joined l rest) (sym c.in_ok-push-in-Ok-Some.ensures.items)
           ∙ ap (λ (o : Option ℕ). joined c.push.new.self.items (left_from find c.args.self.now.n c.args.checkpoint o (i + 1))) (sym c.floor_past-greatest.ensures);
+      batches = subst (All (λ x. is_batch c.args.inputs.now x.batch ≡ true)) (sym c.in_ok-push-in-Ok-Some.ensures.items)
+          (All-append (λ x. is_batch c.args.inputs.now x.batch ≡ true) w (s ∷ []) inv.batches (All-cons (λ x. is_batch c.args.inputs.now x.batch ≡ true) s [] lawful_batch (All-nil (λ x. is_batch c.args.inputs.now x.batch ≡ true))));
+      count = ap length c.in_ok-push-in-Ok-Some.ensures.items ∙ length-append w (s ∷ []) ∙ ap (λ (n : ℕ). n + 1) inv.count;
+      below = omega (arith, looked_for, c.from.ensures);
       size = c.in-Ok-Some.ensures.size ∙ inv.size;
       lawful = (λ l. c.in-Ok-Some.ensures.lawful.0 (inv.lawful.0 l), λ l. inv.lawful.1 (c.in-Ok-Some.ensures.lawful.1 l));
       later = omega (arith, inv.later, c.in-Ok-Some.ensures.later);

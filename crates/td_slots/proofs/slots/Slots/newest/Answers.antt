@@ -55,6 +55,14 @@ returns-clause-last g c =
     let valid = chosen c.args.version folds k c.in_ok-first.first c.in_ok-second.second c.newer.result c.in-Some.slot p c.in_ok-first.ensures.valid c.in_ok-second.ensures.valid c.newer.ensures c.in-Some.is in
     ap (is_last c.args.version) (c.u64_at-2.ensures ∙ ap (λ (bytes : List ℕ). (front_in bytes).request) c.deref-2.ensures.value) ∙ (parts c.args.version folds k p.items valid).1
 
+pub returns-clause-states : goal.returns-clause-states
+returns-clause-states g c =
+    let folds = c.args.folds.now in
+    let k = c.args.self.now.k in
+    let p = c.in-Some.payload in
+    let valid = chosen c.args.version folds k c.in_ok-first.first c.in_ok-second.second c.newer.result c.in-Some.slot p c.in_ok-first.ensures.valid c.in_ok-second.ensures.valid c.newer.ensures c.in-Some.is in
+    ap (are_states folds) (c.in_ok-states_of.ensures ∙ ap states_in c.deref-3.ensures.value) ∙ (parts c.args.version folds k p.items valid).2
+
 pub returns-clause-told : goal.returns-clause-told
 returns-clause-told g c lawful =
     let state = g.D.Disk.state in

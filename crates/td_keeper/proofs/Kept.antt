@@ -1,0 +1,138 @@
+-- What a keeper keeps right in its memory, from one call to the next.
+use Rattle.std.proofs.Common.{◌≡◌, ℕ, zero, suc, ◌+◌, ◌-◌, ◌^◌, ◌<◌, ◌≤◌, true, List, [], ◌∷◌, ◌++◌, length, take, drop, refl, sym, ap, ◌∙◌, subst, arith}
+use Rattle.std.specs.Prelude.{All, None, Bool, false}
+use Rattle.std.proofs.lemmas.List.{length-append, length-drop, length-map, map-append, take-append-le}
+use Rattle.std.proofs.lemmas.List.Elements.{All-append, All-cons, All-nil, All-drop}
+use Rattle.td_stamp.specs.declared.values.Entry.{Entry}
+use Rattle.td_stamp.specs.declared.epoch_out.EpochOut.{EpochOut}
+use Rattle.td_plan.specs.Lines.{Line}
+use Rattle.td_plan.specs.Tree.{tree_of}
+use Rattle.td_calls.specs.Answers.{Answers}
+use Rattle.td_batch.specs.Meaning.{states_after, run}
+use Rattle.td_head.specs.declared.head.Head.{Head}
+use Rattle.td_slots.specs.Slot.{are_states}
+use Rattle.td_slots.specs.declared.slots.Checkpoint.{Checkpoint}
+use Rattle.td_journal.specs.Cell.{is_batch}
+use Rattle.td_journal.specs.declared.submitted.Submitted.{Submitted}
+use Rattle.td_standing.specs.Standing.{Standing, standing_from, batches_of, submission, last_epoch, nothing_told}
+use Rattle.td_standing.specs.Told.{inputs_of, folds_of}
+use Rattle.td_standing.specs.Tells.{side_after}
+use Rattle.td_standing.specs.Read.{MayStand}
+use Rattle.td_keeper.specs.Keeping.{Keeping, keeping_of, IsKeeping, IsFreshlyOpened, with_batch, with_checkpoint}
+
+module _ {D : Type 0} (answers : Answers) (k : Keeping D) where
+  abbrev b : List (List Entry)
+  b = batches_of k.standing.submitted
+
+  -- it was just opened
+  pub opened : IsFreshlyOpened k → MayStand k.plan k.head k.side k.standing → IsKeeping k answers
+  opened fresh stands =
+      let none : k.base - k.standing.epoch ≡ 0 = omega (arith, fresh.base) in
+      record {
+        which = stands.which;
+        batches = stands.batches;
+        few = stands.few;
+        small = stands.small;
+        states = stands.states;
+        from_checkpoint = omega (arith, fresh.base);
+        released = omega (arith, fresh.base);
+        base_states = fresh.base_states ∙ ap (λ (n : ℕ). states_after answers (tree_of k.plan) k.standing.states b n) (sym none);
+        collected = omega (arith, fresh.base, fresh.collected);
+      }
+
+  -- one epoch more
+  pub submitted : (device : D) (request : ℕ) (batch : List Entry) → IsKeeping k answers → is_batch (inputs_of k.plan) batch ≡ true
+      → length k.standing.submitted < k.head.shape.n → last_epoch k.standing + 1 < 2 ^ 63 → IsKeeping (with_batch k device request batch) answers
+  submitted device request batch is lawful room small =
+      let w = k.standing.submitted in
+      let x : List Submitted = submission request batch ∷ [] in
+      let P : Submitted → Type 0 = λ s. is_batch (inputs_of k.plan) s.batch ≡ true in
+      let n = k.base - k.standing.epoch in
+      let size : length (w ++ x) ≡ length w + 1 = length-append w x in
+      let most : n ≤ length b = omega (arith, is.from_checkpoint, is.released, length-map w (λ s. s.batch)) in
+      let same : take n (batches_of (w ++ x)) ≡ take n b = ap (take n) (map-append (λ s. s.batch) w x) ∙ take-append-le n b (batches_of x) most in
+      record {
+        which = is.which;
+        batches = All-append P w x is.batches (All-cons P (submission request batch) [] lawful (All-nil P));
+        few = omega (arith, room, size);
+        small = omega (arith, small, size);
+        states = is.states;
+        from_checkpoint = is.from_checkpoint;
+        released = omega (arith, is.released, size);
+        base_states = is.base_states ∙ ap (λ (l : List (List Entry)). (run answers (tree_of k.plan) k.standing.states l).states) (sym same);
+        collected = is.collected;
+      }
+
+  side_is : (side n : ℕ) → side_after side n ≤ 1
+  side_is zero zero = omega arith
+  side_is zero (suc n) = omega arith
+  side_is (suc side) n = omega arith
+
+  -- the cut is the checkpoint
+  pub written : (device : D) → IsKeeping k answers → are_states (folds_of k.plan) k.base_states ≡ true → IsKeeping (with_checkpoint k device) answers
+  written device is lawful =
+      let w = k.standing.submitted in
+      let n = k.base - k.standing.epoch in
+      let P : Submitted → Type 0 = λ s. is_batch (inputs_of k.plan) s.batch ≡ true in
+      let size : length (drop n w) ≡ length w - n = length-drop n w in
+      let none : k.base - (k.standing.epoch + n) ≡ 0 = omega (arith, is.from_checkpoint) in
+      record {
+        which = side_is k.side n;
+        batches = All-drop P n w is.batches;
+        few = omega (arith, is.few, size);
+        small = omega (arith, is.small, is.released, is.from_checkpoint, size);
+        states = lawful;
+        from_checkpoint = omega (arith, is.from_checkpoint);
+        released = omega (arith, is.released, is.from_checkpoint, size);
+        base_states = ap (λ (m : ℕ). states_after answers (tree_of k.plan) k.base_states (batches_of (drop n w)) m) (sym none);
+        collected = is.collected;
+      }
+
+-- as it is opened, and as it sees itself then
+module _ {D : Type 0} (answers : Answers) (device : D) (plan : List Line) (head : Head) (c : Checkpoint) (w : List Submitted) (collected : ℕ) (q : List EpochOut) where
+  abbrev new : Keeping D
+  new = keeping_of device plan head c w false None collected q
+
+  pub fresh : collected ≡ c.epoch → q ≡ [] → IsFreshlyOpened new
+  fresh e none = record { whole = refl; base = refl; base_states = refl; none_waits = refl; collected = e; queue = none }
+
+  pub new_keeping : collected ≡ c.epoch → q ≡ [] → MayStand plan head c.slot (standing_from c w) → IsKeeping new answers
+  new_keeping e none stands = opened answers new (fresh e none) stands
+
+-- nothing stands after a format
+pub nothing_stands : (plan : List Line) (head : Head) (s : Standing) (side : ℕ) → s ≡ nothing_told → side ≡ 0 → MayStand plan head side s
+nothing_stands plan head s side is at = record {
+  which = omega (arith, at);
+  states = ap (λ (t : Standing). are_states (folds_of plan) t.states) is;
+  batches = subst (λ (t : Standing). All (λ x. is_batch (inputs_of plan) x.batch ≡ true) t.submitted) (sym is) (All-nil (λ (x : Submitted). is_batch (inputs_of plan) x.batch ≡ true));
+  few = subst (λ (t : Standing). length t.submitted ≤ head.shape.n) (sym is) (omega arith);
+  small = subst (λ (t : Standing). last_epoch t < 2 ^ 63) (sym is) (omega arith);
+}
+
+-- the device is another, and failed or not
+pub elsewhere : {D : Type 0} (answers : Answers) (k : Keeping D) (device : D) (broken : Bool) → IsKeeping k answers → IsKeeping (record k { device = device; broken = broken }) answers
+elsewhere answers k device broken is = record {
+  which = is.which;
+  batches = is.batches;
+  few = is.few;
+  small = is.small;
+  states = is.states;
+  from_checkpoint = is.from_checkpoint;
+  released = is.released;
+  base_states = is.base_states;
+  collected = is.collected;
+}
+
+-- and the cut waits no more
+pub set_down : {D : Type 0} (answers : Answers) (k : Keeping D) (device : D) (broken waiting : Bool) → IsKeeping k answers → IsKeeping (record k { device = device; broken = broken; waiting = waiting }) answers
+set_down answers k device broken waiting is = record {
+  which = is.which;
+  batches = is.batches;
+  few = is.few;
+  small = is.small;
+  states = is.states;
+  from_checkpoint = is.from_checkpoint;
+  released = is.released;
+  base_states = is.base_states;
+  collected = is.collected;
+}

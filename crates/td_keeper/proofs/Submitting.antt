@@ -1,0 +1,54 @@
+-- A batch that a keeper submits.
+use Rattle.std.proofs.Common.{◌≡◌, ◌==◌, ℕ, ◌+◌, Bool, true, false, nat_le, List, refl, sym, ◌∙◌, subst, arith}
+use Rattle.std.specs.Prelude.{Option, Some, None}
+use Rattle.std.specs.List.{list_all, list_any}
+use Rattle.td_stamp.specs.declared.values.Entry.{Entry}
+use Rattle.td_stamp.specs.Orders.{entry_cmp}
+use Rattle.td_stamp.specs.Bag.{IsBag}
+use Rattle.td_plan.specs.Lines.{Line}
+use Rattle.td_plan.specs.Faults.{IsPlan}
+use Rattle.td_calls.specs.Answers.{Answers}
+use Rattle.td_disk.specs.Disk.{DiskState}
+use Rattle.td_head.specs.declared.head.Head.{Head}
+use Rattle.td_journal.specs.Numbers.{may_come}
+use Rattle.td_journal.specs.Cell.{is_batch}
+use Rattle.td_machine.specs.Steps.{accepts}
+use Rattle.td_standing.specs.Standing.{Standing, last_epoch, last_request}
+use Rattle.td_standing.specs.Told.{inputs_of}
+use Rattle.td_standing.specs.Tells.{Keeps, HasRoom, IsFresh}
+use Rattle.td_standing.specs.Advanced.{HeldWhere}
+use Rattle.td_keeper.specs.Keeping.{Keeping}
+use Rattle.td_keeper.proofs.Accepting.{IsAccepted}
+
+-- where nothing is broken, a keeper's disk keeps its standing
+pub keeps_of : (b : Bool) (answers : Answers) (plan : List Line) (head : Head) (side : ℕ) (s : Standing) (state : DiskState) → b ≡ false → HeldWhere b answers plan head side s state → Keeps plan head side s state
+keeps_of b answers plan head side s state whole held = subst (λ (c : Bool). HeldWhere c answers plan head side s state) whole held
+
+pub held_of : (b : Bool) (answers : Answers) (plan : List Line) (head : Head) (side : ℕ) (s : Standing) (state : DiskState) → b ≡ false → Keeps plan head side s state → HeldWhere b answers plan head side s state
+held_of b answers plan head side s state whole keeps = subst (λ (c : Bool). HeldWhere c answers plan head side s state) (sym whole) keeps
+
+-- no request number may always come
+none_comes : (b : Bool) (last : ℕ) → may_come (elim b [ true ↦ Some last | false ↦ None ]) 0 ≡ true
+none_comes true last = refl
+none_comes false last = refl
+
+pub no_request : (version : ℕ) (s : Standing) → IsFresh version s 0
+no_request version s = none_comes (nat_le 2 version) (last_request s)
+
+-- the laws, as they are handed in
+abbrev pub Inputs : Type 0
+Inputs = (plan : List Line) (batch : List Entry) → IsPlan plan → accepts plan batch ≡ list_all (λ e. list_any (λ v. v == e.input) (inputs_of plan)) batch
+
+abbrev pub InOrder : Type 0
+InOrder = (inputs : List ℕ) (x : List Entry) → IsBag entry_cmp x → list_all (λ e. list_any (λ v. v == e.input) inputs) x ≡ true → is_batch inputs x ≡ true
+
+pub lawful_batch : Inputs → InOrder → (plan : List Line) (batch : List Entry) → IsPlan plan → IsBag entry_cmp batch → accepts plan batch ≡ true → is_batch (inputs_of plan) batch ≡ true
+lawful_batch inputs in_order plan batch is sorted named = in_order (inputs_of plan) batch sorted (sym (inputs plan batch is) ∙ named)
+
+pub has_room : {D : Type 0} (k : Keeping D) (batch : List Entry) (epoch : ℕ) → IsAccepted k batch → epoch ≡ last_epoch k.standing + 1 → HasRoom k.head.shape k.standing epoch
+has_room k batch epoch is at = record { room = is.room; epoch = at; small = omega (arith, is.small, at) }
+
+-- what is not one is none
+pub is_none : {X : Type 0} (o : Option X) → ((x : X) → o ≡ Some x → ⊥) → o ≡ None
+is_none None not_ = refl
+is_none (Some x) not_ = absurd (not_ x refl)

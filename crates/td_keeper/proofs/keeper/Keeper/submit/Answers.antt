@@ -1,0 +1,238 @@
+use Rattle.std.proofs.Common.{◌≡◌, ⊎_elim, Result, Err, ℕ, ◌+◌, ◌≤◌, true, false, List, [], ◌∷◌, ◌++◌, sym, ap, ◌∙◌, subst, arith}
+use Rattle.std.specs.Prelude.{None}
+use Rattle.td_plan.specs.Tree.{tree_of}
+use Rattle.td_gate.specs.CrashSafe.{CrashSafe, Unchanged}
+use Rattle.td_head.specs.Layout.{size_of}
+use Rattle.td_journal.specs.Cell.{is_batch}
+use Rattle.td_journal.specs.declared.error.JournalError.{JournalError as AnyError}
+use Rattle.td_journal.specs.declared.error.JournalError.TheVariants as JournalError
+use Rattle.td_journal.specs.declared.submitted.Submitted.{Submitted}
+use Rattle.td_standing.specs.Standing.{standing_from, submission, last_epoch, with_more}
+use Rattle.td_standing.specs.Stops.{Advance, Holds}
+use Rattle.td_standing.specs.Told.{inputs_of, ring_of}
+use Rattle.td_standing.specs.Tells.{HasRoom}
+use Rattle.td_standing.specs.Advanced.{SinceAdvance, HeldWhere, states_by}
+use Rattle.td_keeper.specs.Keeping.{Keeping, IsKeeping, keeping_of}
+use Rattle.td_keeper.specs.Refused.{submit_refusal}
+use Rattle.td_keeper.proofs.Accepting.{IsAccepted, accepted}
+use Rattle.td_keeper.proofs.Kept.{submitted, elsewhere}
+use Rattle.td_keeper.proofs.Since.{untouched, either, held}
+use Rattle.td_keeper.proofs.Submitting.{keeps_of, held_of, no_request, lawful_batch, has_room, is_none}
+use Rattle.td_keeper.proofs.keeper.Keeper.submit.Goals as goal
+
+abbrev as_err : AnyError → Result (Unit {0}) AnyError
+as_err e = Err e
+
+pub returns-in-Some-clause-images : goal.returns-in-Some-clause-images
+returns-in-Some-clause-images g c =
+    let state = g.D.Disk.state in
+    let answers = g.L.Law.answers in
+    let device = c.self.inside.device in
+    let plan = c.self.inside.plan in
+    let head = c.self.inside.head in
+    let s = standing_from c.self.inside.checkpoint c.self.inside.submitted.items in
+    let side = c.self.inside.checkpoint.slot in
+    let batch = c.args.batch in
+    let x : List Submitted = submission 0 batch ∷ [] in
+    let still : Advance (states_by answers plan) (with_more s x) s = c.standings_advance.ensures.not_yet (tree_of plan) s x in
+    subst (λ (z : Keeping g.row.D.Denot). g.D.Disk.is_lawful z.device → z.broken ≡ false → SinceAdvance answers z.plan z.standing x (last_epoch z.standing) (state z.device).moment (state z.device)) c.self.view_is
+    (λ old whole. untouched answers plan c.told_in_parts.ensures.together head side s x (state device) (λ d. g.met.D.Disk.only_now device d old) still
+    (keeps_of c.self.inside.broken answers plan head side s (state device) whole (c.self.invariant.2 old)))
+
+pub returns-then-is_err-clause-images : goal.returns-then-is_err-clause-images
+returns-then-is_err-clause-images g c =
+    let state = g.D.Disk.state in
+    let answers = g.L.Law.answers in
+    let device = c.self.inside.device in
+    let plan = c.self.inside.plan in
+    let head = c.self.inside.head in
+    let s = standing_from c.self.inside.checkpoint c.self.inside.submitted.items in
+    let side = c.self.inside.checkpoint.slot in
+    let batch = c.args.batch in
+    let x : List Submitted = submission 0 batch ∷ [] in
+    let still : Advance (states_by answers plan) (with_more s x) s = c.standings_advance.ensures.not_yet (tree_of plan) s x in
+    subst (λ (z : Keeping g.row.D.Denot). g.D.Disk.is_lawful z.device → z.broken ≡ false → SinceAdvance answers z.plan z.standing x (last_epoch z.standing) (state z.device).moment (state device)) c.self.view_is
+    (λ old whole. untouched answers plan c.told_in_parts.ensures.together head side s x (state device) (λ d. g.met.D.Disk.only_now device d old) still
+    (keeps_of c.self.inside.broken answers plan head side s (state device) whole (c.self.invariant.2 old)))
+
+pub returns-in-Ok-clause-images : goal.returns-in-Ok-clause-images
+returns-in-Ok-clause-images g c =
+    let state = g.D.Disk.state in
+    let answers = g.L.Law.answers in
+    let device = c.self.inside.device in
+    let plan = c.self.inside.plan in
+    let head = c.self.inside.head in
+    let s = standing_from c.self.inside.checkpoint c.self.inside.submitted.items in
+    let side = c.self.inside.checkpoint.slot in
+    let batch = c.args.batch in
+    let x : List Submitted = submission 0 batch ∷ [] in
+    let still : Advance (states_by answers plan) (with_more s x) s = c.standings_advance.ensures.not_yet (tree_of plan) s x in
+    let k = keeping_of device plan head c.self.inside.checkpoint c.self.inside.submitted.items c.self.inside.broken c.self.inside.taken c.self.inside.collected c.self.inside.queue.items in
+    let none : submit_refusal k batch ≡ None = ap (λ (z : Keeping g.row.D.Denot). submit_refusal z batch) c.self.view_is ∙ (sym c.refusal_of.ensures ∙ is_none c.refusal_of.result c.in_default.not-Some) in
+    let taken : IsAccepted k batch = accepted k batch none in
+    let epoch : c.last_epoch-epoch.result + 1 ≡ last_epoch s + 1 = ap (λ (n : ℕ). n + 1) (c.last_epoch-epoch.ensures ∙ sym (ap (λ (z : Keeping g.row.D.Denot). last_epoch z.standing) c.self.view_is)) in
+    let ring : c.journal-journal.result ≡ ring_of head.shape s.epoch = c.journal-journal.ensures ∙ sym (ap (λ (z : Keeping g.row.D.Denot). ring_of z.head.shape z.standing.epoch) c.self.view_is) in
+    let room : HasRoom head.shape s (c.last_epoch-epoch.result + 1) = has_room k batch (c.last_epoch-epoch.result + 1) taken epoch in
+    let lawful : is_batch (inputs_of plan) batch ≡ true = lawful_batch c.inputs_are_accepted.ensures c.batches_are_in_order.ensures.written plan batch c.vertices-plan.ensures.lawful c.list-in_order.ensures.sorted taken.named in
+    let more : Advance (states_by answers plan) (with_more s x) (with_more s x) = c.standings_advance.ensures.submitted (tree_of plan) s x in
+    let holds : Holds (with_more s x) (last_epoch s) = c.standings_advance.ensures.holds s (last_epoch s) x (omega arith) in
+    subst (λ (z : Keeping g.row.D.Denot). g.D.Disk.is_lawful z.device → z.broken ≡ false → SinceAdvance answers z.plan z.standing x (last_epoch z.standing) (state z.device).moment (state c.submit_batch.new.device)) c.self.view_is
+    (λ old whole.
+    let keeps = keeps_of c.self.inside.broken answers plan head side s (state device) whole (c.self.invariant.2 old) in
+    either answers plan c.told_in_parts.ensures.together head side s x (state device).moment (state c.submit_batch.new.device) side (with_more s x) still more holds
+    (c.in-Ok.ensures.begun old plan head side s ring room (no_request head.version s) lawful keeps))
+
+pub invariant_of-self-in-Ok : goal.invariant_of-self-in-Ok
+invariant_of-self-in-Ok g c =
+    let state = g.D.Disk.state in
+    let answers = g.L.Law.answers in
+    let device = c.self.inside.device in
+    let plan = c.self.inside.plan in
+    let head = c.self.inside.head in
+    let s = standing_from c.self.inside.checkpoint c.self.inside.submitted.items in
+    let side = c.self.inside.checkpoint.slot in
+    let batch = c.args.batch in
+    let x : List Submitted = submission 0 batch ∷ [] in
+    let k = keeping_of device plan head c.self.inside.checkpoint c.self.inside.submitted.items c.self.inside.broken c.self.inside.taken c.self.inside.collected c.self.inside.queue.items in
+    let none : submit_refusal k batch ≡ None = ap (λ (z : Keeping g.row.D.Denot). submit_refusal z batch) c.self.view_is ∙ (sym c.refusal_of.ensures ∙ is_none c.refusal_of.result c.in_default.not-Some) in
+    let taken : IsAccepted k batch = accepted k batch none in
+    let epoch : c.last_epoch-epoch.result + 1 ≡ last_epoch s + 1 = ap (λ (n : ℕ). n + 1) (c.last_epoch-epoch.ensures ∙ sym (ap (λ (z : Keeping g.row.D.Denot). last_epoch z.standing) c.self.view_is)) in
+    let ring : c.journal-journal.result ≡ ring_of head.shape s.epoch = c.journal-journal.ensures ∙ sym (ap (λ (z : Keeping g.row.D.Denot). ring_of z.head.shape z.standing.epoch) c.self.view_is) in
+    let room : HasRoom head.shape s (c.last_epoch-epoch.result + 1) = has_room k batch (c.last_epoch-epoch.result + 1) taken epoch in
+    let lawful : is_batch (inputs_of plan) batch ≡ true = lawful_batch c.inputs_are_accepted.ensures c.batches_are_in_order.ensures.written plan batch c.vertices-plan.ensures.lawful c.list-in_order.ensures.sorted taken.named in
+    let new = c.submit_batch.new.device in
+    let items : c.push_back_reserved.new.self.items ≡ c.self.inside.submitted.items ++ x = c.push_back_reserved.ensures.items ∙ ap (λ (l : List Submitted). l ++ x) c.reserve.ensures.items in (
+      subst (λ (n : ℕ). size_of head.shape ≤ n) (sym c.in-Ok.ensures.size) c.self.invariant.0,
+      subst (λ (v : List Submitted). IsKeeping (keeping_of new plan head c.self.inside.checkpoint v c.self.inside.broken c.self.inside.taken c.self.inside.collected c.self.inside.queue.items) answers) (sym items)
+          (submitted answers k new 0 batch c.self.invariant.1 lawful taken.room taken.small),
+      λ l.
+          let old = c.in-Ok.ensures.lawful.1 l in
+          let keeps = keeps_of c.self.inside.broken answers plan head side s (state device) taken.whole (c.self.invariant.2 old) in
+          subst (λ (v : List Submitted). HeldWhere c.self.inside.broken answers plan head side (standing_from c.self.inside.checkpoint v) (state new)) (sym items)
+          (held_of c.self.inside.broken answers plan head side (with_more s x) (state new) taken.whole (c.in-Ok.ensures.done old plan head side s ring room (no_request head.version s) lawful keeps)),
+    )
+
+pub returns-in-Device-clause-images : goal.returns-in-Device-clause-images
+returns-in-Device-clause-images g c =
+    let state = g.D.Disk.state in
+    let answers = g.L.Law.answers in
+    let device = c.self.inside.device in
+    let plan = c.self.inside.plan in
+    let head = c.self.inside.head in
+    let s = standing_from c.self.inside.checkpoint c.self.inside.submitted.items in
+    let side = c.self.inside.checkpoint.slot in
+    let batch = c.args.batch in
+    let x : List Submitted = submission 0 batch ∷ [] in
+    let still : Advance (states_by answers plan) (with_more s x) s = c.standings_advance.ensures.not_yet (tree_of plan) s x in
+    let k = keeping_of device plan head c.self.inside.checkpoint c.self.inside.submitted.items c.self.inside.broken c.self.inside.taken c.self.inside.collected c.self.inside.queue.items in
+    let none : submit_refusal k batch ≡ None = ap (λ (z : Keeping g.row.D.Denot). submit_refusal z batch) c.self.view_is ∙ (sym c.refusal_of.ensures ∙ is_none c.refusal_of.result c.in_default.not-Some) in
+    let taken : IsAccepted k batch = accepted k batch none in
+    let epoch : c.last_epoch-epoch.result + 1 ≡ last_epoch s + 1 = ap (λ (n : ℕ). n + 1) (c.last_epoch-epoch.ensures ∙ sym (ap (λ (z : Keeping g.row.D.Denot). last_epoch z.standing) c.self.view_is)) in
+    let ring : c.journal-journal.result ≡ ring_of head.shape s.epoch = c.journal-journal.ensures ∙ sym (ap (λ (z : Keeping g.row.D.Denot). ring_of z.head.shape z.standing.epoch) c.self.view_is) in
+    let room : HasRoom head.shape s (c.last_epoch-epoch.result + 1) = has_room k batch (c.last_epoch-epoch.result + 1) taken epoch in
+    let lawful : is_batch (inputs_of plan) batch ≡ true = lawful_batch c.inputs_are_accepted.ensures c.batches_are_in_order.ensures.written plan batch c.vertices-plan.ensures.lawful c.list-in_order.ensures.sorted taken.named in
+    let more : Advance (states_by answers plan) (with_more s x) (with_more s x) = c.standings_advance.ensures.submitted (tree_of plan) s x in
+    let holds : Holds (with_more s x) (last_epoch s) = c.standings_advance.ensures.holds s (last_epoch s) x (omega arith) in
+    subst (λ (z : Keeping g.row.D.Denot). g.D.Disk.is_lawful z.device → z.broken ≡ false → SinceAdvance answers z.plan z.standing x (last_epoch z.standing) (state z.device).moment (state c.submit_batch.new.device)) c.self.view_is
+    (λ old whole.
+    let keeps = keeps_of c.self.inside.broken answers plan head side s (state device) whole (c.self.invariant.2 old) in
+    either answers plan c.told_in_parts.ensures.together head side s x (state device).moment (state c.submit_batch.new.device) side (with_more s x) still more holds
+    (c.in-Err.ensures.begun old plan head side s ring room (no_request head.version s) lawful keeps))
+
+pub returns-in_default-refusal-clause-images : goal.returns-in_default-refusal-clause-images
+returns-in_default-refusal-clause-images g c =
+    let state = g.D.Disk.state in
+    let answers = g.L.Law.answers in
+    let device = c.self.inside.device in
+    let plan = c.self.inside.plan in
+    let head = c.self.inside.head in
+    let s = standing_from c.self.inside.checkpoint c.self.inside.submitted.items in
+    let side = c.self.inside.checkpoint.slot in
+    let batch = c.args.batch in
+    let x : List Submitted = submission 0 batch ∷ [] in
+    let still : Advance (states_by answers plan) (with_more s x) s = c.standings_advance.ensures.not_yet (tree_of plan) s x in
+    let k = keeping_of device plan head c.self.inside.checkpoint c.self.inside.submitted.items c.self.inside.broken c.self.inside.taken c.self.inside.collected c.self.inside.queue.items in
+    let none : submit_refusal k batch ≡ None = ap (λ (z : Keeping g.row.D.Denot). submit_refusal z batch) c.self.view_is ∙ (sym c.refusal_of.ensures ∙ is_none c.refusal_of.result c.in_default.not-Some) in
+    let taken : IsAccepted k batch = accepted k batch none in
+    let epoch : c.last_epoch-epoch.result + 1 ≡ last_epoch s + 1 = ap (λ (n : ℕ). n + 1) (c.last_epoch-epoch.ensures ∙ sym (ap (λ (z : Keeping g.row.D.Denot). last_epoch z.standing) c.self.view_is)) in
+    let ring : c.journal-journal.result ≡ ring_of head.shape s.epoch = c.journal-journal.ensures ∙ sym (ap (λ (z : Keeping g.row.D.Denot). ring_of z.head.shape z.standing.epoch) c.self.view_is) in
+    let room : HasRoom head.shape s (c.last_epoch-epoch.result + 1) = has_room k batch (c.last_epoch-epoch.result + 1) taken epoch in
+    let lawful : is_batch (inputs_of plan) batch ≡ true = lawful_batch c.inputs_are_accepted.ensures c.batches_are_in_order.ensures.written plan batch c.vertices-plan.ensures.lawful c.list-in_order.ensures.sorted taken.named in
+    let more : Advance (states_by answers plan) (with_more s x) (with_more s x) = c.standings_advance.ensures.submitted (tree_of plan) s x in
+    let holds : Holds (with_more s x) (last_epoch s) = c.standings_advance.ensures.holds s (last_epoch s) x (omega arith) in
+    subst (λ (z : Keeping g.row.D.Denot). g.D.Disk.is_lawful z.device → z.broken ≡ false → SinceAdvance answers z.plan z.standing x (last_epoch z.standing) (state z.device).moment (state c.submit_batch.new.device)) c.self.view_is
+    (λ old whole.
+    let keeps = keeps_of c.self.inside.broken answers plan head side s (state device) whole (c.self.invariant.2 old) in
+    either answers plan c.told_in_parts.ensures.together head side s x (state device).moment (state c.submit_batch.new.device) side (with_more s x) still more holds
+    (c.in-Err.ensures.begun old plan head side s ring room (no_request head.version s) lawful keeps))
+
+pub invariant_of-self-in-Device : goal.invariant_of-self-in-Device
+invariant_of-self-in-Device g c =
+    let state = g.D.Disk.state in
+    let answers = g.L.Law.answers in
+    let device = c.self.inside.device in
+    let plan = c.self.inside.plan in
+    let head = c.self.inside.head in
+    let s = standing_from c.self.inside.checkpoint c.self.inside.submitted.items in
+    let side = c.self.inside.checkpoint.slot in
+    let batch = c.args.batch in
+    let x : List Submitted = submission 0 batch ∷ [] in
+    let still : Advance (states_by answers plan) (with_more s x) s = c.standings_advance.ensures.not_yet (tree_of plan) s x in
+    let k = keeping_of device plan head c.self.inside.checkpoint c.self.inside.submitted.items c.self.inside.broken c.self.inside.taken c.self.inside.collected c.self.inside.queue.items in
+    let none : submit_refusal k batch ≡ None = ap (λ (z : Keeping g.row.D.Denot). submit_refusal z batch) c.self.view_is ∙ (sym c.refusal_of.ensures ∙ is_none c.refusal_of.result c.in_default.not-Some) in
+    let taken : IsAccepted k batch = accepted k batch none in
+    let epoch : c.last_epoch-epoch.result + 1 ≡ last_epoch s + 1 = ap (λ (n : ℕ). n + 1) (c.last_epoch-epoch.ensures ∙ sym (ap (λ (z : Keeping g.row.D.Denot). last_epoch z.standing) c.self.view_is)) in
+    let ring : c.journal-journal.result ≡ ring_of head.shape s.epoch = c.journal-journal.ensures ∙ sym (ap (λ (z : Keeping g.row.D.Denot). ring_of z.head.shape z.standing.epoch) c.self.view_is) in
+    let room : HasRoom head.shape s (c.last_epoch-epoch.result + 1) = has_room k batch (c.last_epoch-epoch.result + 1) taken epoch in
+    let lawful : is_batch (inputs_of plan) batch ≡ true = lawful_batch c.inputs_are_accepted.ensures c.batches_are_in_order.ensures.written plan batch c.vertices-plan.ensures.lawful c.list-in_order.ensures.sorted taken.named in
+    let more : Advance (states_by answers plan) (with_more s x) (with_more s x) = c.standings_advance.ensures.submitted (tree_of plan) s x in
+    let holds : Holds (with_more s x) (last_epoch s) = c.standings_advance.ensures.holds s (last_epoch s) x (omega arith) in
+    let new = c.submit_batch.new.device in (
+      subst (λ (n : ℕ). size_of head.shape ≤ n) (sym c.in-Err.ensures.size) c.self.invariant.0,
+      subst (λ (v : List Submitted). IsKeeping (keeping_of new plan head c.self.inside.checkpoint v true c.self.inside.taken c.self.inside.collected c.self.inside.queue.items) answers) (sym c.reserve.ensures.items)
+          (elsewhere answers k new true c.self.invariant.1),
+      λ l.
+          let old = c.in-Err.ensures.lawful.1 l in
+          let keeps = keeps_of c.self.inside.broken answers plan head side s (state device) taken.whole (c.self.invariant.2 old) in
+          let later : (state device).moment ≤ (state new).moment = c.in-Err.ensures.later old keeps.durable in
+          subst (λ (v : List Submitted). HeldWhere true answers plan head side (standing_from c.self.inside.checkpoint v) (state new)) (sym c.reserve.ensures.items)
+          (held answers plan head side s x (state device).moment (state new) (λ d now. g.met.D.Disk.counts_now new (state device).moment d l later now)
+          (either answers plan c.told_in_parts.ensures.together head side s x (state device).moment (state new) side (with_more s x) still more holds
+          (c.in-Err.ensures.begun old plan head side s ring room (no_request head.version s) lawful keeps))),
+    )
+
+pub invariant_of-self-in_default-refusal : goal.invariant_of-self-in_default-refusal
+invariant_of-self-in_default-refusal g c =
+    let state = g.D.Disk.state in
+    let answers = g.L.Law.answers in
+    let device = c.self.inside.device in
+    let plan = c.self.inside.plan in
+    let head = c.self.inside.head in
+    let s = standing_from c.self.inside.checkpoint c.self.inside.submitted.items in
+    let side = c.self.inside.checkpoint.slot in
+    let batch = c.args.batch in
+    let x : List Submitted = submission 0 batch ∷ [] in
+    let k = keeping_of device plan head c.self.inside.checkpoint c.self.inside.submitted.items c.self.inside.broken c.self.inside.taken c.self.inside.collected c.self.inside.queue.items in
+    let none : submit_refusal k batch ≡ None = ap (λ (z : Keeping g.row.D.Denot). submit_refusal z batch) c.self.view_is ∙ (sym c.refusal_of.ensures ∙ is_none c.refusal_of.result c.in_default.not-Some) in
+    let taken : IsAccepted k batch = accepted k batch none in
+    let epoch : c.last_epoch-epoch.result + 1 ≡ last_epoch s + 1 = ap (λ (n : ℕ). n + 1) (c.last_epoch-epoch.ensures ∙ sym (ap (λ (z : Keeping g.row.D.Denot). last_epoch z.standing) c.self.view_is)) in
+    let ring : c.journal-journal.result ≡ ring_of head.shape s.epoch = c.journal-journal.ensures ∙ sym (ap (λ (z : Keeping g.row.D.Denot). ring_of z.head.shape z.standing.epoch) c.self.view_is) in
+    let room : HasRoom head.shape s (c.last_epoch-epoch.result + 1) = has_room k batch (c.last_epoch-epoch.result + 1) taken epoch in
+    let lawful : is_batch (inputs_of plan) batch ≡ true = lawful_batch c.inputs_are_accepted.ensures c.batches_are_in_order.ensures.written plan batch c.vertices-plan.ensures.lawful c.list-in_order.ensures.sorted taken.named in
+    let new = c.submit_batch.new.device in (
+      subst (λ (n : ℕ). size_of head.shape ≤ n) (sym c.in-Err.ensures.size) c.self.invariant.0,
+      subst (λ (v : List Submitted). IsKeeping (keeping_of new plan head c.self.inside.checkpoint v c.self.inside.broken c.self.inside.taken c.self.inside.collected c.self.inside.queue.items) answers) (sym c.reserve.ensures.items)
+          (elsewhere answers k new c.self.inside.broken c.self.invariant.1),
+      λ l.
+          let old = c.in-Err.ensures.lawful.1 l in
+          let keeps = keeps_of c.self.inside.broken answers plan head side s (state device) taken.whole (c.self.invariant.2 old) in
+          let memory : c.in-Err.refusal ≡ JournalError.Memory = ⊎_elim (λ m. m) (λ d. absurd (c.in_default-refusal.not-Device d)) c.in-Err.ensures.refusals in
+          subst (λ (v : List Submitted). HeldWhere c.self.inside.broken answers plan head side (standing_from c.self.inside.checkpoint v) (state new)) (sym c.reserve.ensures.items)
+          (held_of c.self.inside.broken answers plan head side s (state new) taken.whole (c.in-Err.ensures.kept (ap as_err memory) old plan head side s keeps)),
+    )
+
+pub returns-in_default-refusal-clause-unwritten : goal.returns-in_default-refusal-clause-unwritten
+returns-in_default-refusal-clause-unwritten g c is =
+    let memory : c.in-Err.refusal ≡ JournalError.Memory = ⊎_elim (λ m. m) (λ d. absurd (c.in_default-refusal.not-Device d)) c.in-Err.ensures.refusals in
+    subst (λ (z : Keeping g.row.D.Denot). g.D.Disk.is_lawful z.device → CrashSafe Unchanged (g.D.Disk.state z.device) (g.D.Disk.state c.submit_batch.new.device)) c.self.view_is
+    (λ old. c.in-Err.ensures.unwritten (ap as_err memory) old)

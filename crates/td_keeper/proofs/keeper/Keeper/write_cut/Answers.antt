@@ -1,0 +1,270 @@
+use Rattle.std.proofs.Common.{◌≡◌, ⊎_elim, inl, inr, Result, Err, ℕ, ◌+◌, ◌-◌, ◌^◌, ◌<◌, ◌≤◌, true, false, [], length, take, refl, sym, ap, ◌∙◌, subst, arith}
+use Rattle.std.specs.Prelude.{Option, Some, None}
+use Rattle.td_plan.specs.Tree.{tree_of}
+use Rattle.td_head.specs.Layout.{size_of}
+use Rattle.td_slots.specs.Slot.{are_states}
+use Rattle.td_slots.specs.declared.slots.Slots.{Slots}
+use Rattle.td_slots.specs.declared.error.SlotsError.{SlotsError as AnyError}
+use Rattle.td_journal.specs.Numbers.{greatest}
+use Rattle.td_standing.specs.Standing.{standing_from, last_epoch, with_more, cut_at}
+use Rattle.td_standing.specs.Stops.{Advance, Holds}
+use Rattle.td_standing.specs.Told.{folds_of, slots_of}
+use Rattle.td_standing.specs.Tells.{IsCut, side_after}
+use Rattle.td_standing.specs.Advanced.{SinceAdvance, HeldWhere, states_by}
+use Rattle.td_keeper.specs.declared.keeper.Taken.{Taken}
+use Rattle.td_keeper.specs.Keeping.{Keeping, IsKeeping, keeping_of, with_checkpoint}
+use Rattle.td_keeper.specs.Refused.{write_refusal}
+use Rattle.td_keeper.proofs.Cutting.{lawful, most, is_cut, advance, as_written, not_above, write_none}
+use Rattle.td_keeper.proofs.Kept.{written, set_down}
+use Rattle.td_keeper.proofs.Since.{untouched, either, held}
+use Rattle.td_keeper.proofs.Submitting.{keeps_of, held_of}
+use Rattle.td_keeper.proofs.keeper.Keeper.write_cut.Goals as goal
+
+abbrev as_err : AnyError → Result (Unit {0}) AnyError
+as_err e = Err e
+
+pub returns-in_default-clause-images : goal.returns-in_default-clause-images
+returns-in_default-clause-images g c =
+    let state = g.D.Disk.state in
+    let answers = g.L.Law.answers in
+    let device = c.self.inside.device in
+    let plan = c.self.inside.plan in
+    let head = c.self.inside.head in
+    let checkpoint = c.self.inside.checkpoint in
+    let side = checkpoint.slot in
+    let w = c.self.inside.submitted.items in
+    let s = standing_from checkpoint w in
+    let still : Advance (states_by answers plan) (with_more s []) s = c.standings_advance.ensures.not_yet (tree_of plan) s [] in
+    subst (λ (z : Keeping g.row.D.Denot). g.D.Disk.is_lawful z.device → z.broken ≡ false → SinceAdvance answers z.plan z.standing [] (last_epoch z.standing) (state z.device).moment (state device)) c.self.view_is
+    (λ old whole. untouched answers plan c.told_in_parts.ensures.together head side s [] (state device) (λ d. g.met.D.Disk.only_now device d old) still
+    (keeps_of c.self.inside.broken answers plan head side s (state device) whole (c.self.invariant.2 old)))
+
+pub returns-in-Ok-clause-images : goal.returns-in-Ok-clause-images
+returns-in-Ok-clause-images g c =
+    let state = g.D.Disk.state in
+    let answers = g.L.Law.answers in
+    let device = c.self.inside.device in
+    let plan = c.self.inside.plan in
+    let head = c.self.inside.head in
+    let checkpoint = c.self.inside.checkpoint in
+    let side = checkpoint.slot in
+    let w = c.self.inside.submitted.items in
+    let s = standing_from checkpoint w in
+    let still : Advance (states_by answers plan) (with_more s []) s = c.standings_advance.ensures.not_yet (tree_of plan) s [] in
+    let new = c.write_states.new.device in
+    let cut = c.in-Some.cut in
+    let n = cut.epoch - checkpoint.epoch in
+    let at : c.self.inside.taken ≡ Some cut = c.in-Some.ensures.some.0 in
+    let k = keeping_of device plan head checkpoint w c.self.inside.broken (Some cut) c.self.inside.collected c.self.inside.queue.items in
+    let is : IsKeeping k answers = subst (λ (t : Option Taken). IsKeeping (keeping_of device plan head checkpoint w c.self.inside.broken t c.self.inside.collected c.self.inside.queue.items) answers) at c.self.invariant.1 in
+    let wide : head.shape.k ≤ 1048576 = subst (λ (z : Keeping g.row.D.Denot). z.head.shape.k ≤ 1048576) (sym c.self.view_is) c.slots-slots.ensures.few in
+    let slots : c.slots-slots.result ≡ slots_of head.shape = c.slots-slots.ensures.slots ∙ sym (ap (λ (z : Keeping g.row.D.Denot). slots_of z.head.shape) c.self.view_is) in
+    let few : length cut.states ≤ head.shape.k = subst (λ (z : Slots). length cut.states ≤ z.k) slots (not_above c.slots-slots.result.k (length cut.states) (λ lt. let z = c.in-Ok.ensures.too_many.1 lt in absurd (cc z))) in
+    let of_folds : are_states (folds_of plan) cut.states ≡ true = lawful answers k is c.states_of_folds.ensures c.states_are_in_order.ensures.written c.states_are_in_order.ensures.named c.vertices-plan.ensures.lawful c.list-in_order.ensures.ordered in
+    let narrow : head.shape.k < 2 ^ 32 = omega arith in
+    let is_a_cut : IsCut plan head.shape s n cut.states = is_cut answers k is of_folds few narrow c.in-Ok.ensures.fits in
+    let epoch : cut.epoch ≡ s.epoch + n = omega (arith, is.from_checkpoint) in
+    let last : c.last_of_first-last.result ≡ greatest s.last (take n w) = c.last_of_first-last.ensures in
+    let next : Advance (states_by answers plan) (with_more s []) (cut_at s n cut.states) = advance answers k is (c.standings_advance.ensures.cut (tree_of plan) s n (most answers k is)) in
+    let holds : Holds (cut_at s n cut.states) (last_epoch s) = c.standings_advance.ensures.holds_cut s (last_epoch s) n cut.states (most answers k is) (omega arith) in
+    subst (λ (z : Keeping g.row.D.Denot). g.D.Disk.is_lawful z.device → z.broken ≡ false → SinceAdvance answers z.plan z.standing [] (last_epoch z.standing) (state z.device).moment (state new)) c.self.view_is
+    (λ old whole.
+    let keeps = keeps_of c.self.inside.broken answers plan head side s (state device) whole (c.self.invariant.2 old) in
+    either answers plan c.told_in_parts.ensures.together head side s [] (state device).moment (state new) (side_after side n) (cut_at s n cut.states) still next holds
+    (c.in-Ok.ensures.begun old plan head s n slots epoch last is_a_cut keeps))
+
+pub returns-in-Device-clause-images : goal.returns-in-Device-clause-images
+returns-in-Device-clause-images g c =
+    let state = g.D.Disk.state in
+    let answers = g.L.Law.answers in
+    let device = c.self.inside.device in
+    let plan = c.self.inside.plan in
+    let head = c.self.inside.head in
+    let checkpoint = c.self.inside.checkpoint in
+    let side = checkpoint.slot in
+    let w = c.self.inside.submitted.items in
+    let s = standing_from checkpoint w in
+    let still : Advance (states_by answers plan) (with_more s []) s = c.standings_advance.ensures.not_yet (tree_of plan) s [] in
+    let new = c.write_states.new.device in
+    let cut = c.in-Some.cut in
+    let n = cut.epoch - checkpoint.epoch in
+    let at : c.self.inside.taken ≡ Some cut = c.in-Some.ensures.some.0 in
+    let k = keeping_of device plan head checkpoint w c.self.inside.broken (Some cut) c.self.inside.collected c.self.inside.queue.items in
+    let is : IsKeeping k answers = subst (λ (t : Option Taken). IsKeeping (keeping_of device plan head checkpoint w c.self.inside.broken t c.self.inside.collected c.self.inside.queue.items) answers) at c.self.invariant.1 in
+    let wide : head.shape.k ≤ 1048576 = subst (λ (z : Keeping g.row.D.Denot). z.head.shape.k ≤ 1048576) (sym c.self.view_is) c.slots-slots.ensures.few in
+    let slots : c.slots-slots.result ≡ slots_of head.shape = c.slots-slots.ensures.slots ∙ sym (ap (λ (z : Keeping g.row.D.Denot). slots_of z.head.shape) c.self.view_is) in
+    let few : length cut.states ≤ head.shape.k = subst (λ (z : Slots). length cut.states ≤ z.k) slots (not_above c.slots-slots.result.k (length cut.states) (λ lt. let z = c.in-Err.ensures.too_many.1 lt in let d = c.in-Device.is in absurd (cc (z, d)))) in
+    let of_folds : are_states (folds_of plan) cut.states ≡ true = lawful answers k is c.states_of_folds.ensures c.states_are_in_order.ensures.written c.states_are_in_order.ensures.named c.vertices-plan.ensures.lawful c.list-in_order.ensures.ordered in
+    let narrow : head.shape.k < 2 ^ 32 = omega arith in
+    let is_a_cut : IsCut plan head.shape s n cut.states = is_cut answers k is of_folds few narrow (c.in-Err.ensures.fits_too (ap as_err c.in-Device.is)) in
+    let epoch : cut.epoch ≡ s.epoch + n = omega (arith, is.from_checkpoint) in
+    let last : c.last_of_first-last.result ≡ greatest s.last (take n w) = c.last_of_first-last.ensures in
+    let next : Advance (states_by answers plan) (with_more s []) (cut_at s n cut.states) = advance answers k is (c.standings_advance.ensures.cut (tree_of plan) s n (most answers k is)) in
+    let holds : Holds (cut_at s n cut.states) (last_epoch s) = c.standings_advance.ensures.holds_cut s (last_epoch s) n cut.states (most answers k is) (omega arith) in
+    subst (λ (z : Keeping g.row.D.Denot). g.D.Disk.is_lawful z.device → z.broken ≡ false → SinceAdvance answers z.plan z.standing [] (last_epoch z.standing) (state z.device).moment (state new)) c.self.view_is
+    (λ old whole.
+    let keeps = keeps_of c.self.inside.broken answers plan head side s (state device) whole (c.self.invariant.2 old) in
+    either answers plan c.told_in_parts.ensures.together head side s [] (state device).moment (state new) (side_after side n) (cut_at s n cut.states) still next holds
+    (c.in-Err.ensures.begun old plan head s n slots epoch last is_a_cut keeps))
+
+pub returns-in-TooManyKeys-clause-images : goal.returns-in-TooManyKeys-clause-images
+returns-in-TooManyKeys-clause-images g c =
+    let state = g.D.Disk.state in
+    let answers = g.L.Law.answers in
+    let device = c.self.inside.device in
+    let plan = c.self.inside.plan in
+    let head = c.self.inside.head in
+    let checkpoint = c.self.inside.checkpoint in
+    let side = checkpoint.slot in
+    let w = c.self.inside.submitted.items in
+    let s = standing_from checkpoint w in
+    let still : Advance (states_by answers plan) (with_more s []) s = c.standings_advance.ensures.not_yet (tree_of plan) s [] in
+    let new = c.write_states.new.device in
+    let same : new ≡ device = ⊎_elim (λ d. (let m = c.in-TooManyKeys.is in absurd (cc (d, m)))) (λ e. e) c.in-Err.ensures.untouched in
+    subst (λ (z : Keeping g.row.D.Denot). g.D.Disk.is_lawful z.device → z.broken ≡ false → SinceAdvance answers z.plan z.standing [] (last_epoch z.standing) (state z.device).moment (state new)) c.self.view_is
+    (λ old whole. subst (λ (d : g.row.D.Denot). SinceAdvance answers plan s [] (last_epoch s) (state device).moment (state d)) (sym same)
+    (untouched answers plan c.told_in_parts.ensures.together head side s [] (state device) (λ d. g.met.D.Disk.only_now device d old) still
+    (keeps_of c.self.inside.broken answers plan head side s (state device) whole (c.self.invariant.2 old))))
+
+pub returns-in_default-refusal-clause-images : goal.returns-in_default-refusal-clause-images
+returns-in_default-refusal-clause-images g c =
+    let state = g.D.Disk.state in
+    let answers = g.L.Law.answers in
+    let device = c.self.inside.device in
+    let plan = c.self.inside.plan in
+    let head = c.self.inside.head in
+    let checkpoint = c.self.inside.checkpoint in
+    let side = checkpoint.slot in
+    let w = c.self.inside.submitted.items in
+    let s = standing_from checkpoint w in
+    let still : Advance (states_by answers plan) (with_more s []) s = c.standings_advance.ensures.not_yet (tree_of plan) s [] in
+    let new = c.write_states.new.device in
+    let same : new ≡ device = ⊎_elim (λ d. absurd (c.in_default-refusal.not-Device d)) (λ e. e) c.in-Err.ensures.untouched in
+    subst (λ (z : Keeping g.row.D.Denot). g.D.Disk.is_lawful z.device → z.broken ≡ false → SinceAdvance answers z.plan z.standing [] (last_epoch z.standing) (state z.device).moment (state new)) c.self.view_is
+    (λ old whole. subst (λ (d : g.row.D.Denot). SinceAdvance answers plan s [] (last_epoch s) (state device).moment (state d)) (sym same)
+    (untouched answers plan c.told_in_parts.ensures.together head side s [] (state device) (λ d. g.met.D.Disk.only_now device d old) still
+    (keeps_of c.self.inside.broken answers plan head side s (state device) whole (c.self.invariant.2 old))))
+
+pub returns-in_default-refusal-clause-refused : goal.returns-in_default-refusal-clause-refused
+returns-in_default-refusal-clause-refused g c =
+    let state = g.D.Disk.state in
+    let answers = g.L.Law.answers in
+    let device = c.self.inside.device in
+    let plan = c.self.inside.plan in
+    let head = c.self.inside.head in
+    let checkpoint = c.self.inside.checkpoint in
+    let side = checkpoint.slot in
+    let w = c.self.inside.submitted.items in
+    let s = standing_from checkpoint w in
+    let new = c.write_states.new.device in
+    let cut = c.in-Some.cut in
+    let n = cut.epoch - checkpoint.epoch in
+    let at : c.self.inside.taken ≡ Some cut = c.in-Some.ensures.some.0 in
+    let k = keeping_of device plan head checkpoint w c.self.inside.broken (Some cut) c.self.inside.collected c.self.inside.queue.items in
+    let is : IsKeeping k answers = subst (λ (t : Option Taken). IsKeeping (keeping_of device plan head checkpoint w c.self.inside.broken t c.self.inside.collected c.self.inside.queue.items) answers) at c.self.invariant.1 in
+    let slots : c.slots-slots.result ≡ slots_of head.shape = c.slots-slots.ensures.slots ∙ sym (ap (λ (z : Keeping g.row.D.Denot). slots_of z.head.shape) c.self.view_is) in
+    let few : length cut.states ≤ head.shape.k = subst (λ (z : Slots). length cut.states ≤ z.k) slots (not_above c.slots-slots.result.k (length cut.states) (λ lt. c.in_default-refusal.not-TooManyKeys (let z = c.in-Err.ensures.too_many.1 lt in cc z))) in
+    let none : write_refusal (keeping_of device plan head checkpoint w c.self.inside.broken c.self.inside.taken c.self.inside.collected c.self.inside.queue.items) ≡ None =
+    subst (λ (t : Option Taken). write_refusal (keeping_of device plan head checkpoint w c.self.inside.broken t c.self.inside.collected c.self.inside.queue.items) ≡ None) (sym at) (write_none k c.if-self.false few) in
+    inr (sym (ap (λ (z : Keeping g.row.D.Denot). write_refusal z) c.self.view_is) ∙ none, inl refl)
+
+pub returns-in_default-refusal-clause-unchanged : goal.returns-in_default-refusal-clause-unchanged
+returns-in_default-refusal-clause-unchanged g c =
+    let state = g.D.Disk.state in
+    let answers = g.L.Law.answers in
+    let device = c.self.inside.device in
+    let plan = c.self.inside.plan in
+    let head = c.self.inside.head in
+    let checkpoint = c.self.inside.checkpoint in
+    let side = checkpoint.slot in
+    let w = c.self.inside.submitted.items in
+    let s = standing_from checkpoint w in
+    let new = c.write_states.new.device in
+    let cut = c.in-Some.cut in
+    let n = cut.epoch - checkpoint.epoch in
+    let at : c.self.inside.taken ≡ Some cut = c.in-Some.ensures.some.0 in
+    let k = keeping_of device plan head checkpoint w c.self.inside.broken (Some cut) c.self.inside.collected c.self.inside.queue.items in
+    let is : IsKeeping k answers = subst (λ (t : Option Taken). IsKeeping (keeping_of device plan head checkpoint w c.self.inside.broken t c.self.inside.collected c.self.inside.queue.items) answers) at c.self.invariant.1 in
+    let same : new ≡ device = ⊎_elim (λ d. absurd (c.in_default-refusal.not-Device d)) (λ e. e) c.in-Err.ensures.untouched in
+    inr (inr (ap (λ (d : g.row.D.Denot). keeping_of d plan head checkpoint w c.self.inside.broken (Some cut) c.self.inside.collected c.self.inside.queue.items) same
+    ∙ (ap (λ (t : Option Taken). keeping_of device plan head checkpoint w c.self.inside.broken t c.self.inside.collected c.self.inside.queue.items) (sym at) ∙ c.self.view_is)))
+
+pub invariant_of-self-in-Ok : goal.invariant_of-self-in-Ok
+invariant_of-self-in-Ok g c =
+    let state = g.D.Disk.state in
+    let answers = g.L.Law.answers in
+    let device = c.self.inside.device in
+    let plan = c.self.inside.plan in
+    let head = c.self.inside.head in
+    let checkpoint = c.self.inside.checkpoint in
+    let side = checkpoint.slot in
+    let w = c.self.inside.submitted.items in
+    let s = standing_from checkpoint w in
+    let new = c.write_states.new.device in
+    let cut = c.in-Some.cut in
+    let n = cut.epoch - checkpoint.epoch in
+    let at : c.self.inside.taken ≡ Some cut = c.in-Some.ensures.some.0 in
+    let k = keeping_of device plan head checkpoint w c.self.inside.broken (Some cut) c.self.inside.collected c.self.inside.queue.items in
+    let is : IsKeeping k answers = subst (λ (t : Option Taken). IsKeeping (keeping_of device plan head checkpoint w c.self.inside.broken t c.self.inside.collected c.self.inside.queue.items) answers) at c.self.invariant.1 in
+    let wide : head.shape.k ≤ 1048576 = subst (λ (z : Keeping g.row.D.Denot). z.head.shape.k ≤ 1048576) (sym c.self.view_is) c.slots-slots.ensures.few in
+    let slots : c.slots-slots.result ≡ slots_of head.shape = c.slots-slots.ensures.slots ∙ sym (ap (λ (z : Keeping g.row.D.Denot). slots_of z.head.shape) c.self.view_is) in
+    let few : length cut.states ≤ head.shape.k = subst (λ (z : Slots). length cut.states ≤ z.k) slots (not_above c.slots-slots.result.k (length cut.states) (λ lt. let z = c.in-Ok.ensures.too_many.1 lt in absurd (cc z))) in
+    let of_folds : are_states (folds_of plan) cut.states ≡ true = lawful answers k is c.states_of_folds.ensures c.states_are_in_order.ensures.written c.states_are_in_order.ensures.named c.vertices-plan.ensures.lawful c.list-in_order.ensures.ordered in
+    let narrow : head.shape.k < 2 ^ 32 = omega arith in
+    let is_a_cut : IsCut plan head.shape s n cut.states = is_cut answers k is of_folds few narrow c.in-Ok.ensures.fits in
+    let epoch : cut.epoch ≡ s.epoch + n = omega (arith, is.from_checkpoint) in
+    let last : c.last_of_first-last.result ≡ greatest s.last (take n w) = c.last_of_first-last.ensures in
+    let d = c.checkpoint_of.result in
+    let v = c.drop_first.new.submitted.items in
+    let none : c.take_waiting.new.taken ≡ None = c.in-Some.ensures.some.2 in
+    let after : checkpoint.epoch ≤ cut.epoch = is.from_checkpoint in
+    let now : keeping_of new plan head d v c.self.inside.broken None c.self.inside.collected c.self.inside.queue.items ≡ with_checkpoint k new =
+    as_written device new plan head checkpoint d w v c.self.inside.broken cut c.self.inside.collected c.self.inside.queue.items after c.checkpoint_of.ensures.slot c.checkpoint_of.ensures.epoch (c.checkpoint_of.ensures.last ∙ last) c.checkpoint_of.ensures.states c.drop_first.ensures in (
+      subst (λ (m : ℕ). size_of head.shape ≤ m) (sym c.in-Ok.ensures.size) c.self.invariant.0,
+      subst (λ (t : Option Taken). IsKeeping (keeping_of new plan head d v c.self.inside.broken t c.self.inside.collected c.self.inside.queue.items) answers) (sym none)
+          (subst (λ (z : Keeping g.row.D.Denot). IsKeeping z answers) (sym now) (written answers k new is of_folds)),
+      λ l.
+          let old = c.in-Ok.ensures.lawful.1 l in
+          let keeps = keeps_of c.self.inside.broken answers plan head side s (state device) c.if-self.false (c.self.invariant.2 old) in
+          subst (λ (z : Keeping g.row.D.Denot). HeldWhere c.self.inside.broken answers plan head z.side z.standing (state new)) (sym now)
+          (held_of c.self.inside.broken answers plan head (side_after side n) (cut_at s n cut.states) (state new) c.if-self.false (c.in-Ok.ensures.done old plan head s n slots epoch last is_a_cut keeps)),
+    )
+
+pub invariant_of-self-in-Device : goal.invariant_of-self-in-Device
+invariant_of-self-in-Device g c =
+    let state = g.D.Disk.state in
+    let answers = g.L.Law.answers in
+    let device = c.self.inside.device in
+    let plan = c.self.inside.plan in
+    let head = c.self.inside.head in
+    let checkpoint = c.self.inside.checkpoint in
+    let side = checkpoint.slot in
+    let w = c.self.inside.submitted.items in
+    let s = standing_from checkpoint w in
+    let still : Advance (states_by answers plan) (with_more s []) s = c.standings_advance.ensures.not_yet (tree_of plan) s [] in
+    let new = c.write_states.new.device in
+    let cut = c.in-Some.cut in
+    let n = cut.epoch - checkpoint.epoch in
+    let at : c.self.inside.taken ≡ Some cut = c.in-Some.ensures.some.0 in
+    let k = keeping_of device plan head checkpoint w c.self.inside.broken (Some cut) c.self.inside.collected c.self.inside.queue.items in
+    let is : IsKeeping k answers = subst (λ (t : Option Taken). IsKeeping (keeping_of device plan head checkpoint w c.self.inside.broken t c.self.inside.collected c.self.inside.queue.items) answers) at c.self.invariant.1 in
+    let wide : head.shape.k ≤ 1048576 = subst (λ (z : Keeping g.row.D.Denot). z.head.shape.k ≤ 1048576) (sym c.self.view_is) c.slots-slots.ensures.few in
+    let slots : c.slots-slots.result ≡ slots_of head.shape = c.slots-slots.ensures.slots ∙ sym (ap (λ (z : Keeping g.row.D.Denot). slots_of z.head.shape) c.self.view_is) in
+    let few : length cut.states ≤ head.shape.k = subst (λ (z : Slots). length cut.states ≤ z.k) slots (not_above c.slots-slots.result.k (length cut.states) (λ lt. let z = c.in-Err.ensures.too_many.1 lt in let d = c.in-Device.is in absurd (cc (z, d)))) in
+    let of_folds : are_states (folds_of plan) cut.states ≡ true = lawful answers k is c.states_of_folds.ensures c.states_are_in_order.ensures.written c.states_are_in_order.ensures.named c.vertices-plan.ensures.lawful c.list-in_order.ensures.ordered in
+    let narrow : head.shape.k < 2 ^ 32 = omega arith in
+    let is_a_cut : IsCut plan head.shape s n cut.states = is_cut answers k is of_folds few narrow (c.in-Err.ensures.fits_too (ap as_err c.in-Device.is)) in
+    let epoch : cut.epoch ≡ s.epoch + n = omega (arith, is.from_checkpoint) in
+    let last : c.last_of_first-last.result ≡ greatest s.last (take n w) = c.last_of_first-last.ensures in
+    let next : Advance (states_by answers plan) (with_more s []) (cut_at s n cut.states) = advance answers k is (c.standings_advance.ensures.cut (tree_of plan) s n (most answers k is)) in
+    let holds : Holds (cut_at s n cut.states) (last_epoch s) = c.standings_advance.ensures.holds_cut s (last_epoch s) n cut.states (most answers k is) (omega arith) in (
+      subst (λ (m : ℕ). size_of head.shape ≤ m) (sym c.in-Err.ensures.size) c.self.invariant.0,
+      set_down answers k new true false is,
+      λ l.
+          let old = c.in-Err.ensures.lawful.1 l in
+          let keeps = keeps_of c.self.inside.broken answers plan head side s (state device) c.if-self.false (c.self.invariant.2 old) in
+          let later : (state device).moment ≤ (state new).moment = c.in-Err.ensures.later old keeps.durable in
+          held answers plan head side s [] (state device).moment (state new) (λ d now. g.met.D.Disk.counts_now new (state device).moment d l later now)
+          (either answers plan c.told_in_parts.ensures.together head side s [] (state device).moment (state new) (side_after side n) (cut_at s n cut.states) still next holds
+          (c.in-Err.ensures.begun old plan head s n slots epoch last is_a_cut keeps)),
+    )
