@@ -150,11 +150,7 @@ pub(crate) fn mark_task(slots: &mut Slots, pick: usize) -> usize
 
 /// Lets go of the slots before the first that waits, and answers the number of the slot that is the first then. `first` is the
 /// number of the first slot now.
-pub(crate) fn let_go(
-    slots: &mut Slots,
-    lasts: &mut HashMap<Lane, usize>,
-    first: usize,
-) -> usize
+pub(crate) fn let_go(slots: &mut Slots, lasts: &mut HashMap<Lane, usize>, first: usize) -> usize
     requires linked { AreLinked lane_eq slots.old.items }
     requires lasts { (q : AnyLane) → get lane_eq lasts.old q ≡ option_map (λ i. first + i) (last_on lane_eq q slots.old.items) }
     requires fits { first + length slots.old.items < 2 ^ 64 }

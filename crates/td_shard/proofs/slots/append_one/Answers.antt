@@ -70,12 +70,12 @@ push-requires-clause-runs c =
     let k = c.args.lane.now in
     let e : Ends k c.match-last.slots c.args.slots.now = elim c.match-last.branch [
       | in-Some w ↦
-        let old = c.args.slots.now.items in
-        let h = below w.in-Some.at k old (sym w.in-Some.is ∙ c.requires.last) in
-        record {
-          end = same-end k old c.match-last.slots.items w.in-Some.at (w.len.result - w.in-Some.at) h (omega (arith, h, w.len.ensures)) (ap (λ v. v.items) w.slots-is ∙ w.link.ensures.items nothing);
-          runs = ap (λ v. v.runs) w.slots-is ∙ w.link.ensures.runs;
-        }
+          let old = c.args.slots.now.items in
+          let h = below w.in-Some.at k old (sym w.in-Some.is ∙ c.requires.last) in
+          record {
+            end = same-end k old c.match-last.slots.items w.in-Some.at (w.len.result - w.in-Some.at) h (omega (arith, h, w.len.ensures)) (ap (λ v. v.items) w.slots-is ∙ w.link.ensures.items nothing);
+            runs = ap (λ v. v.runs) w.slots-is ∙ w.link.ensures.runs;
+          }
       | in_default w ↦ record { end = ap (λ v. ends_on lane_eq k v.items) w.slots-is; runs = ap (λ v. v.runs) w.slots-is }
     ] in
     subst (λ b. cond b 0 1 ≤ c.match-last.slots.runs) (sym e.end) (subst (λ n. cond (ends_on lane_eq k c.args.slots.now.items) 0 1 ≤ n) (sym e.runs) c.requires.runs)
@@ -85,12 +85,12 @@ returns-clause-runs c =
     let k = c.args.lane.now in
     let e : Ends k c.match-last.slots c.args.slots.now = elim c.match-last.branch [
       | in-Some w ↦
-        let old = c.args.slots.now.items in
-        let h = below w.in-Some.at k old (sym w.in-Some.is ∙ c.requires.last) in
-        record {
-          end = same-end k old c.match-last.slots.items w.in-Some.at (w.len.result - w.in-Some.at) h (omega (arith, h, w.len.ensures)) (ap (λ v. v.items) w.slots-is ∙ w.link.ensures.items nothing);
-          runs = ap (λ v. v.runs) w.slots-is ∙ w.link.ensures.runs;
-        }
+          let old = c.args.slots.now.items in
+          let h = below w.in-Some.at k old (sym w.in-Some.is ∙ c.requires.last) in
+          record {
+            end = same-end k old c.match-last.slots.items w.in-Some.at (w.len.result - w.in-Some.at) h (omega (arith, h, w.len.ensures)) (ap (λ v. v.items) w.slots-is ∙ w.link.ensures.items nothing);
+            runs = ap (λ v. v.runs) w.slots-is ∙ w.link.ensures.runs;
+          }
       | in_default w ↦ record { end = ap (λ v. ends_on lane_eq k v.items) w.slots-is; runs = ap (λ v. v.runs) w.slots-is }
     ] in
     ap (λ b. c.push.new.self.runs + cond b 0 1) (sym e.end) ∙ (c.push.ensures.runs ∙ e.runs)

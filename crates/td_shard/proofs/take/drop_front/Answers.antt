@@ -18,10 +18,10 @@ returns-clause-lasts c d q =
     let old = get lane_eq c.args.lasts.now q in
     elim c.if-at-eq0.branch [
       | then-at-eq0 w ↦
-        let none : s.ahead ≡ 0 = omega (arith, ahead, w.if-at-eq0.true) in
-        ap (λ l. get lane_eq l q) w.lasts-is
-        ∙ (w.remove.ensures.updates.0 q ∙ (ap (λ (k : Lane). cond (lane_eq k q) None old) (w.lane.ensures d) ∙ ap (λ b. cond (b && lane_eq s.lane q) None old) (sym (eq-eqb s.ahead 0 none))))
+          let none : s.ahead ≡ 0 = omega (arith, ahead, w.if-at-eq0.true) in
+          ap (λ l. get lane_eq l q) w.lasts-is
+          ∙ (w.remove.ensures.updates.0 q ∙ (ap (λ (k : Lane). cond (lane_eq k q) None old) (w.lane.ensures d) ∙ ap (λ b. cond (b && lane_eq s.lane q) None old) (sym (eq-eqb s.ahead 0 none))))
       | else-at-eq0 w ↦
-        let some : s.ahead ≡ 0 → ⊥ = λ e. absurd (omega (arith, e, ahead, w.if-at-eq0.false)) in
-        ap (λ l. get lane_eq l q) w.lasts-is ∙ ap (λ b. cond (b && lane_eq s.lane q) None old) (sym (not-zero s.ahead (s.ahead == 0) refl some))
+          let some : s.ahead ≡ 0 → ⊥ = λ e. absurd (omega (arith, e, ahead, w.if-at-eq0.false)) in
+          ap (λ l. get lane_eq l q) w.lasts-is ∙ ap (λ b. cond (b && lane_eq s.lane q) None old) (sym (not-zero s.ahead (s.ahead == 0) refl some))
     ]

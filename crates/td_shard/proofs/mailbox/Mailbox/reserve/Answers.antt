@@ -15,5 +15,5 @@ invariant_of-self-2 c =
       slots_room = deque.room;
       runs_room = deque.runs;
       lasts_room = map.ok;
-      numbers = omega (arith, ap length deque.items, c.len.ensures);
+      numbers = omega (arith, ap length deque.items, c.len.ensures, c.in-Some.ensures, c.in-Some-checked_add.ensures);
     }

@@ -7,8 +7,8 @@ use Rattle.td_shard.proofs.slots.Slots.lane.Goals as goal
 pub loop-left-init : goal.loop-left-init
 loop-left-init c = record {
   within =
-    let h = within (lanes_of c.self.inside.runs.items) c.self.inside.held.items c.args.self.now.items c.args.place c.self.invariant.lanes (ap (λ v. v.items) c.self.view_is) c.requires in
-    omega (arith, h, c.self.invariant.lanes);
+      let h = within (lanes_of c.self.inside.runs.items) c.self.inside.held.items c.args.self.now.items c.args.place c.self.invariant.lanes (ap (λ v. v.items) c.self.view_is) c.requires in
+      omega (arith, h, c.self.invariant.lanes);
   same = λ d. refl;
 }
 
