@@ -1,4 +1,5 @@
 pub mod Lanes
+pub mod Runs
 pub mod Linked
 pub mod TakenUp
 pub mod Dropped

@@ -9,6 +9,7 @@ mod noted;
 mod place;
 mod seen;
 mod shard;
+mod slot;
 mod slots;
 mod take;
 #[cfg(test)]
