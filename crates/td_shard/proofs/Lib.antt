@@ -1,5 +1,4 @@
 pub mod Lanes
-pub mod Runs
 pub mod Linked
 pub mod TakenUp
 pub mod Dropped

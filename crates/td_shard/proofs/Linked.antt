@@ -1,9 +1,9 @@
 -- Slots that are linked, and one more at the end.
-use Rattle.std.proofs.Common.{◌≡◌, ℕ, zero, suc, ◌+◌, ◌<◌, ◌≤◌, Bool, true, false, cond, List, [], ◌∷◌, ◌++◌, length, get_or, set, map, Option, Some, None, refl, sym, ap, ◌∙◌, subst, arith, length-append}
+use Rattle.std.proofs.Common.{◌≡◌, ℕ, zero, suc, ◌+◌, ◌<◌, ◌≤◌, Bool, true, false, cond, List, [], ◌∷◌, ◌++◌, length, get_or, set, Option, Some, None, refl, sym, ap, ◌∙◌, subst, arith}
 use Rattle.std.specs.Option.{option_map}
 use Rattle.std.specs.Cmp.{IsEquivalence}
 use Rattle.td_shard.specs.declared.lane.Lane.{Lane}
-use Rattle.td_shard.specs.Slots.{Slot}
+use Rattle.td_shard.specs.declared.slots.Slot.{Slot}
 use Rattle.td_shard.specs.Slots.{message, messages_of, ahead_of, last_by, FrontWaits, first_on, last_on, AreLinked}
 
 -- the slots with that at a place linked to one that comes behind the last
@@ -30,11 +30,6 @@ pub length-to_end : (i : ℕ) (ss : List Slot) → length (to_end i ss) ≡ leng
 length-to_end i [] = refl
 length-to_end zero (s ∷ ss) = refl
 length-to_end (suc i) (s ∷ ss) = ap suc (length-to_end i ss)
-
-pub lanes-to_end : (i : ℕ) (ss : List Slot) → map (λ (s : Slot). s.lane) (to_end i ss) ≡ map (λ (s : Slot). s.lane) ss
-lanes-to_end i [] = refl
-lanes-to_end zero (s ∷ ss) = refl
-lanes-to_end (suc i) (s ∷ ss) = ap (λ l. s.lane ∷ l) (lanes-to_end i ss)
 
 pub front-to_end : (i : ℕ) (ss : List Slot) → FrontWaits ss → FrontWaits (to_end i ss)
 front-to_end i [] h = h
@@ -187,10 +182,6 @@ messages-appended (Some i) ss x h = messages-append (to_end i ss) x h ∙ ap (λ
 pub front-appended : (o : Option ℕ) (ss : List Slot) (x : Slot) → x.is_taken ≡ false → FrontWaits ss → FrontWaits (appended o ss x)
 front-appended None ss x h f = front-append ss x h f
 front-appended (Some i) ss x h f = front-append (to_end i ss) x h (front-to_end i ss f)
-
-pub length-appended : (o : Option ℕ) (ss : List Slot) (x : Slot) → length (appended o ss x) ≡ length ss + 1
-length-appended None ss x = length-append ss (x ∷ [])
-length-appended (Some i) ss x = length-append (to_end i ss) (x ∷ []) ∙ ap (λ n. n + 1) (length-to_end i ss)
 
 -- there are no more messages than slots
 pub length-messages : (ss : List Slot) → length (messages_of ss) ≤ length ss

@@ -7,7 +7,7 @@ use Rattle.std.specs.Option.{option_map, IsSome}
 use Rattle.std.specs.Cmp.{IsEquivalence}
 use Rattle.td_stamp.specs.declared.values.Rec.{Rec}
 use Rattle.td_shard.specs.declared.lane.Lane.{Lane}
-use Rattle.td_shard.specs.Slots.{Slot}
+use Rattle.td_shard.specs.declared.slots.Slot.{Slot}
 use Rattle.td_machine.specs.declared.records.Message.{Message}
 use Rattle.td_shard.specs.Slots.{message, messages_of, ahead_of, last_by, taken, taken_at, waiting_rec, first_on, last_on, AreLinked, waits_on, taken_on, recs_on}
 

@@ -5,7 +5,7 @@ use Rattle.std.specs.List.{slice_get, remove}
 use Rattle.std.proofs.lemmas.List.{take-map, length-map}
 use Rattle.td_stamp.specs.declared.values.Rec.{Rec}
 use Rattle.td_shard.specs.declared.lane.Lane.{Lane}
-use Rattle.td_shard.specs.Slots.{Slot}
+use Rattle.td_shard.specs.declared.slots.Slot.{Slot}
 use Rattle.td_machine.specs.declared.records.Message.{Message}
 use Rattle.td_shard.specs.Messages.{same_edge, without_first, task_by, left_by, task_at, left_at}
 use Rattle.td_machine.specs.Steps.{coming}

@@ -1,6 +1,5 @@
 pub mod Messages
 pub mod Slots
-pub mod Runs
 pub mod Kept
 pub mod Asked
 pub mod Seen

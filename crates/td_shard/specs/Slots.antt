@@ -4,21 +4,9 @@ use Rattle.std.specs.Prelude.{◌≡◌, ℕ, zero, suc, ◌==◌, Bool, true, f
 use Rattle.std.specs.Option.{option_map}
 use Rattle.td_stamp.specs.declared.values.Rec.{Rec}
 use Rattle.td_shard.specs.declared.lane.Lane.{Lane}
+use Rattle.td_shard.specs.declared.slots.Slot.{Slot}
 use Rattle.td_machine.specs.declared.records.Message.{Message}
 use Rattle.td_shard.specs.Messages.{same_time}
-
--- a message that was posted, how many slots ahead the next of its lane stands (0 where there is none), and whether it was taken
-pub record Slot : Type 0 where
-  pub lane : Lane
-  pub rec : Rec
-  pub ahead : ℕ
-  pub is_taken : Bool
-
--- slots in order, and for how many more slots and runs of them on one lane there is room
-pub record Slotted : Type 0 where
-  pub items : List Slot
-  pub room : ℕ
-  pub runs : ℕ
 
 -- the message of a slot
 abbrev pub message : Slot → Message
@@ -51,10 +39,6 @@ FrontWaits (s ∷ ss) = s.is_taken ≡ false
 abbrev pub taken : Slot → Slot
 taken s = record s { is_taken = true }
 
--- a slot with the next of its lane so far ahead
-abbrev pub linked_to : ℕ → Slot → Slot
-linked_to n s = record s { ahead = n }
-
 -- the slots with that at a place taken
 abbrev pub taken_at : ℕ → List Slot → List Slot
 taken_at i [] = []
@@ -74,16 +58,6 @@ module _ (same : Lane → Lane → Bool) where
   abbrev pub last_on : Lane → List Slot → Option ℕ
   last_on k [] = None
   last_on k (s ∷ ss) = last_by (same k s.lane) (last_on k ss)
-
-  -- whether the last of some lanes is this one
-  abbrev pub end_in : Lane → List Lane → Bool
-  end_in k [] = false
-  end_in k (j ∷ []) = same k j
-  end_in k (j ∷ l ∷ ks) = end_in k (l ∷ ks)
-
-  -- whether the last slot is on a lane
-  abbrev pub ends_on : Lane → List Slot → Bool
-  ends_on k ss = end_in k (map (λ s. s.lane) ss)
 
   -- each slot knows how far ahead the next of its lane is
   abbrev pub AreLinked : List Slot → Type 0

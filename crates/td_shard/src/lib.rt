@@ -9,7 +9,6 @@ mod noted;
 mod place;
 mod seen;
 mod shard;
-mod slot;
 mod slots;
 mod take;
 #[cfg(test)]

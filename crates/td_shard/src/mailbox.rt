@@ -8,10 +8,10 @@ ghost use Rattle.td_shard.specs.Slots.{lane_eq};
 
 use crate::error::ShardError;
 use crate::lane::Lane;
-use crate::slots::{Slots, append};
+use crate::slots::{Slot, append};
 use crate::take::{TASK_SIZE, let_go, mark_task, read_task};
 use std::alloc::Global;
-use std::collections::HashMap;
+use std::collections::{HashMap, VecDeque};
 use std::marker::Model;
 use td_stamp::{Rec, Time};
 
@@ -26,12 +26,11 @@ pub struct Taken {
 
 /// The messages of a shard that wait to be taken, in the order in which they were posted (Naiad, section 2.3).
 ///
-/// They stand in one list of slots, 32 bytes each, and the lane of slots that follow one another on it stands once for them. Each
-/// slot knows how far ahead the next of its lane stands, and a hash map the last of each lane: a run of messages is posted by two
-/// look-ups, whatever its length, and a task's records are found without one.
+/// They stand in one list of slots. Each slot knows how far ahead the next of its lane stands, and a hash map the last of each
+/// lane: a run of messages is posted by two look-ups, whatever its length, and a task's records are found without one.
 #[derive(Drop)]
 pub struct Mailbox {
-    slots: Slots,
+    slots: VecDeque<Slot>,
     // The number of the last slot of each lane. Slots are numbered in the order posted.
     lasts: HashMap<Lane, usize>,
     // The number of the first slot.
@@ -62,7 +61,7 @@ impl Mailbox {
         ensures { result ≡ record { runs = 0; room = 0; messages = [] } }
     {
         Mailbox {
-            slots: Slots::new(alloc),
+            slots: VecDeque::new(alloc),
             lasts: HashMap::new(alloc),
             first: 0,
             len: 0,
@@ -93,7 +92,7 @@ impl Mailbox {
         let Some(_end) = self.first.checked_add(slots) else {
             return Err(ShardError::Memory);
         };
-        self.slots.reserve(runs, room)?;
+        self.slots.reserve(room)?;
         self.lasts.reserve(runs)?;
         self.runs = runs;
         self.room = room;

@@ -1,7 +1,7 @@
 use Rattle.std.proofs.Common.{arith, ◌≡◌, ◌+◌, ◌-◌, ◌<◌, ◌≤◌, ◌++◌, ◌∷◌, [], inl, ℕ, suc, cond, false, true, length, take, drop, get_or, set, Bool, List, pos, refl, sym, ap, ◌∙◌, subst}
 use Rattle.td_stamp.specs.declared.values.Rec.{Rec}
 use Rattle.td_shard.specs.declared.lane.Lane.{Lane}
-use Rattle.td_shard.specs.Slots.{Slot}
+use Rattle.td_shard.specs.declared.slots.Slot.{Slot}
 use Rattle.td_shard.specs.Slots.{lane_eq, first_on, ahead_of, AreLinked, messages_of, taken, taken_at, taken_on, waiting_rec}
 use Rattle.td_shard.proofs.Lanes.{lane_equiv}
 use Rattle.td_shard.proofs.TakenUp.{set-taken_at, linked-taken_at, yet, still, skip, first-below, first-same, visit, next_ahead, Moved, moved, ended, one_less}
@@ -39,7 +39,7 @@ nothing : Lane → Slot
 nothing k = record { lane = k; rec = record { key = 0; val = pos 0 }; ahead = 0; is_taken = false }
 
 pub mark-ahead-requires-clause-within : goal.mark-ahead-requires-clause-within
-mark-ahead-requires-clause-within c = let h = first-below lane_eq c.args.lane.now c.args.slots.now.items c.args.first c.requires.first in omega (arith, h)
+mark-ahead-requires-clause-within c = let h = first-below lane_eq c.args.lane.now c.args.slots.now.items c.args.first c.requires.first in omega (arith, h, c.args.slots.now.ok)
 
 first_visit : (c : goal.After-mark-ahead) → Visited c.args.lane.now c.args.slots.now.items c.args.count.now c.args.first c.mark-ahead.new.slots.items c.mark-ahead.new.count c.mark-ahead.result
 first_visit c =
@@ -60,11 +60,10 @@ loop-ahead-init c =
       count = v.count;
       ahead = v.ahead;
       linked = v.linked;
-      within = let h = first-below lane_eq k ss c.args.first c.requires.first in omega (arith, h, c.mark-ahead.ensures.len);
+      within = let h = first-below lane_eq k ss c.args.first c.requires.first in omega (arith, h, c.args.slots.now.ok, c.mark-ahead.ensures.len);
       full = v.full;
       len = c.mark-ahead.ensures.len;
-      room = c.mark-ahead.ensures.room;
-      runs = c.mark-ahead.ensures.runs;
+      capacity = c.mark-ahead.ensures.capacity;
     }
 
 -- the next slot of the lane
@@ -74,12 +73,12 @@ next k ss place ahead e h = moved lane_eq lane_equiv k ss place ahead e h
 pub overflow_add-place : goal.overflow_add-place
 overflow_add-place c =
     let m = next c.args.lane.now c.loop-ahead.slots.items c.loop-ahead.place c.loop-ahead.ahead c.loop-ahead.invariant.ahead c.loop-ahead-test.true in
-    omega (arith, m.within, c.mark-ahead.ensures.few, c.loop-ahead.invariant.len)
+    omega (arith, m.within, c.loop-ahead.slots.ok, c.loop-ahead.slots.small)
 
 pub mark-ahead-requires-in-loop-ahead-clause-within : goal.mark-ahead-requires-in-loop-ahead-clause-within
 mark-ahead-requires-in-loop-ahead-clause-within c =
     let m = next c.args.lane.now c.loop-ahead.slots.items c.loop-ahead.place c.loop-ahead.ahead c.loop-ahead.invariant.ahead c.loop-ahead-test.true in
-    omega (arith, m.within)
+    omega (arith, m.within, c.loop-ahead.slots.ok)
 
 pub loop-ahead-preserved : goal.loop-ahead-preserved
 loop-ahead-preserved c =
@@ -98,11 +97,10 @@ loop-ahead-preserved c =
       count = v.count ∙ was.count;
       ahead = v.ahead;
       linked = v.linked;
-      within = omega (arith, m.within, call.ensures.len);
+      within = omega (arith, m.within, c.loop-ahead.slots.ok, call.ensures.len);
       full = v.full;
       len = call.ensures.len ∙ was.len;
-      room = call.ensures.room ∙ was.room;
-      runs = call.ensures.runs ∙ was.runs;
+      capacity = call.ensures.capacity ∙ was.capacity;
     }
 
 pub returns-after-loop-ahead-clause-slots : goal.returns-after-loop-ahead-clause-slots

@@ -1,4 +1,5 @@
 use Rattle.std.proofs.Common.{◌≡◌, suc, ◌+◌, ◌-◌, ◌<◌, ◌≤◌, ◌++◌, length, take, drop}
+use Rattle.std.specs.VecDeque.{deque_len, deque_capacity}
 use Rattle.td_shard.specs.Slots.{lane_eq, first_on, ahead_of, AreLinked, messages_of, taken_on}
 use Rattle.td_shard.proofs.take.mark_lane.Given as goal
 
@@ -8,12 +9,11 @@ invariant-loop-ahead l = record {
   count : length (messages_of l.slots.items) + l.count ≡ length (messages_of l.fn.slots.items) + l.fn.count;
   ahead : l.ahead ≡ ahead_of (first_on lane_eq l.lane (drop (suc l.place) l.slots.items));
   linked : AreLinked lane_eq l.slots.items;
-  within : l.place < length l.slots.items;
+  within : l.place < deque_len l.slots;
   full : l.count ≤ 64;
-  len : length l.slots.items ≡ length l.fn.slots.items;
-  room : l.slots.room ≡ l.fn.slots.room;
-  runs : l.slots.runs ≡ l.fn.slots.runs;
+  len : deque_len l.slots ≡ deque_len l.fn.slots;
+  capacity : deque_capacity l.slots ≡ deque_capacity l.fn.slots;
 }
 
 abbrev pub decreases-loop-ahead : goal.decreases-loop-ahead
-decreases-loop-ahead l = length l.slots.items - l.place
+decreases-loop-ahead l = deque_len l.slots - l.place

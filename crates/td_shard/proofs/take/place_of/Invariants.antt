@@ -1,4 +1,5 @@
 use Rattle.std.proofs.Common.{◌≡◌, ◌-◌, ◌≤◌, length, take}
+use Rattle.std.specs.VecDeque.{deque_len}
 use Rattle.td_shard.specs.Slots.{messages_of}
 use Rattle.td_shard.proofs.take.place_of.Given as goal
 
@@ -9,4 +10,4 @@ invariant-loop-pick l = record {
 }
 
 abbrev pub decreases-loop-pick : goal.decreases-loop-pick
-decreases-loop-pick l = length l.slots.items - l.place
+decreases-loop-pick l = deque_len l.slots - l.place

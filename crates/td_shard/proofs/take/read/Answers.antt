@@ -3,8 +3,7 @@ use Rattle.std.proofs.lemmas.Bool.{eqb-true}
 use Rattle.std.proofs.lemmas.Bool.Decides.{nat_tests}
 use Rattle.std.proofs.lemmas.List.{get_or_default}
 use Rattle.td_stamp.specs.declared.values.Rec.{Rec}
-use Rattle.td_shard.specs.Slots.{Slot}
-use Rattle.td_shard.specs.declared.slot.Held.{Held}
+use Rattle.td_shard.specs.declared.slots.Slot.{Slot}
 use Rattle.td_shard.specs.Slots.{taken, taken_at, waiting_rec}
 use Rattle.td_shard.proofs.TakenUp.{taken_at-here, taken_at-apart}
 use Rattle.td_shard.proofs.take.read.Goals as goal
@@ -36,21 +35,14 @@ module _ (ss : List Slot) (place picked : ℕ) (s d : Slot) (within : place < le
 pub returns-clause-recs : goal.returns-clause-recs
 returns-clause-recs c d =
     let ss = c.args.slots.now.items in
-    let h = c.at-slot.result.now in
-    let s = get_or ss c.args.place d in
+    let s = c.index-slot.result.now in
     let old = c.args.recs.now.items in
     let new = c.if-not-slot.recs.items in
-    let within : c.args.place < length ss = omega (arith, c.requires.within) in
-    let at : s ≡ get_or ss c.args.place s = get_or_default ss c.args.place d s within in
-    let held = c.at-slot.ensures.held d in
-    let was = sym (ap (λ (x : Held). x.is_taken) held) in
+    let within : c.args.place < length ss = omega (arith, c.requires.within, c.args.slots.now.ok) in
     elim c.if-not-slot.branch [
-      | then-not-slot+then-place-picked w ↦ is_read ss c.args.place c.args.picked s d within at old new w.if-place-picked.true (was ∙ w.if-not-slot.true) (ap (λ v. v.items) w.recs-is ∙ (w.push_reserved.ensures.items ∙ ap (λ (x : Held). old ++ x.rec ∷ []) held))
+      | then-not-slot+then-place-picked w ↦ is_read ss c.args.place c.args.picked s d within c.index-slot.ensures old new w.if-place-picked.true w.if-not-slot.true (ap (λ v. v.items) w.recs-is ∙ w.push_reserved.ensures.items)
       | else-not-slot w ↦ elim w.else-not-slot.branch [
-        | else-not-slot-via-then-not-slot+else-place-picked v ↦ is_picked ss c.args.place c.args.picked s d within at old new v.if-place-picked.false (ap (λ v. v.items) w.recs-is)
-        | else-not-slot-via-else-not-slot v ↦ is_gone ss c.args.place c.args.picked s d within at old new (c.args.place == c.args.picked) refl (was ∙ v.if-not-slot.false) (ap (λ v. v.items) w.recs-is)
+        | else-not-slot-via-then-not-slot+else-place-picked v ↦ is_picked ss c.args.place c.args.picked s d within c.index-slot.ensures old new v.if-place-picked.false (ap (λ v. v.items) w.recs-is)
+        | else-not-slot-via-else-not-slot v ↦ is_gone ss c.args.place c.args.picked s d within c.index-slot.ensures old new (c.args.place == c.args.picked) refl v.if-not-slot.false (ap (λ v. v.items) w.recs-is)
       ]
     ]
-
-pub returns-clause-ahead : goal.returns-clause-ahead
-returns-clause-ahead c d = ap (λ (x : Held). x.ahead) (c.at-slot.ensures.held d)

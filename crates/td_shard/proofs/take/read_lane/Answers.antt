@@ -1,7 +1,7 @@
 use Rattle.std.proofs.Common.{arith, ◌≡◌, ◌+◌, ◌-◌, ◌<◌, ◌≤◌, ◌++◌, ◌∷◌, [], inl, ℕ, suc, cond, false, true, length, drop, get_or, vec_len, Bool, List, pos, refl, sym, ap, ◌∙◌, append_assoc, length-append, append-nil}
 use Rattle.td_stamp.specs.declared.values.Rec.{Rec}
 use Rattle.td_shard.specs.declared.lane.Lane.{Lane}
-use Rattle.td_shard.specs.Slots.{Slot}
+use Rattle.td_shard.specs.declared.slots.Slot.{Slot}
 use Rattle.td_shard.specs.Slots.{lane_eq, first_on, ahead_of, AreLinked, taken_at, waiting_rec, recs_on}
 use Rattle.td_shard.proofs.Lanes.{lane_equiv}
 use Rattle.td_shard.proofs.TakenUp.{linked-taken_at, length-taken_at, first-taken_at, taken_at-ahead, drop-taken_at, yet, still, skip-recs, first-below, first-same, visit-recs, next_ahead, Moved, moved, ended}
@@ -37,7 +37,7 @@ nothing : Lane → Slot
 nothing k = record { lane = k; rec = record { key = 0; val = pos 0 }; ahead = 0; is_taken = false }
 
 pub read-ahead-requires-clause-within : goal.read-ahead-requires-clause-within
-read-ahead-requires-clause-within c = let h = first-below lane_eq c.args.lane.now c.args.slots.now.items c.args.first c.requires.first in omega (arith, h)
+read-ahead-requires-clause-within c = let h = first-below lane_eq c.args.lane.now c.args.slots.now.items c.args.first c.requires.first in omega (arith, h, c.args.slots.now.ok)
 
 pub loop-ahead-init : goal.loop-ahead-init
 loop-ahead-init c =
@@ -55,7 +55,7 @@ loop-ahead-init c =
       recs = ap (λ n. now.items ++ recs_on lane_eq k (64 - n) (drop (suc c.args.first) ss)) now.ok.0
           ∙ (sym v.recs ∙ (ap (λ l. old.items ++ l) (sym (skip-recs lane_eq k (64 - length old.items) ss c.args.first first)) ∙ ap (λ n. old.items ++ recs_on lane_eq k (64 - n) ss) (sym old.ok.0)));
       ahead = v.ahead;
-      within = first-below lane_eq k all c.args.first c.requires.first;
+      within = let h = first-below lane_eq k all c.args.first c.requires.first in omega (arith, h, c.args.slots.now.ok);
       full = omega (arith, v.full, now.ok);
       room = c.read-ahead.ensures.capacity ∙ c.requires.room;
     }
@@ -68,13 +68,13 @@ pub overflow_add-place : goal.overflow_add-place
 overflow_add-place c =
     let ss = c.args.slots.now.items in
     let m = next c.args.lane.now (taken_at c.args.picked ss) c.loop-ahead.place c.loop-ahead.ahead c.loop-ahead.invariant.ahead c.loop-ahead-test.true in
-    omega (arith, m.within, length-taken_at c.args.picked ss, c.read-ahead.ensures.few)
+    omega (arith, m.within, length-taken_at c.args.picked ss, c.args.slots.now.ok, c.args.slots.now.small)
 
 pub read-ahead-requires-in-loop-ahead-clause-within : goal.read-ahead-requires-in-loop-ahead-clause-within
 read-ahead-requires-in-loop-ahead-clause-within c =
     let ss = c.args.slots.now.items in
     let m = next c.args.lane.now (taken_at c.args.picked ss) c.loop-ahead.place c.loop-ahead.ahead c.loop-ahead.invariant.ahead c.loop-ahead-test.true in
-    omega (arith, m.within, length-taken_at c.args.picked ss)
+    omega (arith, m.within, length-taken_at c.args.picked ss, c.args.slots.now.ok)
 
 pub loop-ahead-preserved : goal.loop-ahead-preserved
 loop-ahead-preserved c =
@@ -94,7 +94,7 @@ loop-ahead-preserved c =
       recs = ap (λ n. now.items ++ recs_on lane_eq k (64 - n) (drop (suc at) ss)) now.ok.0
           ∙ (sym v.recs ∙ (ap (λ l. old.items ++ l) (sym (m.recs (64 - length old.items))) ∙ (ap (λ n. old.items ++ recs_on lane_eq k (64 - n) (drop (suc c.loop-ahead.place) ss)) (sym old.ok.0) ∙ was.recs)));
       ahead = v.ahead;
-      within = omega (arith, m.within, length-taken_at c.args.picked all);
+      within = omega (arith, m.within, length-taken_at c.args.picked all, c.args.slots.now.ok);
       full = omega (arith, v.full, now.ok);
       room = call.ensures.capacity ∙ was.room;
     }

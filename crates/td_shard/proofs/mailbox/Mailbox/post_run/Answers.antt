@@ -43,11 +43,10 @@ append-requires c = record {
   last = same_place _ _ _ (c.last_place-last.ensures ∙ c.self.invariant.lasts c.args.lane);
   linked = c.self.invariant.linked;
   room = omega (arith, c.self.invariant.slots_room, c.requires.room, ap (λ m. m.room) c.self.view_is);
-  runs = omega (arith, c.self.invariant.runs_room, c.requires.runs, ap (λ m. m.runs) c.self.view_is);
 }
 
 pub overflow_add-self : goal.overflow_add-self
-overflow_add-self c = let was = c.self.invariant in omega (arith, was.len, was.numbers, c.requires.room, ap (λ m. m.room) c.self.view_is, length-messages c.self.inside.slots.items)
+overflow_add-self c = let was = c.self.invariant in omega (arith, was.len, was.numbers, c.requires.room, ap (λ m. m.room) c.self.view_is, length-messages c.self.inside.slots.items, c.self.inside.slots.ok)
 
 pub invariant_of-self : goal.invariant_of-self
 invariant_of-self c = let was = c.self.invariant in let now = c.append.ensures in record {
@@ -56,8 +55,7 @@ invariant_of-self c = let was = c.self.invariant in let now = c.append.ensures i
       ∙ numbered c.self.inside.first _ _ (lane_eq c.args.lane q) _ _ _ (ap (λ n. c.self.inside.first + (n - 1)) c.len.ensures) (was.lasts q) (λ t. now.here c.requires.some q t) (now.apart q);
   front = now.front was.front;
   len = omega (arith, was.len, ap length now.messages, length-append (messages_of c.self.inside.slots.items) (coming c.args.lane.vertex c.args.lane.port c.args.lane.time c.args.recs.now), length-posted c.args.recs.now c.args.lane);
-  slots_room = omega (arith, was.slots_room, now.room, c.requires.room, ap (λ m. m.room) c.self.view_is);
-  runs_room = omega (arith, was.runs_room, now.runs, c.requires.runs, ap (λ m. m.runs) c.self.view_is);
+  slots_room = omega (arith, was.slots_room, now.len, now.capacity, c.requires.room, ap (λ m. m.room) c.self.view_is);
   lasts_room = omega (arith, was.lasts_room, c.insert.ensures.spare);
   numbers = omega (arith, was.numbers, now.len, c.requires.room, ap (λ m. m.room) c.self.view_is);
 }

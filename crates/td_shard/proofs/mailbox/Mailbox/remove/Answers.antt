@@ -11,8 +11,7 @@ invariant_of-self c =
       lasts = now.lasts;
       front = now.front;
       len = omega (arith, was.len, task.count, ap length now.messages);
-      slots_room = omega (arith, was.slots_room, task.room, now.room);
-      runs_room = omega (arith, was.runs_room, task.runs, now.runs);
+      slots_room = omega (arith, was.slots_room, task.len, task.capacity, now.fewer, now.capacity);
       lasts_room = omega (arith, was.lasts_room, now.spare);
       numbers = omega (arith, was.numbers, task.len, now.number);
     }

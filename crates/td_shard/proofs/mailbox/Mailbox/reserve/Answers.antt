@@ -12,8 +12,7 @@ invariant_of-self-2 c =
       lasts = λ q. map.entries.2 q ∙ (was.lasts q ∙ ap (λ ss. option_map (λ i. c.self.inside.first + i) (last_on lane_eq q ss)) (sym deque.items));
       front = subst FrontWaits (sym deque.items) was.front;
       len = was.len ∙ ap (λ ss. length (messages_of ss)) (sym deque.items);
-      slots_room = deque.room;
-      runs_room = deque.runs;
+      slots_room = deque.ok;
       lasts_room = map.ok;
-      numbers = omega (arith, ap length deque.items, c.len.ensures, c.in-Some.ensures, c.in-Some-checked_add.ensures);
+      numbers = omega (arith, deque.len, c.len.ensures);
     }
