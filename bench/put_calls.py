@@ -1,10 +1,10 @@
 #!/usr/bin/env python3
 """Counts, by `strace`, the calls that td_gate makes of the system for its puts into a region of a real file.
 
-    bench/put_calls.py       needs `rt`, strace and the tests that `rt ci` left; without strace it says so, and that is no failure
+    bench/put_calls.py       needs `rt`, strace and the tests that `rt ci` or `rt test` left; without them it says so, and that is no failure
 
-No contract counts a disk's calls, or says that a file's sync reaches the system. The program is td_tests' tests as `rt ci`
-proved and built them, and what is counted is the file of the test `a_region_of_a_file`: its making, a put into the closed
+No contract counts a disk's calls, or says that a file's sync reaches the system. The program is td_tests' tests as they were
+proved and built, and what is counted is the file of the test `a_region_of_a_file`: its making, a put into the closed
 region, a put into the open one, the three steps of a put, each by its own call, and a last closing. Each case has a line;
 where the calls are others, a second line has both, and the status is 1."""
 
@@ -104,7 +104,7 @@ def main():
         print("skipped: put_calls, since there is no strace that may trace here")
         return 0
     if not PROGRAM.is_file():
-        print(f"skipped: put_calls, since {PROGRAM.name} is not there: `rt ci` builds it")
+        print(f"skipped: put_calls, since {PROGRAM.name} is not there: `rt ci` builds it, and so does `rt test` in crates/td_tests")
         return 0
     with tempfile.TemporaryDirectory() as folder:
         trace(pathlib.Path(folder))

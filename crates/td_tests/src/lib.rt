@@ -3,11 +3,15 @@
 #![tactic(auto)]
 
 #[cfg(test)]
+mod console;
+#[cfg(test)]
 mod disk;
 #[cfg(test)]
 mod errors;
 #[cfg(test)]
 mod gate;
+#[cfg(test)]
+mod hall;
 #[cfg(test)]
 mod head;
 #[cfg(test)]
