@@ -1,10 +1,12 @@
-use crate::{GateError, Region, laws};
+//! A put that is stopped at each write and sync, and its steps; a region of a file, of which `bench/put_calls.py` counts the
+//! calls.
 use std::alloc::Global;
 use std::fs::{self, OpenOptions};
 use std::io::Read;
 use std::test::Fail;
 use std::{env, process};
 use td_disk::{Disk, Fault, FileDisk, Fill, FuseDisk, MemoryDisk};
+use td_gate::{GateError, Region};
 
 const REGION: Region = Region { at: 2, len: 3 };
 
@@ -97,22 +99,11 @@ fn steps_and_shut<D: Disk>(alloc: Global, disk: &mut D) -> Result<Option<Vec<u8>
 }
 
 #[test]
-fn steps_and_laws_are_called(rt: HostRuntime) -> Result<(), Fail> {
+fn steps_are_called(rt: HostRuntime) -> Result<(), Fail> {
     let mut disk = disk_of(rt.alloc(), true)?;
     let start = steps_and_shut(rt.alloc(), &mut disk)?.ok_or("closed")?;
     assert_eq!(rt; start.as_slice(), b"xy".as_slice());
     assert_eq!(rt; left_by(rt.alloc(), &disk)?, *b"----");
-    laws::put_leaves_others();
-    laws::puts_leave_others();
-    laws::durable_is_settled::<MemoryDisk>();
-    laws::settled_is_read::<MemoryDisk>();
-    laws::no_puts::<MemoryDisk>();
-    laws::unchanged::<MemoryDisk>();
-    laws::reads_in_turn::<MemoryDisk>();
-    laws::one_put::<MemoryDisk>();
-    laws::steps_are_puts::<MemoryDisk>();
-    laws::puts_in_turn::<MemoryDisk>();
-    laws::puts_keep_others::<MemoryDisk>();
     Ok(())
 }
 

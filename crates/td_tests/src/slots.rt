@@ -1,9 +1,10 @@
-use crate::{Slots, SlotsError, laws};
+//! The newest of two checkpoints, in memory and in a file; a read and a write that fail.
 use std::alloc::Global;
 use std::fs::{self, OpenOptions};
 use std::test::Fail;
 use std::{env, process};
 use td_disk::{Disk, FileDisk, FuseDisk, MemoryDisk};
+use td_slots::{Slots, SlotsError};
 use td_stamp::{State, States};
 
 /// The slots of a disk whose cells begin at 8,500.
@@ -50,31 +51,6 @@ fn told<D: Disk>(alloc: Global, disk: &mut D, version: u32) -> Result<String, Fa
 }
 
 #[test]
-fn slot_1_as_the_format_has_it(rt: HostRuntime) -> Result<(), Fail> {
-    let mut disk = MemoryDisk::new(rt.alloc(), SIZE)?;
-    put(rt.alloc(), &mut disk, 1, (1, 5), &kept(rt.alloc(), 1)?)?;
-    let mut bytes = [0; 121];
-    if disk.size() == SIZE {
-        disk.read(8_379, &mut bytes)?;
-    }
-    for (i, byte) in bytes.iter().enumerate() {
-        let want = match i {
-            7 | 19 | 31 | 55 => 1,
-            15 | 47 => 5,
-            39 => 7,
-            120 => 0xA5,
-            _ => 0,
-        };
-        assert_eq!(rt; *byte, want, "at {i}");
-    }
-    if disk.size() == SIZE {
-        let found = SLOTS.newest(rt.alloc(), &mut disk, 2, &[1])?;
-        assert_eq!(rt; found.states.get(1, 7), Some(State { a: 5, b: 1 }));
-    }
-    Ok(())
-}
-
-#[test]
 fn the_newest_of_two(rt: HostRuntime) -> Result<(), Fail> {
     let mut disk = MemoryDisk::new(rt.alloc(), SIZE)?;
     assert_eq!(rt;
@@ -102,11 +78,6 @@ fn the_newest_of_two(rt: HostRuntime) -> Result<(), Fail> {
     let four = kept(rt.alloc(), 4)?;
     let refusal = put(rt.alloc(), &mut disk, 0, (6, 0), &four).err();
     assert_eq!(rt; refusal.map(|e| e.number()), Some(1));
-    laws::slots();
-    laws::slots_read_back();
-    laws::slots_tell();
-    laws::other_is_put();
-    laws::states_are_in_order();
     Ok(())
 }
 
@@ -131,31 +102,5 @@ fn a_read_and_a_write_that_fail(rt: HostRuntime) -> Result<(), Fail> {
     options.open(&rt, path.as_str())?.set_len(8_400)?;
     assert_eq!(rt; told(rt.alloc(), &mut disk, 2)?.as_str(), "4 device");
     fs::remove_file(&rt, path.as_str())?;
-    Ok(())
-}
-
-// Run with each allocation failing in turn: want of memory is said, and leaves what was there.
-#[test]
-fn a_refused_allocation_is_memory(rt: HostRuntime) -> Result<(), Fail> {
-    let mut disk = MemoryDisk::new(rt.alloc(), SIZE)?;
-    put(rt.alloc(), &mut disk, 0, (1, 0), &kept(rt.alloc(), 1)?)?;
-    let two = kept(rt.alloc(), 2)?;
-    let mut want = "slot 1, epoch 2, last 3, 2 states";
-    match put(rt.alloc(), &mut disk, 1, (2, 3), &two) {
-        Ok(()) | Err(SlotsError::Device) => {}
-        Err(refusal) => {
-            assert_eq!(rt; refusal, SlotsError::Memory);
-            want = "slot 0, epoch 1, last 0, 1 states";
-        }
-    }
-    let first = told(rt.alloc(), &mut disk, 2)?;
-    if first.as_str() != want {
-        assert!(rt;
-            matches!(
-                first.as_str(),
-                "5 memory" | "slot 0, epoch 1, last 0, 1 states"
-            )
-        );
-    }
     Ok(())
 }

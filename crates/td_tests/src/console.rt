@@ -1,17 +1,16 @@
-//! Readers and writers that are slow, that fail in mid-stream or that are interrupted, and the program's words: what no
-//! contract says, and no row on the program shows.
-use crate::words::{Job, WordsError, words};
-use crate::{Fault, StdReader, StdWriter, batch, fault_line};
+//! Readers and writers that are slow, that fail in mid-stream or that are interrupted: what no contract says, and no row
+//! on the program shows.
 use std::alloc::Global;
 use std::io::{Error, ErrorKind, Read, Write};
 use std::test::Fail;
 use td_calls::{Calls, Stock, StockCalls};
+use td_console::{Fault, StdReader, StdWriter, batch};
 
 const INPUT: &str = "0 input\n1 output 0\n--\n0 9 -2\n0 7 1\n.\n";
 
 const OUTPUT: &str = "1 1 7 1\n1 1 9 -2\n";
 
-/// A slice and a vector, and the line of a fault.
+/// A slice and a vector.
 #[test]
 fn bytes_in_memory(rt: HostRuntime) -> Result<(), Fail> {
     let calls: StockCalls = Calls::new(rt.alloc());
@@ -19,11 +18,6 @@ fn bytes_in_memory(rt: HostRuntime) -> Result<(), Fail> {
     let mut reader = INPUT.as_bytes();
     batch::<_, _, Stock, StockCalls>(rt.alloc(), &mut reader, &mut written, &calls)?;
     assert_eq!(rt; written.as_slice(), OUTPUT.as_bytes());
-    let mut reader = "0 input\n1 map 9 0\n2 output 1\n".as_bytes();
-    let answer = batch::<_, _, Stock, StockCalls>(rt.alloc(), &mut reader, &mut written, &calls);
-    assert_eq!(rt; answer, Err(Fault::NoCall(1, 9)));
-    let line = fault_line(rt.alloc(), Fault::NoCall(1, 9))?;
-    assert_eq!(rt; line.as_str(), "td: vertex 1: no closure 9\n");
     Ok(())
 }
 
@@ -105,28 +99,5 @@ fn slow_and_failing_streams(rt: HostRuntime) -> Result<(), Fail> {
         let StdWriter(Narrow { bytes, room: _ }) = writer;
         assert_eq!(rt; bytes.as_slice(), written.as_bytes());
     }
-    Ok(())
-}
-
-/// A program's words.
-fn given(alloc: Global, said: &[&str]) -> Result<Vec<String>, Fail> {
-    let mut given = Vec::new(alloc);
-    for word in said {
-        given.push(String::from_str(alloc, word)?)?;
-    }
-    Ok(given)
-}
-
-#[test]
-fn words_are_read_as_jobs(rt: HostRuntime) -> Result<(), Fail> {
-    let batch = given(rt.alloc(), &["td", "batch"])?;
-    assert!(rt; matches!(words(rt.alloc(), &batch), Ok(Job::Batch)));
-    let none = given(rt.alloc(), &[])?;
-    assert!(rt; matches!(words(rt.alloc(), &none), Err(WordsError::Words)));
-    let help = given(rt.alloc(), &["td", "help"])?;
-    let Ok(Job::Help(text)) = words(rt.alloc(), &help) else {
-        return Err("help")?;
-    };
-    assert!(rt; text.contains("batch"));
     Ok(())
 }

@@ -1,9 +1,8 @@
-use crate::{HeadError, Shape, laws, put_first, read, wipe};
+//! What the heads of a disk tell, each refusal among it.
 use std::alloc::Global;
-use std::fs::{self, OpenOptions};
 use std::test::Fail;
-use std::{env, process};
-use td_disk::{Disk, FileDisk, MemoryDisk};
+use td_disk::{Disk, MemoryDisk};
+use td_head::{HeadError, Shape, put_first, read, wipe};
 use td_plan::Plan;
 
 /// How large a disk with M = 4, N = 2 and K = 3 is.
@@ -83,63 +82,5 @@ fn heads_with_a_changed_byte(rt: HostRuntime) -> Result<(), Fail> {
     }
     let another = told(rt.alloc(), &mut disk, COUNT)?;
     assert_eq!(rt; another.as_str(), "3 another plan");
-    Ok(())
-}
-
-// Head B is a copy of head A with another generation.
-#[test]
-fn the_greater_generation_counts(rt: HostRuntime) -> Result<(), Fail> {
-    let mut disk = MemoryDisk::new(rt.alloc(), SIZE)?;
-    format(rt.alloc(), &mut disk)?;
-    let mut head = [0; 4_129];
-    if disk.size() == SIZE {
-        disk.read(0, &mut head)?;
-        disk.write(4_129, &head)?;
-    }
-    let second = "version 2, head 1, generation 2, 4 2 3";
-    for (generation, want) in [(1, FRESH), (2, second), (0, FRESH)] {
-        change(&mut disk, 4_129 + 15, generation)?;
-        let got = told(rt.alloc(), &mut disk, TOTAL)?;
-        assert_eq!(rt; got.as_str(), want);
-    }
-    laws::heads_are_apart();
-    laws::heads_tell();
-    laws::heads_read_back();
-    laws::first_head_tells();
-    Ok(())
-}
-
-// The file is cut short within head B, after head A is read.
-#[test]
-fn a_read_that_fails(rt: HostRuntime) -> Result<(), Fail> {
-    let name = format!(in rt.alloc(); "td_head-{}", process::id(rt.process()))?;
-    let path = env::temp_dir(&rt)?
-        .join(rt.alloc(), name.as_str())?
-        .into_string();
-    let mut disk = FileDisk::create(&rt, path.as_str(), SIZE)?;
-    format(rt.alloc(), &mut disk)?;
-    let mut options = OpenOptions::new();
-    options.write(true);
-    options.open(&rt, path.as_str())?.set_len(5_000)?;
-    assert_eq!(rt; told(rt.alloc(), &mut disk, TOTAL)?.as_str(), "4 device");
-    fs::remove_file(&rt, path.as_str())?;
-    Ok(())
-}
-
-// Run with each allocation refused in turn: want of memory is said, and the call may be made again.
-#[test]
-fn a_refused_allocation_is_memory(rt: HostRuntime) -> Result<(), Fail> {
-    let mut disk = MemoryDisk::new(rt.alloc(), SIZE)?;
-    if let Err(refusal) = format(rt.alloc(), &mut disk) {
-        // The disk's record of its calls grows too.
-        assert!(rt; matches!(refusal, HeadError::Memory | HeadError::Device));
-        format(rt.alloc(), &mut disk)?;
-    }
-    let got = told(rt.alloc(), &mut disk, TOTAL)?;
-    if got.as_str() != FRESH {
-        assert_eq!(rt; got.as_str(), "5 memory");
-        let again = told(rt.alloc(), &mut disk, TOTAL)?;
-        assert_eq!(rt; again.as_str(), FRESH);
-    }
     Ok(())
 }

@@ -1,21 +1,8 @@
-use crate::{Disk, Fault, FileDisk, Fill, FuseDisk, MakeError, MemoryDisk, laws};
+//! A file of the system as a disk, which no contract speaks of.
 use std::fs::{self, OpenOptions};
 use std::test::Fail;
 use std::{env, process};
-
-/// What a crash leaves under `Old`, `New` and `All(9)`.
-type Left = [[u8; 4]; 3];
-
-/// What a crash leaves where the disk stopped at the call of that number, from 1, and where it was
-/// stopped by none of the five. A write reached the disk and a sync did not.
-const LEFT_AT_STOP: [Left; 6] = [
-    [[0, 0, 0, 0], [0, 1, 2, 0], [0, 9, 9, 0]],
-    [[0, 0, 0, 0], [0, 1, 2, 0], [0, 9, 9, 0]],
-    [[0, 1, 2, 0], [0, 1, 3, 4], [0, 1, 9, 9]],
-    [[0, 1, 2, 0], [5, 1, 3, 4], [9, 1, 9, 9]],
-    [[0, 1, 2, 0], [5, 1, 3, 4], [9, 1, 9, 9]],
-    [[5, 1, 3, 4], [5, 1, 3, 4], [5, 1, 3, 4]],
-];
+use td_disk::{Disk, Fault, FileDisk, MakeError};
 
 /// The calls of the sequence, by number from 1, on a disk of four bytes.
 fn make_call<D: Disk>(disk: &mut D, number: u64) -> Result<(), Fault> {
@@ -37,47 +24,6 @@ fn bytes_read<D: Disk>(disk: &mut D) -> Result<[u8; 4], Fault> {
     let mut bytes = [0; 4];
     disk.read(0, &mut bytes)?;
     Ok(bytes)
-}
-
-fn left_by(disk: &MemoryDisk) -> Result<Left, Fail> {
-    let mut old = disk.crash(Fill::Old)?;
-    let mut new = disk.crash(Fill::New)?;
-    let mut nines = disk.crash(Fill::All(9))?;
-    Ok([
-        bytes_read(&mut old)?,
-        bytes_read(&mut new)?,
-        bytes_read(&mut nines)?,
-    ])
-}
-
-#[test]
-fn a_fuse_at_each_call(rt: HostRuntime) -> Result<(), Fail> {
-    laws::write_leaves_any_bytes();
-    for (i, want) in LEFT_AT_STOP.iter().enumerate() {
-        let stop = i as u64 + 1;
-        let mut fuse = FuseDisk::stop_at(MemoryDisk::new(rt.alloc(), 4)?, stop);
-        for number in 1..6 {
-            let answer = make_call(&mut fuse, number);
-            assert_eq!(rt; answer.is_ok(), number < stop, "call {number} of {stop}");
-        }
-        assert_eq!(rt; bytes_read(&mut fuse).is_ok(), stop > 5, "at {stop}");
-        assert_eq!(rt; left_by(&fuse.into_inner())?, *want, "at {stop}");
-    }
-    Ok(())
-}
-
-// A growth is refused where the tests are run with an allocation failing.
-#[test]
-fn a_refused_growth_of_the_record(rt: HostRuntime) -> Result<(), Fail> {
-    let mut disk = MemoryDisk::new(rt.alloc(), 4)?;
-    for number in 1..6 {
-        let bytes = bytes_read(&mut disk)?;
-        if let Err(fault) = make_call(&mut disk, number) {
-            assert_eq!(rt; fault, Fault::Device);
-            assert_eq!(rt; bytes_read(&mut disk)?, bytes, "after {number}");
-        }
-    }
-    Ok(())
 }
 
 #[test]
