@@ -11,8 +11,6 @@ mod errors;
 #[cfg(test)]
 mod gate;
 #[cfg(test)]
-mod hall;
-#[cfg(test)]
 mod head;
 #[cfg(test)]
 mod journal;
