@@ -1,12 +1,12 @@
 #!/usr/bin/env python3
 """Counts, by `strace`, the calls that td_gate makes of the system for its puts into a region of a real file.
 
-    bench/put_calls.py       needs `rt` and strace; without strace it says so, and that is no failure
+    bench/put_calls.py       needs `rt`, strace and the tests that `rt ci` or `rt test` left; without them it says so, and that is no failure
 
-No contract counts a disk's calls, or says that a file's sync reaches the system. The program is td_gate's tests, made from
-the source as it stands (`rt try --test`), and what is counted is the file of the test `a_region_of_a_file`: its making,
-a put into the closed region, a put into the open one, the three steps of a put, each by its own call, and a last closing.
-Each case has a line; where the calls are others, a second line has both, and the status is 1."""
+No contract counts a disk's calls, or says that a file's sync reaches the system. The program is td_tests' tests as they were
+proved and built, and what is counted is the file of the test `a_region_of_a_file`: its making, a put into the closed
+region, a put into the open one, the three steps of a put, each by its own call, and a last closing. Each case has a line;
+where the calls are others, a second line has both, and the status is 1."""
 
 import os
 import pathlib
@@ -17,7 +17,8 @@ import subprocess
 import sys
 import tempfile
 
-CRATE = pathlib.Path(__file__).resolve().parent.parent / "crates/td_gate"
+PROGRAM = pathlib.Path(__file__).resolve().parent.parent / "crates/td_tests/out/td_tests_tests"
+TEST = "a_region_of_a_file"
 SECONDS = 60
 TRACED = "openat,ftruncate,flock,pread64,read,pwrite64,pwritev,write,fsync,fdatasync,sync_file_range,msync"
 
@@ -41,18 +42,19 @@ def is_traced():
 
 
 def trace(folder):
-    """Runs td_gate's tests, each process's calls into a file of its own."""
+    """Runs the test, each process's calls into a file of its own."""
+    runner = pathlib.Path(shutil.which("rt")).resolve().parent / "rattle-test"
     words = ["strace", "-f", "-ff", "-y", "-q", "-e", "signal=none", "-e", f"trace={TRACED}", "-o", folder / "calls"]
     with open(folder / "said", "w+") as said:
-        ran = subprocess.Popen([*words, "rt", "try", "--test"], cwd=CRATE, stdout=said, stderr=said, start_new_session=True)
+        ran = subprocess.Popen([*words, runner, "--filter", TEST, PROGRAM], stdout=said, stderr=said, start_new_session=True)
         try:
             status = ran.wait(SECONDS)
         except subprocess.TimeoutExpired:
             os.killpg(ran.pid, signal.SIGKILL)
-            sys.exit(f"rt try --test did not end within {SECONDS} seconds")
+            sys.exit(f"the test {TEST} did not end within {SECONDS} seconds")
         if status != 0:
             said.seek(0)
-            sys.exit(f"rt try --test ended with {status}:\n{said.read()[-4000:]}")
+            sys.exit(f"the test {TEST} ended with {status}:\n{said.read()[-4000:]}")
 
 
 def disk_calls(folder):
@@ -62,7 +64,7 @@ def disk_calls(folder):
         made = re.search(r'"(/\S*/td_gate-\d+)", O_RDWR\|O_CREAT', text)
         if made:
             return [it for it in map(lambda line: call_of(line, made[1]), text[made.end():].splitlines()) if it]
-    sys.exit("no test made a file td_gate-N: the tests of td_gate have changed, and this script did not")
+    sys.exit("no test made a file td_gate-N: the tests have changed, and this script did not")
 
 
 def call_of(line, path):
@@ -100,6 +102,9 @@ def cases(calls):
 def main():
     if not is_traced():
         print("skipped: put_calls, since there is no strace that may trace here")
+        return 0
+    if not PROGRAM.is_file():
+        print(f"skipped: put_calls, since {PROGRAM.name} is not there: `rt ci` builds it, and so does `rt test` in crates/td_tests")
         return 0
     with tempfile.TemporaryDirectory() as folder:
         trace(pathlib.Path(folder))

@@ -12,8 +12,6 @@ mod groups;
 pub mod laws;
 mod rounds;
 mod sent;
-#[cfg(test)]
-mod tests;
 mod tree;
 
 pub use error::BatchError;

@@ -9,8 +9,6 @@ mod law;
 pub mod laws;
 pub mod stock;
 mod stored;
-#[cfg(test)]
-mod tests;
 
 pub use calls::{Calls, Closures};
 pub use closures::{FoldBox, GroupBox, MapBox, StockCalls, StockFold, StockGroup, StockMap};

@@ -15,8 +15,6 @@ mod picks;
 mod question;
 mod sink;
 mod source;
-#[cfg(test)]
-mod tests;
 mod turns;
 pub mod words;
 

@@ -33,6 +33,7 @@ pub mod BatchParts
 pub mod ReleaseParts
 pub mod ReleaseSteps
 pub mod Picking
+pub mod Held
 pub mod TakeLists
 pub mod TakeSteps
 pub mod TakenHall

@@ -22,11 +22,6 @@ pub one_more : {X Y : Type 0} (f : X → List Y) (xs : List X) (i : ℕ) (d : X)
 one_more f xs i d within =
     ap (flat_map f) (take_more xs i d within) ∙ (flat_map-append f (take i xs) (get_or xs i d ∷ []) ∙ ap (λ l. flat_map f (take i xs) ++ l) (append-nil (f (get_or xs i d))))
 
--- the same for each
-pub once_more : {X Y : Type 0} (ys : List Y) (xs : List X) (i : ℕ) → i < length xs → flat_map (λ (x : X). ys) (take (i + 1) xs) ≡ flat_map (λ (x : X). ys) (take i xs) ++ ys
-once_more ys [] i within = absurd (omega (arith, within))
-once_more ys (x ∷ xs) i within = one_more (λ (x : _). ys) (x ∷ xs) i x within
-
 -- the same after a map
 pub one_more_of : {X Y Z : Type 0} (f : Y → List Z) (g : X → Y) (xs : List X) (i : ℕ) (d : X) → i < length xs
     → flat_map f (map g (take (i + 1) xs)) ≡ flat_map f (map g (take i xs)) ++ f (g (get_or xs i d))
@@ -45,6 +40,17 @@ count_each workers s recs (o ∷ outlets) =
     let two = count_two workers s recs (flat_map (λ (o : Outlet). recs) outlets) in
     let rest = count_each workers s recs outlets in
     grind (arith, two, rest)
+
+-- one load more
+pub count_more : (workers s : ℕ) (sites : Sites) (loads : List Load) (i : ℕ) (load : Load) → load ≡ get_or loads i load → i < length loads
+    → count_of workers (flat_map (recs_out sites) (map load_of (take (i + 1) loads))) s
+    ≡ count_of workers (flat_map (recs_out sites) (map load_of (take i loads))) s + count_of workers load.recs.items s * length (outlets_in sites load.input)
+count_more workers s sites loads i load at within =
+    let before = flat_map (recs_out sites) (map load_of (take i loads)) in
+    let next = one_more_of (recs_out sites) load_of loads i load within ∙ ap (λ l. before ++ recs_out sites (load_of l)) (sym at) in
+    let two = ap (λ l. count_of workers l s) next ∙ count_two workers s before (recs_out sites (load_of load)) in
+    let each = count_each workers s load.recs.items (outlets_in sites load.input) in
+    omega (arith, two, each)
 
 room_within : (few many : ℕ → ℕ) → ((s : ℕ) → few s ≤ many s) → (k : ℕ) (shards : List Shard)
     → AllByRecursion (λ p. HasRoom (many p.0) p.1) (enumerate_from k shards) → AllByRecursion (λ p. HasRoom (few p.0) p.1) (enumerate_from k shards)

@@ -1,16 +1,18 @@
 -- Records that are posted to one shard, run by run, and the room that is left.
-use Rattle.std.proofs.Common.{◌≡◌, ℕ, zero, suc, ◌+◌, ◌-◌, ◌*◌, ◌<◌, ◌≤◌, ◌==◌, Bool, true, false, cond, List, [], ◌∷◌, ◌++◌, map, filter, take, drop, get_or, set, length, refl, ap, sym, ◌∙◌, subst, append-nil, drop-cons, length-drop, arith}
+use Rattle.std.proofs.Common.{◌≡◌, ℕ, zero, suc, ◌+◌, ◌-◌, ◌*◌, ◌<◌, ◌≤◌, ◌==◌, Bool, true, false, cond, List, [], ◌∷◌, ◌++◌, map, filter, take, drop, get_or, set, length, replicate, refl, ap, sym, ◌∙◌, subst, append-nil, drop-cons, length-drop, arith}
 use Rattle.std.specs.List.{AllByRecursion, enumerate_from}
 use Rattle.std.proofs.lemmas.Bool.Decides.{nat_tests}
 use Rattle.std.proofs.lemmas.Grind.{flat_map-append, get_or-set_at}
 use Rattle.std.proofs.lemmas.List.{take_more, map-append, get_or-drop, length-append, take-append-drop, get_or-set_other}
 use Rattle.std.proofs.Math.Seq.{take-add}
 use Rattle.std.proofs.lemmas.List.Elements.{filter-append}
+use Rattle.std.specs.Prelude.{Result, Ok, Err, OnOk}
 use Rattle.td_stamp.specs.declared.values.Rec.{Rec}
 use Rattle.td_stamp.specs.Time.{Timestamp}
 use Rattle.td_machine.specs.declared.records.Message.{Message}
 use Rattle.td_machine.specs.State.{shard_of_key}
 use Rattle.td_shard.specs.declared.shard.Shard.{Shard}
+use Rattle.td_core.specs.declared.error.HallError.{HallError}
 use Rattle.td_core.specs.declared.sites.Outlet.{Outlet}
 use Rattle.td_core.specs.Posted.{of_shard, mails, waits, IsPosted, IsRoomier, HasRoom, HaveRoomFor, count_of, only_in, on_outlet, on_each}
 use Rattle.td_core.proofs.PostingSteps.{posted_from, roomier_same}
@@ -34,6 +36,16 @@ room_weaker many fewer less k (s ∷ ss) h =
     let room = h.0.0 in
     let runs = h.0.1 in
     ((omega (arith, l, room), omega (arith, l, runs)), room_weaker many fewer less (k + 1) ss h.1)
+
+-- in shards that are there
+pub room_weaker_there : (many fewer : ℕ → ℕ) (k : ℕ) (shards : List Shard) → ((s : ℕ) → s < k + length shards → fewer s ≤ many s)
+    → AllByRecursion (λ p. HasRoom (many p.0) p.1) (enumerate_from k shards) → AllByRecursion (λ p. HasRoom (fewer p.0) p.1) (enumerate_from k shards)
+room_weaker_there many fewer k [] less h = tt
+room_weaker_there many fewer k (s ∷ ss) less h =
+    let l = less k (omega arith) in
+    let room = h.0.0 in
+    let runs = h.0.1 in
+    ((omega (arith, l, room), omega (arith, l, runs)), room_weaker_there many fewer (k + 1) ss (λ i below. less i (omega (arith, below))) h.1)
 
 -- with nothing else to be posted
 pub none_more : (many : ℕ → ℕ) (shards : List Shard) → HaveRoomFor many shards → HaveRoomFor (λ s. many s + 0) shards
@@ -222,24 +234,6 @@ room_by_place many k (s ∷ ss) h =
       room_by_place many (k + 1) ss (λ i d l. let next : k + suc i ≡ k + 1 + i = omega arith in subst (λ n. HasRoom (many n) (get_or ss i d)) next (h (suc i) d (omega (arith, l)))),
     )
 
--- HOW MANY of some records
-pub count_at_most : (workers s : ℕ) (recs : List Rec) → count_of workers recs s ≤ length recs
-count_at_most workers s [] = omega arith
-count_at_most workers s (r ∷ recs) = by (shard_of_key workers r.key == s) (count_at_most workers s recs)
-  where
-    by : (b : Bool) → count_of workers recs s ≤ length recs → length (cond b (r ∷ filter (λ x. shard_of_key workers x.key == s) recs) (filter (λ x. shard_of_key workers x.key == s) recs)) ≤ suc (length recs)
-    by true h = omega (arith, h)
-    by false h = omega (arith, h)
-
-pub count_one_more : (workers s : ℕ) (recs : List Rec) (i : ℕ) (d : Rec) → i < length recs
-    → count_of workers (take (i + 1) recs) s ≡ count_of workers (take i recs) s + only_in (shard_of_key workers (get_or recs i d).key) 1 s
-count_one_more workers s recs i d within =
-    let r = get_or recs i d in
-    let two = ap length (filter-append (λ x. shard_of_key workers x.key == s) (take i recs) (r ∷ [])) ∙ length-append (filter (λ x. shard_of_key workers x.key == s) (take i recs)) (filter (λ x. shard_of_key workers x.key == s) (r ∷ [])) in
-    let one = count_first workers 1 r [] s in
-    let all = ap (λ l. count_of workers l s) (take_more recs i d within) in
-    omega (arith, all, two, one)
-
 -- ONE OUTLET alone
 pub single : (os : List Outlet) (d : Outlet) (t : Timestamp) (recs : List Rec) → length os ≡ 1 → map (λ r. on_outlet t r (get_or os 0 d)) recs ≡ on_each os t recs
 single os d t [] e = refl
@@ -265,16 +259,28 @@ in_two recs begin end from =
 pub up_to : (recs : List Rec) (begin end : ℕ) → begin ≤ end → take begin recs ++ take (end - begin) (drop begin recs) ≡ take end recs
 up_to recs begin end from = let place : begin + (end - begin) ≡ end = omega (arith, from) in sym (take-add begin (end - begin) recs) ∙ ap (λ n. take n recs) place
 
--- one more at a place
-pub count_after : (s at : ℕ) (counts : List ℕ) → at < length counts → get_or (set counts at (get_or counts at 0 + 1)) s 0 ≡ get_or counts s 0 + only_in at 1 s
-count_after s at counts within = by (s == at) refl
+-- COUNTS of shards: so many more at a place
+pub count_after : (s at more : ℕ) (counts : List ℕ) → at < length counts → get_or (set counts at (get_or counts at 0 + more)) s 0 ≡ get_or counts s 0 + only_in at more s
+count_after s at more counts within = by (s == at) refl
   where
-    by : (b : Bool) → (s == at) ≡ b → get_or (set counts at (get_or counts at 0 + 1)) s 0 ≡ get_or counts s 0 + cond b 1 0
+    by : (b : Bool) → (s == at) ≡ b → get_or (set counts at (get_or counts at 0 + more)) s 0 ≡ get_or counts s 0 + cond b more 0
     by true e =
         let same : s ≡ at = grind (arith, nat_tests, e) in
-        get_or-set_at counts at s (get_or counts at 0 + 1) 0 same within ∙ ap (λ n. get_or counts n 0 + 1) (sym same)
+        get_or-set_at counts at s (get_or counts at 0 + more) 0 same within ∙ ap (λ n. get_or counts n 0 + more) (sym same)
     by false e =
         let other : s ≡ at → ⊥ = λ same. grind (arith, nat_tests, e, same) in
         let n = get_or counts s 0 in
         let none : n ≡ n + 0 = omega arith in
-        get_or-set_other counts at s (get_or counts at 0 + 1) 0 other ∙ none
+        get_or-set_other counts at s (get_or counts at 0 + more) 0 other ∙ none
+
+-- none at first
+pub none_yet : (n s : ℕ) → ◌≡◌ {A = ℕ} (get_or (replicate n 0) s 0) 0
+none_yet zero s = refl
+none_yet (suc n) zero = refl
+none_yet (suc n) (suc s) = none_yet n s
+
+-- ROOM for what was counted, where there is room for the counts
+pub room_once_counted : (r : Result (Unit {0}) HallError) (counts : List ℕ) (many : ℕ → ℕ) (shards : List Shard) → ((s : ℕ) → s < length shards → many s ≡ get_or counts s 0)
+    → OnOk r (HaveRoomFor (λ s. get_or counts s 0) shards) → OnOk r (HaveRoomFor many shards)
+room_once_counted (Ok u) counts many shards is room = room_weaker_there (λ s. get_or counts s 0) many 0 shards (λ s below. let e = is s (omega (arith, below)) in omega (arith, e)) room
+room_once_counted (Err e) counts many shards is room = tt

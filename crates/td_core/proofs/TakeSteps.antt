@@ -1,5 +1,5 @@
 -- A take of a hall is the machine's step.
-use Rattle.std.proofs.Common.{◌≡◌, ◌⊎◌, inl, inr, ℕ, zero, suc, ◌+◌, ◌-◌, ◌<◌, ◌≤◌, ◌==◌, Bool, true, false, not, ◌&&◌, ◌||◌, cond, List, [], ◌∷◌, ◌++◌, map, filter, flat_map, length, get_or, slice_get, HoldsAt, Option, Some, None, is_some, refl, ap, sym, ◌∙◌, subst, arith, append-nil, append_assoc, true≢false}
+use Rattle.std.proofs.Common.{◌≡◌, ◌⊎◌, inl, inr, ℕ, zero, suc, ◌+◌, ◌-◌, ◌<◌, ◌≤◌, ◌==◌, Bool, true, false, not, ◌&&◌, ◌||◌, cond, List, [], ◌∷◌, ◌++◌, map, filter, flat_map, length, get_or, slice_get, HoldsAt, Option, Some, None, is_some, refl, ap, sym, ◌∙◌, subst, arith, append-nil, append_assoc, true≢false, Contains, ◌↔◌}
 use Rattle.std.specs.declared.cmp.Ordering.{Ordering}
 use Rattle.std.specs.declared.cmp.Ordering.TheVariants.{Less, Equal, Greater}
 use Rattle.std.specs.Ordering.{is_eq, nat_cmp}
@@ -25,8 +25,9 @@ use Rattle.td_plan.specs.Lines.{Line}
 use Rattle.td_reach.specs.declared.stamp.Stamp.{Stamp}
 use Rattle.td_reach.specs.Frontier as frontiers
 use Rattle.td_reach.specs.Paths.{IsOf}
-use Rattle.td_progress.specs.Bag.{IsSameBag}
-use Rattle.td_machine.specs.Active.{active, stamp_at, stamp_of_asked, stamp_of_message, Frontier}
+use Rattle.td_progress.specs.Bag.{IsSameBag, occurrences}
+use Rattle.td_calls.specs.Callbacks.{is_notified}
+use Rattle.td_machine.specs.Active.{active, kind_of, stamp_at, stamp_of_asked, stamp_of_message, Frontier}
 use Rattle.td_machine.specs.InOrder.{ListsInOrder, TasksInOrder, NumbersInOrder, StillThere}
 use Rattle.td_machine.specs.NoneLeft.{NoneToTake}
 use Rattle.td_machine.specs.State.{HallState, Task, Content, message_cmp, notification_cmp, task_cmp, shard_of_key, is_there, is_out}
@@ -41,7 +42,7 @@ use Rattle.td_shard.specs.ProvedOrders.{noted_total}
 use Rattle.td_core.specs.declared.floor.Floor.{Floor}
 use Rattle.td_core.specs.Floor.{state_of, IsHall, IsShard, empty_shard, in_mailboxes, with_tasks, taken_up, waiting_in, waiting_at, asked_in, asked_of_shard}
 use Rattle.td_core.specs.Posted.{mails, waits}
-use Rattle.td_core.specs.Taking.{IsReady, AreReady, IsPicked, changed_at, stamp_of_noted}
+use Rattle.td_core.specs.Taking.{AreAsked, IsReady, AreReady, IsPicked, changed_at, stamp_of_noted}
 use Rattle.td_core.proofs.NotifyLists.{there_is, removed, is_other}
 use Rattle.td_core.proofs.TakeLists.{every, weaker, of_two, of_first, of_second, in_bag, flat, flat_mails, none_of, get_map}
 use Rattle.td_core.proofs.ShardParts.{mail_of}
@@ -335,3 +336,50 @@ module _ (answers : Answers) (floor : Floor) (inv : IsHall answers floor) (bags 
 
       asked_of_plan : AllByRecursion (λ (y : Notification). IsOf floor.table.plan (stamp_at y.vertex y.time)) S.asked
       asked_of_plan = from_map (IsOf floor.table.plan) stamp_of_asked S.asked (of_first (IsOf floor.table.plan) (map stamp_of_asked S.asked) _ (of_second (IsOf floor.table.plan) (map (stamp_of_message S.plan) S.messages) _ all))
+
+  -- ALL THAT IS ASKED for there: it is active, and at vertices that are notified
+  module _ (contains : (p : Stamp) (xs : List Stamp) → Contains xs p ↔ (0 < occurrences p xs)) (notified : AllByRecursion (λ (a : Notification). is_notified (kind_of S.plan a.vertex) ≡ true) S.asked) where
+    after : (p : Stamp) (before xs : List Stamp) → Contains xs p → Contains (before ++ xs) p
+    after p [] xs h = h
+    after p (x ∷ before) xs h = let rest = after p before xs h in (suc (rest.0), omega (arith, rest.1), rest.2)
+
+    before : (p : Stamp) (xs more : List Stamp) → Contains xs p → Contains (xs ++ more) p
+    before p [] more (i, l, e) = absurd (omega (arith, l))
+    before p (x ∷ xs) more (zero, l, e) = (0, omega arith, e)
+    before p (x ∷ xs) more (suc i, l, e) = let rest = before p xs more (i, omega (arith, l), e) in (suc (rest.0), omega (arith, rest.1), rest.2)
+
+    each_among : (ns : List Notification) → AllByRecursion (λ (a : Notification). Contains (map stamp_of_asked ns) (stamp_of_asked a)) ns
+    each_among [] = tt
+    each_among (x ∷ ns) = (
+      (0, omega arith, refl),
+      weaker (λ (a : Notification). Contains (map stamp_of_asked ns) (stamp_of_asked a)) (λ (a : Notification). Contains (stamp_of_asked x ∷ map stamp_of_asked ns) (stamp_of_asked a))
+          (λ a h. after (stamp_of_asked a) (stamp_of_asked x ∷ []) (map stamp_of_asked ns) h) ns (each_among ns),
+    )
+
+    each_active : AllByRecursion (λ (a : Notification). Contains floor.table.stamps (stamp_at a.vertex a.time)) S.asked
+    each_active = weaker (λ (a : Notification). Contains (map stamp_of_asked S.asked) (stamp_of_asked a)) (λ (a : Notification). Contains floor.table.stamps (stamp_at a.vertex a.time)) one S.asked (each_among S.asked)
+      where
+        one : (a : Notification) → Contains (map stamp_of_asked S.asked) (stamp_of_asked a) → Contains floor.table.stamps (stamp_at a.vertex a.time)
+        one a h =
+            let p = stamp_of_asked a in
+            let some = (contains p (active S)).0 (after p (map (stamp_of_message S.plan) S.messages) _ (before p (map stamp_of_asked S.asked) _ h)) in
+            (contains p floor.table.stamps).1 (subst (λ n. 0 < n) (sym (inv.counted p)) some)
+
+    once_at : (k i : ℕ) (xs : List Shard) (d : Shard) → i < length xs → AllByRecursion (IsShard W) (enumerate_from k xs) → IsStrictlySortedBy noted_cmp (keys_of (get_or xs i d).waiting)
+    once_at k i [] d l are = absurd (omega (arith, l))
+    once_at k zero (x ∷ xs) d l are = are.0.once
+    once_at k (suc i) (x ∷ xs) d l are = once_at (k + 1) i xs d (omega (arith, l)) are.1
+
+    -- one that stands in a shard is asked for there
+    of_key : (P : ℕ → Timestamp → Type 0) (s : ℕ) (d : Shard) → s < W → AllByRecursion (λ (a : Notification). P a.vertex a.time) S.asked
+        → AllByRecursion (λ n. P n.vertex n.time) (map (λ w. w.0) (get_or shards s d).waiting)
+    of_key P s d l all = every_key (λ n. P n.vertex n.time) (map (λ w. w.0) (get_or shards s d).waiting)
+        (λ b a n e. in_asked apart P (asks s n.vertex n.time) S.asked (asked_there s n.vertex n.time d l ∙ key_there n (get_or shards s d).waiting b a e) all)
+
+    pub are_asked : AllByRecursion (IsOf S.plan) (active S) → (s : ℕ) (d : Shard) → s < W → AreAsked floor.table (map (λ w. w.0) (get_or shards s d).waiting)
+    are_asked all s d l = record {
+      of_plan = noted_of_plan all s d l;
+      are_active = of_key (λ v t. Contains floor.table.stamps (stamp_at v t)) s d l each_active;
+      notified = of_key (λ v t. is_notified (kind_of S.plan v) ≡ true) s d l notified;
+      once = once_at 0 s shards d l inv.shards;
+    }

@@ -1,11 +1,16 @@
 -- Taking a task of a shard.
-use Rattle.std.specs.Prelude.{◌≡◌, ◌⊎◌, ℕ, zero, suc, ◌+◌, ◌%◌, ◌<◌, ◌≤◌, List, [], ◌∷◌, ◌++◌, map, length, Option, Some, None, HoldsAt}
+use Rattle.std.specs.Prelude.{◌≡◌, ◌⊎◌, ℕ, zero, suc, ◌+◌, ◌%◌, ◌<◌, ◌≤◌, List, [], ◌∷◌, ◌++◌, map, length, Bool, true, false, Option, Some, None, HoldsAt, get_or, Contains}
+use Rattle.std.specs.List.{AllByRecursion}
+use Rattle.std.specs.List.Sorted.{IsStrictlySortedBy}
 use Rattle.td_stamp.specs.declared.values.Rec.{Rec}
 use Rattle.td_stamp.specs.declared.values.Arrival.{Arrival}
 use Rattle.td_stamp.specs.Groups.{groups}
+use Rattle.td_stamp.specs.Time.{Timestamp}
 use Rattle.td_calls.specs.Answers.{Answers}
+use Rattle.td_calls.specs.Callbacks.{is_notified}
 use Rattle.td_reach.specs.declared.stamp.Stamp.{Stamp}
 use Rattle.td_reach.specs.Frontier.{Frontier}
+use Rattle.td_reach.specs.Paths.{IsOf}
 use Rattle.td_progress.specs.Bag.{Active}
 use Rattle.td_machine.specs.declared.records.Message.{Message}
 use Rattle.td_machine.specs.State.{HallState, Task}
@@ -16,14 +21,16 @@ use Rattle.td_machine.specs.Steps.Answer.{has_taken, refused}
 use Rattle.td_machine.specs.Reached.{IsReached}
 use Rattle.td_shard.specs.declared.noted.Noted.{Noted}
 use Rattle.td_shard.specs.declared.shard.Shard.{Shard}
-use Rattle.td_shard.specs.Asked.{items_at}
+use Rattle.td_shard.specs.Asked.{items_at, noted_cmp}
 use Rattle.td_shard.specs.Messages.{task_at, left_at}
 use Rattle.td_core.specs.declared.floor.Floor.{Floor}
 use Rattle.td_core.specs.declared.error.HallError.{HallError}
 use Rattle.td_core.specs.declared.error.HallError.TheVariants.{Memory, Spent}
 use Rattle.td_core.specs.declared.take.Candidate.{Candidate}
 use Rattle.td_core.specs.declared.take.Candidate.TheVariants as candidates
+use Rattle.td_core.specs.declared.sites.Sites.{Sites}
 use Rattle.td_core.specs.Floor.{state_of}
+use Rattle.td_core.specs.Sites.{kind_in}
 use Rattle.td_core.specs.Posted.{mails, waits}
 use Rattle.td_core.specs.Refusals.{error_of}
 
@@ -67,6 +74,21 @@ stamp_of_noted n = stamp_at n.vertex n.time
 -- the notifications for which a shard asked, in their order
 abbrev pub asked_at : Shard → List Noted
 asked_at s = map (λ w. w.0) s.waiting
+
+-- ALL THAT IS ASKED for in a shard: it is of the plan and active, at vertices that have notifications, and stands once and in order
+pub record AreAsked (table : Active) (asked : List Noted) : Type 0 where
+  pub of_plan : AllByRecursion (λ n. IsOf table.plan (stamp_of_noted n)) asked
+  pub are_active : AllByRecursion (λ n. Contains table.stamps (stamp_of_noted n)) asked
+  pub notified : AllByRecursion (λ n. is_notified (kind_of table.plan n.vertex) ≡ true) asked
+  pub once : IsStrictlySortedBy noted_cmp asked
+
+-- all counters are 0
+abbrev pub IsFirstTurn : Timestamp → Type 0
+IsFirstTurn t = AllByRecursion (λ k. k ≡ 0) t.turns
+
+-- each vertex is held that has notifications
+abbrev pub AreAllHeld : Sites → List Bool → Type 0
+AreAllHeld sites held = (v : ℕ) → is_notified (kind_in sites v) ≡ true → get_or held v false ≡ true
 
 module _ (active : Active) where
   -- in the frontier

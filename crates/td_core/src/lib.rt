@@ -20,8 +20,6 @@ mod raising;
 mod release;
 mod sites;
 mod take;
-#[cfg(test)]
-mod tests;
 
 pub use cut::Cut;
 pub use drain::Drained;

@@ -12,7 +12,7 @@ use td_shard::Shard;
 use td_stamp::{Rec, Time};
 
 /// The most shards of a hall.
-const SHARDS: usize = 16;
+pub(crate) const SHARDS: usize = 16;
 
 /// Makes room for records on each of so many edges, in the shards to which they belong. What room there is counts. Refusal:
 /// `Memory`, with nothing changed but for more room.
@@ -27,11 +27,46 @@ pub(crate) fn make_room(
     ensures room { OnOk result (HaveRoom recs.now edges shards.new.items) }
     ensures memory { IfErr result (λ e. e ≡ Memory) }
 {
-    let counts = count_by_shard(recs, shards.len() as u8);
-    for shard in 0..shards.len() {
-        let Some(many) = counts[shard].checked_mul(edges) else {
+    let mut counts = [0; SHARDS];
+    count(&mut counts, recs, edges, shards.len() as u8)?;
+    make_room_for(shards, &counts)
+}
+
+/// Counts records on each of so many edges, beside what was counted: so many are of each of so many shards. Refusal: `Memory`,
+/// where there is no such number.
+pub(crate) fn count(
+    counts: &mut [usize; SHARDS],
+    recs: &[Rec],
+    edges: usize,
+    workers: u8,
+) -> Result<(), HallError>
+    requires some { 1 ≤ workers }
+    requires few { workers ≤ 16 }
+    ensures counts { OnOk result ((s : ℕ) → s < workers → get_or counts.new s 0 ≡ get_or counts.old s 0 + count_of workers recs.now s * edges) }
+    ensures memory { IfErr result (λ e. e ≡ Memory) }
+{
+    for rec in recs {
+        let shard = usize::from(rec.shard(workers));
+        let Some(more) = counts[shard].checked_add(edges) else {
             return Err(HallError::Memory);
         };
+        counts[shard] = more;
+    }
+    Ok(())
+}
+
+/// Makes room for so many messages in each shard. Refusal: `Memory`, with nothing changed but for more room.
+pub(crate) fn make_room_for(
+    shards: &mut Vec<Shard>,
+    counts: &[usize; SHARDS],
+) -> Result<(), HallError>
+    requires few { length shards.old.items ≤ 16 }
+    ensures same { IsRoomier shards.old.items shards.new.items }
+    ensures room { OnOk result (HaveRoomFor (λ s. get_or counts.now s 0) shards.new.items) }
+    ensures memory { IfErr result (λ e. e ≡ Memory) }
+{
+    for shard in 0..shards.len() {
+        let many = counts[shard];
         shards[shard].mailbox.reserve(many, many)?;
     }
     Ok(())
@@ -51,19 +86,6 @@ pub(crate) fn post(shards: &mut Vec<Shard>, outlets: &[Outlet], time: &Time, rec
     } else {
         post_each(shards, outlets, time, recs);
     }
-}
-
-/// How many records are of each of so many shards.
-fn count_by_shard(recs: &[Rec], workers: u8) -> [usize; SHARDS]
-    requires some { 1 ≤ workers }
-    requires few { workers ≤ 16 }
-    ensures { (s : ℕ) → s < workers → get_or result s 0 ≡ count_of workers recs.now s }
-{
-    let mut counts = [0; SHARDS];
-    for rec in recs {
-        counts[usize::from(rec.shard(workers))] += 1;
-    }
-    counts
 }
 
 /// Posts records to one outlet: those of one shard that follow one another at once.

@@ -5,19 +5,18 @@ ghost use Rattle.td_progress.specs.Bag.{input_stamp};
 ghost use Rattle.td_machine.specs.Steps.{accepts, release_step};
 ghost use Rattle.td_machine.specs.Steps.Answer.{has_released};
 ghost use Rattle.td_core.specs.Floor.{IsHall};
-ghost use Rattle.td_core.specs.Posted.{IsPosted, HaveRoom};
+ghost use Rattle.td_core.specs.Posted.{IsPosted, IsRoomier, HaveRoom};
 ghost use Rattle.td_core.specs.Refusals.{IsRefused};
 ghost use Rattle.td_core.specs.Released.{IsIn, IsAsBefore, load_of, loads_in, recs_out, messages_of, rises_of};
-ghost use Rattle.td_core.specs.declared.sites.Outlet.{Outlet as AnyOutlet};
 ghost use Rattle.td_core.specs.declared.error.HallError.TheVariants.{Memory};
 
 use crate::close::take_off_inputs;
 use crate::error::HallError;
 use crate::floor::Floor;
 use crate::hall::Hall;
-use crate::posting::{make_room, post};
+use crate::posting::{SHARDS, count, make_room_for, post};
 use crate::raising::{Rise, raise, rises_on};
-use crate::sites::{Outlet, Sites};
+use crate::sites::Sites;
 use std::alloc::{AllocError, Global};
 use td_calls::Law;
 use td_machine::laws::{
@@ -97,8 +96,7 @@ fn bring_in<L: Law>(floor: &mut Floor, batch: &Batch) -> Result<u64, HallError>
     let epoch = floor.next;
     let loads = loads_of(floor.alloc, floor.inputs.as_slice(), batch)?;
     let rises = rises_in(floor.alloc, &floor.sites, loads.as_slice(), epoch)?;
-    let recs = recs_going_out(floor.alloc, &floor.sites, loads.as_slice())?;
-    make_room(&mut floor.shards, recs.as_slice(), 1)?;
+    make_room_for_loads(&mut floor.shards, &floor.sites, loads.as_slice())?;
     floor.batches.reserve(1)?;
     raise(&mut floor.table, rises.as_slice())?;
     post_loads(&mut floor.shards, &floor.sites, loads.as_slice(), epoch);
@@ -128,25 +126,25 @@ fn records_of(alloc: Global, batch: &Batch, input: u8) -> Result<Vec<Rec>, Alloc
     batch.records(input).collect(alloc)
 }
 
-/// The records of loads, each as often as there are edges out of its input. Refusal: out of memory.
-fn recs_going_out(alloc: Global, sites: &Sites, loads: &[Load]) -> Result<Vec<Rec>, AllocError>
-    ensures { IfOk result (λ recs. recs.items ≡ flat_map (recs_out sites.now) (map load_of loads.now)) }
+/// Makes room for loads on every edge out of the input of each. Refusal: `Memory`, with nothing changed but for more room.
+fn make_room_for_loads(
+    shards: &mut Vec<Shard>,
+    sites: &Sites,
+    loads: &[Load],
+) -> Result<(), HallError>
+    requires some { 1 ≤ length shards.old.items }
+    requires few { length shards.old.items ≤ 16 }
+    ensures same { IsRoomier shards.old.items shards.new.items }
+    ensures room { OnOk result (HaveRoom (flat_map (recs_out sites.now) (map load_of loads.now)) 1 shards.new.items) }
+    ensures memory { IfErr result (λ e. e ≡ Memory) }
 {
-    let mut recs = Vec::new(alloc);
+    let workers = shards.len() as u8;
+    let mut counts = [0; SHARDS];
     for load in loads {
-        push_for_each(&mut recs, sites.outlets(load.input), load.recs.as_slice())?;
+        let edges = sites.outlets(load.input).len();
+        count(&mut counts, load.recs.as_slice(), edges, workers)?;
     }
-    Ok(recs)
-}
-
-/// Puts records at the end of a list, once for each of some outlets. Refusal: out of memory.
-fn push_for_each(list: &mut Vec<Rec>, outlets: &[Outlet], recs: &[Rec]) -> Result<(), AllocError>
-    ensures { OnOk result (list.new.items ≡ list.old.items ++ flat_map (λ (o : AnyOutlet). recs.now) outlets.now) }
-{
-    for _outlet in outlets {
-        list.extend_from_slice(recs)?;
-    }
-    Ok(())
+    make_room_for(shards, &counts)
 }
 
 /// What occurs more often when loads come in at an epoch: their messages, and their inputs at the next epoch. Refusal: `Memory`.

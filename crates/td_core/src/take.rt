@@ -1,10 +1,11 @@
 //! Taking tasks.
-ghost use Rattle.std.specs.Prelude.{◌≡◌, ◌<◌, ◌≤◌, ◌+◌, ◌-◌, ◌++◌, ◌∷◌, [], ◌↔◌, IsTrue, ℕ, List, HoldsAt, IfOk, IfErr, OnErr, Some, filter, map, length, nat_le, ◌==◌};
-ghost use Rattle.std.specs.List.{AllByRecursion, list_any};
+ghost use Rattle.std.specs.Prelude.{◌≡◌, ◌<◌, ◌≤◌, ◌+◌, ◌-◌, ◌++◌, ◌∷◌, [], ◌↔◌, IsTrue, ℕ, List, HoldsAt, IfOk, IfErr, OnErr, Some, filter, map, length, nat_le, ◌==◌, ◌⊎◌, get_or, false, true};
+ghost use Rattle.std.specs.List.{list_all, list_any};
 ghost use Rattle.td_stamp.specs.Groups.{groups};
 ghost use Rattle.td_stamp.specs.States.{state_of as kept_of};
 ghost use Rattle.td_stamp.specs.declared.values.Arrival.{Arrival as AnyArrival};
 ghost use Rattle.td_shard.specs.declared.noted.Noted.{Noted as AnyNoted};
+ghost use Rattle.td_calls.specs.Callbacks.{is_notified as is_notified_kind};
 ghost use Rattle.td_reach.specs.Paths.{IsOf};
 ghost use Rattle.td_machine.specs.State.{HallState, Task as AnyTask, with_left};
 ghost use Rattle.td_machine.specs.Steps.{Takes, with_state_of, ends};
@@ -14,30 +15,36 @@ ghost use Rattle.td_shard.specs.Asked.{items_at};
 ghost use Rattle.td_core.specs.Floor.{state_of, taken_up, IsHall};
 ghost use Rattle.td_core.specs.Sites.{IsSites};
 ghost use Rattle.td_core.specs.Posted.{mails, waits};
-ghost use Rattle.td_core.specs.Taking.{changed_at, IsThere, IsTakeRefused, IsSame, IsTakenIf, HasRoomBack, IsLastTake, stamp_of_noted, asked_at, IsReady, AreReady, IsReadyAt, IsPlaceOf, IsPicked, IsTaskFor, mails_without, room_of, IsTakenFor, IsPickTaken, IsChosen, IsPickRefused};
+ghost use Rattle.td_core.specs.Taking.{changed_at, IsThere, IsTakeRefused, IsSame, IsTakenIf, HasRoomBack, IsLastTake, stamp_of_noted, asked_at, AreAsked, IsFirstTurn, AreAllHeld, IsReady, AreReady, IsReadyAt, IsPlaceOf, IsPicked, IsTaskFor, mails_without, room_of, IsTakenFor, IsPickTaken, IsChosen, IsPickRefused};
 ghost use Rattle.td_core.specs.declared.take.Candidate.TheVariants.{Message, Notification};
 ghost use Rattle.td_core.specs.declared.error.HallError.TheVariants.{Memory};
 
 use crate::error::HallError;
 use crate::floor::Floor;
 use crate::hall::Hall;
+use crate::sites::Sites;
 use std::alloc::Global;
 use std::sync::Arc;
 use td_calls::Law;
 use td_machine::laws::{
-    active_of_plan, bags_of_states, none_left, reached, reached_in_order, what_waits,
+    active_of_plan, asked_where_notified, bags_of_states, none_left, reached, reached_in_order,
+    what_waits,
 };
+use td_plan::Kind;
 use td_progress::Table;
 use td_progress::laws::{counted, in_any_order};
 use td_reach::{Place, Stamp};
 use td_shard::laws::tasks;
 use td_shard::{Noted, Shard, Versions, Waiting};
 use td_stamp::laws::{groups_of_a_bag, time_list_order};
-use td_stamp::{Arrival, Bag, States};
+use td_stamp::{Arrival, Bag, States, Time};
 use td_task::{KeyedItems, Task, Work};
 
 /// Tasks are numbered up to this.
 const MOST_TASKS: u64 = 1 << 63;
+
+/// The numbers of vertices are below this.
+const NUMBERS: usize = 256;
 
 /// What may be taken of a shard.
 #[derive(Debug, Drop)]
@@ -52,7 +59,8 @@ impl<L: Law> Hall<L> {
     /// candidates are the shard's messages in the order posted, then its notifications in the frontier by epoch, counters and
     /// vertex; the one at place `pick` is taken, counted round, and a message with the others of its edge and time in the order
     /// posted, 64 at most. With pick 0 it costs O(1) for each message, and notifications are looked at only where no message
-    /// waits. A shard that the hall does not have has no task.
+    /// waits: those up to one with no counter above 0 of each group and fold, which holds back all that follow there. A shard that
+    /// the hall does not have has no task.
     ///
     /// Refusals, with nothing changed: `Busy`, where a task of the shard is out; `Spent`, where there is a candidate and all
     /// numbers of tasks are used; and `Memory`.
@@ -81,6 +89,7 @@ pub(crate) fn take_floor<L: Law>(
     reached::<L>();
     reached_in_order::<L>();
     active_of_plan::<L>();
+    asked_where_notified::<L>();
     bags_of_states();
     none_left();
     what_waits();
@@ -107,7 +116,7 @@ fn is_busy(out: &[Task], shard: u8) -> bool
 /// Takes the task that a pick names, of a shard at which none is out. Refusals, with nothing changed: `Spent` and `Memory`.
 fn take_there(floor: &mut Floor, shard: u8, pick: u64) -> Result<Option<Task>, HallError>
     requires within { shard < length floor.old.shards.items }
-    requires stamps { HoldsAt (λ s. AllByRecursion (λ n. IsOf floor.old.table.plan (stamp_of_noted n)) (asked_at s)) floor.old.shards.items shard }
+    requires asked { HoldsAt (λ s. AreAsked floor.old.table (asked_at s)) floor.old.shards.items shard }
     requires sites { IsSites floor.old.table.plan floor.old.sites }
     requires numbers { floor.old.taken ≤ ends }
     ensures taken { IfOk result (IsPickTaken shard pick floor.old floor.new) }
@@ -130,14 +139,14 @@ fn take_there(floor: &mut Floor, shard: u8, pick: u64) -> Result<Option<Task>, H
 /// The candidate of a shard that a pick names, with its task, if there is one. Refusals: `Spent` and `Memory`.
 fn chosen(floor: &Floor, shard: u8, pick: u64) -> Result<Option<(Candidate, Task)>, HallError>
     requires within { shard < length floor.now.shards.items }
-    requires stamps { HoldsAt (λ s. AllByRecursion (λ n. IsOf floor.now.table.plan (stamp_of_noted n)) (asked_at s)) floor.now.shards.items shard }
+    requires asked { HoldsAt (λ s. AreAsked floor.now.table (asked_at s)) floor.now.shards.items shard }
     requires sites { IsSites floor.now.table.plan floor.now.sites }
     requires numbers { floor.now.taken ≤ ends }
     ensures chosen { IfOk result (IsChosen shard pick floor.now) }
     ensures refused { IfErr result (IsPickRefused shard pick floor.now) }
 {
     let there = &floor.shards[usize::from(shard)];
-    let Some(candidate) = picked(&floor.table, there, pick) else {
+    let Some(candidate) = picked(&floor.table, &floor.sites, there, pick) else {
         return Ok(None);
     };
     if floor.taken == MOST_TASKS {
@@ -149,60 +158,70 @@ fn chosen(floor: &Floor, shard: u8, pick: u64) -> Result<Option<(Candidate, Task
 
 /// The candidate of a shard that a pick names, if there is one. Where the pick is below the number of its messages, the
 /// notifications are not looked at.
-fn picked(table: &Table, shard: &Shard, pick: u64) -> Option<Candidate>
-    requires { AllByRecursion (λ n. IsOf table.now.plan (stamp_of_noted n)) (asked_at shard.now) }
+fn picked(table: &Table, sites: &Sites, shard: &Shard, pick: u64) -> Option<Candidate>
+    requires asked { AreAsked table.now (asked_at shard.now) }
+    requires sites { IsSites table.now.plan sites.now }
     ensures { IsPicked table.now shard.now pick result }
 {
     let messages = shard.mailbox.len() as u64;
-    let place = place_of(table, shard, pick);
+    let place = place_of(table, sites, shard, pick);
     if place < messages {
         return Some(Candidate::Message(place as usize));
     }
-    match ready_at(table, &shard.waiting, place - messages) {
+    match ready_at(table, sites, &shard.waiting, place - messages) {
         Some(noted) => Some(Candidate::Notification(noted)),
         None => None,
     }
 }
 
 /// The place that a pick names. Where it is 0, or below the number of messages, it need not be counted round.
-fn place_of(table: &Table, shard: &Shard, pick: u64) -> u64
-    requires { AllByRecursion (λ n. IsOf table.now.plan (stamp_of_noted n)) (asked_at shard.now) }
+fn place_of(table: &Table, sites: &Sites, shard: &Shard, pick: u64) -> u64
+    requires asked { AreAsked table.now (asked_at shard.now) }
+    requires sites { IsSites table.now.plan sites.now }
     ensures { IsPlaceOf table.now shard.now pick result }
 {
     let messages = shard.mailbox.len() as u64;
     if pick < messages.max(1) {
         return pick;
     }
-    let count = u128::from(messages) + u128::from(ready_count(table, &shard.waiting));
+    let count = u128::from(messages) + u128::from(ready_count(table, sites, &shard.waiting));
     if count == 0 {
         return pick;
     }
     (u128::from(pick) % count) as u64
 }
 
-/// How many notifications of a shard are in the frontier.
-fn ready_count(table: &Table, waiting: &Waiting) -> u64
-    requires { AllByRecursion (λ n. IsOf table.now.plan (stamp_of_noted n)) (map (λ w. w.0) waiting.now) }
+/// How many notifications of a shard are in the frontier. Once each vertex is held, those that follow are not looked at.
+fn ready_count(table: &Table, sites: &Sites, waiting: &Waiting) -> u64
+    requires asked { AreAsked table.now (map (λ w. w.0) waiting.now) }
+    requires sites { IsSites table.now.plan sites.now }
     ensures { (ready : List AnyNoted) → AreReady table.now (map (λ w. w.0) waiting.now) ready → result ≡ length ready }
 {
     let _few = waiting.len();
+    let mut held = [false; NUMBERS];
     let mut count = 0;
     for noted in waiting.asked() {
-        if is_ready(table, noted) {
+        if is_ready(table, &held, noted) {
             count += 1;
+        }
+        if hold(sites, &mut held, noted) {
+            return count;
         }
     }
     count
 }
 
-/// The notification at a place among those of a shard that are in the frontier.
-fn ready_at(table: &Table, waiting: &Waiting, place: u64) -> Option<Noted>
-    requires { AllByRecursion (λ n. IsOf table.now.plan (stamp_of_noted n)) (map (λ w. w.0) waiting.now) }
+/// The notification at a place among those of a shard that are in the frontier. Once each vertex is held, those that follow
+/// are not looked at.
+fn ready_at(table: &Table, sites: &Sites, waiting: &Waiting, place: u64) -> Option<Noted>
+    requires asked { AreAsked table.now (map (λ w. w.0) waiting.now) }
+    requires sites { IsSites table.now.plan sites.now }
     ensures { IsReadyAt table.now (map (λ w. w.0) waiting.now) place result }
 {
+    let mut held = [false; NUMBERS];
     let mut left = place;
     for noted in waiting.asked() {
-        if is_ready(table, noted) {
+        if is_ready(table, &held, noted) {
             if left == 0 {
                 let time = noted.time.copy();
                 return Some(Noted {
@@ -212,19 +231,83 @@ fn ready_at(table: &Table, waiting: &Waiting, place: u64) -> Option<Noted>
             }
             left -= 1;
         }
+        if hold(sites, &mut held, noted) {
+            return None;
+        }
     }
     None
 }
 
-/// Whether a notification is in the frontier.
-fn is_ready(table: &Table, noted: &Noted) -> bool
-    requires { IsOf table.now.plan (stamp_of_noted noted.now) }
+/// Whether a notification is in the frontier. The table is not asked where its vertex is held: then it is not.
+fn is_ready(table: &Table, held: &[bool], noted: &Noted) -> bool
+    requires of_plan { IsOf table.now.plan (stamp_of_noted noted.now) }
+    requires held { get_or held.now noted.now.vertex false ≡ true → IsReady table.now noted.now → ⊥ }
     ensures { IsTrue result ↔ IsReady table.now noted.now }
 {
+    if is_held(held, usize::from(noted.vertex)) {
+        return false;
+    }
     table.in_frontier(&Stamp {
         time: noted.time.copy(),
         place: Place::Vertex(noted.vertex),
     })
+}
+
+/// Marks the vertex of a notification as held, where all its counters are 0: it is active, and could result in each that
+/// follows at its vertex. Answers true where that was the last vertex that was not held and has notifications.
+fn hold(sites: &Sites, held: &mut [bool; NUMBERS], noted: &Noted) -> bool
+    ensures held { (v : ℕ) → get_or held.new v false ≡ true → (get_or held.old v false ≡ true) ⊎ ((v ≡ noted.now.vertex) × IsFirstTurn noted.now.time) }
+    ensures all { IsTrue result → AreAllHeld sites.now held.new }
+{
+    let vertex = usize::from(noted.vertex);
+    if held[vertex] || !is_first_turn(&noted.time) {
+        return false;
+    }
+    held[vertex] = true;
+    are_all_held(sites, held)
+}
+
+/// Whether all counters of a time are 0.
+fn is_first_turn(time: &Time) -> bool
+    ensures { IsTrue result → IsFirstTurn time.now }
+{
+    are_all_0(time.turns())
+}
+
+/// Whether all counters are 0.
+fn are_all_0(turns: &[u32]) -> bool
+    ensures { result ≡ list_all (λ k. k == 0) turns.now }
+{
+    turns.iter().all(|turn| *turn == 0)
+}
+
+/// Whether each vertex is held that has notifications.
+fn are_all_held(sites: &Sites, held: &[bool]) -> bool
+    ensures { IsTrue result → AreAllHeld sites.now held.now }
+{
+    for (vertex, site) in sites.sites.iter().enumerate() {
+        if is_notified(site.kind) && !is_held(held, vertex) {
+            return false;
+        }
+    }
+    true
+}
+
+/// Whether a vertex of this kind has notifications.
+fn is_notified(kind: Kind) -> bool
+    ensures { result ≡ is_notified_kind kind }
+{
+    matches!(kind, Kind::Group(_) | Kind::Fold(_))
+}
+
+/// Whether a vertex is held.
+fn is_held(held: &[bool], vertex: usize) -> bool
+    ensures { result ≡ get_or held.now vertex false }
+{
+    match held.get(vertex) {
+        Some(is_held) => *is_held,
+        None => false,
+    }
 }
 
 /// A task for a candidate of a shard. Refusal: `Memory`.

@@ -11,8 +11,6 @@ mod file;
 mod fuse;
 pub mod laws;
 mod memory;
-#[cfg(test)]
-mod tests;
 
 pub use disk::Disk;
 pub use error::{Fault, MakeError};

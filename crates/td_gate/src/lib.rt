@@ -8,8 +8,6 @@ pub mod fields;
 mod get;
 pub mod laws;
 mod region;
-#[cfg(test)]
-mod tests;
 mod write_and_sync;
 
 pub use error::GateError;

@@ -7,8 +7,6 @@ mod format;
 mod head;
 pub mod laws;
 mod shape;
-#[cfg(test)]
-mod tests;
 
 pub use error::HeadError;
 pub use format::{put_first, wipe};

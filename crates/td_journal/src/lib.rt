@@ -10,8 +10,6 @@ mod numbers;
 mod parse;
 mod payload;
 mod submitted;
-#[cfg(test)]
-mod tests;
 
 pub use error::JournalError;
 pub use journal::Journal;

@@ -5,9 +5,10 @@ ghost use Rattle.std.specs.List.{AllByRecursion};
 ghost use Rattle.td_stamp.specs.States.{StateList, AreStates};
 ghost use Rattle.td_plan.specs.Lines.{Line};
 ghost use Rattle.td_plan.specs.Faults.{IsPlan};
+ghost use Rattle.td_calls.specs.Callbacks.{is_notified};
 ghost use Rattle.td_reach.specs.Paths.{IsOf};
 ghost use Rattle.td_machine.specs.State.{HallState, Content};
-ghost use Rattle.td_machine.specs.Active.{active, has_passed};
+ghost use Rattle.td_machine.specs.Active.{active, kind_of, has_passed};
 ghost use Rattle.td_machine.specs.Steps.{Event, Answer, Step, Plays, opened};
 ghost use Rattle.td_machine.specs.Exact.{ExactWork, ExactWorkDrained};
 ghost use Rattle.td_machine.specs.Sound.{Sound, Confluence, EachIsSound, NeverStuck, batches_of};
@@ -214,6 +215,13 @@ pub fn none_left()
 /// many loops as are open there.
 pub fn active_of_plan<L: Law>()
     ensures { (S : HallState) → IsReached L.answers S → AllByRecursion (IsOf S.plan) (active S) }
+{
+    laws_below();
+}
+
+/// A state that is reached has asked for notifications at groups and folds alone.
+pub fn asked_where_notified<L: Law>()
+    ensures { (S : HallState) → IsReached L.answers S → AllByRecursion (λ a. is_notified (kind_of S.plan a.vertex) ≡ true) S.asked }
 {
     laws_below();
 }

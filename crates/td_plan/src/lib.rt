@@ -12,8 +12,6 @@ mod printer;
 mod reader;
 mod same;
 mod scope;
-#[cfg(test)]
-mod tests;
 pub mod text;
 mod vertex;
 

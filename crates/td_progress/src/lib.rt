@@ -5,8 +5,6 @@ mod counts;
 mod error;
 pub mod laws;
 mod table;
-#[cfg(test)]
-mod tests;
 
 pub use error::ProgressError;
 pub use table::Table;

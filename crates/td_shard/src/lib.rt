@@ -11,12 +11,8 @@ mod seen;
 mod shard;
 mod slots;
 mod take;
-#[cfg(test)]
-mod tests;
 mod version;
 mod versions;
-#[cfg(test)]
-mod versions_tests;
 mod waiting;
 
 pub use error::ShardError;

@@ -7,8 +7,6 @@ pub mod laws;
 mod parse;
 mod payload;
 mod slots;
-#[cfg(test)]
-mod tests;
 
 pub use error::SlotsError;
 pub use slots::{Checkpoint, Slots};

@@ -12,8 +12,6 @@ pub mod laws;
 mod member;
 mod members;
 mod states;
-#[cfg(test)]
-mod tests;
 mod time;
 mod values;
 

@@ -32,15 +32,15 @@ pub fn format_device<D: Disk>(
     ensures refusals { IfErr result (λ e. (e ≡ KeeperError.Memory) ⊎ (e ≡ KeeperError.Device)) }
     ensures device { IsErrOf result KeeperError.Device → Rises (D.failures device.old) (D.failures device.new) }
 {
-    laws::formatted();
-    laws::parts_are_apart();
-    td_gate::laws::put_leaves_others();
-    td_gate::laws::durable_is_settled::<D>();
     let _vertices = plan.vertices();
     let Ok(copy) = plan.copy() else {
         return Err(KeeperError::Memory);
     };
     let states = States::new(alloc);
+    laws::formatted();
+    laws::parts_are_apart();
+    td_gate::laws::put_leaves_others();
+    td_gate::laws::durable_is_settled::<D>();
     let _bytes = shape.bytes();
     let slots = Slots {
         at: 8_258,

@@ -8,8 +8,6 @@ pub mod laws;
 mod lists;
 mod run;
 mod task;
-#[cfg(test)]
-mod tests;
 
 pub use done::Done;
 pub use error::TaskError;

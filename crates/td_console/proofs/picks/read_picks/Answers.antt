@@ -1,6 +1,7 @@
 use Rattle.std.proofs.Common.{◌≡◌, ℕ, ◌==◌, ◌<◌, List, Option, Some, None, map, length, get_or, refl, ap, sym, ◌∙◌, subst, arith, inr, lit<}
 use Rattle.std.specs.List.{slice_split}
 use Rattle.std.proofs.lemmas.Iterator.Consumers.{YieldsList-turn, YieldsList-end}
+use Rattle.std.proofs.lemmas.Grind.{common_steps}
 use Rattle.std.proofs.lemmas.Iterator.Splits.{YieldsList-from_str_split}
 use Rattle.std.specs.Str.Iter.{split_text, split_has_more, split_pattern}
 use Rattle.td_plan.specs.Text.{natural_of}
@@ -20,3 +21,6 @@ returns-clause-ok c =
     let given = c.split-word-items.ensures in
     let end = YieldsList-end (YieldsList-from_str_split 44 c.args.text.now (lit< tt) (ap split_text from ∙ given.text) (ap split_has_more from ∙ given.has_more) (ap split_pattern from ∙ given.pattern)) c.loop-word.yielded c.loop-word.word-iterator c.loop-word.yielded_by c.next.result c.next.new.self c.in-None.is c.next.ensures.steps in
     all_picks c.loop-word.yielded (slice_split (λ b. b == 44) c.args.text.now) c.loop-word.picks.items end.0 c.loop-word.invariant
+
+pub loop-word-preserved : goal.loop-word-preserved
+loop-word-preserved c = grind (arith, common_steps)

@@ -1,4 +1,4 @@
-use Rattle.std.proofs.Common.{◌≡◌, ◌+◌, ◌-◌, ap, sym, ◌∙◌, arith}
+use Rattle.std.proofs.Common.{rules, ◌≡◌, ◌+◌, ◌-◌, ap, sym, ◌∙◌, arith}
 use Rattle.td_batch.specs.Flow.{numbers_from}
 use Rattle.td_reach.specs.Frontier.{has_passed}
 use Rattle.td_core.specs.Came.{next_below}
@@ -44,3 +44,6 @@ returns-clause-unpassed c =
     first_after c.args.table.now.stamps (after + 1) (c.args.next - (after + 1)) last (omega (arith, inv.after)) (omega (arith, inv.before, inv.after)) (λ l. inv.passed (omega (arith, l)))
     (λ l. absurd (omega (arith, l, inv.last, inv.after, inv.before, c.loop-epoch-test.false, c.requires)))
     ∙ ap (next_below (last + 1)) end
+
+pub loop-epoch-preserved : goal.loop-epoch-preserved
+loop-epoch-preserved c = search rules

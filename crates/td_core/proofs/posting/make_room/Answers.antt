@@ -1,54 +1,21 @@
-use Rattle.std.proofs.Common.{◌≡◌, ◌+◌, ◌*◌, ◌<◌, max, length, get_or, set, sym, ap, ◌∙◌, subst, arith}
-use Rattle.td_shard.specs.declared.shard.Shard.{Shard}
-use Rattle.td_core.specs.Posted.{HasRoom, HaveRoomFor, count_of}
-use Rattle.td_core.proofs.PostingSteps.{roomier_same, roomier_then, as_many_mails}
-use Rattle.td_core.proofs.PostRuns.{one_roomier, one_more_room, room_by_place}
+use Rattle.std.proofs.Common.{◌≡◌, ◌+◌, ◌*◌, ◌<◌, ◌≤◌, ℕ, length, get_or, sym, ap, ◌∙◌, subst, arith}
+use Rattle.std.specs.declared.result.Result.{Result}
+use Rattle.std.specs.declared.result.Result.TheVariants.{Ok, Err}
+use Rattle.std.specs.Prelude.{OnOk}
+use Rattle.td_core.specs.Posted.{HaveRoom, HaveRoomFor, count_of}
+use Rattle.td_core.proofs.PostingSteps.{as_many_mails, roomier_same}
+use Rattle.td_core.proofs.PostRuns.{room_weaker_there, none_yet, room_once_counted}
 use Rattle.td_core.proofs.posting.make_room.Goals as goal
 
-pub loop-shard-init : goal.loop-shard-init
-loop-shard-init c = record { same = roomier_same c.args.shards.now.items; room = λ k d l. absurd (omega (arith, l)) }
-
-pub loop-shard-preserved : goal.loop-shard-preserved
-loop-shard-preserved c =
-    let i = c.loop-shard.shard in
-    let inv = c.loop-shard.invariant in
-    let old = c.args.shards.now.items in
-    let now = c.loop-shard.shards.items in
-    let have = c.args.shards.now.ok in
-    let recs = c.args.recs.now in
-    let edges = c.args.edges in
-    let workers = length old in
-    let x = c.index_mut.result.now in
-    let s : Shard = record { mailbox = c.reserve.new.self; waiting = x.waiting } in
-    let made = c.in_ok-reserve.ensures.ok in
-    let many = c.in-Some.many in
-    let same = as_many_mails old now inv.same.mails in
-    let test = c.loop-shard-test.true in
-    let within : i < length now = omega (arith, test, same, have, c.len-shard-end.ensures) in
-    let all : c.len.result ≡ workers = omega (arith, have, c.len.ensures) in
-    let counted : get_or c.count_by_shard-counts.result i 0 ≡ count_of workers recs i = c.count_by_shard-counts.ensures i (omega (arith, all, within, same)) ∙ ap (λ w. count_of w recs i) all in
-    let is : many ≡ count_of workers recs i * edges = c.in-Some.ensures.1 ∙ ap (λ n. n * edges) counted in
-    let room : s.mailbox.room ≡ max x.mailbox.room many = ap (λ m. m.room) made in
-    let runs : s.mailbox.runs ≡ max x.mailbox.runs many = ap (λ m. m.runs) made in
-    let value = c.index_mut.ensures.value in
-    let was_room = ap (λ y. y.mailbox.room) value in
-    let was_runs = ap (λ y. y.mailbox.runs) value in
-    record {
-      same = roomier_then old now (set now i s) inv.same
-          (one_roomier i now s x within (ap (λ m. m.messages) made ∙ ap (λ y. y.mailbox.messages) value) (ap (λ y. y.waiting) value) (omega (arith, room, was_room)) (omega (arith, runs, was_runs)));
-      room = one_more_room (λ k. count_of workers recs k * edges) i now s within inv.room (omega (arith, is, room), omega (arith, is, runs));
-    }
+pub returns-in_err-count-clause-same : goal.returns-in_err-count-clause-same
+returns-in_err-count-clause-same c = roomier_same c.args.shards.now.items
 
 pub returns-clause-room : goal.returns-clause-room
 returns-clause-room c =
-    let inv = c.loop-shard.invariant in
     let old = c.args.shards.now.items in
-    let now = c.loop-shard.shards.items in
-    let have = c.args.shards.now.ok in
-    let recs = c.args.recs.now in
-    let edges = c.args.edges in
-    let same = as_many_mails old now inv.same.mails in
-    let test = c.loop-shard-test.false in
-    subst (λ w. HaveRoomFor (λ k. count_of w recs k * edges) now) (sym same)
-    (room_by_place (λ k. count_of (length old) recs k * edges) 0 now
-    (λ k d l. let on : k ≡ 0 + k = omega arith in subst (λ n. HasRoom (count_of (length old) recs n * edges) (get_or now k d)) on (inv.room k d (omega (arith, l, same, test, have, c.len-shard-end.ensures)))))
+    let now = c.make_room_for.new.shards.items in
+    let workers : c.len.result ≡ length now = c.len.ensures ∙ (c.args.shards.now.ok.0 ∙ sym (as_many_mails old now c.make_room_for.ensures.same.mails)) in
+    room_once_counted c.make_room_for.result c.count.new.counts (λ s. count_of (length now) c.args.recs.now s * c.args.edges) now
+    (λ s below. let is = c.in_ok-count.ensures.counts s (omega (arith, below, workers)) in let none = none_yet 16 s in
+    omega (arith, is, none, ap (λ w. count_of w c.args.recs.now s * c.args.edges) workers))
+    c.make_room_for.ensures.room

@@ -1,12 +1,12 @@
-use Rattle.std.proofs.Common.{map}
-use Rattle.std.specs.List.{AllByRecursion}
-use Rattle.td_reach.specs.Paths.{IsOf}
-use Rattle.td_core.specs.Taking.{stamp_of_noted}
+use Rattle.std.proofs.Common.{◌≡◌, map, length}
+use Rattle.td_core.specs.Taking.{AreAsked}
+use Rattle.td_core.proofs.Held.{AreHeld}
 use Rattle.td_core.proofs.Picking.{IsPassed}
 use Rattle.td_core.proofs.take.ready_at.Given as goal
 
 abbrev pub invariant-loop-noted : goal.invariant-loop-noted
 invariant-loop-noted l = record {
-  each : AllByRecursion (λ n. IsOf l.table.plan (stamp_of_noted n)) l.noted-iterator;
+  asked : AreAsked l.table l.noted-iterator;
+  held : AreHeld l.table l.held l.noted-iterator;
   passed : IsPassed l.table (map (λ w. w.0) l.waiting) l.noted-iterator l.place l.left;
 }

@@ -2,7 +2,7 @@ use Rattle.std.proofs.Common.{◌≡◌, ◌≤◌, ◌==◌, false, refl, ap, s
 use Rattle.td_machine.specs.Steps.Takes.{is_busy, has_none}
 use Rattle.td_machine.specs.Steps.Refusal.{busy}
 use Rattle.std.specs.List.{list_any}
-use Rattle.td_core.proofs.TakeSteps.{none_beyond, noted_of_plan}
+use Rattle.td_core.proofs.TakeSteps.{none_beyond, are_asked}
 use Rattle.td_core.proofs.TakenHall.{answered, still_hall, refused_so}
 use Rattle.td_core.proofs.take.take_floor.Goals as goal
 
@@ -22,11 +22,11 @@ returns-then-from-len-clause-taken g c =
 pub take_there-requires-clause-numbers : goal.take_there-requires-clause-numbers
 take_there-requires-clause-numbers g c = (c.reached_in_order.ensures.numbers _ c.requires.hall.reached).taken
 
-pub take_there-requires-clause-stamps : goal.take_there-requires-clause-stamps
-take_there-requires-clause-stamps g c d =
-    noted_of_plan g.L.Law.answers c.args.floor.now c.requires.hall c.bags_of_states.ensures.messages c.bags_of_states.ensures.notifications c.time_list_order.ensures.told_apart c.in_any_order.ensures.frontier
+pub take_there-requires-clause-asked : goal.take_there-requires-clause-asked
+take_there-requires-clause-asked g c d =
+    are_asked g.L.Law.answers c.args.floor.now c.requires.hall c.bags_of_states.ensures.messages c.bags_of_states.ensures.notifications c.time_list_order.ensures.told_apart c.in_any_order.ensures.frontier
     (c.reached_in_order.ensures.lists _ c.requires.hall.reached) (c.reached_in_order.ensures.tasks _ c.requires.hall.reached) (c.reached_in_order.ensures.numbers _ c.requires.hall.reached)
-    (c.active_of_plan.ensures _ c.requires.hall.reached) c.args.shard d (omega (arith, c.if-from-len.false, c.from.ensures, c.len.ensures))
+    c.counted.ensures.contains (c.asked_where_notified.ensures _ c.requires.hall.reached) (c.active_of_plan.ensures _ c.requires.hall.reached) c.args.shard d (omega (arith, c.if-from-len.false, c.from.ensures, c.len.ensures))
 
 pub returns-clause-taken : goal.returns-clause-taken
 returns-clause-taken g c = answered g.L.Law.answers c.args.floor.now c.requires.hall c.bags_of_states.ensures.messages c.bags_of_states.ensures.notifications c.time_list_order.ensures.told_apart c.in_any_order.ensures.frontier

@@ -38,3 +38,13 @@ returns-in_ok-write_and_sync-clause-gate g c lawful =
     let is_open : gate_of r (state c.args.device.now).bytes ≡ 165 = omega (arith, read) in
     bytes_one (r.at + r.len) (state c.write_and_sync.new.device).bytes 0 (c.in_ok-write_and_sync.ensures.written (c.read.ensures.lawful.0 lawful))
     ∙ sym (ap closed_byte is_open)
+
+pub returns-in_ok-write_and_sync-clause-closed : goal.returns-in_ok-write_and_sync-clause-closed
+returns-in_ok-write_and_sync-clause-closed g c lawful settled image now gate =
+    let state = g.D.Disk.state in
+    let r = c.args.region in
+    let still = c.read.ensures.lawful.0 lawful in
+    let wrote = c.in_ok-write_and_sync.ensures in
+    let zero : gate_of r image ≡ 0 = ap (gate_of r) (wrote.durable still image now)
+    ∙ bytes_one (r.at + r.len) (state c.write_and_sync.new.device).bytes 0 (wrote.written still) in
+    omega (arith, gate, zero)

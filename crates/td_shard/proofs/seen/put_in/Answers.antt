@@ -1,4 +1,4 @@
-use Rattle.std.proofs.Common.{arith}
+use Rattle.std.proofs.Common.{rules, arith}
 use Rattle.td_stamp.specs.Orders.{rec_cmp}
 use Rattle.td_stamp.specs.ProvedOrders.{rec_total, rec_apart}
 use Rattle.td_shard.proofs.Fresh.{new-after, set-after, longer}
@@ -14,3 +14,6 @@ loop-rec-preserved c =
       set = set-after laws c.args.set.now.keys c.loop-rec.new.items c.loop-rec.set.keys c.put_in_one.new.new.items c.put_in_one.new.set.keys _ was.set now.answer now.ok;
       room = let l = longer c.loop-rec.new.items c.put_in_one.new.new.items _ _ now.answer in omega (arith, l, was.room, now.capacity, c.loop-rec.new.ok, c.put_in_one.new.new.ok, c.loop-rec-test.true);
     }
+
+pub returns-in-Err-clause-err : goal.returns-in-Err-clause-err
+returns-in-Err-clause-err c = search rules

@@ -1,0 +1,33 @@
+//! Numbers and texts of refusals that no row shows.
+use std::test::Fail;
+use td_batch::BatchError;
+use td_calls::CallsError;
+use td_progress::ProgressError;
+use td_reach::ReachError;
+use td_shard::ShardError;
+use td_task::TaskError;
+
+#[test]
+fn refusals_have_numbers_and_texts(rt: HostRuntime) -> Result<(), Fail> {
+    let (batch, progress, reach) = (
+        BatchError::Memory,
+        ProgressError::Memory,
+        ReachError::Memory,
+    );
+    let (shard, task, calls) = (
+        ShardError::Memory,
+        TaskError::NoCall(2, 41),
+        CallsError::CodeUsed,
+    );
+    assert_eq!(rt;
+        (batch.number(), progress.number(), reach.number()),
+        (1, 1, 1)
+    );
+    assert_eq!(rt; (shard.number(), task.number(), calls.number()), (1, 1, 1));
+    let texts = format!(in rt.alloc(); "{batch}, {progress}, {reach}, {shard}, {task}, {calls}")?;
+    assert_eq!(rt;
+        texts.as_str(),
+        "memory, memory, memory, memory, vertex 2: no closure 41, code used"
+    );
+    Ok(())
+}

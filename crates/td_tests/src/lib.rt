@@ -1,0 +1,30 @@
+//! Tests of the crates below, of what no clause says, a module for each. They stand together above all of them, since a
+//! crate with tests is proved twice: so each of those crates is proved once.
+#![tactic(auto)]
+
+#[cfg(test)]
+mod console;
+#[cfg(test)]
+mod disk;
+#[cfg(test)]
+mod errors;
+#[cfg(test)]
+mod gate;
+#[cfg(test)]
+mod head;
+#[cfg(test)]
+mod journal;
+#[cfg(test)]
+mod plan;
+#[cfg(test)]
+mod progress;
+#[cfg(test)]
+mod reach;
+#[cfg(test)]
+mod shard;
+#[cfg(test)]
+mod slots;
+#[cfg(test)]
+mod stamp;
+#[cfg(test)]
+mod task;
