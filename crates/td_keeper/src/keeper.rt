@@ -49,7 +49,7 @@ pub struct Keeper<D: Disk, L: Law> {
 }
 
 impl<D: Disk, L: Law> Model for Keeper<D, L> {
-    ghost use Rattle.std.specs.Prelude.{◌≤◌, ◌×◌};
+    ghost use Rattle.std.specs.Prelude.{◌≤◌};
     ghost use Rattle.td_head.specs.Layout.{size_of};
     ghost use Rattle.td_standing.specs.Standing.{standing_from};
     ghost use Rattle.td_standing.specs.Advanced.{HeldWhere};
