@@ -24,7 +24,11 @@ impl<D: Disk, L: Law> Keeper<D, L> {
             return false;
         }
         let same_states = *states_of_hall == *states;
-        if !same_states || !hall.plan().same(&self.plan) {
+        if !same_states {
+            return false;
+        }
+        let same_plan = hall.plan().same(&self.plan);
+        if !same_plan {
             return false;
         }
         begin(hall.inputs(), &self.submitted, self.past())

@@ -1,5 +1,5 @@
 //! Submitting batches.
-ghost use Rattle.std.specs.Prelude.{◌≡◌, ◌⊎◌, ◌×◌, ◌↔◌, ◌+◌, [], ◌∷◌, false, true, Some, None, IfOk, IfErr, OnErr};
+ghost use Rattle.std.specs.Prelude.{◌≡◌, ◌⊎◌, ◌↔◌, ◌+◌, [], ◌∷◌, false, true, Some, None, IfOk, IfErr, OnErr};
 ghost use Rattle.td_disk.specs.Disk.{Rises};
 ghost use Rattle.td_gate.specs.CrashSafe.{CrashSafe, Unchanged};
 ghost use Rattle.td_standing.specs.Standing.{last_epoch, submission};

@@ -1,5 +1,5 @@
 //! Writing cuts.
-ghost use Rattle.std.specs.Prelude.{◌≡◌, ◌⊎◌, ◌×◌, ◌↔◌, [], false, true, Some, None, Ok, IfOk, IfErr, IsErrOf};
+ghost use Rattle.std.specs.Prelude.{◌≡◌, ◌⊎◌, ◌↔◌, [], false, true, Some, None, Ok, IfOk, IfErr, IsErrOf};
 ghost use Rattle.td_disk.specs.Disk.{Rises};
 ghost use Rattle.td_standing.specs.Standing.{last_epoch};
 ghost use Rattle.td_standing.specs.Advanced.{SinceAdvance};

@@ -10,11 +10,16 @@ returns-then-not-same_states g c =
     (λ f. absurd (true≢false (sym f)),
         λ own. absurd (true≢false (sym (c.eq-same_states.ensures.same.1 (c.base-of_hall.ensures.states ∙ (own.base_states ∙ sym c.base-epoch.ensures.states))) ∙ c.if-not-same_states.true)))
 
+pub returns-then-not-same_plan : goal.returns-then-not-same_plan
+returns-then-not-same_plan g c =
+    (λ f. absurd (true≢false (sym f)),
+        λ own. absurd (true≢false (sym (c.same-same_plan.ensures.1 (c.plan.ensures ∙ (own.plan ∙ sym (ap (λ (q : Keeping g.row.D.Denot). q.plan) c.self.view_is)))) ∙ c.if-not-same_plan.true)))
+
 pub returns : goal.returns
 returns g c =
     let subs = ap (λ (q : Keeping g.row.D.Denot). batches_of q.standing.submitted) c.self.view_is in
     (λ t. record {
-            plan = sym c.plan.ensures ∙ (c.if-not-same.ensures.0 refl ∙ ap (λ (q : Keeping g.row.D.Denot). q.plan) c.self.view_is);
+            plan = sym c.plan.ensures ∙ (c.same-same_plan.ensures.0 c.if-not-same_plan.false ∙ ap (λ (q : Keeping g.row.D.Denot). q.plan) c.self.view_is);
             base = sym c.base-of_hall.ensures.epoch ∙ (c.if-of_hall-epoch.false ∙ c.base-epoch.ensures.epoch);
             base_states = sym c.base-of_hall.ensures.states ∙ (c.eq-same_states.ensures.same.0 c.if-not-same_states.false ∙ c.base-epoch.ensures.states);
             collected = sym c.collected.ensures ∙ (c.if-collected-self.false ∙ ap (λ (q : Keeping g.row.D.Denot). q.collected) c.self.view_is);
