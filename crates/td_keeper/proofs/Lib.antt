@@ -1,5 +1,12 @@
-mod Kept
-mod Since
+mod Accepted
 mod Accepting
+mod Batches
+mod Beginning
+mod Collecting
 mod Cutting
+mod Kept
+mod Releasing
+mod Rows
+mod Runs
+mod Since
 mod Submitting

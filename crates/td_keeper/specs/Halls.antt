@@ -12,6 +12,10 @@ use Rattle.td_machine.specs.Sound.{outs_by}
 use Rattle.td_standing.specs.Standing.{batches_of}
 use Rattle.td_keeper.specs.Keeping.{Keeping, since_base}
 
+-- some batches are a beginning of others
+abbrev pub Begin : List (List Entry) → List (List Entry) → Type 0
+Begin some all = (rest : List (List Entry)) × (all ≡ some ++ rest)
+
 module _ {D : Type 0} (k : Keeping D) where
   -- A HALL OF THIS KEEPER'S: its plan, its base and the last epoch that was collected are the keeper's, and its batches are a
   -- beginning of the keeper's since that base
@@ -20,8 +24,7 @@ module _ {D : Type 0} (k : Keeping D) where
     pub base : S.base ≡ k.base
     pub base_states : S.base_states ≡ k.base_states
     pub collected : S.collected ≡ k.collected
-    pub rest : List (List Entry)
-    pub batches : since_base k ≡ S.batches ++ rest
+    pub batches : Begin S.batches (since_base k)
 
   -- the batches that such a hall lacks
   abbrev pub lacking : HallState → List (List Entry)

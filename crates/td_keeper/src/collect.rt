@@ -1,13 +1,17 @@
 //! Collecting outputs, and handing them out.
-ghost use Rattle.std.specs.Prelude.{◌≡◌, ◌⊎◌, ◌×◌, ◌+◌, ◌∷◌, ⊥, length, Some, None, [], IfOk, IfErr, IfSome, IfNone, OnErr};
+ghost use Rattle.std.specs.Prelude.{◌≡◌, ◌⊎◌, ◌+◌, ◌∷◌, ◌++◌, ◌≤◌, length, Some, None, [], IfOk, IfErr, IfSome, IfNone, OnErr};
+ghost use Rattle.std.specs.VecDeque.{deque_len, deque_capacity};
 ghost use Rattle.td_machine.specs.Steps.{collect_step};
 ghost use Rattle.td_machine.specs.Sound.{outs_by};
 ghost use Rattle.td_keeper.specs.Halls.{IsOwn, with_collected, collected_hall, meant_outs};
 ghost use Rattle.td_standing.specs.declared.error.KeeperError.TheVariants.{Foreign, Memory};
 
 use crate::keeper::Keeper;
+use std::collections::VecDeque;
+use td_batch::laws::run_joins;
 use td_calls::Law;
 use td_core::Hall;
+use td_core::laws::each_is_sound;
 use td_disk::Disk;
 use td_standing::KeeperError;
 use td_stamp::EpochOut;
@@ -26,7 +30,33 @@ impl<D: Disk, L: Law> Keeper<D, L> {
         ensures refused { IfErr result (λ e. (e ≡ Foreign) ⊎ ((e ≡ Memory) × IsOwn self.old hall.old)) }
         ensures unchanged { OnErr result ((self.new ≡ self.old) × (hall.new ≡ hall.old)) }
     {
-        todo()
+        if self.is_own(hall) {
+            self.bring_in(hall)
+        } else {
+            Err(KeeperError::Foreign)
+        }
+    }
+
+    /// Brings into the queue what a hall of this keeper's collects, for which room is made first, and answers how many epochs
+    /// that is. Refusal: `Memory`, with nothing changed.
+    pub(crate) fn bring_in(&mut self, hall: &mut Hall<L>) -> Result<u64, KeeperError>
+        requires { IsOwn self.old hall.old }
+        ensures collected { IfOk result (λ n. (self.new ≡ with_collected self.old hall.old) × (hall.new ≡ collected_hall hall.old)
+            × (n ≡ length (outs_by (collect_step hall.old).0))) }
+        ensures meaning { IfOk result (λ n. outs_by (collect_step hall.old).0 ≡ meant_outs self.old L.answers self.old.collected (self.old.collected + n)) }
+        ensures memory { IfErr result (λ e. e ≡ Memory) }
+        ensures unchanged { OnErr result ((self.new ≡ self.old) × (hall.new ≡ hall.old)) }
+    {
+        run_joins::<L>();
+        each_is_sound(hall);
+        self.queue.reserve(hall.inputs().len())?;
+        let Ok(outs) = hall.collect() else {
+            return Err(KeeperError::Memory);
+        };
+        let count = outs.len() as u64;
+        append(&mut self.queue, outs);
+        self.collected += count;
+        Ok(count)
     }
 
     /// Hands out the outputs of the first epoch of those that were collected and not yet handed out; None where there is none. It
@@ -38,5 +68,15 @@ impl<D: Disk, L: Law> Keeper<D, L> {
         ensures none_same { IfNone result (self.new ≡ self.old) }
     {
         self.queue.pop_front()
+    }
+}
+
+/// Puts outputs at the end of a queue that has room for them.
+fn append(queue: &mut VecDeque<EpochOut>, outs: Vec<EpochOut>)
+    requires { deque_len queue.old + length outs.items ≤ deque_capacity queue.old }
+    ensures { queue.new.items ≡ queue.old.items ++ outs.items }
+{
+    for out in outs {
+        queue.push_back_reserved(out);
     }
 }

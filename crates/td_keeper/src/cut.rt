@@ -1,16 +1,21 @@
 //! Taking cuts.
-ghost use Rattle.std.specs.Prelude.{◌≡◌, ◌⊎◌, ◌×◌, ◌-◌, ⊥, Some, None, IfOk, IfErr};
+ghost use Rattle.std.specs.Prelude.{◌≡◌, ◌⊎◌, ◌-◌, Some, None, IfOk, IfErr};
 ghost use Rattle.td_plan.specs.Tree.{tree_of};
 ghost use Rattle.td_batch.specs.Meaning.{states_after};
+ghost use Rattle.td_machine.specs.Steps.{collect_step};
+ghost use Rattle.td_machine.specs.Sound.{outs_by};
 ghost use Rattle.td_standing.specs.Standing.{batches_of};
 ghost use Rattle.td_keeper.specs.Refused.{cut_refusal};
-ghost use Rattle.td_keeper.specs.Halls.{IsOwn, with_collected, with_cut, collected_hall, cut_hall, last_passed};
+ghost use Rattle.td_keeper.specs.Halls.{IsOwn, with_collected, with_cut, collected_hall, cut_hall, last_passed, meant_outs};
 ghost use Rattle.td_standing.specs.declared.error.KeeperError.TheVariants.{Foreign, Memory};
 
 use crate::keeper::{Keeper, Taken};
+use td_batch::laws::run_joins;
 use td_calls::Law;
-use td_core::Hall;
+use td_core::laws::each_is_sound;
+use td_core::{Cut, Hall};
 use td_disk::Disk;
+use td_machine::laws::base_has_passed;
 use td_standing::KeeperError;
 
 impl<D: Disk, L: Law> Keeper<D, L> {
@@ -32,7 +37,54 @@ impl<D: Disk, L: Law> Keeper<D, L> {
             ⊎ (IsOwn self.old hall.old × ((cut_refusal self.old hall.old ≡ Some e) ⊎ (e ≡ Memory)))) }
         ensures collected { IfErr result (λ e. ((e ≡ Foreign) ⊎ (e ≡ Memory) × (self.new ≡ self.old) × (hall.new ≡ hall.old))
             ⊎ ((self.new ≡ with_collected self.old hall.old) × (hall.new ≡ collected_hall hall.old))) }
+
+        // What is brought into the queue before is the batch meaning's.
+        ensures outs { IfOk result (λ _. outs_by (collect_step hall.old).0 ≡ meant_outs self.old L.answers self.old.collected self.new.collected) }
     {
-        todo()
+        run_joins::<L>();
+        base_has_passed::<L>();
+        each_is_sound(hall);
+        if !self.is_own(hall) {
+            return Err(KeeperError::Foreign);
+        }
+        self.bring_in(hall)?;
+        let last = match self.place_of_cut(hall) {
+            Ok(last) => last,
+            Err(refusal) => return Err(refusal),
+        };
+        let Ok(Cut { epoch, states }) = hall.cut_at(last) else {
+            return Err(KeeperError::Memory);
+        };
+        self.taken = Some(Taken {
+            epoch,
+            states,
+            waits: true,
+        });
+        Ok(epoch)
+    }
+
+    /// At which epoch a hall of this keeper's is to be cut. Refusals: `NotPassed`, then `CutWaiting`.
+    fn place_of_cut(&self, hall: &Hall<L>) -> Result<u64, KeeperError>
+        requires { IsOwn self.now hall.now }
+        ensures accepted { IfOk result (λ _. cut_refusal self.now hall.now ≡ None) }
+        ensures epoch { IfOk result (λ epoch. epoch ≡ last_passed hall.now) }
+        ensures refused { IfErr result (λ e. cut_refusal self.now hall.now ≡ Some e) }
+    {
+        each_is_sound(hall);
+        let waits = match &self.taken {
+            Some(taken) => taken.waits,
+            None => false,
+        };
+        let base = self.base().0;
+        let last = match hall.unpassed() {
+            Some(epoch) if epoch <= base + 1 => return Err(KeeperError::NotPassed(epoch)),
+            Some(epoch) => epoch - 1,
+            None => base + hall.inputs().len() as u64,
+        };
+        if waits {
+            Err(KeeperError::CutWaiting)
+        } else {
+            Ok(last)
+        }
     }
 }

@@ -1,12 +1,16 @@
 //! Whether a hall works on a keeper's epochs.
-ghost use Rattle.std.specs.Prelude.{◌≡◌, ◌↔◌, IsTrue};
-ghost use Rattle.td_keeper.specs.Halls.{IsOwn};
+ghost use Rattle.std.specs.Prelude.{◌≡◌, ◌++◌, ◌-◌, ◌≤◌, ◌↔◌, List, drop, length, map, IsTrue};
+ghost use Rattle.td_stamp.specs.declared.values.Entry.{Entry};
+ghost use Rattle.td_standing.specs.Standing.{batches_of};
+ghost use Rattle.td_keeper.specs.Halls.{IsOwn, Begin};
 
 use crate::keeper::Keeper;
+use std::collections::VecDeque;
 use td_calls::Law;
 use td_core::Hall;
 use td_disk::Disk;
-use td_stamp::States;
+use td_journal::Submitted;
+use td_stamp::{Batch, States};
 
 impl<D: Disk, L: Law> Keeper<D, L> {
     /// Whether a hall is one of this keeper's: its plan, its base and the last epoch that was collected are the keeper's, and its
@@ -16,11 +20,18 @@ impl<D: Disk, L: Law> Keeper<D, L> {
     {
         let (epoch, states) = self.base();
         let (of_hall, states_of_hall) = hall.base();
-        of_hall == epoch
-            && hall.collected() == self.collected
-            && hall.plan().same(&self.plan)
-            && states_of_hall == states
-            && self.begins_with(hall.inputs())
+        if of_hall != epoch || hall.collected() != self.collected {
+            return false;
+        }
+        let same_states = *states_of_hall == *states;
+        if !same_states {
+            return false;
+        }
+        let same_plan = hall.plan().same(&self.plan);
+        if !same_plan {
+            return false;
+        }
+        begin(hall.inputs(), &self.submitted, self.past())
     }
 
     /// The epoch of the keeper's base, and its states.
@@ -33,4 +44,28 @@ impl<D: Disk, L: Law> Keeper<D, L> {
             None => (self.checkpoint.epoch, &self.checkpoint.states),
         }
     }
+
+    /// How many of the epochs after the checkpoint are not after the base.
+    pub(crate) fn past(&self) -> usize
+        ensures { result ≡ self.now.base - self.now.standing.epoch }
+    {
+        (self.base().0 - self.checkpoint.epoch) as usize
+    }
+}
+
+/// Whether batches are a beginning of those that were submitted after the first so many.
+fn begin(batches: &VecDeque<Batch>, submitted: &VecDeque<Submitted>, past: usize) -> bool
+    requires { past ≤ length submitted.now.items }
+    ensures { IsTrue result ↔ Begin batches.now.items (drop past (batches_of submitted.now.items)) }
+{
+    if submitted.len() - past < batches.len() {
+        return false;
+    }
+    for at in 0..batches.len() {
+        let same = submitted[past + at].batch == batches[at];
+        if !same {
+            return false;
+        }
+    }
+    true
 }

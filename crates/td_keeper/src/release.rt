@@ -1,13 +1,21 @@
 //! Releasing epochs into halls.
-ghost use Rattle.std.specs.Prelude.{◌≡◌, ◌⊎◌, ◌×◌, ◌≤◌, ℕ, ⊥, length, take, false, IfOk, IfErr};
+ghost use Rattle.std.specs.Prelude.{◌≡◌, ◌⊎◌, ◌+◌, ◌^◌, ◌≤◌, ℕ, length, take, drop, false, true, All, IfOk, IfErr};
+ghost use Rattle.td_journal.specs.Cell.{is_batch};
+ghost use Rattle.td_standing.specs.Standing.{batches_of};
+ghost use Rattle.td_standing.specs.Told.{inputs_of};
 ghost use Rattle.td_keeper.specs.Keeping.{since_base};
 ghost use Rattle.td_keeper.specs.Halls.{IsOwn, lacking, with_released};
 ghost use Rattle.td_standing.specs.declared.error.KeeperError.TheVariants.{Foreign, Memory};
 
 use crate::keeper::Keeper;
+use std::collections::VecDeque;
 use td_calls::Law;
 use td_core::Hall;
+use td_core::laws::each_is_sound;
 use td_disk::Disk;
+use td_journal::Submitted;
+use td_machine::laws::reached_in_order;
+use td_plan::laws::look_ups;
 use td_standing::KeeperError;
 
 impl<D: Disk, L: Law> Keeper<D, L> {
@@ -25,6 +33,42 @@ impl<D: Disk, L: Law> Keeper<D, L> {
             ⊎ ((e ≡ Memory) × (IsOwn self.now hall.old × (hall.old.closed ≡ false)))) }
         ensures some { IfErr result (λ e. (n : ℕ) × (hall.new ≡ with_released hall.old (take n (lacking self.now hall.old)))) }
     {
-        todo()
+        if hall.is_closed() || !self.is_own(hall) {
+            return Err(KeeperError::Foreign);
+        }
+        each_is_sound(hall);
+        let has = self.past() + hall.inputs().len();
+        release_after(hall, &self.submitted, has)
     }
+}
+
+/// Releases into a hall copies of the batches that were submitted after the first so many, one after another, and answers how
+/// many. Refusal: `Memory`, after which some of them were released. A hall that is open and has numbers left for all of them
+/// refuses nothing else.
+fn release_after<L: Law>(
+    hall: &mut Hall<L>,
+    submitted: &VecDeque<Submitted>,
+    has: usize,
+) -> Result<u64, KeeperError>
+    requires within { has ≤ length submitted.now.items }
+    requires not_closed { hall.old.closed ≡ false }
+    requires numbers { hall.old.next + length (drop has submitted.now.items) ≤ 2 ^ 63 }
+    requires batches { All (λ s. is_batch (inputs_of hall.old.plan) s.batch ≡ true) submitted.now.items }
+    ensures released { IfOk result (λ n. (n ≡ length (drop has submitted.now.items))
+        × (hall.new ≡ with_released hall.old (batches_of (drop has submitted.now.items)))) }
+    ensures some { IfErr result (λ e. (n : ℕ) × (hall.new ≡ with_released hall.old (take n (batches_of (drop has submitted.now.items))))) }
+    ensures memory { IfErr result (λ e. e ≡ Memory) }
+{
+    look_ups();
+    reached_in_order::<L>();
+    each_is_sound(hall);
+    let mut released = 0;
+    for at in has..submitted.len() {
+        let batch = submitted[at].batch.copy()?;
+        match hall.release(batch) {
+            Ok(_epoch) => released += 1,
+            Err(_memory) => return Err(KeeperError::Memory),
+        }
+    }
+    Ok(released)
 }
