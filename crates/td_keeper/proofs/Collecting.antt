@@ -12,8 +12,9 @@ use Rattle.td_reach.specs.declared.stamp.Stamp.{Stamp}
 use Rattle.td_reach.specs.Frontier as frontier
 use Rattle.td_machine.specs.State.{HallState}
 use Rattle.td_machine.specs.Active.{has_passed, active, unpassed}
-use Rattle.td_machine.specs.Steps.{collect_step, to_collect, outputs_at}
-use Rattle.td_machine.specs.Steps.Answer.{has_collected}
+use Rattle.td_machine.specs.State.{states_at}
+use Rattle.td_machine.specs.Steps.{Answer, collect_step, to_collect, outputs_at, cut_at_by, cut_to}
+use Rattle.td_machine.specs.Steps.Answer.{has_collected, has_cut}
 use Rattle.td_machine.specs.Sound.{Sound, run_states, outs_by}
 use Rattle.td_standing.specs.Standing.{batches_of}
 use Rattle.td_keeper.specs.Keeping.{Keeping, IsKeeping}
@@ -106,6 +107,7 @@ module _ {D : Type 0} (answers : Answers) (states_join : StatesJoin answers) (ou
   -- it is still right then
   pub still : IsKeeping (with_collected k S) answers
   still = record {
+    which = keeping.which;
     batches = keeping.batches;
     few = keeping.few;
     small = keeping.small;
@@ -141,6 +143,7 @@ module _ {D : Type 0} (answers : Answers) (states_join : StatesJoin answers) (ou
   pub cut_right : (e : ℕ) → S.base ≤ e → e < S.next → e ≤ k.collected → (states : StateList) → states ≡ run_states answers S e
       → IsKeeping (record k { base = e; base_states = states; waiting = true }) answers
   cut_right e after before collected states is = record {
+    which = keeping.which;
     batches = keeping.batches;
     few = keeping.few;
     small = keeping.small;
@@ -179,3 +182,23 @@ module _ {D : Type 0} (answers : Answers) (states_join : StatesJoin answers) (ou
       by : (m : ℕ) → last_passed S - S.base ≡ m → has_passed S (last_passed S) ≡ true
       by zero e = let last = is_last base in let is : last_passed S ≡ S.base = omega (arith, e, last.after) in ap (has_passed S) is ∙ base
       by (suc m) e = let last = is_last base in last.passed (last_passed S) (omega (arith, e)) (omega arith)
+
+-- a hall of a keeper's is still its own when what it collects was brought in
+pub own_after : {D : Type 0} (k : Keeping D) (S : HallState) → IsOwn k S → IsOwn (with_collected k S) (collected_hall S)
+own_after k S own = record { plan = own.plan; base = own.base; base_states = own.base_states; collected = refl; batches = own.batches }
+
+-- what a cut answers
+cut_epoch : Answer → ℕ
+cut_epoch (has_cut e states) = e
+cut_epoch answer = 0
+
+cut_states : Answer → StateList
+cut_states (has_cut e states) = states
+cut_states answer = []
+
+-- A CUT at an epoch that has passed: its epoch, its states, and the hall after it
+pub cut_is : (S T : HallState) (last e : ℕ) (states : StateList) (b : Bool) → b ≡ true → cut_at_by S b last ≡ (has_cut e states, T)
+    → (e ≡ last) × (states ≡ states_at S last) × (T ≡ cut_to S last)
+unfolding cut_epoch cut_states
+cut_is S T last e states true h step = (sym (ap (λ p. cut_epoch p.0) step), sym (ap (λ p. cut_states p.0) step), sym (ap (λ p. p.1) step))
+cut_is S T last e states false h step = absurd (true≢false (sym h))

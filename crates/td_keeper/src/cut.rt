@@ -1,5 +1,5 @@
 //! Taking cuts.
-ghost use Rattle.std.specs.Prelude.{◌≡◌, ◌⊎◌, ◌-◌, Some, None, IfOk, IfErr};
+ghost use Rattle.std.specs.Prelude.{◌≡◌, ◌⊎◌, ◌-◌, ◌≤◌, Some, None, IfOk, IfErr};
 ghost use Rattle.td_plan.specs.Tree.{tree_of};
 ghost use Rattle.td_batch.specs.Meaning.{states_after};
 ghost use Rattle.td_machine.specs.Steps.{collect_step};
@@ -39,15 +39,16 @@ impl<D: Disk, L: Law> Keeper<D, L> {
             ⊎ ((self.new ≡ with_collected self.old hall.old) × (hall.new ≡ collected_hall hall.old))) }
 
         // What is brought into the queue before is the batch meaning's.
-        ensures outs { IfOk result (λ _. outs_by (collect_step hall.old).0 ≡ meant_outs self.old L.answers self.old.collected self.new.collected) }
+        ensures outs { IsOwn self.old hall.old → outs_by (collect_step hall.old).0 ≡ meant_outs self.old L.answers self.old.collected (collect_step hall.old).1.collected }
     {
         run_joins::<L>();
         base_has_passed::<L>();
-        each_is_sound(hall);
         if !self.is_own(hall) {
             return Err(KeeperError::Foreign);
         }
+        self.collects_what_is_meant(hall);
         self.bring_in(hall)?;
+        each_is_sound(hall);
         let last = match self.place_of_cut(hall) {
             Ok(last) => last,
             Err(refusal) => return Err(refusal),
@@ -61,6 +62,18 @@ impl<D: Disk, L: Law> Keeper<D, L> {
             waits: true,
         });
         Ok(epoch)
+    }
+
+    /// What a hall of this keeper's collects is the batch meaning's, and goes as far as all has passed.
+    fn collects_what_is_meant(&self, hall: &Hall<L>)
+        requires { IsOwn self.now hall.now }
+        ensures outs { outs_by (collect_step hall.now).0 ≡ meant_outs self.now L.answers self.now.collected (collect_step hall.now).1.collected }
+        ensures far { last_passed hall.now ≤ (collect_step hall.now).1.collected }
+    {
+        run_joins::<L>();
+        base_has_passed::<L>();
+        each_is_sound(hall);
+        let _collected = self.collected;
     }
 
     /// At which epoch a hall of this keeper's is to be cut. Refusals: `NotPassed`, then `CutWaiting`.

@@ -37,8 +37,9 @@ impl<D: Disk, L: Law> Keeper<D, L> {
             return Err(KeeperError::Foreign);
         }
         each_is_sound(hall);
+        let submitted = &self.submitted;
         let has = self.past() + hall.inputs().len();
-        release_after(hall, &self.submitted, has)
+        release_after(hall, submitted, has)
     }
 }
 
