@@ -8,7 +8,6 @@ use Rattle.td_plan.specs.Lines.{Line}
 use Rattle.td_plan.specs.Blocks.{PlacedVertex, vertices}
 use Rattle.td_plan.specs.LookedUp.{IsLookedUp}
 use Rattle.std.specs.List.{slice_get}
-
 use Rattle.td_journal.specs.Cell.{is_batch}
 use Rattle.td_journal.specs.declared.submitted.Submitted.{Submitted}
 use Rattle.td_calls.specs.Answers.{Answers}
@@ -42,7 +41,7 @@ next_after has at xs s from before is =
     let place : has + (at - has) ≡ at = omega (arith, from) in
     ap (λ n. batches_of (take n (drop has xs))) more
     ∙ (ap batches_of (take_more (drop has xs) (at - has) s (omega (arith, left, from, before))) ∙ (map-append (λ x. x.batch) (take (at - has) (drop has xs)) _
-        ∙ ap (λ x. after_first has at xs ++ x.batch ∷ []) (get_or-drop has xs (at - has) s ∙ (ap (λ n. get_or xs n s) place ∙ sym is))))
+    ∙ ap (λ x. after_first has at xs ++ x.batch ∷ []) (get_or-drop has xs (at - has) s ∙ (ap (λ n. get_or xs n s) place ∙ sym is))))
 
 module _ (S : HallState) (has : ℕ) (xs : List Submitted) (unclosed : S.closed ≡ false) (numbers : S.next + length (drop has xs) ≤ 2 ^ 63) where
   so_far : (at : ℕ) → HasReleased S (after_first has at xs) (with_released S (after_first has at xs))
@@ -68,7 +67,7 @@ pub comes : (S T U : HallState) (has at : ℕ) (xs : List Submitted) → has ≤
 comes S T U has at xs from before then s is batch same answer step =
     sym (ap (λ p. p.1) step)
     ∙ ((λ i. (release_step (then i) (same i)).1)
-        ∙ (sym (released_more S (after_first has at xs) s.batch) ∙ ap (with_released S) (sym (next_after has at xs s from before is))))
+    ∙ (sym (released_more S (after_first has at xs) s.batch) ∙ ap (with_released S) (sym (next_after has at xs s from before is))))
 
 -- the first so many of all
 pub some_of_all : (has at : ℕ) (xs : List Submitted) → after_first has at xs ≡ take (at - has) (batches_of (drop has xs))

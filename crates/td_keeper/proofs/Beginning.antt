@@ -18,7 +18,7 @@ pub found_more : (some all : List (List Entry)) (past i : ℕ) → i < length so
 found_more some all past i l m same is =
     let next : past + i + 1 ≡ past + (i + 1) = omega arith in
     is ∙ (ap (λ r. take i some ++ r) (drop_more all (past + i) [] m ∙ (λ j. same j ∷ drop (next j) all))
-        ∙ (sym (append_assoc (take i some) (get_or some i [] ∷ []) (drop (past + (i + 1)) all)) ∙ ap (λ t. t ++ drop (past + (i + 1)) all) (sym (take_more some i [] l))))
+    ∙ (sym (append_assoc (take i some) (get_or some i [] ∷ []) (drop (past + (i + 1)) all)) ∙ ap (λ t. t ++ drop (past + (i + 1)) all) (sym (take_more some i [] l))))
 
 pub all_found : (some all : List (List Entry)) (past : ℕ) → Found some all past (length some) → Begin some (drop past all)
 all_found some all past is = (drop (past + length some) all, is ∙ ap (λ t. t ++ drop (past + length some) all) (take_all (length some) some (omega arith)))
@@ -27,9 +27,10 @@ all_found some all past is = (drop (past + length some) all, is ∙ ap (λ t. t 
 pub stands : (some all : List (List Entry)) (past i : ℕ) → i < length some → Begin some (drop past all) → (past + i < length all) × (get_or all (past + i) [] ≡ get_or some i [])
 stands some all past i l begin =
     let long = ap length begin.1 ∙ length-append some begin.0 in
-    let left = length-drop past all in
-    (omega (arith, l, long, left),
-        sym (get_or-drop past all i []) ∙ (ap (λ r. get_or r i []) begin.1 ∙ get_or_append_left some begin.0 [] i l))
+    let left = length-drop past all in (
+      omega (arith, l, long, left),
+      sym (get_or-drop past all i []) ∙ (ap (λ r. get_or r i []) begin.1 ∙ get_or_append_left some begin.0 [] i l),
+    )
 
 -- the batch of what was submitted
 pub there : (xs : List Submitted) (i : ℕ) (s : Submitted) → i < length xs → s ≡ get_or xs i s → get_or (batches_of xs) i [] ≡ s.batch

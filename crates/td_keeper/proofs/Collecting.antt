@@ -76,9 +76,9 @@ module _ {D : Type 0} (answers : Answers) (states_join : StatesJoin answers) (ou
       let place : k.base - k.standing.epoch + (e - S.base - 1) ≡ e - k.standing.epoch - 1 = omega (arith, after, own.base, keeping.from_checkpoint) in
       sound.outputs e after later before passed
       ∙ (ap (λ q. get_or (run answers (tree_of q) S.base_states S.batches).outs (e - S.base - 1) []) own.plan
-          ∙ (sym (outs_at answers (tree_of k.plan) (states_join (tree_of k.plan)) (outs_join (tree_of k.plan)) k.standing.states (batches_of k.standing.submitted) (k.base - k.standing.epoch) within
-              S.base_states based S.batches own.batches.0 own.batches.1 (e - S.base - 1) (omega (arith, after, before, sound.released)))
-              ∙ ap (λ n. get_or (run answers (tree_of k.plan) k.standing.states (batches_of k.standing.submitted)).outs n []) place))
+      ∙ (sym (outs_at answers (tree_of k.plan) (states_join (tree_of k.plan)) (outs_join (tree_of k.plan)) k.standing.states (batches_of k.standing.submitted) (k.base - k.standing.epoch) within
+      S.base_states based S.batches own.batches.0 own.batches.1 (e - S.base - 1) (omega (arith, after, before, sound.released)))
+      ∙ ap (λ n. get_or (run answers (tree_of k.plan) k.standing.states (batches_of k.standing.submitted)).outs n []) place))
 
   pub at_most_released : length (to_collect S) ≤ S.next - (S.collected + 1)
   at_most_released = at_most (has_passed S) (S.collected + 1) (S.next - (S.collected + 1))
@@ -95,14 +95,14 @@ module _ {D : Type 0} (answers : Answers) (states_join : StatesJoin answers) (ou
       let difference : length (to_collect S) ≡ k.collected + length (to_collect S) - k.collected = omega arith in
       ap (map f) in_row
       ∙ (in_a_row f (S.collected + 1) (k.collected - k.standing.epoch) (length (to_collect S)) outs
-          (λ some. omega (arith, all, few, some, released, own.collected, keeping.collected, keeping.from_checkpoint))
-          (λ i l.
-              let passed = passes (has_passed S) (earlier (active S)) (S.collected + 1) (S.next - (S.collected + 1)) i l in
-              let place : S.collected + 1 + i - k.standing.epoch - 1 ≡ k.collected - k.standing.epoch + i = omega (arith, own.collected, keeping.collected, keeping.from_checkpoint) in
-              ap (out_at (S.collected + 1 + i))
-              (meant_at (S.collected + 1 + i) (omega (arith, own.collected, own.base, keeping.collected)) (omega arith) (omega (arith, l, few)) passed
-                  ∙ ap (λ m. get_or outs m []) place))
-          ∙ (λ i. numbered (own.collected i + 1) (take (difference i) (drop (k.collected - k.standing.epoch) outs))))
+      (λ some. omega (arith, all, few, some, released, own.collected, keeping.collected, keeping.from_checkpoint))
+      (λ i l.
+      let passed = passes (has_passed S) (earlier (active S)) (S.collected + 1) (S.next - (S.collected + 1)) i l in
+      let place : S.collected + 1 + i - k.standing.epoch - 1 ≡ k.collected - k.standing.epoch + i = omega (arith, own.collected, keeping.collected, keeping.from_checkpoint) in
+      ap (out_at (S.collected + 1 + i))
+      (meant_at (S.collected + 1 + i) (omega (arith, own.collected, own.base, keeping.collected)) (omega arith) (omega (arith, l, few)) passed
+      ∙ ap (λ m. get_or outs m []) place))
+      ∙ (λ i. numbered (own.collected i + 1) (take (difference i) (drop (k.collected - k.standing.epoch) outs))))
 
   -- it is still right then
   pub still : IsKeeping (with_collected k S) answers
@@ -135,9 +135,9 @@ module _ {D : Type 0} (answers : Answers) (states_join : StatesJoin answers) (ou
   cut_meaning e after before states is =
       let place : k.base - k.standing.epoch + (e - S.base) ≡ e - k.standing.epoch = omega (arith, after, own.base, keeping.from_checkpoint) in
       is ∙ (ap (λ q. states_after answers (tree_of q) S.base_states S.batches (e - S.base)) own.plan
-          ∙ (sym (states_on answers (tree_of k.plan) (states_join (tree_of k.plan)) (outs_join (tree_of k.plan)) k.standing.states (batches_of k.standing.submitted) (k.base - k.standing.epoch) within
-              S.base_states based S.batches own.batches.0 own.batches.1 (e - S.base) (omega (arith, before, after, sound.released)))
-              ∙ ap (states_after answers (tree_of k.plan) k.standing.states (batches_of k.standing.submitted)) place))
+      ∙ (sym (states_on answers (tree_of k.plan) (states_join (tree_of k.plan)) (outs_join (tree_of k.plan)) k.standing.states (batches_of k.standing.submitted) (k.base - k.standing.epoch) within
+      S.base_states based S.batches own.batches.0 own.batches.1 (e - S.base) (omega (arith, before, after, sound.released)))
+      ∙ ap (states_after answers (tree_of k.plan) k.standing.states (batches_of k.standing.submitted)) place))
 
   -- and may be its base, where what is up to it was collected
   pub cut_right : (e : ℕ) → S.base ≤ e → e < S.next → e ≤ k.collected → (states : StateList) → states ≡ run_states answers S e

@@ -24,12 +24,12 @@ in_a_row f k m (suc n) outs l h =
     let next : suc k ≡ k + 1 = omega arith in
     let first : f k ≡ out_at k (get_or outs m []) = ap f here ∙ (h 0 (omega arith) ∙ (λ i. out_at (sym here i) (get_or outs (there i) []))) in
     let later = in_a_row f (suc k) (m + 1) n outs (λ some. omega (arith, l (omega arith))) (λ i b.
-        let at : suc k + i ≡ k + suc i = omega arith in
-        let in_outs : m + suc i ≡ m + 1 + i = omega arith in
-        ap f at ∙ (h (suc i) (omega (arith, b)) ∙ (λ j. out_at (sym at j) (get_or outs (in_outs j) [])))) in
+    let at : suc k + i ≡ k + suc i = omega arith in
+    let in_outs : m + suc i ≡ m + 1 + i = omega arith in
+    ap f at ∙ (h (suc i) (omega (arith, b)) ∙ (λ j. out_at (sym at j) (get_or outs (in_outs j) [])))) in
     (λ i. first i ∷ later i)
     ∙ (ap (λ j. out_at k (get_or outs m []) ∷ numbered j (take n (drop (m + 1) outs))) next
-        ∙ sym (ap (λ l. numbered k (take (suc n) l)) (drop_more outs m [] (omega (arith, l (omega arith))))))
+    ∙ sym (ap (λ l. numbered k (take (suc n) l)) (drop_more outs m [] (omega (arith, l (omega arith))))))
 
 -- the first epochs, and then some of the others
 pub take_on : {X : Type 0} (d n : ℕ) (xs : List X) → take (d + n) xs ≡ take d xs ++ take n (drop d xs)
@@ -64,9 +64,9 @@ module _ (answers : Answers) (nodes : Nodes) where
         let of_some = length_outs base some in
         ap (λ l. get_or l (d + i) []) outs_on
         ∙ (ap (λ n. get_or (before ++ (run answers nodes base (some ++ rest)).outs) (n + i) []) (sym many)
-            ∙ (get_or-append-add before (run answers nodes base (some ++ rest)).outs i []
-                ∙ (ap (λ l. get_or l i []) (joined_outs base some rest)
-                    ∙ get_or_append_left (run answers nodes base some).outs _ [] i (omega (arith, l, of_some)))))
+        ∙ (get_or-append-add before (run answers nodes base (some ++ rest)).outs i []
+        ∙ (ap (λ l. get_or l i []) (joined_outs base some rest)
+        ∙ get_or_append_left (run answers nodes base some).outs _ [] i (omega (arith, l, of_some)))))
 
     pub states_on : (n : ℕ) → n ≤ length some → states_after answers nodes from all (d + n) ≡ states_after answers nodes base some n
     states_on n l =

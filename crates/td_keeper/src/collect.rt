@@ -13,8 +13,8 @@ use td_calls::Law;
 use td_core::Hall;
 use td_core::laws::each_is_sound;
 use td_disk::Disk;
-use td_standing::KeeperError;
 use td_stamp::EpochOut;
+use td_standing::KeeperError;
 
 impl<D: Disk, L: Law> Keeper<D, L> {
     /// Brings into the queue the outputs of the epochs that have passed in a hall since the last that was collected, and answers

@@ -1,4 +1,3 @@
-use Rattle.std.proofs.Common.{◌≡◌}
 use Rattle.td_standing.specs.Standing.{batches_of}
 use Rattle.td_keeper.proofs.Beginning.{Found}
 use Rattle.td_keeper.proofs.own.begin.Given as goal

@@ -1,6 +1,5 @@
-use Rattle.std.proofs.Common.{◌≡◌, ℕ, ◌+◌, ◌-◌, ◌<◌, Result, Ok, Err, IfErr, length, take, drop, refl, sym, ap, ◌∙◌, arith}
+use Rattle.std.proofs.Common.{◌≡◌, ◌-◌, ◌<◌, Result, Ok, Err, IfErr, length, ap, ◌∙◌, arith}
 use Rattle.std.proofs.lemmas.List.{length-drop}
-use Rattle.td_standing.specs.Standing.{batches_of}
 use Rattle.td_keeper.specs.Halls.{with_released}
 use Rattle.td_keeper.proofs.Batches.{may_come, comes, some_of_all, all_after}
 use Rattle.td_keeper.proofs.release.release_after.Goals as goal
@@ -39,6 +38,7 @@ pub returns-clause-released : goal.returns-clause-released
 returns-clause-released g c =
     let xs = c.args.submitted.now in
     let to : length xs.items ≡ c.loop-at.at = omega (arith, c.loop-at-test.false, c.loop-at.auto.at-end, c.len-at-end.ensures, xs.ok.0, c.requires.within) in
-    let left = length-drop c.args.has xs.items in
-    (omega (arith, left, to, c.loop-at.invariant.count),
-        c.loop-at.invariant.hall ∙ ap (with_released c.args.hall.now) (all_after c.args.has c.loop-at.at xs.items c.loop-at.auto.at (omega (arith, to))))
+    let left = length-drop c.args.has xs.items in (
+      omega (arith, left, to, c.loop-at.invariant.count),
+      c.loop-at.invariant.hall ∙ ap (with_released c.args.hall.now) (all_after c.args.has c.loop-at.at xs.items c.loop-at.auto.at (omega (arith, to))),
+    )

@@ -1,4 +1,4 @@
-use Rattle.std.proofs.Common.{◌≡◌, subst}
+use Rattle.std.proofs.Common.{subst}
 use Rattle.td_keeper.specs.Keeping.{Keeping, IsKeeping}
 use Rattle.td_keeper.specs.Halls.{last_passed}
 use Rattle.td_keeper.proofs.Collecting.{meant_up_to, collected_up_to, is_last}

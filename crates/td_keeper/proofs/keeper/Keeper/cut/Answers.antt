@@ -1,13 +1,13 @@
-use Rattle.std.proofs.Common.{◌≡◌, ◌≤◌, ◌<◌, ◌-◌, ℕ, true, Some, None, refl, sym, ap, ◌∙◌, subst, inl, inr, arith}
+use Rattle.std.proofs.Common.{◌≡◌, ◌≤◌, ◌-◌, true, sym, ap, ◌∙◌, subst, inl, inr, arith}
 use Rattle.td_plan.specs.Tree.{tree_of}
 use Rattle.td_batch.specs.Meaning.{states_after}
 use Rattle.td_standing.specs.Standing.{batches_of}
 use Rattle.td_machine.specs.State.{HallState}
 use Rattle.td_machine.specs.Active.{has_passed}
-use Rattle.td_machine.specs.Steps.{cut_at_by, collect_step}
+use Rattle.td_machine.specs.Steps.{cut_at_by}
 use Rattle.td_keeper.specs.Keeping.{Keeping, IsKeeping, keeping_of}
 use Rattle.td_keeper.specs.Refused.{cut_refusal}
-use Rattle.td_keeper.specs.Halls.{IsOwn, with_collected, with_cut, collected_hall, cut_hall, last_passed}
+use Rattle.td_keeper.specs.Halls.{IsOwn, with_collected, cut_hall, last_passed}
 use Rattle.td_keeper.proofs.Collecting.{own_after, cut_is, is_last, last_has_passed, cut_right, cut_meaning}
 use Rattle.td_keeper.proofs.keeper.Keeper.cut.Goals as goal
 
@@ -24,7 +24,7 @@ cut_at-requires-clause-released g c =
     let keeping = subst (λ (q : Keeping g.row.D.Denot). IsKeeping q g.L.Law.answers) c.self.view_is c.self.invariant.1 in
     let own : IsOwn c.bring_in.new.self c.bring_in.new.hall = subst (λ (q : Keeping g.row.D.Denot). IsOwn q c.bring_in.new.hall) (sym now.0) (subst (IsOwn (with_collected c.args.self.now c.args.hall.now)) (sym now.1) (own_after c.args.self.now c.args.hall.now (c.is_own.ensures.0 c.if-not-is_own.false))) in
     let last = is_last g.L.Law.answers c.run_joins.ensures.states c.run_joins.ensures.outs c.bring_in.new.self keeping c.bring_in.new.hall own c.each_is_sound.ensures.sound
-        (c.base_has_passed.ensures c.bring_in.new.hall c.each_is_sound.ensures.reached) in
+    (c.base_has_passed.ensures c.bring_in.new.hall c.each_is_sound.ensures.reached) in
     omega (arith, last.before, c.in-Ok.ensures.epoch)
 
 pub invariant_of-self : goal.invariant_of-self
@@ -35,18 +35,19 @@ invariant_of-self g c =
     let passed = c.base_has_passed.ensures c.bring_in.new.hall c.each_is_sound.ensures.reached in
     let last = is_last g.L.Law.answers c.run_joins.ensures.states c.run_joins.ensures.outs q c.self.invariant.1 c.bring_in.new.hall own c.each_is_sound.ensures.sound passed in
     let there : has_passed c.bring_in.new.hall c.in-Ok.last ≡ true = ap (has_passed c.bring_in.new.hall) c.in-Ok.ensures.epoch
-        ∙ last_has_passed g.L.Law.answers c.run_joins.ensures.states c.run_joins.ensures.outs q c.self.invariant.1 c.bring_in.new.hall own c.each_is_sound.ensures.sound passed in
+    ∙ last_has_passed g.L.Law.answers c.run_joins.ensures.states c.run_joins.ensures.outs q c.self.invariant.1 c.bring_in.new.hall own c.each_is_sound.ensures.sound passed in
     let is = cut_is c.bring_in.new.hall c.cut_at.new.self c.in-Ok.last c.in-Ok-cut_at.field-0.epoch c.in-Ok-cut_at.field-0.states (has_passed c.bring_in.new.hall c.in-Ok.last) there c.in-Ok-cut_at.ensures.cut in
     let far : last_passed c.bring_in.new.hall ≤ q.collected =
-        let low = c.collects_what_is_meant.ensures.far in
-        let here = ap last_passed now.1 in
-        let count = ap (λ (p : Keeping g.row.D.Denot). p.collected) (c.self.view_is ∙ now.0) in
-        omega (arith, low, here, count) in
-    (c.self.invariant.0,
-        cut_right g.L.Law.answers c.run_joins.ensures.states c.run_joins.ensures.outs q c.self.invariant.1 c.bring_in.new.hall own c.each_is_sound.ensures.sound c.in-Ok-cut_at.field-0.epoch
-        (omega (arith, is.0, c.in-Ok.ensures.epoch, last.after)) (omega (arith, is.0, c.in-Ok.ensures.epoch, last.before)) (omega (arith, is.0, c.in-Ok.ensures.epoch, far))
-        c.in-Ok-cut_at.field-0.states c.in-Ok-cut_at.ensures.meaning,
-        c.self.invariant.2)
+    let low = c.collects_what_is_meant.ensures.far in
+    let here = ap last_passed now.1 in
+    let count = ap (λ (p : Keeping g.row.D.Denot). p.collected) (c.self.view_is ∙ now.0) in
+    omega (arith, low, here, count) in (
+      c.self.invariant.0,
+      cut_right g.L.Law.answers c.run_joins.ensures.states c.run_joins.ensures.outs q c.self.invariant.1 c.bring_in.new.hall own c.each_is_sound.ensures.sound c.in-Ok-cut_at.field-0.epoch
+          (omega (arith, is.0, c.in-Ok.ensures.epoch, last.after)) (omega (arith, is.0, c.in-Ok.ensures.epoch, last.before)) (omega (arith, is.0, c.in-Ok.ensures.epoch, far))
+          c.in-Ok-cut_at.field-0.states c.in-Ok-cut_at.ensures.meaning,
+      c.self.invariant.2,
+    )
 
 pub returns-clause-own : goal.returns-clause-own
 returns-clause-own g c =
@@ -63,13 +64,14 @@ returns-clause-cut g c =
     let own : IsOwn q c.bring_in.new.hall = subst (λ (p : Keeping g.row.D.Denot). IsOwn p c.bring_in.new.hall) (sym view) (subst (IsOwn (with_collected c.args.self.now c.args.hall.now)) (sym now.1) (own_after c.args.self.now c.args.hall.now (c.is_own.ensures.0 c.if-not-is_own.false))) in
     let passed = c.base_has_passed.ensures c.bring_in.new.hall c.each_is_sound.ensures.reached in
     let there : has_passed c.bring_in.new.hall c.in-Ok.last ≡ true = ap (has_passed c.bring_in.new.hall) c.in-Ok.ensures.epoch
-        ∙ last_has_passed g.L.Law.answers c.run_joins.ensures.states c.run_joins.ensures.outs q c.self.invariant.1 c.bring_in.new.hall own c.each_is_sound.ensures.sound passed in
+    ∙ last_has_passed g.L.Law.answers c.run_joins.ensures.states c.run_joins.ensures.outs q c.self.invariant.1 c.bring_in.new.hall own c.each_is_sound.ensures.sound passed in
     let is = cut_is c.bring_in.new.hall c.cut_at.new.self c.in-Ok.last c.in-Ok-cut_at.field-0.epoch c.in-Ok-cut_at.field-0.states (has_passed c.bring_in.new.hall c.in-Ok.last) there c.in-Ok-cut_at.ensures.cut in
     let epochs : c.in-Ok-cut_at.field-0.epoch ≡ c.cut_at.new.self.base = is.0 ∙ sym (ap (λ (U : HallState). U.base) is.2) in
-    let states : c.in-Ok-cut_at.field-0.states ≡ c.cut_at.new.self.base_states = is.1 ∙ sym (ap (λ (U : HallState). U.base_states) is.2) in
-    (is.0 ∙ (c.in-Ok.ensures.epoch ∙ ap last_passed now.1),
-        sym (ap (λ p. p.1) c.in-Ok-cut_at.ensures.cut) ∙ (ap (λ n. (cut_at_by c.bring_in.new.hall (has_passed c.bring_in.new.hall n) n).1) c.in-Ok.ensures.epoch ∙ ap cut_hall now.1),
-        λ i. record (view i) { base = epochs i; base_states = states i; waiting = true })
+    let states : c.in-Ok-cut_at.field-0.states ≡ c.cut_at.new.self.base_states = is.1 ∙ sym (ap (λ (U : HallState). U.base_states) is.2) in (
+      is.0 ∙ (c.in-Ok.ensures.epoch ∙ ap last_passed now.1),
+      sym (ap (λ p. p.1) c.in-Ok-cut_at.ensures.cut) ∙ (ap (λ n. (cut_at_by c.bring_in.new.hall (has_passed c.bring_in.new.hall n) n).1) c.in-Ok.ensures.epoch ∙ ap cut_hall now.1),
+      λ i. record (view i) { base = epochs i; base_states = states i; waiting = true },
+    )
 
 pub returns-clause-meaning : goal.returns-clause-meaning
 returns-clause-meaning g c =
@@ -80,7 +82,7 @@ returns-clause-meaning g c =
     let passed = c.base_has_passed.ensures c.bring_in.new.hall c.each_is_sound.ensures.reached in
     let last = is_last g.L.Law.answers c.run_joins.ensures.states c.run_joins.ensures.outs q c.self.invariant.1 c.bring_in.new.hall own c.each_is_sound.ensures.sound passed in
     let there : has_passed c.bring_in.new.hall c.in-Ok.last ≡ true = ap (has_passed c.bring_in.new.hall) c.in-Ok.ensures.epoch
-        ∙ last_has_passed g.L.Law.answers c.run_joins.ensures.states c.run_joins.ensures.outs q c.self.invariant.1 c.bring_in.new.hall own c.each_is_sound.ensures.sound passed in
+    ∙ last_has_passed g.L.Law.answers c.run_joins.ensures.states c.run_joins.ensures.outs q c.self.invariant.1 c.bring_in.new.hall own c.each_is_sound.ensures.sound passed in
     let is = cut_is c.bring_in.new.hall c.cut_at.new.self c.in-Ok.last c.in-Ok-cut_at.field-0.epoch c.in-Ok-cut_at.field-0.states (has_passed c.bring_in.new.hall c.in-Ok.last) there c.in-Ok-cut_at.ensures.cut in
     cut_meaning g.L.Law.answers c.run_joins.ensures.states c.run_joins.ensures.outs q c.self.invariant.1 c.bring_in.new.hall own c.each_is_sound.ensures.sound c.in-Ok-cut_at.field-0.epoch
     (omega (arith, is.0, c.in-Ok.ensures.epoch, last.after)) (omega (arith, is.0, c.in-Ok.ensures.epoch, last.before)) c.in-Ok-cut_at.field-0.states c.in-Ok-cut_at.ensures.meaning

@@ -1,6 +1,5 @@
-use Rattle.std.proofs.Common.{◌≡◌, ◌+◌, ◌-◌, ℕ, Result, Ok, Err, IfOk, IfErr, length, take, drop, refl, sym, ap, ◌∙◌, subst, arith}
+use Rattle.std.proofs.Common.{◌≡◌, ◌+◌, ◌-◌, Result, Ok, Err, IfOk, IfErr, length, take, drop, sym, ap, ◌∙◌, subst, arith}
 use Rattle.std.proofs.lemmas.List.{length-map}
-use Rattle.td_journal.specs.declared.submitted.Submitted.{Submitted}
 use Rattle.td_standing.specs.Standing.{batches_of}
 use Rattle.td_keeper.specs.Keeping.{Keeping, IsKeeping}
 use Rattle.td_keeper.specs.Halls.{with_released, lacking}
@@ -33,40 +32,40 @@ release_after-requires-clause-numbers g c =
     let keeping = subst (λ (q : Keeping g.row.D.Denot). IsKeeping q g.L.Law.answers) c.self.view_is c.self.invariant.1 in
     let numbers = has_numbers g.L.Law.answers c.args.self.now keeping c.args.hall.now (c.is_own.ensures.0 c.if-not-is_own.false) c.each_is_sound.ensures.sound in
     let place : c.past.result + c.len.result ≡ c.args.self.now.base - c.args.self.now.standing.epoch + length c.args.hall.now.batches =
-        omega (arith, c.past.ensures, c.len.ensures, c.inputs.result.now.ok.0, ap length c.inputs.ensures) in
+    omega (arith, c.past.ensures, c.len.ensures, c.inputs.result.now.ok.0, ap length c.inputs.ensures) in
     let same = ap (λ (q : Keeping g.row.D.Denot). q.standing.submitted) c.self.view_is in
     let many : length (drop (c.past.result + c.len.result) c.self.inside.submitted.items) ≡ length (drop (c.args.self.now.base - c.args.self.now.standing.epoch + length c.args.hall.now.batches) c.args.self.now.standing.submitted) =
-        λ i. length (drop (place i) (same i)) in
+    λ i. length (drop (place i) (same i)) in
     omega (arith, numbers, many)
 
 pub returns-clause-released : goal.returns-clause-released
 returns-clause-released g c =
     let keeping = subst (λ (q : Keeping g.row.D.Denot). IsKeeping q g.L.Law.answers) c.self.view_is c.self.invariant.1 in
     let place : c.past.result + c.len.result ≡ c.args.self.now.base - c.args.self.now.standing.epoch + length c.args.hall.now.batches =
-        omega (arith, c.past.ensures, c.len.ensures, c.inputs.result.now.ok.0, ap length c.inputs.ensures) in
+    omega (arith, c.past.ensures, c.len.ensures, c.inputs.result.now.ok.0, ap length c.inputs.ensures) in
     let same = ap (λ (q : Keeping g.row.D.Denot). q.standing.submitted) c.self.view_is in
     let whole : batches_of (drop (c.past.result + c.len.result) c.self.inside.submitted.items) ≡ lacking c.args.self.now c.args.hall.now =
-        (λ i. batches_of (drop (place i) (same i))) ∙ lacks g.L.Law.answers c.args.self.now keeping c.args.hall.now (c.is_own.ensures.0 c.if-not-is_own.false) c.each_is_sound.ensures.sound in
+    (λ i. batches_of (drop (place i) (same i))) ∙ lacks g.L.Law.answers c.args.self.now keeping c.args.hall.now (c.is_own.ensures.0 c.if-not-is_own.false) c.each_is_sound.ensures.sound in
     if_ok c.release_after.result (λ n h. (h.0 ∙ (sym (length-map (drop (c.past.result + c.len.result) c.self.inside.submitted.items) (λ s. s.batch)) ∙ ap length whole), h.1 ∙ ap (with_released c.args.hall.now) whole)) c.release_after.ensures.released
 
 pub returns-clause-all : goal.returns-clause-all
 returns-clause-all g c =
     let keeping = subst (λ (q : Keeping g.row.D.Denot). IsKeeping q g.L.Law.answers) c.self.view_is c.self.invariant.1 in
     let place : c.past.result + c.len.result ≡ c.args.self.now.base - c.args.self.now.standing.epoch + length c.args.hall.now.batches =
-        omega (arith, c.past.ensures, c.len.ensures, c.inputs.result.now.ok.0, ap length c.inputs.ensures) in
+    omega (arith, c.past.ensures, c.len.ensures, c.inputs.result.now.ok.0, ap length c.inputs.ensures) in
     let same = ap (λ (q : Keeping g.row.D.Denot). q.standing.submitted) c.self.view_is in
     let whole : batches_of (drop (c.past.result + c.len.result) c.self.inside.submitted.items) ≡ lacking c.args.self.now c.args.hall.now =
-        (λ i. batches_of (drop (place i) (same i))) ∙ lacks g.L.Law.answers c.args.self.now keeping c.args.hall.now (c.is_own.ensures.0 c.if-not-is_own.false) c.each_is_sound.ensures.sound in
+    (λ i. batches_of (drop (place i) (same i))) ∙ lacks g.L.Law.answers c.args.self.now keeping c.args.hall.now (c.is_own.ensures.0 c.if-not-is_own.false) c.each_is_sound.ensures.sound in
     if_ok c.release_after.result (λ n h. ap (λ U. U.batches) (h.1 ∙ ap (with_released c.args.hall.now) whole)
-            ∙ all_then g.L.Law.answers c.args.self.now keeping c.args.hall.now (c.is_own.ensures.0 c.if-not-is_own.false) c.each_is_sound.ensures.sound (sym c.is_closed.ensures ∙ c.if-is_closed.false))
-        c.release_after.ensures.released
+    ∙ all_then g.L.Law.answers c.args.self.now keeping c.args.hall.now (c.is_own.ensures.0 c.if-not-is_own.false) c.each_is_sound.ensures.sound (sym c.is_closed.ensures ∙ c.if-is_closed.false))
+    c.release_after.ensures.released
 
 pub returns-clause-some : goal.returns-clause-some
 returns-clause-some g c =
     let keeping = subst (λ (q : Keeping g.row.D.Denot). IsKeeping q g.L.Law.answers) c.self.view_is c.self.invariant.1 in
     let place : c.past.result + c.len.result ≡ c.args.self.now.base - c.args.self.now.standing.epoch + length c.args.hall.now.batches =
-        omega (arith, c.past.ensures, c.len.ensures, c.inputs.result.now.ok.0, ap length c.inputs.ensures) in
+    omega (arith, c.past.ensures, c.len.ensures, c.inputs.result.now.ok.0, ap length c.inputs.ensures) in
     let same = ap (λ (q : Keeping g.row.D.Denot). q.standing.submitted) c.self.view_is in
     let whole : batches_of (drop (c.past.result + c.len.result) c.self.inside.submitted.items) ≡ lacking c.args.self.now c.args.hall.now =
-        (λ i. batches_of (drop (place i) (same i))) ∙ lacks g.L.Law.answers c.args.self.now keeping c.args.hall.now (c.is_own.ensures.0 c.if-not-is_own.false) c.each_is_sound.ensures.sound in
+    (λ i. batches_of (drop (place i) (same i))) ∙ lacks g.L.Law.answers c.args.self.now keeping c.args.hall.now (c.is_own.ensures.0 c.if-not-is_own.false) c.each_is_sound.ensures.sound in
     if_err c.release_after.result (λ e h. (h.0, h.1 ∙ ap (λ l. with_released c.args.hall.now (take h.0 l)) whole)) c.release_after.ensures.some
