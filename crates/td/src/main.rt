@@ -12,16 +12,16 @@ use std::process::ExitCode;
 use std::rt::Env;
 use std::{env, io};
 use td_calls::{Calls, FoldBox, GroupBox, MapBox, Stock, StockCalls, stock};
-use td_console::words::{self, Job, WordsError};
 use td_console::{Fault, StdReader, StdWriter, batch, fault_line, read_picks, run, sim};
 use td_stamp::{Item, Rec, State};
+use td_words::{Job, WordsError, words};
 
 fn main(rt: HostRuntime) -> ExitCode {
     let given = match given_words(&rt) {
         Ok(given) => given,
         Err(error) => return refused(&rt, error),
     };
-    match words::words(rt.alloc(), &given) {
+    match words(rt.alloc(), &given) {
         Ok(Job::Batch) => ended(&rt, run_engine(&rt, Engine::Batch)),
         Ok(Job::Run(workers)) => ended(&rt, run_engine(&rt, Engine::Run(workers))),
         Ok(Job::Sim(workers, picks)) => match read_picks(rt.alloc(), picks) {

@@ -7,9 +7,7 @@ pub mod Wide
 pub mod ReadOn
 pub mod MoreEpochs
 pub mod OneAnswer
-pub mod BatchWords
 pub mod Asking
 pub mod Released
 pub mod Turning
-pub mod Asked
 pub mod Picking

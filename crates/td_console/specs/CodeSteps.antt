@@ -11,9 +11,7 @@ use Rattle.td_console.specs.declared.data_line.DataLine.{DataLine}
 use Rattle.td_console.specs.declared.data_line.DataLine.TheVariants.{PassedOver, Record, Close}
 use Rattle.td_console.specs.declared.faults.LineFault.TheVariants.{Syntax, NoSuchInput, NotClosed}
 use Rattle.td_console.specs.declared.faults.Fault.{Fault}
-use Rattle.td_console.specs.declared.faults.Fault.TheVariants.{Line, Input, Output, Memory, Picks, Spent}
-use Rattle.td_console.specs.declared.words.Job.{Job}
-use Rattle.td_console.specs.declared.words.Job.TheVariants.{Sim, Help}
+use Rattle.td_console.specs.declared.faults.Fault.TheVariants.{Line, Input, Output, Memory, Picks, File, Shape, Keeper, Spent}
 use Rattle.td_console.specs.Data.{data_line_of}
 
 -- Epochs read so far: the batches of those that are closed, and the entries of the one which is not, as they were read
@@ -54,11 +52,14 @@ abbrev pub Gives : Result Epochs Fault → Result Epochs Fault → Type 0
 Gives (Ok epochs) wanted = wanted ≡ Ok epochs
 Gives (Err fault) wanted = (fault ≡ Memory) ⊎ (wanted ≡ Err fault)
 
--- a fault that the input can have, or want of memory: none of a reader's or a writer's, of picks or of a hall
+-- a fault that the input can have, or want of memory: none of a reader's or a writer's, of picks, of a disk or of a hall
 abbrev pub IsOfInput : Fault → Type 0
 IsOfInput Input = ⊥
 IsOfInput Output = ⊥
 IsOfInput Picks = ⊥
+IsOfInput File = ⊥
+IsOfInput Shape = ⊥
+IsOfInput (Keeper e) = ⊥
 IsOfInput Spent = ⊥
 IsOfInput _ = Unit {0}
 
@@ -66,15 +67,8 @@ IsOfInput _ = Unit {0}
 abbrev pub IsOfReading : Fault → Type 0
 IsOfReading Output = ⊥
 IsOfReading Picks = ⊥
+IsOfReading File = ⊥
+IsOfReading Shape = ⊥
+IsOfReading (Keeper e) = ⊥
 IsOfReading Spent = ⊥
 IsOfReading _ = Unit {0}
-
--- a job that prints a text
-abbrev pub IsHelp : Job → Type 0
-IsHelp (Help text) = Unit {0}
-IsHelp _ = ⊥
-
--- a simulation
-abbrev pub IsSim : Job → Type 0
-IsSim (Sim workers picks) = Unit {0}
-IsSim _ = ⊥

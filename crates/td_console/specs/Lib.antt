@@ -8,4 +8,3 @@ pub mod Simulated
 pub mod CodeSteps
 pub mod Streams
 pub mod StreamProofs
-pub mod Command

@@ -1,11 +1,16 @@
 -- The numbers and the texts of the faults.
 use Rattle.std.specs.Prelude.{ℕ, List, ◌++◌, codes}
 use Rattle.std.specs.Fmt.{decimal}
+use Rattle.td_disk.specs.declared.error.MakeError.{MakeError}
+use Rattle.td_disk.specs.declared.error.MakeError.TheVariants as make
 use Rattle.td_plan.specs.Refusals.{refusal_text}
+use Rattle.td_standing.specs.declared.error.KeeperError.{KeeperError}
+use Rattle.td_standing.specs.declared.error.KeeperError.TheVariants as keeper
+use Rattle.td_standing.specs.Refusals.{refusal_text as keeper_text}
 use Rattle.td_console.specs.declared.faults.LineFault.{LineFault}
 use Rattle.td_console.specs.declared.faults.LineFault.TheVariants.{Syntax, NoSuchInput, NotClosed}
 use Rattle.td_console.specs.declared.faults.Fault.{Fault}
-use Rattle.td_console.specs.declared.faults.Fault.TheVariants.{Plan, NoCall, Line, Input, Output, Memory, Picks, Spent}
+use Rattle.td_console.specs.declared.faults.Fault.TheVariants.{Plan, NoCall, Line, Input, Output, Memory, Picks, File, Shape, Keeper, Spent}
 
 -- the number of a fault
 abbrev pub number_of : Fault → ℕ
@@ -16,6 +21,9 @@ number_of Input = 4
 number_of Output = 5
 number_of Memory = 6
 number_of Picks = 8
+number_of File = 9
+number_of Shape = 10
+number_of (Keeper e) = 11
 number_of Spent = 12
 
 -- what is wrong with a data line
@@ -33,4 +41,17 @@ fault_text Input = codes "input"
 fault_text Output = codes "output"
 fault_text Memory = codes "memory"
 fault_text Picks = codes "picks"
+fault_text File = codes "file"
+fault_text Shape = codes "shape"
+fault_text (Keeper e) = keeper_text e
 fault_text Spent = codes "spent"
+
+-- the fault for a keeper's refusal
+abbrev pub keeper_fault : KeeperError → Fault
+keeper_fault keeper.Memory = Memory
+keeper_fault e = Keeper e
+
+-- the fault for a file that was not made or opened
+abbrev pub make_fault : MakeError → Fault
+make_fault make.File = File
+make_fault make.Memory = Memory

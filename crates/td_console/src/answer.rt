@@ -42,7 +42,7 @@ pub(crate) fn run_text<L: Law, C: Closures<L>>(
 }
 
 /// Appends the lines of an epoch. Refusal: `Memory`.
-pub(crate) fn print_epoch(text: &mut String, epoch: &EpochOut) -> Result<(), Fault>
+pub fn print_epoch(text: &mut String, epoch: &EpochOut) -> Result<(), Fault>
     ensures ok { OnOk result (string_bytes text.new ≡ string_bytes text.old ++ flat_map (output_line epoch.now.epoch) epoch.now.recs) }
     ensures err { IfErr result (λ f. f ≡ Fault.Memory) }
 {

@@ -19,7 +19,7 @@ pub enum DataLine {
 }
 
 /// What a data line says, if it has a form.
-pub(crate) fn read_data_line(line: &str) -> Option<DataLine>
+pub fn read_data_line(line: &str) -> Option<DataLine>
     ensures { result ≡ data_line_of line.now }
 {
     if is_passed_over(line) {

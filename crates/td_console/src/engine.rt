@@ -135,7 +135,7 @@ fn read_question<R: Source, L: Law, C: Closures<L>>(
 }
 
 /// Writes a text. Refusal: `Output`, where the writer failed.
-fn write_answer<W: Sink>(writer: &mut W, text: &str) -> Result<(), Fault>
+pub fn write_answer<W: Sink>(writer: &mut W, text: &str) -> Result<(), Fault>
     ensures written { OnOk result (Appends (W.contents writer.old) (W.contents writer.new) text.now) }
     ensures room { W.HasRoom writer.old (length text.now) → IsOk result }
     ensures err { IfErr result (λ f. f ≡ Fault.Output) }
@@ -147,7 +147,7 @@ fn write_answer<W: Sink>(writer: &mut W, text: &str) -> Result<(), Fault>
 }
 
 /// All that a reader gives. It stands apart, since it knows nothing of plans.
-fn read_all<R: Source>(alloc: Global, reader: &mut R) -> Result<Vec<u8>, Fault>
+pub fn read_all<R: Source>(alloc: Global, reader: &mut R) -> Result<Vec<u8>, Fault>
     ensures ok { IfOk result (λ bytes. IfSome (R.remaining reader.old) (λ input. bytes.items ≡ input)) }
     ensures end { OnOk result (IfSome (R.remaining reader.new) (λ rest. rest ≡ [])) }
     ensures few { IfOk result (λ bytes. length bytes.items ≤ 2 ^ 44) }

@@ -118,7 +118,7 @@ impl Epochs {
 }
 
 /// Whether a number is that of an input vertex.
-fn is_input(plan: &Plan, number: u32) -> bool
+pub fn is_input(plan: &Plan, number: u32) -> bool
     ensures exact { result ≡ is_input_of plan.now number }
     ensures small { OnTrue result (number < most_vertices) }
 {

@@ -1,14 +1,16 @@
 //! What can go wrong, and what is printed of it.
 ghost use Rattle.std.specs.Prelude.{◌≡◌, ◌++◌, [], ◌∷◌, IfOk, codes, string_bytes, Some};
 ghost use Rattle.td_console.specs.declared.faults.Fault.TheVariants.{Memory};
-ghost use Rattle.td_console.specs.Refusals.{number_of, fault_text, line_fault_text};
+ghost use Rattle.td_console.specs.Refusals.{number_of, fault_text, line_fault_text, keeper_fault, make_fault};
 
 use std::alloc::{AllocError, AllocFailed, Global};
 use std::error::Error;
 use std::fmt;
 use td_batch::BatchError;
+use td_disk::MakeError;
 use td_plan::PlanError;
 use td_stamp::StampError;
+use td_standing::KeeperError;
 
 /// What is wrong with a data line.
 #[derive(Clone, Copy, Debug, PartialEq, Eq)]
@@ -50,12 +52,18 @@ pub enum Fault {
     Memory,
     /// A list of picks has another shape than numbers joined by commas.
     Picks,
+    /// A file cannot be made, opened or read.
+    File,
+    /// A shape out of its limits, or too large for its disk.
+    Shape,
+    /// A keeper refused; want of memory is `Memory` in its place.
+    Keeper(KeeperError),
     /// There is something to take, and a hall has used all numbers of tasks.
     Spent,
 }
 
 impl Fault {
-    /// The fault's number: 1 to 6, 8 and 12, in the order in which they are declared. The others are not used.
+    /// The fault's number: 1 to 6 and 8 to 12, in the order in which they are declared. 7 is not used.
     pub fn number(&self) -> u8
         ensures { result ≡ number_of self.now }
     {
@@ -67,6 +75,9 @@ impl Fault {
             Fault::Output => 5,
             Fault::Memory => 6,
             Fault::Picks => 8,
+            Fault::File => 9,
+            Fault::Shape => 10,
+            Fault::Keeper(_) => 11,
             Fault::Spent => 12,
         }
     }
@@ -84,6 +95,9 @@ impl fmt::Display for Fault {
             Fault::Output => write!(f, "output"),
             Fault::Memory => write!(f, "memory"),
             Fault::Picks => write!(f, "picks"),
+            Fault::File => write!(f, "file"),
+            Fault::Shape => write!(f, "shape"),
+            Fault::Keeper(error) => write!(f, "{error}"),
             Fault::Spent => write!(f, "spent"),
         }
     }
@@ -120,6 +134,28 @@ impl From<BatchError> for Fault {
 
     fn from(_error: BatchError) -> Fault {
         Fault::Memory
+    }
+}
+
+impl From<KeeperError> for Fault {
+    ghost from_gives = { λ e f. f ≡ keeper_fault e };
+
+    fn from(error: KeeperError) -> Fault {
+        match error {
+            KeeperError::Memory => Fault::Memory,
+            _ => Fault::Keeper(error),
+        }
+    }
+}
+
+impl From<MakeError> for Fault {
+    ghost from_gives = { λ e f. f ≡ make_fault e };
+
+    fn from(error: MakeError) -> Fault {
+        match error {
+            MakeError::Memory => Fault::Memory,
+            MakeError::File => Fault::File,
+        }
     }
 }
 

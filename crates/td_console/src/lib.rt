@@ -1,4 +1,4 @@
-//! What the program `td` does: its words, and the engines behind its commands, over any reader and writer. Their one contract:
+//! The engines behind commands of the program `td`, over any reader and writer. Their one contract:
 //! `batch`, `run` and `sim` write exactly the answer text of what they read, `sim` after its notes, or answer its first fault.
 #![tactic(auto)]
 
@@ -16,12 +16,15 @@ mod question;
 mod sink;
 mod source;
 mod turns;
-pub mod words;
 
-pub use data_line::DataLine;
-pub use engine::{batch, run, sim};
+pub use answer::print_epoch;
+pub use data_line::{DataLine, read_data_line};
+pub use engine::{batch, read_all, run, sim, write_answer};
+pub use epochs::is_input;
 pub use faults::{Fault, LineFault, fault_line};
 pub use number::integer;
+pub use parts::{ascii_text, first_line};
 pub use picks::read_picks;
+pub use question::{lack_fault, plan_fault};
 pub use sink::{Sink, StdWriter};
 pub use source::{Source, StdReader};

@@ -98,7 +98,7 @@ fn wide_fault_at(number: u64, in_data: bool) -> Fault
 }
 
 /// The text of some bytes, if they are ASCII.
-pub(crate) fn ascii_text(bytes: &[u8]) -> Option<&str>
+pub fn ascii_text(bytes: &[u8]) -> Option<&str>
     ensures some { IfSome result (λ text. text.now ≡ bytes.now) }
     ensures ascii { is_some result ≡ list_all is_ascii bytes.now }
 {
@@ -116,7 +116,7 @@ fn is_ascii(bytes: &[u8]) -> bool
 }
 
 /// The first line of some bytes, without its line feed, and the bytes after it.
-fn first_line(bytes: &[u8]) -> Option<(&[u8], &[u8])>
+pub fn first_line(bytes: &[u8]) -> Option<(&[u8], &[u8])>
     ensures lines { MatchOption result (text_lines bytes.now ≡ []) (λ p. text_lines bytes.now ≡ p.0.now ∷ text_lines p.1.now) }
     ensures shorter { IfSome result (λ p. length p.1.now < length bytes.now) }
 {

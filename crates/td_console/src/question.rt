@@ -109,7 +109,7 @@ fn batches_for<L: Law, C: Closures<L>>(
 }
 
 /// The fault for a plan text that spells no plan.
-fn plan_fault(error: PlanError) -> Fault
+pub fn plan_fault(error: PlanError) -> Fault
     ensures memory { error ≡ PlanError.Memory → result ≡ Fault.Memory }
     ensures other { (result ≡ Fault.Memory) ⊎ (result ≡ Fault.Plan error) }
     ensures own { IsOfInput result }
@@ -121,7 +121,7 @@ fn plan_fault(error: PlanError) -> Fault
 }
 
 /// The fault for a vertex without its closure.
-fn lack_fault(lack: CallsError) -> Fault
+pub fn lack_fault(lack: CallsError) -> Fault
     ensures fault { result ≡ lack_fault lack }
     ensures own { IsOfInput result }
 {

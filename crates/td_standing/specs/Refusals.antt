@@ -1,11 +1,13 @@
--- The refusals of a keeper: their numbers, and those of a disk's parts as a keeper gives them.
-use Rattle.std.specs.Prelude.{ℕ}
+-- The refusals of a keeper: their numbers, their texts, and those of a disk's parts as a keeper gives them.
+use Rattle.std.specs.Prelude.{ℕ, List, ◌++◌, codes}
+use Rattle.std.specs.Fmt.{decimal}
 use Rattle.td_head.specs.declared.error.HeadError.{HeadError}
 use Rattle.td_head.specs.declared.error.HeadError.TheVariants as head
 use Rattle.td_slots.specs.declared.error.SlotsError.{SlotsError}
 use Rattle.td_slots.specs.declared.error.SlotsError.TheVariants as slots
 use Rattle.td_journal.specs.declared.error.JournalError.{JournalError}
 use Rattle.td_journal.specs.declared.error.JournalError.TheVariants as journal
+use Rattle.td_standing.specs.declared.error.Part.{Part}
 use Rattle.td_standing.specs.declared.error.Part.TheVariants.{Head, NoSlot, Slot, Cell}
 use Rattle.td_standing.specs.declared.error.KeeperError.{KeeperError}
 use Rattle.td_standing.specs.declared.error.KeeperError.TheVariants.{NotFormatted, WrongPlan, Damaged, Full, TooManyRecords, NoSuchInput, Foreign, NotPassed, CutWaiting, TooManyKeys, Broken, Device, Memory, Epochs}
@@ -47,3 +49,27 @@ number_of Broken = 11
 number_of Device = 12
 number_of Memory = 13
 number_of Epochs = 14
+
+-- the text of a part
+abbrev pub part_text : Part → List ℕ
+part_text Head = codes "head"
+part_text NoSlot = codes "no slot"
+part_text (Slot side) = codes "slot " ++ decimal side
+part_text (Cell cell) = codes "cell " ++ decimal cell
+
+-- the text of a refusal
+abbrev pub refusal_text : KeeperError → List ℕ
+refusal_text NotFormatted = codes "not formatted"
+refusal_text WrongPlan = codes "another plan"
+refusal_text (Damaged part) = codes "damaged: " ++ part_text part
+refusal_text Full = codes "journal full"
+refusal_text TooManyRecords = codes "too many records"
+refusal_text NoSuchInput = codes "no such input"
+refusal_text Foreign = codes "foreign hall"
+refusal_text (NotPassed epoch) = codes "epoch " ++ (decimal epoch ++ codes " not passed")
+refusal_text CutWaiting = codes "cut waiting"
+refusal_text TooManyKeys = codes "too many keys"
+refusal_text Broken = codes "broken"
+refusal_text Device = codes "device"
+refusal_text Memory = codes "memory"
+refusal_text Epochs = codes "no more epochs"

@@ -1,77 +1,73 @@
 // The refusals of a keeper.
-ghost use Rattle.std.specs.Prelude.{◌≡◌};
-ghost use Rattle.td_standing.specs.Refusals.{number_of, of_head, of_slots, of_journal};
+ghost use Rattle.std.specs.Prelude.{◌≡◌, Some};
+ghost use Rattle.td_standing.specs.Refusals.{number_of, part_text, refusal_text, of_head, of_slots, of_journal};
 ghost use Rattle.td_standing.specs.declared.error.KeeperError.TheVariants.{Memory as OutOfMemory, Device as DeviceFailed};
 
 use std::alloc::{AllocError, AllocFailed};
+use std::error::Error;
+use std::fmt;
 use td_disk::Fault;
 use td_head::HeadError;
 use td_journal::JournalError;
 use td_slots::SlotsError;
 use td_stamp::StampError;
-use thiserror::Error;
 
 /// A part of a disk.
-#[derive(Clone, Copy, Debug, PartialEq, Eq, Error)]
+#[derive(Clone, Copy, Debug, PartialEq, Eq)]
 pub enum Part {
     /// The head.
-    #[error("head")]
     Head,
     /// Both slots: none is open.
-    #[error("no slot")]
     NoSlot,
     /// A slot.
-    #[error("slot {0}")]
     Slot(u8),
     /// A cell.
-    #[error("cell {0}")]
     Cell(u32),
 }
 
+impl fmt::Display for Part {
+    ghost output = { λ p. Some (part_text p) };
+
+    fn fmt<W: fmt::Write>(&self, f: &mut fmt::Formatter<W>) -> fmt::Result {
+        match self {
+            Part::Head => write!(f, "head"),
+            Part::NoSlot => write!(f, "no slot"),
+            Part::Slot(side) => write!(f, "slot {side}"),
+            Part::Cell(cell) => write!(f, "cell {cell}"),
+        }
+    }
+}
+
 /// Why a keeper refused.
-#[derive(Clone, Copy, Debug, PartialEq, Eq, Error)]
+#[derive(Clone, Copy, Debug, PartialEq, Eq)]
 pub enum KeeperError {
     /// The disk has no head, or is too small for one.
-    #[error("not formatted")]
     NotFormatted,
     /// The disk was formatted for another plan.
-    #[error("another plan")]
     WrongPlan,
     /// A part of the disk has what no keeper writes there.
-    #[error("damaged: {0}")]
     Damaged(Part),
     /// No cell of the journal is free.
-    #[error("journal full")]
     Full,
     /// The batch has more records than a cell holds.
-    #[error("too many records")]
     TooManyRecords,
     /// A record of the batch names no input of the plan.
-    #[error("no such input")]
     NoSuchInput,
     /// The hall is not one of this keeper's.
-    #[error("foreign hall")]
     Foreign,
     /// This released epoch has not passed.
-    #[error("epoch {0} not passed")]
     NotPassed(u64),
     /// A cut waits to be written.
-    #[error("cut waiting")]
     CutWaiting,
     /// There are more states than a slot holds.
-    #[error("too many keys")]
     TooManyKeys,
     /// The device failed in an earlier call that writes.
-    #[error("broken")]
     Broken,
     /// The device failed, and its count of failures rose.
-    #[error("device")]
     Device,
     /// Memory ran out.
-    #[error("memory")]
     Memory,
     /// The greatest epoch is reached.
-    #[error("no more epochs")]
     Epochs,
 }
 
@@ -98,6 +94,31 @@ impl KeeperError {
         }
     }
 }
+
+impl fmt::Display for KeeperError {
+    ghost output = { λ e. Some (refusal_text e) };
+
+    fn fmt<W: fmt::Write>(&self, f: &mut fmt::Formatter<W>) -> fmt::Result {
+        match self {
+            KeeperError::NotFormatted => write!(f, "not formatted"),
+            KeeperError::WrongPlan => write!(f, "another plan"),
+            KeeperError::Damaged(part) => write!(f, "damaged: {part}"),
+            KeeperError::Full => write!(f, "journal full"),
+            KeeperError::TooManyRecords => write!(f, "too many records"),
+            KeeperError::NoSuchInput => write!(f, "no such input"),
+            KeeperError::Foreign => write!(f, "foreign hall"),
+            KeeperError::NotPassed(epoch) => write!(f, "epoch {epoch} not passed"),
+            KeeperError::CutWaiting => write!(f, "cut waiting"),
+            KeeperError::TooManyKeys => write!(f, "too many keys"),
+            KeeperError::Broken => write!(f, "broken"),
+            KeeperError::Device => write!(f, "device"),
+            KeeperError::Memory => write!(f, "memory"),
+            KeeperError::Epochs => write!(f, "no more epochs"),
+        }
+    }
+}
+
+impl Error for KeeperError {}
 
 impl From<Fault> for KeeperError {
     ghost from_gives = { λ _ e. e ≡ DeviceFailed };

@@ -1,10 +1,11 @@
 //! What the program is asked to do, from the words that it is given.
 ghost use Rattle.std.specs.Prelude.{◌≡◌, ◌≢◌, ◌⊎◌, ◌↔◌, ◌≤◌, ℕ, false, IsTrue, IfOk, IfErr, IfSome, IfNone, map, string_bytes, Ok, Err};
 ghost use Rattle.clap.specs.Words.{app_of, found_of, kind_of, rule_of, rows_of, subcommand_rows_of, with_subcommand};
-ghost use Rattle.td_console.specs.declared.words.Job.{Job as AnyJob};
-ghost use Rattle.td_console.specs.Command.{td, batch_app, run_app, sim_app, workers_rule, picks_rule, batch_words, run_words, IsAsked, IsNamed, HasValues, IsWorkers, HasWorkers, IsRefused};
-ghost use Rattle.td_console.specs.CodeSteps.{IsHelp, IsSim};
+ghost use Rattle.td_words.specs.declared.job.Job.{Job as AnyJob};
+ghost use Rattle.td_words.specs.Command.{td, batch_app, run_app, sim_app, workers_rule, picks_rule, batch_words, run_words, IsAsked, IsNamed, HasValues, IsWorkers, HasWorkers, IsRefused};
+ghost use Rattle.td_words.specs.Jobs.{IsHelp, IsSim};
 
+use crate::job::{Job, WordsError};
 use clap::builder::ValueParser;
 use clap::error::ErrorKind;
 use clap::{Arg, ArgMatches, Command, Error};
@@ -44,30 +45,6 @@ Reads:  the lines of a plan, a line '--', and lines 'INPUT KEY VALUE', where a l
 Writes: lines 'note SHARD VERTEX TIME', and then lines 'EPOCH VERTEX KEY VALUE', after all was read; nothing where there is a fault
 Exit status: 0, or 1 after a fault, which is told on standard error
 Faults are explained in docs/FAULTS.md";
-
-/// What is asked for.
-#[derive(Debug, Drop)]
-pub enum Job<'a> {
-    /// To run a batch from standard input to standard output.
-    Batch,
-    /// The same by a hall of so many shards.
-    Run(u8),
-    /// The same by a hall of so many shards that take turns, with this list of picks, which is not read yet.
-    Sim(u8, &'a str),
-    /// To print this text.
-    Help(String),
-}
-
-/// Why nothing can be done for the words.
-#[derive(Clone, Copy, Debug, PartialEq, Eq, thiserror::Error)]
-pub enum WordsError {
-    /// The words do not parse.
-    #[error("words")]
-    Words,
-    /// An allocation was refused.
-    #[error("memory")]
-    Memory,
-}
 
 /// What these words ask for, of which the first is the program's name. The subcommands are `batch`, `run [--workers W]` and
 /// `sim [--workers W] [--picks LIST]`, where W is 1 to 16, and 1 where it is not given, and LIST is `0` where it is not given.

@@ -1,8 +1,8 @@
 use Rattle.std.proofs.Common.{rules, ap, ap₂, ◌≡◌, ◌∙◌, ◌||◌, codes, false}
 use Rattle.std.proofs.lemmas.Result.{IfOk-weaker}
 use Rattle.clap.specs.Words.{App, app_of, new_app, with_rule, with_subcommand}
-use Rattle.td_console.specs.Command.{run_app, sim_app}
-use Rattle.td_console.proofs.words.with_sim.Goals as goal
+use Rattle.td_words.specs.Command.{run_app, sim_app}
+use Rattle.td_words.proofs.parse.with_sim.Goals as goal
 
 pub returns : goal.returns
 returns c =

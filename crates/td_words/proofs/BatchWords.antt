@@ -3,7 +3,7 @@ use Rattle.std.proofs.Common.{◌≡◌, refl, true, List, ℕ, Option, Some, No
 use Rattle.clap.specs.Words.{is_simple, takes, subcommand_of, one_of}
 use Rattle.clap.specs.Faults.{is_simple_and_free}
 use Rattle.clap.proofs.OnLiterals.{clap_on_literals}
-use Rattle.td_console.specs.Command.{td, batch_words, run_words}
+use Rattle.td_words.specs.Command.{td, batch_words, run_words}
 
 pub td_is_simple : is_simple td ≡ true
 unfolding clap_on_literals

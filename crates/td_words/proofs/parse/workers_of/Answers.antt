@@ -2,9 +2,9 @@ use Rattle.std.proofs.Common.{◌≡◌, ◌≤◌, ℕ, List, Result, IfNone, S
 use Rattle.std.specs.Str.Parse.{ParsesUnsigned, ExplainsUnsignedError, HasUnsignedDigitsIfOk}
 use Rattle.std.specs.declared.num.ParseIntError.{ParseIntError}
 use Rattle.clap.specs.Words.{found_of, rows_of}
-use Rattle.td_console.specs.Command.{IsWorkers}
-use Rattle.td_console.proofs.Asked.{workers_read, no_workers}
-use Rattle.td_console.proofs.words.workers_of.Goals as goal
+use Rattle.td_words.specs.Command.{IsWorkers}
+use Rattle.td_words.proofs.Asked.{workers_read, no_workers}
+use Rattle.td_words.proofs.parse.workers_of.Goals as goal
 
 -- how a `u8` is read
 abbrev Reads : List ℕ → Result ℕ ParseIntError → Type 0

@@ -4,11 +4,11 @@ use Rattle.clap.specs.Words.{kind_of, is_simple, takes, subcommand_of, subcomman
 use Rattle.clap.specs.Faults.{fault_of, is_simple_and_free}
 use Rattle.clap.specs.Kinds.{IsAmong}
 use Rattle.clap.specs.declared.error.kind.ErrorKind.TheVariants.{OutOfMemory}
-use Rattle.td_console.specs.declared.words.Job.TheVariants.{Batch, Run}
-use Rattle.td_console.specs.Command.{td, IsNamed}
-use Rattle.td_console.proofs.Asked.{asked_by, has_workers, helped_by, help_has_workers, refused_by, none_named, named_batch, named_run, run_met, batch_met, only_memory}
-use Rattle.td_console.proofs.BatchWords.{td_is_simple, td_is_free, batch_is_taken, batch_is_named, run_is_taken, run_is_named, run_has_one}
-use Rattle.td_console.proofs.words.words.Goals as goal
+use Rattle.td_words.specs.declared.job.Job.TheVariants.{Batch, Run}
+use Rattle.td_words.specs.Command.{td, IsNamed}
+use Rattle.td_words.proofs.Asked.{asked_by, has_workers, helped_by, help_has_workers, refused_by, none_named, named_batch, named_run, run_met, batch_met, only_memory}
+use Rattle.td_words.proofs.BatchWords.{td_is_simple, td_is_free, batch_is_taken, batch_is_named, run_is_taken, run_is_named, run_has_one}
+use Rattle.td_words.proofs.parse.words.Goals as goal
 
 pub returns-in-Err-clause-err : goal.returns-in-Err-clause-err
 returns-in-Err-clause-err c =

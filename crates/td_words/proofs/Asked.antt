@@ -13,12 +13,12 @@ use Rattle.clap.specs.Words.{Row, Text, one_of, first_of, rows_of, subcommand_ro
 use Rattle.clap.proofs.WalkLemmas.{one_text-rows}
 use Rattle.clap.specs.Faults.{fault_of}
 use Rattle.clap.specs.Kinds.{IsAmong}
-use Rattle.td_console.specs.declared.words.Job.{Job}
-use Rattle.td_console.specs.declared.words.Job.TheVariants.{Batch, Run, Sim, Help}
-use Rattle.td_console.specs.declared.words.WordsError.{WordsError}
-use Rattle.td_console.specs.declared.words.WordsError.TheVariants.{Words, Memory}
-use Rattle.td_console.specs.CodeSteps.{IsHelp, IsSim}
-use Rattle.td_console.specs.Command.{td, IsWorkers, IsNamed, HasValues, HasWorkers, IsAsked, IsRefused, name_of}
+use Rattle.td_words.specs.declared.job.Job.{Job}
+use Rattle.td_words.specs.declared.job.Job.TheVariants.{Batch, Run, Sim, Help}
+use Rattle.td_words.specs.declared.job.WordsError.{WordsError}
+use Rattle.td_words.specs.declared.job.WordsError.TheVariants.{Words, Memory}
+use Rattle.td_words.specs.Jobs.{IsHelp, IsSim}
+use Rattle.td_words.specs.Command.{td, IsWorkers, IsNamed, HasValues, HasWorkers, IsAsked, IsRefused, name_of}
 
 -- the number of shards, as it is read
 module _ {E : Type 0} (Reads : List ℕ → Result ℕ E → Type 0) (numbers : (t : List ℕ) (x : Result ℕ E) → Reads t x → ParsesUnsigned 8 10 t x) (f : Found) (r : Option ℕ) (none : one_text f (codes "workers") ≡ None → r ≡ None)

@@ -1,11 +1,11 @@
 use Rattle.std.proofs.Common.{◌≡◌, ℕ, IfNone, IfSome, None, Some, sym, ap, ◌∙◌, subst, option_map, codes}
 use Rattle.clap.specs.Words.{found_of, rows_of}
 use Rattle.clap.proofs.WalkLemmas.{first_value-rows}
-use Rattle.td_console.specs.declared.words.Job.{Job}
-use Rattle.td_console.specs.CodeSteps.{IsSim}
-use Rattle.td_console.specs.Command.{HasValues}
-use Rattle.td_console.proofs.Asked.{no_sim_workers, no_sim_picks}
-use Rattle.td_console.proofs.words.sim_job.Goals as goal
+use Rattle.td_words.specs.declared.job.Job.{Job}
+use Rattle.td_words.specs.Jobs.{IsSim}
+use Rattle.td_words.specs.Command.{HasValues}
+use Rattle.td_words.proofs.Asked.{no_sim_workers, no_sim_picks}
+use Rattle.td_words.proofs.parse.sim_job.Goals as goal
 
 pub returns-in_err-workers-clause-none : goal.returns-in_err-workers-clause-none
 returns-in_err-workers-clause-none c =

@@ -1,0 +1,41 @@
+-- What a feed leaves on a disk.
+use Rattle.std.specs.Prelude.{◌⊎◌, ℕ, suc, List, ◌++◌, take, Ok}
+use Rattle.td_plan.specs.Lines.{Line}
+use Rattle.td_calls.specs.Answers.{Answers}
+use Rattle.td_core.specs.declared.error.HallError.{HallError}
+use Rattle.td_core.specs.declared.error.HallError.TheVariants as hall
+use Rattle.td_disk.specs.Disk.{DiskState}
+use Rattle.td_journal.specs.declared.submitted.Submitted.{Submitted}
+use Rattle.td_standing.specs.declared.error.KeeperError.TheVariants as keeper
+use Rattle.td_standing.specs.Standing.{Standing}
+use Rattle.td_standing.specs.Stops.{Stands}
+use Rattle.td_standing.specs.Told.{Told}
+use Rattle.td_standing.specs.Advanced.{states_by}
+use Rattle.td_console.specs.declared.faults.Fault.{Fault}
+use Rattle.td_console.specs.declared.faults.Fault.TheVariants.{Memory, Spent, Keeper}
+
+-- AN IMAGE TELLS A HISTORY, all batches since the format: its checkpoint is what the first of them come to, and the others
+-- stand after it
+pub record TellsHistory (answers : Answers) (plan : List Line) (history : List Submitted) (image : List ℕ) : Type 0 where
+  pub standing : Standing
+  pub told : Told plan image (Ok standing)
+  pub stands : Stands (states_by answers plan) standing history
+
+-- each image of a disk does
+abbrev pub EachTellsHistory : Answers → List Line → List Submitted → DiskState → Type 0
+EachTellsHistory answers plan history state = (c : List ℕ) → state.images c → TellsHistory answers plan history c
+
+-- of more batches, each image tells so many after the history, or one more
+pub record EachTellsSome (answers : Answers) (plan : List Line) (history more : List Submitted) (state : DiskState) : Type 0 where
+  pub count : ℕ
+  pub each : (c : List ℕ) → state.images c → TellsHistory answers plan (history ++ take count more) c ⊎ TellsHistory answers plan (history ++ take (suc count) more) c
+
+-- the fault for a hall's refusal
+abbrev pub hall_fault : HallError → Fault
+hall_fault hall.Memory = Memory
+hall_fault hall.Spent = Spent
+hall_fault hall.Epochs = Keeper keeper.Epochs
+hall_fault (hall.NotPassed e) = Keeper (keeper.NotPassed e)
+hall_fault hall.Stranger = Keeper keeper.Foreign
+hall_fault hall.Busy = Keeper keeper.Foreign
+hall_fault hall.Closed = Keeper keeper.Foreign

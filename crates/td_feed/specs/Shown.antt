@@ -1,0 +1,51 @@
+-- What a disk tells, in lines.
+use Rattle.std.specs.Prelude.{◌≡◌, ℕ, ◌+◌, zero, suc, List, [], ◌∷◌, ◌++◌, codes, flat_map, length, Option}
+use Rattle.std.specs.Io.KnownBytes.{Appends}
+use Rattle.std.specs.Fmt.{decimal, signed_decimal}
+use Rattle.td_stamp.specs.declared.values.State.{State}
+use Rattle.td_stamp.specs.States.{StateList}
+use Rattle.td_journal.specs.declared.submitted.Submitted.{Submitted}
+use Rattle.td_standing.specs.Standing.{Standing, last_epoch, last_request}
+use Rattle.td_standing.specs.declared.error.KeeperError.{KeeperError}
+use Rattle.td_console.specs.declared.faults.Fault.{Fault}
+use Rattle.td_console.specs.declared.faults.Fault.TheVariants.{Keeper}
+
+-- `kept C` and `told T`
+abbrev pub kept_line : ℕ → List ℕ
+kept_line epoch = codes "kept " ++ decimal epoch ++ 10 ∷ []
+
+abbrev pub told_line : ℕ → List ℕ
+told_line epoch = codes "told " ++ decimal epoch ++ 10 ∷ []
+
+-- `last Q`, where there is a request number
+abbrev pub last_line : ℕ → List ℕ
+last_line zero = []
+last_line (suc n) = codes "last " ++ decimal (suc n) ++ 10 ∷ []
+
+abbrev pub head_lines : Standing → List ℕ
+head_lines s = kept_line s.epoch ++ told_line (last_epoch s) ++ last_line (last_request s)
+
+-- `state VERTEX KEY A B` for each state, in their order
+abbrev pub state_line : (ℕ × ℕ) × State → List ℕ
+state_line ((vertex, key), state) =
+    codes "state " ++ decimal vertex ++ 32 ∷ decimal key ++ 32 ∷ signed_decimal state.a ++ 32 ∷ signed_decimal state.b ++ 10 ∷ []
+
+abbrev pub state_lines : StateList → List ℕ
+state_lines states = flat_map state_line states
+
+-- `epoch E COUNT` for each epoch, of which the first has this number
+abbrev pub epoch_lines : ℕ → List Submitted → List ℕ
+epoch_lines e [] = []
+epoch_lines e (s ∷ more) = codes "epoch " ++ decimal e ++ 32 ∷ decimal (length s.batch) ++ 10 ∷ epoch_lines (e + 1) more
+
+-- THE LINES FOR A STANDING
+abbrev pub shown : Standing → List ℕ
+shown s = head_lines s ++ state_lines s.states ++ epoch_lines (s.epoch + 1) s.submitted
+
+-- they were appended to what a writer holds
+abbrev pub ShowsTold : Option (List ℕ) → Option (List ℕ) → Standing → Type 0
+ShowsTold before after s = Appends before after (shown s)
+
+-- a fault is a refusal of a keeper's, of which this holds
+abbrev pub IsRefusedAs : Fault → (KeeperError → Type 0) → Type 0
+IsRefusedAs f Holds = (e : KeeperError) × (f ≡ Keeper e) × Holds e

@@ -1,0 +1,17 @@
+//! The engines behind the commands of the program `td` that have a disk, over any disk, reader and writer: `format`, `feed`
+//! and `show`. Their one contract: a feed that answers Ok leaves a disk that stands for what it stood for before and each
+//! epoch of the input, once; and what `show` writes is what the disk tells.
+#![tactic(auto)]
+
+mod feed;
+mod feeding;
+mod format;
+mod order;
+mod plan_text;
+mod show;
+
+pub use feed::feed;
+pub use format::{format, shape_of};
+pub use order::{FeedLine, Order, read_orders};
+pub use plan_text::read_plan;
+pub use show::show;

@@ -1,0 +1,166 @@
+//! What the input of a feed asks for, line by line.
+ghost use Rattle.std.specs.Prelude.{◌≡◌, ◌⊎◌, ◌<◌, ◌^◌, [], All, IfOk, IfErr, Some, Ok, Err, length};
+ghost use Rattle.td_plan.specs.Text.{words};
+ghost use Rattle.td_feed.specs.Orders.{is_cut, feed_line_of, with_cut, with_line, orders_of, IsAccepted, Gives};
+
+use std::alloc::Global;
+use std::marker::Model;
+use td_console::{DataLine, Fault, LineFault, ascii_text, first_line, is_input, read_data_line};
+use td_plan::Plan;
+use td_plan::text::next_word;
+use td_stamp::{Batch, Entry, Rec};
+
+/// What a line says.
+#[derive(Clone, Copy, Debug, PartialEq, Eq)]
+pub enum FeedLine {
+    /// What data lines say in every input.
+    Data(DataLine),
+    /// `cut`.
+    Cut,
+}
+
+/// What the input asks for.
+#[derive(Debug, Drop)]
+pub enum Order {
+    /// The next epoch, with this batch.
+    Submit(Batch),
+    /// To settle, cut, and write the cut.
+    Cut,
+}
+
+/// Orders that were read, and the entries of the epoch that is not closed, in the order of their lines.
+#[derive(Drop)]
+struct Orders {
+    orders: Vec<Order>,
+    current: Vec<Entry>,
+}
+
+impl Model for Orders {
+    ghost use Rattle.td_feed.specs.Orders.{Orders};
+
+    ghost Value = { Orders };
+
+    ghost view = { λ r. record { orders = r.orders.items; current = r.current.items } };
+}
+
+/// What an input asks for, in order. A line is a data line, or `cut` where no record stands in the current epoch. Refusals:
+/// the first fault of the lines, which are counted from 1; `Memory`.
+pub fn read_orders(alloc: Global, plan: &Plan, input: &[u8]) -> Result<Vec<Order>, Fault>
+    requires bound { length input.now < 2 ^ 63 }
+    ensures ok { IfOk result (λ orders. orders_of plan.now input.now ≡ Ok orders.items) }
+    ensures accepted { IfOk result (λ orders. All (IsAccepted plan.now) orders.items) }
+    ensures err { IfErr result (λ f. (f ≡ Fault.Memory) ⊎ (orders_of plan.now input.now ≡ Err f)) }
+{
+    let mut read = Orders {
+        orders: Vec::new(alloc),
+        current: Vec::new(alloc),
+    };
+    let mut number: u64 = 1;
+    let mut rest = input;
+    while let Some((line, others)) = first_line(rest) {
+        read = with_line(alloc, plan, read, number, line)?;
+        number += 1;
+        rest = others;
+    }
+    if read.current.is_empty() {
+        Ok(read.orders)
+    } else {
+        Err(Fault::Line(number, LineFault::NotClosed))
+    }
+}
+
+/// What was read, and what one line more adds, which has this number. Refusals: its fault; `Memory`.
+fn with_line(
+    alloc: Global,
+    plan: &Plan,
+    read: Orders,
+    number: u64,
+    line: &[u8],
+) -> Result<Orders, Fault>
+    ensures gives { Gives result (with_line plan.now number read (feed_line_of line.now)) }
+{
+    let said = match read_feed_line(line) {
+        Some(FeedLine::Data(said)) => said,
+        Some(FeedLine::Cut) => return with_cut(read, number),
+        None => return Err(Fault::Line(number, LineFault::Syntax)),
+    };
+    match said {
+        DataLine::PassedOver => Ok(read),
+        DataLine::Close => close(alloc, read),
+        DataLine::Record(input, rec) => with_record(plan, read, number, input, rec),
+    }
+}
+
+/// With a cut. Refusals: `Syntax` where a record stands in the current epoch; `Memory`.
+fn with_cut(read: Orders, number: u64) -> Result<Orders, Fault>
+    ensures gives { Gives result (with_cut number read read.current) }
+{
+    let Orders {
+        mut orders,
+        current,
+    } = read;
+    if !current.is_empty() {
+        return Err(Fault::Line(number, LineFault::Syntax));
+    }
+    orders.push(Order::Cut)?;
+    Ok(Orders { orders, current })
+}
+
+/// With the current epoch closed. Refusal: `Memory`.
+fn close(alloc: Global, read: Orders) -> Result<Orders, Fault>
+    ensures ok { IfOk result (λ closed. Ok closed ≡ with_line [] 0 read (Some (FeedLine.Data DataLine.Close))) }
+    ensures err { IfErr result (λ f. f ≡ Fault.Memory) }
+{
+    let Orders {
+        mut orders,
+        current,
+    } = read;
+    orders.push(Order::Submit(Batch::from_vec(alloc, current)))?;
+    Ok(Orders {
+        orders,
+        current: Vec::new(alloc),
+    })
+}
+
+/// With one record more. Refusals: `NoSuchInput`; `Memory`.
+fn with_record(
+    plan: &Plan,
+    read: Orders,
+    number: u64,
+    input: u32,
+    rec: Rec,
+) -> Result<Orders, Fault>
+    ensures gives { Gives result (with_line plan.now number read (Some (FeedLine.Data (DataLine.Record input rec)))) }
+{
+    if !is_input(plan, input) {
+        return Err(Fault::Line(number, LineFault::NoSuchInput));
+    }
+    let input = input as u8;
+    let Orders {
+        orders,
+        mut current,
+    } = read;
+    current.push(Entry { input, rec })?;
+    Ok(Orders { orders, current })
+}
+
+/// What a line says, if it has a form.
+fn read_feed_line(line: &[u8]) -> Option<FeedLine>
+    ensures { result ≡ feed_line_of line.now }
+{
+    let text = ascii_text(line)?;
+    if is_cut(text) {
+        return Some(FeedLine::Cut);
+    }
+    Some(FeedLine::Data(read_data_line(text)?))
+}
+
+/// Whether the one word of a line is `cut`.
+fn is_cut(line: &str) -> bool
+    ensures { result ≡ is_cut (words line.now) }
+{
+    match next_word(line) {
+        Some((word, rest)) => word == "cut" && next_word(rest).is_none(),
+        None => false,
+    }
+}

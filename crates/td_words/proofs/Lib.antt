@@ -1,0 +1,2 @@
+pub mod BatchWords
+pub mod Asked
