@@ -11,6 +11,7 @@ mod release;
 mod submit;
 #[cfg(test)]
 mod tests;
+mod watch;
 mod write_cut;
 
 pub use keeper::Keeper;
