@@ -6,6 +6,7 @@
 mod collect;
 mod cut;
 mod keeper;
+pub mod laws;
 mod own;
 mod release;
 mod submit;

@@ -1,5 +1,5 @@
 //! Submitting batches.
-ghost use Rattle.std.specs.Prelude.{◌≡◌, ◌⊎◌, ◌↔◌, ◌+◌, [], ◌∷◌, false, true, Some, None, IfOk, IfErr};
+ghost use Rattle.std.specs.Prelude.{◌≡◌, ◌⊎◌, ◌↔◌, ◌+◌, ◌≤◌, [], ◌∷◌, false, true, Some, None, IfOk, IfErr};
 ghost use Rattle.td_disk.specs.Disk.{Rises};
 ghost use Rattle.td_gate.specs.CrashSafe.{CrashSafe, Unchanged};
 ghost use Rattle.td_standing.specs.Standing.{last_epoch, submission};
@@ -43,6 +43,9 @@ impl<D: Disk, L: Law> Keeper<D, L> {
         ensures lawful { D.is_lawful self.old.device ↔ D.is_lawful self.new.device }
         ensures unwritten { IfErr result (λ e. e.0 ≡ Memory → D.is_lawful self.old.device
             → CrashSafe Unchanged (D.state self.old.device) (D.state self.new.device)) }
+
+        // What a crash may leave after the call is among what it may leave since the start.
+        ensures later { D.is_lawful self.old.device → (D.state self.old.device).moment ≤ (D.state self.new.device).moment }
 
         // In each image since the start of the call the disk tells an advance of the standing with this batch, which holds
         // every epoch of the standing.

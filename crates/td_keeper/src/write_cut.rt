@@ -40,6 +40,9 @@ impl<D: Disk, L: Law> Keeper<D, L> {
         ensures size { D.capacity self.new.device ≡ D.capacity self.old.device }
         ensures lawful { D.is_lawful self.old.device ↔ D.is_lawful self.new.device }
 
+        // What a crash may leave after the call is among what it may leave since the start.
+        ensures later { D.is_lawful self.old.device → (D.state self.old.device).moment ≤ (D.state self.new.device).moment }
+
         // In each image since the start of the call the disk tells an advance of the standing which holds every epoch of it.
         ensures images { D.is_lawful self.old.device → self.old.broken ≡ false
             → SinceAdvance L.answers self.old.plan self.old.standing [] (last_epoch self.old.standing) (D.state self.old.device).moment (D.state self.new.device) }

@@ -242,3 +242,33 @@ returns-in_default-refusal-clause-unwritten g c is =
     let memory : c.in-Err.refusal ≡ JournalError.Memory = ⊎_elim (λ m. m) (λ d. absurd (c.in_default-refusal.not-Device d)) c.in-Err.ensures.refusals in
     subst (λ (z : Keeping g.row.D.Denot). g.D.Disk.is_lawful z.device → CrashSafe Unchanged (g.D.Disk.state z.device) (g.D.Disk.state c.submit_batch.new.device)) c.self.view_is
     (λ old. c.in-Err.ensures.unwritten (ap as_err memory) old)
+
+pub returns-in-Ok-clause-later : goal.returns-in-Ok-clause-later
+returns-in-Ok-clause-later g c =
+    let state = g.D.Disk.state in
+    let answers = g.L.Law.answers in
+    let device = c.self.inside.device in
+    let plan = c.self.inside.plan in
+    let head = c.self.inside.head in
+    let s = standing_from c.self.inside.checkpoint c.self.inside.submitted.items in
+    let side = c.self.inside.checkpoint.slot in
+    let batch = c.args.batch in
+    let k = keeping_of device plan head c.self.inside.checkpoint c.self.inside.submitted.items c.self.inside.broken c.self.inside.taken c.self.inside.collected c.self.inside.queue.items in
+    let none : submit_refusal k batch ≡ None = ap (λ (z : Keeping g.row.D.Denot). submit_refusal z batch) c.self.view_is ∙ (sym c.refusal_of.ensures ∙ is_none c.refusal_of.result c.in_default.not-Some) in
+    subst (λ (z : Keeping g.row.D.Denot). g.D.Disk.is_lawful z.device → (state z.device).moment ≤ (state c.submit_batch.new.device).moment) c.self.view_is
+    (λ old. c.in-Ok.ensures.later old (keeps_of c.self.inside.broken answers plan head side s (state device) (accepted k batch none).whole (c.self.invariant.2 old)).durable)
+
+pub returns-in-Device-clause-later : goal.returns-in-Device-clause-later
+returns-in-Device-clause-later g c =
+    let state = g.D.Disk.state in
+    let answers = g.L.Law.answers in
+    let device = c.self.inside.device in
+    let plan = c.self.inside.plan in
+    let head = c.self.inside.head in
+    let s = standing_from c.self.inside.checkpoint c.self.inside.submitted.items in
+    let side = c.self.inside.checkpoint.slot in
+    let batch = c.args.batch in
+    let k = keeping_of device plan head c.self.inside.checkpoint c.self.inside.submitted.items c.self.inside.broken c.self.inside.taken c.self.inside.collected c.self.inside.queue.items in
+    let none : submit_refusal k batch ≡ None = ap (λ (z : Keeping g.row.D.Denot). submit_refusal z batch) c.self.view_is ∙ (sym c.refusal_of.ensures ∙ is_none c.refusal_of.result c.in_default.not-Some) in
+    subst (λ (z : Keeping g.row.D.Denot). g.D.Disk.is_lawful z.device → (state z.device).moment ≤ (state c.submit_batch.new.device).moment) c.self.view_is
+    (λ old. c.in-Err.ensures.later old (keeps_of c.self.inside.broken answers plan head side s (state device) (accepted k batch none).whole (c.self.invariant.2 old)).durable)
