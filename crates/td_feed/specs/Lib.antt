@@ -1,3 +1,4 @@
 pub mod Orders
 pub mod Shown
 pub mod Fed
+pub mod Carried

@@ -1,4 +1,5 @@
 use crate::Keeper;
+use crate::laws::each_is_kept;
 use std::alloc::Global;
 use std::test::Fail;
 use td_calls::Stock;
@@ -65,6 +66,7 @@ fn written(alloc: Global, plan: &Plan, epochs: u32) -> Result<MemoryDisk, Fail> 
 fn told<D: Disk + Drop>(alloc: Global, disk: D, plan: &Plan) -> Result<(String, D), Fail> {
     match Keeper::<D, Stock>::recover(alloc, disk, plan) {
         Ok(keeper) => {
+            each_is_kept(&keeper);
             let (epoch, states, batches) = keeper.opening()?;
             let (states, batches) = (states.len(), batches.len());
             let text = format!(in alloc; "epoch {epoch}, {states} states, {batches} batches")?;

@@ -28,3 +28,5 @@ mod slots;
 mod stamp;
 #[cfg(test)]
 mod task;
+#[cfg(test)]
+mod watch;
