@@ -1,2 +1,1 @@
-pub mod BatchWords
 pub mod Asked
