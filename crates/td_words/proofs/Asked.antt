@@ -1,6 +1,7 @@
 -- What the matches of a parse ask for.
 use Rattle.std.proofs.Common.{◌≡◌, ◌≢◌, ◌⊎◌, inl, inr, ℕ, ◌+◌, ◌<◌, ◌≤◌, ◌^◌, List, [], ◌∷◌, Option, Some, None, option_map, get_or, Result, Ok, Err, IfOk, IfErr, IfSome, IfNone, refl, ap, ap₂, sym, ◌∙◌, subst, arith, codes, lit<}
-use Rattle.std.specs.Prelude.{Box, Bor}
+use Rattle.std.specs.Prelude.{Box}
+use Rattle.std.specs.Borrow.{Bor}
 use Rattle.std.specs.Box.{box_value}
 use Rattle.std.specs.Str.Parse.{ParsesUnsigned, IsNumeral, AllDigits, digits_value, without_leading_plus}
 use Rattle.clap.specs.declared.parser.matches.Found.{Found}
@@ -23,14 +24,15 @@ use Rattle.td_words.specs.Command.{td, IsNumber, IsWorkers, IsNamed, HasValues, 
 -- a number, as it is read
 module _ {E : Type 0} (bits : ℕ) (Reads : List ℕ → Result ℕ E → Type 0) (numbers : (t : List ℕ) (x : Result ℕ E) → Reads t x → ParsesUnsigned bits 10 t x) (f : Found) (id : Text) (r : Option ℕ)
     (none : one_text f id ≡ None → r ≡ None) (value : (t : List ℕ) → one_text f id ≡ Some t → ReadsOne Reads t r) (least most : ℕ) where
-  pub number_read : (n : ℕ) → r ≡ Some n → least ≤ n → n ≤ most → IsNumber id least most (rows_of f) n
-  number_read n is low high = by (one_text f id) refl
+  pub number_read : (n : ℕ) → r ≡ Some n → (n < 2 ^ bits → (least ≤ n) × (n ≤ most)) → IsNumber id least most (rows_of f) n
+  number_read n is within = by (one_text f id) refl
     where
       by : (o : Option (List ℕ)) → one_text f id ≡ o → IsNumber id least most (rows_of f) n
       by None e = let lacks = none e in absurd cc
       by (Some t) e =
           let h = numbers t (Ok n) (subst (ReadsOne Reads t) is (value t e)) in
-          (t, sym (one_text-rows f id) ∙ e, h.0.0, h.1, low, high)
+          let lies = within (subst (λ d. d < 2 ^ bits) (sym h.1) h.0.1) in
+          (t, sym (one_text-rows f id) ∙ e, h.0.0, h.1, lies.0, lies.1)
 
   pub no_number : most < 2 ^ bits → ((n : ℕ) → r ≡ Some n → least ≤ n → n ≤ most → ⊥) → (n : ℕ) → IsNumber id least most (rows_of f) n → ⊥
   no_number fits lacks n is = by r refl (value is.0 (one_text-rows f id ∙ is.1))
@@ -84,7 +86,7 @@ only_memory (Err error) kind ok err e = elim err [ inl memory ↦ ap Err memory 
 mark : Text → ℕ
 mark name = get_or name 0 0 + get_or name 1 0
 
--- the job of a name, and its values
+-- the jobs of each name, and their values
 pub only_batch : (rows : List Row) (job : Job) → IsOf (codes "batch") rows job → job ≡ Batch
 unfolding mark
 only_batch rows Batch h = refl
@@ -94,3 +96,27 @@ pub only_run : (rows : List Row) (job : Job) → IsOf (codes "run") rows job →
 unfolding mark
 only_run rows (Run w) h = (w, refl, h.1)
 only_run rows _ h = let f = ap mark h.0 in absurd (omega (arith, f))
+
+pub only_sim : (rows : List Row) (job : Job) → IsOf (codes "sim") rows job → (w : ℕ) × (picks : Bor Text) × IsWorkers rows w × (first_of (codes "picks") rows ≡ Some picks.now)
+unfolding mark
+only_sim rows (Sim w picks) h = (w, picks, h.1.0, h.1.1)
+only_sim rows _ h = let f = ap mark h.0 in absurd (omega (arith, f))
+
+pub only_format : (rows : List Row) (job : Job) → IsOf (codes "format") rows job → (disk : Bor Text) × (plan : Bor Text) × (m : ℕ) × (n : ℕ) × (k : ℕ) × (job ≡ Format disk plan m n k) × HasValues rows (Format disk plan m n k)
+unfolding mark
+only_format rows (Format disk plan m n k) h = (disk, plan, m, n, k, refl, h.1)
+only_format rows _ h = let f = ap mark h.0 in absurd (omega (arith, f))
+
+pub only_feed : (rows : List Row) (job : Job) → IsOf (codes "feed") rows job → (disk : Bor Text) × (plan : Bor Text) × (w : ℕ) × (job ≡ Feed disk plan w) × HasValues rows (Feed disk plan w)
+unfolding mark
+only_feed rows (Feed disk plan w) h = (disk, plan, w, refl, h.1)
+only_feed rows _ h = let f = ap mark h.0 in absurd (omega (arith, f))
+
+pub only_show : (rows : List Row) (job : Job) → IsOf (codes "show") rows job → (disk : Bor Text) × (plan : Bor Text) × HasValues rows (Show disk plan)
+unfolding mark
+only_show rows (Show disk plan) h = (disk, plan, h.1)
+only_show rows _ h = let f = ap mark h.0 in absurd (omega (arith, f))
+
+-- a value that is lacking
+pub lacks : (id : Text) (rows : List Row) (text : Text) → first_of id rows ≡ None → first_of id rows ≡ Some text → ⊥
+lacks id rows text none some = cc

@@ -1,6 +1,6 @@
 //! What the program is asked to do, from the words that it is given.
-ghost use Rattle.std.specs.Prelude.{◌≡◌, ◌≢◌, ◌⊎◌, ◌↔◌, ◌≤◌, ◌^◌, ℕ, IsTrue, IfOk, IfErr, IfSome, IfNone, map, string_bytes, Ok, Err, codes};
-ghost use Rattle.clap.specs.Words.{found_of, kind_of, rows_of, subcommand_rows_of};
+ghost use Rattle.std.specs.Prelude.{◌≡◌, ◌≢◌, ◌⊎◌, ◌↔◌, ◌≤◌, ℕ, IsTrue, IfOk, IfErr, IfSome, IfNone, map, string_bytes, Ok, Err, Some, None, codes};
+ghost use Rattle.clap.specs.Words.{found_of, first_of, kind_of, rows_of, subcommand_rows_of};
 ghost use Rattle.td_words.specs.declared.job.Job.{Job as AnyJob};
 ghost use Rattle.td_words.specs.Command.{batch_words, run_words, format_words, feed_words, IsAsked, IsNamed, IsNumber, IsWorkers, HasWorkers, IsRefused, IsFormat, IsFeed};
 ghost use Rattle.td_words.specs.Jobs.{IsHelp, IsOf};
@@ -77,7 +77,7 @@ fn sim_job<'a>(matches: &ArgMatches<'a>) -> Option<Job<'a>>
     ensures none { IfNone result ((job : AnyJob) → IsOf (codes "sim") (rows_of (found_of matches.now)) job → ⊥) }
 {
     let workers = workers_of(matches)?;
-    let picks = matches.get_str("picks")?;
+    let picks = word_of(matches, "picks")?;
     Some(Job::Sim(workers, picks))
 }
 
@@ -86,8 +86,8 @@ fn format_job<'a>(matches: &ArgMatches<'a>) -> Option<Job<'a>>
     ensures some { IfSome result (IsOf (codes "format") (rows_of (found_of matches.now))) }
     ensures none { IfNone result ((job : AnyJob) → IsOf (codes "format") (rows_of (found_of matches.now)) job → ⊥) }
 {
-    let disk = matches.get_str("disk")?;
-    let plan = matches.get_str("plan")?;
+    let disk = word_of(matches, "disk")?;
+    let plan = word_of(matches, "plan")?;
     let m = number_of(matches, "m")?;
     let n = number_of(matches, "n")?;
     let k = number_of(matches, "k")?;
@@ -105,8 +105,8 @@ fn feed_job<'a>(matches: &ArgMatches<'a>) -> Option<Job<'a>>
     ensures some { IfSome result (IsOf (codes "feed") (rows_of (found_of matches.now))) }
     ensures none { IfNone result ((job : AnyJob) → IsOf (codes "feed") (rows_of (found_of matches.now)) job → ⊥) }
 {
-    let disk = matches.get_str("disk")?;
-    let plan = matches.get_str("plan")?;
+    let disk = word_of(matches, "disk")?;
+    let plan = word_of(matches, "plan")?;
     let workers = workers_of(matches)?;
     Some(Job::Feed { disk, plan, workers })
 }
@@ -116,9 +116,17 @@ fn show_job<'a>(matches: &ArgMatches<'a>) -> Option<Job<'a>>
     ensures some { IfSome result (IsOf (codes "show") (rows_of (found_of matches.now))) }
     ensures none { IfNone result ((job : AnyJob) → IsOf (codes "show") (rows_of (found_of matches.now)) job → ⊥) }
 {
-    let disk = matches.get_str("disk")?;
-    let plan = matches.get_str("plan")?;
+    let disk = word_of(matches, "disk")?;
+    let plan = word_of(matches, "plan")?;
     Some(Job::Show { disk, plan })
+}
+
+/// The word of an argument.
+fn word_of<'a>(matches: &ArgMatches<'a>, id: &str) -> Option<&'a str>
+    ensures some { IfSome result (λ word. first_of id.now (rows_of (found_of matches.now)) ≡ Some word.now) }
+    ensures none { IfNone result (first_of id.now (rows_of (found_of matches.now)) ≡ None) }
+{
+    matches.get_str(id)
 }
 
 /// The number of an argument. Clap has refused any that `u32` does not hold.
