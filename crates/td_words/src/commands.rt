@@ -20,12 +20,14 @@ const RUN: &str = "Does what batch does, by an engine that passes messages betwe
 const SIM: &str =
     "Does what run does, shard by shard in turn, and writes the notifications before the output records";
 
-const FORMAT: &str = "Makes a disk, a file that keeps the epochs and the states of a plan, with no epochs on it";
+const FORMAT: &str =
+    "Makes a disk, a file that keeps the epochs and the states of a plan, with no epochs on it";
 
 const FEED: &str =
     "Puts epochs from standard input on a disk, and writes the output records of each epoch to standard output";
 
-const SHOW: &str = "Writes what is on a disk: the states that the last cut kept, and the epochs after it";
+const SHOW: &str =
+    "Writes what is on a disk: the states that the last cut kept, and the epochs after it";
 
 /// What help says of the options and of the other arguments.
 const WORKERS: &str = "How many shards, 1 to 16";
@@ -162,9 +164,7 @@ fn new_leaf<'a>(alloc: Global, name: &'a str, about: &'a str, more: &'a str) -> 
     ensures app { app_of result ≡ new_app name.entry.now }
     ensures globals { has_globals result ≡ false }
 {
-    Command::new(alloc, name)
-        .about(about)
-        .after_help(more)
+    Command::new(alloc, name).about(about).after_help(more)
 }
 
 /// A command and one argument more, none of which is global.

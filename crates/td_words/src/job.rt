@@ -25,7 +25,10 @@ pub enum Job<'a> {
         workers: u8,
     },
     /// To write what the disk `disk` tells.
-    Show { disk: &'a str, plan: &'a str },
+    Show {
+        disk: &'a str,
+        plan: &'a str,
+    },
     /// To print this text.
     Help(String),
 }

@@ -108,7 +108,11 @@ fn feed_job<'a>(matches: &ArgMatches<'a>) -> Option<Job<'a>>
     let disk = word_of(matches, "disk")?;
     let plan = word_of(matches, "plan")?;
     let workers = workers_of(matches)?;
-    Some(Job::Feed { disk, plan, workers })
+    Some(Job::Feed {
+        disk,
+        plan,
+        workers,
+    })
 }
 
 /// The look at a disk that the matches of `show` ask for.

@@ -1,7 +1,7 @@
 use Rattle.std.proofs.Common.{rules, ap, ◌≡◌, ◌∙◌}
 use Rattle.std.proofs.lemmas.Result.{IfOk-weaker}
 use Rattle.clap.specs.Words.{App, Shape, app_of, with_subcommand}
-use Rattle.td_words.specs.Command.{td, alone, batch_app, run_app, sim_app, format_app, feed_app, show_app}
+use Rattle.td_words.specs.Command.{alone, batch_app, run_app, sim_app, format_app, feed_app, show_app}
 use Rattle.td_words.proofs.commands.command.Goals as goal
 
 pub returns : goal.returns
