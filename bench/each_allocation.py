@@ -7,7 +7,7 @@ It runs `td batch`, `run` and `sim` on the files, by default on the examples, an
 Each run must answer as with ample memory, or write nothing to standard output, `td: memory` to standard error, and end with
 status 1.
 
-Without files it also runs `hall_steps` on its rows (rows/steps.txt), where a call of a hall that was refused is made once
+Without files it also runs `engine_steps` on its rows (rows/steps.txt), where a call of a hall that was refused is made once
 more. Each run must then answer as the row says, but for a line `refused: memory`; or, where the program itself lacked memory
 before the first call, end with status 1 and no answer."""
 
@@ -23,11 +23,11 @@ import tempfile
 
 ROOT = pathlib.Path(__file__).resolve().parent.parent
 TD = ROOT / "crates/td/out/td"
-STEPS = ROOT / "crates/hall_steps/out/hall_steps"
+STEPS = ROOT / "crates/engine_steps/out/engine_steps"
 ROWS = ROOT / "rows/steps.txt"
 EXAMPLES = sorted((ROOT / "examples").glob("*.td"))
 REFUSED = (1, b"", b"td: memory\n")
-# What `hall_steps` prints for a call that is made once more, and how it ends where there was none to make again.
+# What `engine_steps` prints for a call that is made once more, and how it ends where there was none to make again.
 AGAIN = b"refused: memory"
 BEFORE = (1, b"", b"Error: Memory\n")
 # So many runs in a row that meet no refusal end the count.
@@ -61,7 +61,7 @@ def refuse_each(library, name, words, text):
 
 
 def rows_of_steps():
-    """The rows of `hall_steps`, read as ./check reads them."""
+    """The rows of `engine_steps`, read as ./check reads them."""
     loader = importlib.machinery.SourceFileLoader("check", str(ROOT / "check"))
     check = importlib.util.module_from_spec(importlib.util.spec_from_loader("check", loader))
     loader.exec_module(check)
@@ -96,16 +96,16 @@ def refuse_steps(library, row):
 
 
 def refuse_all_steps(library):
-    """Prints how many calls were made again over all rows of `hall_steps`."""
+    """Prints how many calls were made again over all rows of `engine_steps`."""
     if not STEPS.exists():
-        sys.exit(f"{STEPS} is not there: cd crates/hall_steps && rt run")
+        sys.exit(f"{STEPS} is not there: cd crates/engine_steps && rt run")
     rows = rows_of_steps()
     with concurrent.futures.ThreadPoolExecutor() as pool:
         counts = list(pool.map(lambda row: refuse_steps(library, row), rows))
     numbers, again = map(sum, zip(*counts))
     if again == 0:
-        sys.exit("hall_steps: no call was refused")
-    print(f"{len(rows)} rows of hall_steps: {numbers} allocations, {again} calls made again, no other answer")
+        sys.exit("engine_steps: no call was refused")
+    print(f"{len(rows)} rows of engine_steps: {numbers} allocations, {again} calls made again, no other answer")
 
 
 def main():

@@ -7,6 +7,7 @@
 
 mod disk;
 mod error;
+mod fail;
 mod file;
 mod fuse;
 pub mod laws;
@@ -14,6 +15,7 @@ mod memory;
 
 pub use disk::Disk;
 pub use error::{Fault, MakeError};
+pub use fail::FailDisk;
 pub use file::FileDisk;
 pub use fuse::FuseDisk;
 pub use memory::{Fill, MemoryDisk};

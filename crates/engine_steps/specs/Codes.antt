@@ -1,6 +1,6 @@
 -- Which closures there are, by code.
 use Rattle.std.specs.Prelude.{ℕ, ◌==◌, Bool, ◌&&◌, ◌||◌}
-use Rattle.hall_steps.specs.declared.catalogue.Catalogue.{Catalogue}
+use Rattle.engine_steps.specs.declared.catalogue.Catalogue.{Catalogue}
 
 -- of maps, of groups and of folds
 abbrev pub has_map : Catalogue → ℕ → Bool

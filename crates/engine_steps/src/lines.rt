@@ -1,4 +1,4 @@
-//! The answers.
+//! The answers of a hall.
 use crate::error::StepError;
 use crate::hands::Hands;
 use td_calls::Stock;
@@ -21,6 +21,11 @@ pub(crate) fn print_back(
     batch: &Batch,
 ) -> Result<(), StepError> {
     print!(rt; "refused: {error}, back came")?;
+    print_entries(rt, batch)
+}
+
+/// ` (INPUT KEY VAL)` for each, and the end of the line.
+pub(crate) fn print_entries(rt: &impl Print, batch: &Batch) -> Result<(), StepError> {
     for entry in batch.list() {
         print!(rt; " ({} {} {})", entry.input, entry.rec.key, entry.rec.val)?;
     }
@@ -141,7 +146,7 @@ pub(crate) fn print_given(
     }
 }
 
-/// `epoch EPOCH:` and ` (VERTEX KEY VAL)` for each record, for each epoch; or `none`.
+/// The outputs of each epoch; or `none`.
 pub(crate) fn print_epochs(rt: &impl Print, epochs: &[EpochOut]) -> Result<(), StepError> {
     if epochs.is_empty() {
         println!(rt; "none")?;
@@ -152,7 +157,8 @@ pub(crate) fn print_epochs(rt: &impl Print, epochs: &[EpochOut]) -> Result<(), S
     Ok(())
 }
 
-fn print_epoch(rt: &impl Print, out: &EpochOut) -> Result<(), StepError> {
+/// `epoch EPOCH:` and ` (VERTEX KEY VAL)` for each record.
+pub(crate) fn print_epoch(rt: &impl Print, out: &EpochOut) -> Result<(), StepError> {
     print!(rt; "epoch {}:", out.epoch)?;
     for told in out.recs.list() {
         print!(rt; " ({} {} {})", told.vertex, told.rec.key, told.rec.val)?;
@@ -172,7 +178,7 @@ pub(crate) fn print_cut(rt: &impl Print, made: Result<Cut, HallError>) -> Result
 }
 
 /// ` (VERTEX KEY A B)` for each, and the end of the line.
-fn print_states(rt: &impl Print, states: &States) -> Result<(), StepError> {
+pub(crate) fn print_states(rt: &impl Print, states: &States) -> Result<(), StepError> {
     for ((vertex, key), state) in states.list() {
         print!(rt; " ({vertex} {key} {} {})", state.a, state.b)?;
     }

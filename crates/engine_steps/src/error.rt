@@ -2,7 +2,9 @@
 use std::alloc::{AllocError, AllocFailed};
 use std::io;
 use td_core::HallError;
+use td_disk::{Fault, MakeError};
 use td_stamp::StampError;
+use td_standing::KeeperError;
 use td_task::TaskError;
 
 /// Why a command was not done. A refusal that is no want of memory is an answer, but in the midst of many calls.
@@ -14,6 +16,10 @@ pub(crate) enum StepError {
     Syntax,
     /// No hall was opened.
     NoHall,
+    /// There is no disk.
+    NoDisk,
+    /// No keeper has the disk.
+    NoKeeper,
     /// One of many calls was refused.
     Refused,
     /// Standard input or standard output failed.
@@ -53,6 +59,28 @@ impl From<TaskError> for StepError {
             TaskError::Memory => StepError::Memory,
             TaskError::NoCall(..) => StepError::Refused,
         }
+    }
+}
+
+impl From<KeeperError> for StepError {
+    fn from(refusal: KeeperError) -> StepError {
+        match refusal {
+            KeeperError::Memory => StepError::Memory,
+            _ => StepError::Refused,
+        }
+    }
+}
+
+/// A disk in memory that was made for this fails where its record of calls may not grow.
+impl From<Fault> for StepError {
+    fn from(_fault: Fault) -> StepError {
+        StepError::Memory
+    }
+}
+
+impl From<MakeError> for StepError {
+    fn from(_error: MakeError) -> StepError {
+        StepError::Memory
     }
 }
 

@@ -1,7 +1,7 @@
 //! The tasks that are out: those that were taken, and those that were run.
 use crate::catalogue::Catalogue;
-use crate::command::End;
 use crate::error::StepError;
+use crate::hall_command::End;
 use std::alloc::Global;
 use std::collections::VecDeque;
 use td_calls::Stock;

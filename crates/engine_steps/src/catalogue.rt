@@ -9,7 +9,7 @@ pub(crate) struct Catalogue {
 }
 
 impl Closures<Stock> for Catalogue {
-    ghost use Rattle.hall_steps.specs.Codes.{has_map, has_group, has_fold};
+    ghost use Rattle.engine_steps.specs.Codes.{has_map, has_group, has_fold};
 
     ghost has_map = { has_map };
 

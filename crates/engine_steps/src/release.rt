@@ -26,7 +26,7 @@ pub(crate) fn release(
 }
 
 /// The entries between commas, if there are any.
-fn batch_of(alloc: Global, text: &str) -> Result<Batch, StepError> {
+pub(crate) fn batch_of(alloc: Global, text: &str) -> Result<Batch, StepError> {
     let mut batch = Batch::new(alloc);
     if text.is_empty() {
         return Ok(batch);
