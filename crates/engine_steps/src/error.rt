@@ -6,6 +6,7 @@ use td_disk::{Fault, MakeError};
 use td_stamp::StampError;
 use td_standing::KeeperError;
 use td_task::TaskError;
+use td_watch::WatchError;
 
 /// Why a command was not done. A refusal that is no want of memory is an answer, but in the midst of many calls.
 #[derive(Debug, Drop)]
@@ -74,6 +75,12 @@ impl From<KeeperError> for StepError {
 /// A disk in memory that was made for this fails where its record of calls may not grow.
 impl From<Fault> for StepError {
     fn from(_fault: Fault) -> StepError {
+        StepError::Memory
+    }
+}
+
+impl From<WatchError> for StepError {
+    fn from(_error: WatchError) -> StepError {
         StepError::Memory
     }
 }

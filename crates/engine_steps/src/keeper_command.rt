@@ -15,6 +15,11 @@ pub(crate) enum KeeperCall<'a> {
     /// `keeper cut`
     Cut,
     WriteCut,
+    /// `attach`: the writer of a fresh watch.
+    Attach,
+    /// `read`: what the reader of that watch reads.
+    Read,
+    Detach,
 }
 
 /// The call of this name.
@@ -27,6 +32,9 @@ pub(crate) fn keeper_call_of<'a>(name: &str, words: &'a str) -> Option<KeeperCal
         ("next_out", "") => Some(KeeperCall::NextOut),
         ("keeper", "cut") => Some(KeeperCall::Cut),
         ("write_cut", "") => Some(KeeperCall::WriteCut),
+        ("attach", "") => Some(KeeperCall::Attach),
+        ("read", "") => Some(KeeperCall::Read),
+        ("detach", "") => Some(KeeperCall::Detach),
         _ => None,
     }
 }

@@ -16,6 +16,7 @@ mod lines;
 mod release;
 mod stage;
 mod store;
+mod watch;
 
 use crate::command::{Command, next_command};
 use crate::error::StepError;

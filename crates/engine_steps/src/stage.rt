@@ -12,6 +12,7 @@ use crate::lines::{
 };
 use crate::release::{batch_of, release};
 use crate::store::{Store, print_fault};
+use crate::watch::{attach, detach, read};
 use std::alloc::Global;
 use std::{io, mem};
 use td_calls::{Closures, Stock};
@@ -20,6 +21,7 @@ use td_core::Hall;
 use td_core::laws::each_is_sound;
 use td_plan::Plan;
 use td_stamp::States;
+use td_watch::Reader;
 
 /// Epochs are numbered up to this.
 const LAST: u64 = (1 << 63) - 1;
@@ -35,6 +37,7 @@ pub(crate) struct Stage {
     other: Option<Hall<Stock>>,
     hands: Hands,
     store: Store,
+    reader: Option<Reader>,
 }
 
 impl Stage {
@@ -49,6 +52,7 @@ impl Stage {
             other: None,
             hands: Hands::new(alloc),
             store: Store::Empty,
+            reader: None,
         }
     }
 
@@ -101,6 +105,12 @@ impl Stage {
             KeeperCall::NextOut => print_next_out(rt, keeper.next_out()),
             KeeperCall::Cut => print_number(rt, "cut", keeper.cut(hall_of(&mut self.hall)?)),
             KeeperCall::WriteCut => print_written(rt, keeper.write_cut()),
+            KeeperCall::Attach => {
+                self.reader = attach(rt, self.alloc, keeper)?;
+                Ok(())
+            }
+            KeeperCall::Read => read(rt, &mut self.reader),
+            KeeperCall::Detach => detach(rt, keeper),
         }
     }
 

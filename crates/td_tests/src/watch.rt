@@ -1,5 +1,5 @@
-//! A watch beside a keeper: what its readers see, in the keeper's thread and in others.
-ghost use Rattle.std.specs.Prelude.{◌≡◌, OnOk, IfOk, Some, option_map};
+//! A watch beside a keeper, with readers in other threads.
+ghost use Rattle.std.specs.Prelude.{◌≡◌, Some, IfSome, OnOk, option_map};
 
 use std::alloc::Global;
 use std::process::Abort;
@@ -11,8 +11,8 @@ use td_disk::MemoryDisk;
 use td_head::Shape;
 use td_keeper::Keeper;
 use td_plan::Plan;
-use td_stamp::{Bag, Entry, Rec};
-use td_watch::{Reader, Watch};
+use td_stamp::Bag;
+use td_watch::{Reader, Watch, Writer};
 
 /// No closure is needed, and no state is kept.
 const PLAN: &str = "0 input\n1 output 0\n";
@@ -33,19 +33,6 @@ fn fresh(alloc: Global) -> Result<(KeeperInMemory, Hall<Stock>), Fail> {
     Ok((keeper, hall))
 }
 
-/// Submits an epoch of one record.
-fn submit_one(alloc: Global, keeper: &mut KeeperInMemory) -> Result<(), Fail>
-    ensures { OnOk result (option_map (λ v. v.watch) keeper.new.watch ≡ option_map (λ v. v.watch) keeper.old.watch) }
-{
-    let mut batch = Bag::new(alloc);
-    let rec = Rec { key: 7, val: 5 };
-    batch.add(Entry { input: 0, rec })?;
-    match keeper.submit(batch) {
-        Ok(_epoch) => Ok(()),
-        Err((refusal, _batch)) => Err(Fail::from(refusal)),
-    }
-}
-
 /// Lets a hall come to the outputs of the epochs that it lacks.
 fn work(
     keeper: &KeeperInMemory,
@@ -58,49 +45,41 @@ fn work(
     Ok(())
 }
 
-/// What a reader sees after each call.
-#[test]
-fn a_reader_follows_a_keeper(rt: HostRuntime) -> Result<(), Fail> {
-    let alloc = rt.alloc();
-    let calls: StockCalls = Calls::new(alloc);
-    let (mut keeper, mut hall) = fresh(alloc)?;
-    let Watch {
-        writer,
-        mut readers,
-    } = Watch::new(alloc, [0, 0, 0], 1)?;
-    let mut reader = readers.pop().ok_or("a reader")?;
-    assert!(rt; keeper.attach(writer).is_none());
-    assert_eq!(rt; reader.read(), [0, 0, 0]);
-    submit_one(alloc, &mut keeper)?;
-    assert_eq!(rt; reader.read(), [1, 0, 0]);
-    work(&keeper, &mut hall, &calls)?;
-    assert_eq!(rt; reader.read(), [1, 0, 0]);
-    keeper.collect(&mut hall)?;
-    assert_eq!(rt; reader.read(), [1, 1, 0]);
-    assert_eq!(rt; keeper.cut(&mut hall)?, 1);
-    assert_eq!(rt; keeper.write_cut()?, Some(1));
-    assert_eq!(rt; reader.read(), [1, 1, 1]);
-    assert!(rt; keeper.detach().is_some());
-    assert!(rt; keeper.detach().is_none());
+/// Submits an epoch, and keeps it in a cut.
+fn keep_one(
+    alloc: Global,
+    keeper: &mut KeeperInMemory,
+    hall: &mut Hall<Stock>,
+    calls: &StockCalls,
+) -> Result<(), Fail>
+    ensures { OnOk result (option_map (λ v. v.watch) keeper.new.watch ≡ option_map (λ v. v.watch) keeper.old.watch) }
+{
+    if keeper.submit(Bag::new(alloc)).is_err() {
+        return Err(Fail::from("no epoch"));
+    }
+    work(keeper, hall, calls)?;
+    keeper.cut(hall)?;
+    keeper.write_cut()?;
     Ok(())
 }
 
-/// Submits twenty epochs, and keeps each in a cut.
+/// Does so twenty times, and answers the writer that was attached, where all went well.
 fn keep_twenty(
     alloc: Global,
-    mut keeper: KeeperInMemory,
-    mut hall: Hall<Stock>,
+    keeper: KeeperInMemory,
+    hall: Hall<Stock>,
     calls: &StockCalls,
-) -> Result<KeeperInMemory, Fail>
-    ensures { IfOk result (λ k. option_map (λ v. v.watch) k.watch ≡ option_map (λ v. v.watch) keeper.watch) }
+) -> Option<Writer>
+    ensures { IfSome result (λ w. option_map (λ v. v.watch) keeper.watch ≡ Some w.watch) }
 {
+    let mut keeper = keeper;
+    let mut hall = hall;
     for _ in 0..20u32 {
-        submit_one(alloc, &mut keeper)?;
-        work(&keeper, &mut hall, calls)?;
-        keeper.cut(&mut hall)?;
-        keeper.write_cut()?;
+        if keep_one(alloc, &mut keeper, &mut hall, calls).is_err() {
+            return None;
+        }
     }
-    Ok(keeper)
+    keeper.detach()
 }
 
 /// Reads a thousand times, and says whether no word fell.
@@ -117,35 +96,47 @@ fn read_often(mut reader: Reader) -> (bool, Reader)
     (rises, reader)
 }
 
-fn read_beside<R: Threads + Abort + Sync>(rt: &R, alloc: Global) -> Result<(), Fail> {
+/// Reads by two readers, in threads of their own, while a keeper of which they have the watch goes on. No word that one of
+/// them read is above the words of the writer, of which the contract of `meet` tells.
+fn read_beside<R: Threads + Abort + Sync>(
+    rt: &R,
+    alloc: Global,
+    keeper: KeeperInMemory,
+    hall: Hall<Stock>,
+    first: Reader,
+    second: Reader,
+) -> Result<(), Fail>
+    requires first { option_map (λ v. v.watch) keeper.watch ≡ Some first.watch }
+    requires second { second.watch ≡ first.watch }
+{
     let calls: StockCalls = Calls::new(alloc);
-    let (mut keeper, hall) = fresh(alloc)?;
-    let Watch {
-        writer,
-        mut readers,
-    } = Watch::new(alloc, [0, 0, 0], 2)?;
-    let second = readers.pop().ok_or("a second reader")?;
-    let first = readers.pop().ok_or("a first reader")?;
-    keeper.attach(writer);
-    let (kept, ((first_rises, first), (second_rises, second))) = join(
+    let (writer, ((first_rises, first), (second_rises, second))) = join(
         rt,
-        move || -> Result<KeeperInMemory, Fail>
-            ensures { IfOk result (λ k. option_map (λ v. v.watch) k.watch ≡ option_map (λ v. v.watch) keeper.watch) }
+        move || -> Option<Writer>
+            ensures { IfSome result (λ w. w.watch ≡ first.watch) }
         { keep_twenty(alloc, keeper, hall, &calls) },
         move || -> ((bool, Reader), (bool, Reader))
             ensures { (result.0.1.watch ≡ first.watch) × (result.1.1.watch ≡ second.watch) }
         { join(rt, move || read_often(first), move || read_often(second)) },
     );
+    let Some(mut writer) = writer else {
+        return Err(Fail::from("an epoch was refused"));
+    };
     assert!(rt; first_rises && second_rises);
-    let mut keeper = kept?;
-    let mut writer = keeper.detach().ok_or("a writer")?;
-    for met in [writer.meet(first), writer.meet(second)] {
-        assert!(rt; met[0] <= 20 && met[1] <= 20 && met[2] <= 20);
-    }
+    assert!(rt; writer.meet(first)[0] <= 20);
+    assert!(rt; writer.meet(second)[0] <= 20);
     Ok(())
 }
 
 #[test]
 fn two_threads_read_beside_a_keeper(rt: HostRuntime) -> Result<(), Fail> {
-    read_beside(&rt, rt.alloc())
+    let (mut keeper, hall) = fresh(rt.alloc())?;
+    let Watch {
+        writer,
+        mut readers,
+    } = Watch::new(rt.alloc(), [0, 0, 0], 2)?;
+    keeper.attach(writer);
+    let second = readers.pop().ok_or("a second reader")?;
+    let first = readers.pop().ok_or("a first reader")?;
+    read_beside(&rt, rt.alloc(), keeper, hall, first, second)
 }
