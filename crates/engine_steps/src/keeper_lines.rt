@@ -1,14 +1,11 @@
 //! The answers of a keeper.
 use crate::error::StepError;
-use crate::lines::{print_epoch, print_entries, print_states};
+use crate::lines::{print_entries, print_epoch, print_states};
 use td_stamp::{Batch, EpochOut, States};
 use td_standing::KeeperError;
 
 /// `refused: ..`, but for want of memory.
-pub(crate) fn print_keeper_refusal(
-    rt: &impl Print,
-    refusal: KeeperError,
-) -> Result<(), StepError> {
+pub(crate) fn print_keeper_refusal(rt: &impl Print, refusal: KeeperError) -> Result<(), StepError> {
     match refusal {
         KeeperError::Memory => Err(StepError::Memory),
         refusal => Ok(println!(rt; "refused: {refusal}")?),

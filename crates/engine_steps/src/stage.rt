@@ -60,7 +60,10 @@ impl Stage {
     pub(crate) fn step(&mut self, rt: &impl Print, command: Command<'_>) -> Result<(), StepError> {
         match command {
             Command::State(vertex, key, state) => Ok(self.states.set(vertex, key, state)?),
-            Command::Open(workers, first) => self.open(workers, first, self.states.copy()?),
+            Command::Open(workers, first) => {
+                let states = self.states.copy()?;
+                self.open(workers, first, states)
+            }
             Command::Other => Ok(mem::swap(&mut self.hall, &mut self.other)),
             Command::Closures(is_there) => {
                 self.calls = Catalogue { is_there };

@@ -128,12 +128,15 @@ impl Store {
         }
     }
 
-    /// Prints what the disk tells.
+    /// Prints what the disk tells, in lines.
     fn show(&mut self, rt: &impl Print, alloc: Global, plan: &Plan) -> Result<(), StepError> {
         let mut device = self.take()?;
         let shown = td_feed::show(alloc, &mut device, plan, &mut StdWriter(io::writer(rt)));
         *self = Store::Disk(device);
-        print_fault(rt, shown)
+        match shown {
+            Err(Fault::Memory) => Err(StepError::Memory),
+            shown => print_fault(rt, shown),
+        }
     }
 }
 
