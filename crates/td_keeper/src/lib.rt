@@ -10,8 +10,6 @@ pub mod laws;
 mod own;
 mod release;
 mod submit;
-#[cfg(test)]
-mod tests;
 mod watch;
 mod write_cut;
 

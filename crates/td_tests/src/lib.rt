@@ -15,6 +15,8 @@ mod head;
 #[cfg(test)]
 mod journal;
 #[cfg(test)]
+mod keeper;
+#[cfg(test)]
 mod plan;
 #[cfg(test)]
 mod progress;

@@ -1,11 +1,12 @@
-use crate::Keeper;
-use crate::laws::each_is_kept;
+//! Formatting and recovering disks in memory: what they tell, each write and sync failing in turn, refused allocations.
 use std::alloc::Global;
 use std::test::Fail;
 use td_calls::Stock;
 use td_disk::{Disk, FuseDisk, MemoryDisk};
 use td_head::Shape;
 use td_journal::Journal;
+use td_keeper::Keeper;
+use td_keeper::laws::each_is_kept;
 use td_plan::Plan;
 use td_slots::Slots;
 use td_stamp::{Bag, Entry, Rec, State, States};
