@@ -253,7 +253,7 @@ returns-in-Ok-clause-later g c =
     let s = standing_from c.self.inside.checkpoint c.self.inside.submitted.items in
     let side = c.self.inside.checkpoint.slot in
     let batch = c.args.batch in
-    let k = keeping_of device plan head c.self.inside.checkpoint c.self.inside.submitted.items c.self.inside.broken c.self.inside.taken c.self.inside.collected c.self.inside.queue.items in
+    let k = keeping_of device plan head c.self.inside.checkpoint c.self.inside.submitted.items c.self.inside.broken c.self.inside.taken c.self.inside.collected c.self.inside.queue.items c.self.inside.watch in
     let none : submit_refusal k batch ≡ None = ap (λ (z : Keeping g.row.D.Denot). submit_refusal z batch) c.self.view_is ∙ (sym c.refusal_of.ensures ∙ is_none c.refusal_of.result c.in_default.not-Some) in
     subst (λ (z : Keeping g.row.D.Denot). g.D.Disk.is_lawful z.device → (state z.device).moment ≤ (state c.submit_batch.new.device).moment) c.self.view_is
     (λ old. c.in-Ok.ensures.later old (keeps_of c.self.inside.broken answers plan head side s (state device) (accepted k batch none).whole (c.self.invariant.2 old)).durable)
@@ -268,7 +268,7 @@ returns-in-Device-clause-later g c =
     let s = standing_from c.self.inside.checkpoint c.self.inside.submitted.items in
     let side = c.self.inside.checkpoint.slot in
     let batch = c.args.batch in
-    let k = keeping_of device plan head c.self.inside.checkpoint c.self.inside.submitted.items c.self.inside.broken c.self.inside.taken c.self.inside.collected c.self.inside.queue.items in
+    let k = keeping_of device plan head c.self.inside.checkpoint c.self.inside.submitted.items c.self.inside.broken c.self.inside.taken c.self.inside.collected c.self.inside.queue.items c.self.inside.watch in
     let none : submit_refusal k batch ≡ None = ap (λ (z : Keeping g.row.D.Denot). submit_refusal z batch) c.self.view_is ∙ (sym c.refusal_of.ensures ∙ is_none c.refusal_of.result c.in_default.not-Some) in
     subst (λ (z : Keeping g.row.D.Denot). g.D.Disk.is_lawful z.device → (state z.device).moment ≤ (state c.submit_batch.new.device).moment) c.self.view_is
     (λ old. c.in-Err.ensures.later old (keeps_of c.self.inside.broken answers plan head side s (state device) (accepted k batch none).whole (c.self.invariant.2 old)).durable)
