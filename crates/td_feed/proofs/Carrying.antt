@@ -1,6 +1,6 @@
 -- How what a feed's calls leave of a keeper comes together.
 use Rattle.std.proofs.Common.{◌≡◌, ◌⊎◌, ⊎_elim, inl, inr, ℕ, zero, suc, ◌+◌, ◌-◌, ◌≤◌, Bool, true, false, List, [], ◌∷◌, ◌++◌, length, take, refl, sym, ap, ◌∙◌, subst, arith}
-use Rattle.std.specs.Prelude.{Result, Ok, Err, OnOk, OnErr}
+use Rattle.std.specs.Prelude.{Option, Some, None, IfSome, Result, Ok, Err, OnOk, OnErr}
 use Rattle.std.proofs.lemmas.List.{append-nil, append_assoc, length-append, take_at, take-append-le, take_all, take-map, length-drop}
 use Rattle.std.proofs.Math.Seq.{take-append-add}
 use Rattle.std.proofs.Math.Nat.{add-suc}
@@ -44,6 +44,16 @@ at_err (Err e) p = p
 pub at_ok : {T E P : Type 0} (r : Result T E) → P → OnOk r P
 at_ok (Ok x) p = p
 at_ok (Err e) p = tt
+
+-- where something is known, at any answer
+pub either_way : {T E A : Type 0} {P Q : A → Type 0} (r : Result T E) (o : Option A) → ((a : A) → P a → Q a) → OnOk r (IfSome o P) → OnErr r (IfSome o Q) → IfSome o Q
+either_way (Ok x) (Some a) f p q = f a p
+either_way (Ok x) None f p q = tt
+either_way (Err e) o f p q = q
+
+pub in_some : {A : Type 0} {P : A → Type 0} (o : Option A) → ((a : A) → P a) → IfSome o P
+in_some (Some a) f = f a
+in_some None f = tt
 
 -- two answers
 abbrev ok_of : Standing → Result Standing KeeperError
@@ -186,10 +196,10 @@ module _ {D : Type 0} (is_lawful : D → Type 0) (state : D → DiskState) (answ
     left = ⊎_elim
         (λ whole. inl (subst (λ (l : List Submitted). Carries answers a c l) (sym (part rest.count rest.few)) (then_carries answers a b c x (take rest.count y) first whole)))
         (λ stopped. inr (λ history stands lawful i image.
-          ⊎_elim
-          (λ t. inl (tells history i rest.count rest.few t))
-          (λ t. inr (omega (arith, t.0, ap length is, length-append x (y ++ z), length-append y z), subst (λ (n : ℕ). TellsHistory answers a.plan (history ++ take n all) i) (add-suc (length x) rest.count) (tells history i (suc rest.count) t.0 t.1)))
-          (stopped (history ++ x) (first.stands history stands) lawful i image)))
+        ⊎_elim
+        (λ t. inl (tells history i rest.count rest.few t))
+        (λ t. inr (omega (arith, t.0, ap length is, length-append x (y ++ z), length-append y z), subst (λ (n : ℕ). TellsHistory answers a.plan (history ++ take n all) i) (add-suc (length x) rest.count) (tells history i (suc rest.count) t.0 t.1)))
+        (stopped (history ++ x) (first.stands history stands) lawful i image)))
         rest.left;
   }
     where
@@ -235,6 +245,11 @@ module _ {D : Type 0} (is_lawful : D → Type 0) (state : D → DiskState) (answ
       subst (λ (p : List Line). EachTellsHistory answers p (history ++ more) (state new.device)) carries.plan
       (each_told new (history ++ more) carries.whole (carries.stands history is) held lawful)
 
+-- the same history, with nothing submitted
+pub none_more : (answers : Answers) (plan : List Line) (history more : List Submitted) (state : DiskState) → EachTellsHistory answers plan history state → EachTellsSome answers plan history more state
+none_more answers plan history more state told =
+    record { count = 0; each = λ c image. inl (subst (λ (h : List Submitted). TellsHistory answers plan h c) (sym (append-nil history)) (told c image)) }
+
 module _ (answers : Answers) (plan : List Line) (history : List Submitted) (old now : DiskState) (safe : CrashSafe Unchanged old now)
     (counts : (c : List ℕ) → now.images c → now.since old.moment c) (told : EachTellsHistory answers plan history old) where
   -- a recovery leaves what was told
@@ -249,7 +264,3 @@ module _ (answers : Answers) (plan : List Line) (history : List Submitted) (old 
       let t = still_each now.bytes reads in
       let same : t.standing ≡ s = same_ok t.standing s (one_answer plan now.bytes (Ok t.standing) (Ok s) t.told is) in
       subst (λ (u : Standing). Stands (states_by answers plan) u history) same t.stands
-
-  -- with nothing submitted
-  pub still_some : (more : List Submitted) → EachTellsSome answers plan history more now
-  still_some more = record { count = 0; each = λ c image. inl (subst (λ (h : List Submitted). TellsHistory answers plan h c) (sym (append-nil history)) (still_each c image)) }

@@ -1,9 +1,9 @@
 //! A feed under way.
-ghost use Rattle.std.specs.Prelude.{◌≡◌, ◌↔◌, ◌≤◌, [], ◌∷◌, None, false, IfOk, OnOk, OnErr};
+ghost use Rattle.std.specs.Prelude.{◌≡◌, ◌⊎◌, ◌↔◌, ◌≤◌, [], ◌∷◌, None, false, IfOk, OnOk, OnErr};
 ghost use Rattle.td_plan.specs.Blocks.{vertices};
 ghost use Rattle.td_calls.specs.Fits.{first_lack};
 ghost use Rattle.td_standing.specs.Standing.{submission};
-ghost use Rattle.td_keeper.specs.Keeping.{since_base};
+ghost use Rattle.td_keeper.specs.Keeping.{since_base, with_batch};
 ghost use Rattle.td_feed.specs.Orders.{submissions};
 ghost use Rattle.td_feed.specs.Fed.{hall_fault};
 ghost use Rattle.td_feed.specs.Carried.{Carries, Leaves};
@@ -104,6 +104,9 @@ impl<L: Law> Feeding<L> {
         ensures size { D.capacity keeper.new.device ≡ D.capacity keeper.old.device }
         ensures lawful { D.is_lawful keeper.old.device ↔ D.is_lawful keeper.new.device }
         ensures carried { OnOk result (Carries L.answers keeper.old keeper.new (submission 0 batch ∷ [])) }
+
+        // Nothing is written but for a batch that is on the disk.
+        ensures acknowledged { (writer.new ≡ writer.old) ⊎ (keeper.new ≡ with_batch keeper.old keeper.new.device 0 batch) }
         ensures left { OnErr result (Leaves D.is_lawful D.state L.answers keeper.old keeper.new (submission 0 batch ∷ [])) }
     {
         laws::advance_stands::<L>();

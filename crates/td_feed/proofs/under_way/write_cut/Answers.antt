@@ -22,18 +22,18 @@ returns-in_err-write_cut-clause-left g c =
     at_err c.from_residual.result
     (⊎_elim
     (λ many.
-      let same = e.too_many (ap as_err many) in
-      leaves_none g.D.Disk.is_lawful state answers old new [] (unmoved answers old new (ap (λ (k : Keeping g.row.D.Denot). k.plan) same) (ap (λ (k : Keeping g.row.D.Denot). k.standing) same) (ap (λ (k : Keeping g.row.D.Denot). k.broken) same ∙ c.requires.whole)))
+    let same = e.too_many (ap as_err many) in
+    leaves_none g.D.Disk.is_lawful state answers old new [] (unmoved answers old new (ap (λ (k : Keeping g.row.D.Denot). k.plan) same) (ap (λ (k : Keeping g.row.D.Denot). k.standing) same) (ap (λ (k : Keeping g.row.D.Denot). k.broken) same ∙ c.requires.whole)))
     (λ other. ⊎_elim
     (λ device. record {
-        count = 0;
-        few = omega arith;
-        left = inr (stopped_none g.D.Disk.is_lawful state answers c.advance_stands.ensures.each old new e.lawful.1
-            (λ lawful i image. g.met.D.Disk.counts_now new.device (state old.device).moment i lawful (e.later (e.lawful.1 lawful)) image)
-            (λ lawful. e.images lawful c.requires.whole));
-      })
+      count = 0;
+      few = omega arith;
+      left = inr (stopped_none g.D.Disk.is_lawful state answers c.advance_stands.ensures.each old new e.lawful.1
+          (λ lawful i image. g.met.D.Disk.counts_now new.device (state old.device).moment i lawful (e.later (e.lawful.1 lawful)) image)
+          (λ lawful. e.images lawful c.requires.whole));
+    })
     (λ same.
-      leaves_none g.D.Disk.is_lawful state answers old new [] (unmoved answers old new (ap (λ (k : Keeping g.row.D.Denot). k.plan) same) (ap (λ (k : Keeping g.row.D.Denot). k.standing) same) (ap (λ (k : Keeping g.row.D.Denot). k.broken) same ∙ c.requires.whole)))
+    leaves_none g.D.Disk.is_lawful state answers old new [] (unmoved answers old new (ap (λ (k : Keeping g.row.D.Denot). k.plan) same) (ap (λ (k : Keeping g.row.D.Denot). k.standing) same) (ap (λ (k : Keeping g.row.D.Denot). k.broken) same ∙ c.requires.whole)))
     other)
     e.unchanged)
 
@@ -44,7 +44,7 @@ returns-clause-carried g c =
     let new = c.write_cut.new.self in
     ⊎_elim
     (λ none.
-      let same = c.in_ok-write_cut.ensures.none_unchanged (ap as_ok none) in
-      unmoved answers old new (ap (λ (k : Keeping g.row.D.Denot). k.plan) same) (ap (λ (k : Keeping g.row.D.Denot). k.standing) same) (ap (λ (k : Keeping g.row.D.Denot). k.broken) same ∙ c.requires.whole))
+    let same = c.in_ok-write_cut.ensures.none_unchanged (ap as_ok none) in
+    unmoved answers old new (ap (λ (k : Keeping g.row.D.Denot). k.plan) same) (ap (λ (k : Keeping g.row.D.Denot). k.standing) same) (ap (λ (k : Keeping g.row.D.Denot). k.broken) same ∙ c.requires.whole))
     (λ written. checkpointed answers c.advance_stands.ensures.each c.standings_advance.ensures.cut old new new.device c.requires.whole c.each_is_kept.ensures written.1)
     c.in_ok-write_cut.ensures.written

@@ -17,9 +17,9 @@ returns-in_err-epoch-clause-left g c =
     let second : Carries answers settled new [] =
     ⊎_elim
     (λ few. ⊎_elim
-      (λ foreign. moved answers settled new settled (c.in_err-epoch.ensures.foreign foreign).1 refl refl whole)
-      (λ memory. moved answers settled new settled memory.1 refl refl whole)
-      few)
+    (λ foreign. moved answers settled new settled (c.in_err-epoch.ensures.foreign foreign).1 refl refl whole)
+    (λ memory. moved answers settled new settled memory.1 refl refl whole)
+    few)
     (λ collected. moved answers settled new (with_collected settled c.settle.new.self.hall) collected.0 refl refl whole)
     c.in_err-epoch.ensures.collected in
     at_err c.from_residual-in_err-epoch.result (leaves_none g.D.Disk.is_lawful g.D.Disk.state answers old new [] (then_carries answers old settled new [] [] first second))

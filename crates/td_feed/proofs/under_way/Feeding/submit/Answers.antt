@@ -16,18 +16,18 @@ returns-in-Err-clause-left g c =
     let x : Submitted = submission 0 c.args.batch in
     ⊎_elim
     (λ same.
-      leaves_none g.D.Disk.is_lawful state answers old new (x ∷ []) (unmoved answers old new (ap (λ (k : Keeping g.row.D.Denot). k.plan) same) (ap (λ (k : Keeping g.row.D.Denot). k.standing) same) (ap (λ (k : Keeping g.row.D.Denot). k.broken) same ∙ c.requires.whole)))
+    leaves_none g.D.Disk.is_lawful state answers old new (x ∷ []) (unmoved answers old new (ap (λ (k : Keeping g.row.D.Denot). k.plan) same) (ap (λ (k : Keeping g.row.D.Denot). k.standing) same) (ap (λ (k : Keeping g.row.D.Denot). k.broken) same ∙ c.requires.whole)))
     (λ other. ⊎_elim
     (λ memory.
-      let same = memory.1 in
-      leaves_none g.D.Disk.is_lawful state answers old new (x ∷ []) (unmoved answers old new (ap (λ (k : Keeping g.row.D.Denot). k.plan) same) (ap (λ (k : Keeping g.row.D.Denot). k.standing) same) (ap (λ (k : Keeping g.row.D.Denot). k.broken) same ∙ c.requires.whole)))
+    let same = memory.1 in
+    leaves_none g.D.Disk.is_lawful state answers old new (x ∷ []) (unmoved answers old new (ap (λ (k : Keeping g.row.D.Denot). k.plan) same) (ap (λ (k : Keeping g.row.D.Denot). k.standing) same) (ap (λ (k : Keeping g.row.D.Denot). k.broken) same ∙ c.requires.whole)))
     (λ device. record {
-        count = 0;
-        few = omega arith;
-        left = inr (stopped_one g.D.Disk.is_lawful state answers c.advance_stands.ensures.each old new e.lawful.1
-            (λ lawful i image. g.met.D.Disk.counts_now new.device (state old.device).moment i lawful (e.later (e.lawful.1 lawful)) image)
-            x (λ lawful. e.images lawful c.requires.whole));
-      })
+      count = 0;
+      few = omega arith;
+      left = inr (stopped_one g.D.Disk.is_lawful state answers c.advance_stands.ensures.each old new e.lawful.1
+          (λ lawful i image. g.met.D.Disk.counts_now new.device (state old.device).moment i lawful (e.later (e.lawful.1 lawful)) image)
+          x (λ lawful. e.images lawful c.requires.whole));
+    })
     other)
     e.unchanged
 
