@@ -1,3 +1,4 @@
 pub mod Orders
+pub mod Narrowed
 pub mod Shown
 pub mod Fed

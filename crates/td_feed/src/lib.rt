@@ -5,13 +5,13 @@
 
 mod feed;
 mod feeding;
-mod format;
+mod formatting;
 mod order;
 mod plan_text;
-mod show;
+mod showing;
 
 pub use feed::feed;
-pub use format::{format, shape_of};
+pub use formatting::{format, shape_of};
 pub use order::{FeedLine, Order, read_orders};
 pub use plan_text::read_plan;
-pub use show::show;
+pub use showing::show;

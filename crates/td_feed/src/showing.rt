@@ -7,7 +7,7 @@ ghost use Rattle.td_standing.specs.Standing.{Standing, standing_from};
 ghost use Rattle.td_standing.specs.Read.{standing_of, Refused};
 ghost use Rattle.td_standing.specs.Told.{Told};
 ghost use Rattle.td_standing.specs.declared.error.KeeperError.TheVariants.{Device};
-ghost use Rattle.td_feed.specs.Shown.{shown, head_lines, state_lines, epoch_lines, ShowsTold, IsRefusedAs};
+ghost use Rattle.td_feed.specs.Shown.{shown, head_lines, last_line, state_line, state_lines, epoch_line, epoch_lines, ShowsTold, IsRefusedAs};
 
 use std::alloc::Global;
 use std::fmt::Write;
@@ -16,8 +16,8 @@ use td_disk::Disk;
 use td_journal::Submitted;
 use td_plan::Plan;
 use td_slots::Checkpoint;
-use td_stamp::States;
-use td_standing::{Recovered, recover_device};
+use td_stamp::{State, States};
+use td_standing::{Recovered, laws, recover_device};
 
 /// Writes what a disk tells for a plan: `kept C`, the epoch of its checkpoint; `told T`, the last epoch on it; `last Q`, the
 /// greatest request number, where there is one; a line `state VERTEX KEY A B` for each state of the checkpoint in order; and
@@ -43,6 +43,7 @@ pub fn show<D: Disk, W: Sink>(
     ensures nothing { IfErr result (λ f. (f ≡ Fault.Output) ⊎ (writer.new ≡ writer.old)) }
     ensures crash_safe { D.is_lawful disk.old → CrashSafe Unchanged (D.state disk.old) (D.state disk.new) }
 {
+    laws::told_in_parts();
     let (_plan, recovered) = recover_device(alloc, disk, plan)?;
     let text = text_of(alloc, &recovered)?;
     write_answer(writer, text.as_str())
@@ -54,18 +55,12 @@ fn text_of(alloc: Global, recovered: &Recovered) -> Result<String, Fault>
     ensures ok { IfOk result (λ text. string_bytes text ≡ shown (standing_of recovered.now)) }
     ensures err { IfErr result (λ f. f ≡ Fault.Memory) }
 {
+    let checkpoint = &recovered.checkpoint;
+    let submitted = recovered.submitted.as_slice();
     let mut text = String::new(alloc);
-    print_head(
-        &mut text,
-        &recovered.checkpoint,
-        recovered.submitted.as_slice(),
-    )?;
-    print_states(&mut text, &recovered.checkpoint.states)?;
-    print_epochs(
-        &mut text,
-        recovered.checkpoint.epoch,
-        recovered.submitted.as_slice(),
-    )?;
+    print_head(&mut text, checkpoint, submitted)?;
+    print_states(&mut text, &checkpoint.states)?;
+    print_epochs(&mut text, checkpoint.epoch, submitted)?;
     Ok(text)
 }
 
@@ -83,7 +78,14 @@ fn print_head(
     let told = kept + submitted.len() as u64;
     writeln!(text, "kept {kept}")?;
     writeln!(text, "told {told}")?;
-    let last = last_request(checkpoint.last, submitted);
+    print_last(text, last_request(checkpoint.last, submitted))
+}
+
+/// Appends `last Q`, where there is a request number. Refusal: `Memory`.
+fn print_last(text: &mut String, last: u64) -> Result<(), Fault>
+    ensures ok { OnOk result (string_bytes text.new ≡ string_bytes text.old ++ last_line last) }
+    ensures err { IfErr result (λ f. f ≡ Fault.Memory) }
+{
     if last > 0 {
         writeln!(text, "last {last}")?;
     }
@@ -106,11 +108,21 @@ fn print_states(text: &mut String, states: &States) -> Result<(), Fault>
     ensures ok { OnOk result (string_bytes text.new ≡ string_bytes text.old ++ state_lines states.now) }
     ensures err { IfErr result (λ f. f ≡ Fault.Memory) }
 {
-    for ((vertex, key), state) in states.list() {
-        let a = state.a;
-        let b = state.b;
-        writeln!(text, "state {vertex} {key} {a} {b}")?;
+    for (place, state) in states.list() {
+        print_state(text, place.0, place.1, *state)?;
     }
+    Ok(())
+}
+
+/// Appends the line of a state. Refusal: `Memory`.
+fn print_state(text: &mut String, vertex: u8, key: u64, state: State) -> Result<(), Fault>
+    ensures ok { OnOk result (string_bytes text.new ≡ string_bytes text.old ++ state_line ((vertex, key), state)) }
+    ensures err { IfErr result (λ f. f ≡ Fault.Memory) }
+{
+    let a = state.a;
+    let b = state.b;
+    write!(text, "state {vertex} {key}")?;
+    writeln!(text, " {a} {b}")?;
     Ok(())
 }
 
@@ -123,8 +135,17 @@ fn print_epochs(text: &mut String, kept: u64, submitted: &[Submitted]) -> Result
     let mut epoch = kept;
     for each in submitted {
         epoch += 1;
-        let count = each.batch.len();
-        writeln!(text, "epoch {epoch} {count}")?;
+        print_epoch(text, epoch, each)?;
     }
+    Ok(())
+}
+
+/// Appends the line of an epoch. Refusal: `Memory`.
+fn print_epoch(text: &mut String, epoch: u64, submitted: &Submitted) -> Result<(), Fault>
+    ensures ok { OnOk result (string_bytes text.new ≡ string_bytes text.old ++ epoch_line epoch submitted.now) }
+    ensures err { IfErr result (λ f. f ≡ Fault.Memory) }
+{
+    let count = submitted.batch.len();
+    writeln!(text, "epoch {epoch} {count}")?;
     Ok(())
 }

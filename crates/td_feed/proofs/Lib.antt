@@ -1,0 +1,4 @@
+pub mod Accepted
+pub mod Printable
+pub mod Narrowed
+pub mod Refused
