@@ -1,9 +1,14 @@
-//! The engines of the program.
+//! The engines of the program that want closures.
 
-/// Which engine is to answer: the plain evaluator, or a hall of so many shards; `Sim` takes tasks by these picks.
+use td_disk::FileDisk;
+use td_plan::Plan;
+
+/// Which engine is to answer: the plain evaluator, or a hall of so many shards; `Sim` takes tasks by these picks, and `Feed`
+/// works on a disk for a plan.
 #[derive(Drop)]
 pub(crate) enum Engine {
     Batch,
     Run(u8),
     Sim(u8, Vec<u64>),
+    Feed(FileDisk, Plan, u8),
 }

@@ -1,18 +1,23 @@
 //! Makes the closures of the catalogue, and does what the program's words ask for.
 #![tactic(auto)]
 
+ghost use Rattle.td_words.specs.Command.{HasWorkers};
 ghost use Rattle.td.specs.Whole.{IsLawfulEngine, HasEach, map_codes, group_codes, fold_codes};
 
+mod disk;
 mod engine;
 mod store;
 
+use crate::disk::{format_disk, open_disk, show_disk};
 use crate::engine::Engine;
 use crate::store::{store_fold, store_group, store_map};
+use std::fs::File;
 use std::process::ExitCode;
-use std::rt::Env;
+use std::rt::{Env, Files};
 use std::{env, io};
 use td_calls::{Calls, FoldBox, GroupBox, MapBox, Stock, StockCalls, stock};
 use td_console::{Fault, StdReader, StdWriter, batch, fault_line, read_picks, run, sim};
+use td_feed::feed;
 use td_stamp::{Item, Rec, State};
 use td_words::{Job, WordsError, words};
 
@@ -22,17 +27,45 @@ fn main(rt: HostRuntime) -> ExitCode {
         Err(error) => return refused(&rt, error),
     };
     match words(rt.alloc(), &given) {
-        Ok(Job::Batch) => ended(&rt, run_engine(&rt, Engine::Batch)),
-        Ok(Job::Run(workers)) => ended(&rt, run_engine(&rt, Engine::Run(workers))),
-        Ok(Job::Sim(workers, picks)) => match read_picks(rt.alloc(), picks) {
-            Ok(picks) => ended(&rt, run_engine(&rt, Engine::Sim(workers, picks))),
-            Err(fault) => told(&rt, fault),
-        },
-        Ok(Job::Help(text)) => match print!(rt; "{text}") {
-            Ok(()) => ExitCode::SUCCESS,
-            Err(_) => told(&rt, Fault::Output),
-        },
+        Ok(job) => ended(&rt, done(&rt, job)),
         Err(error) => refused(&rt, error),
+    }
+}
+
+/// Does what is asked for.
+fn done<R: Files<File = File> + Input + Print + AllocGlobal>(
+    rt: &R,
+    job: Job<'_>,
+) -> Result<(), Fault>
+    requires workers { HasWorkers job }
+{
+    match job {
+        Job::Batch => run_engine(rt, Engine::Batch),
+        Job::Run(workers) => run_engine(rt, Engine::Run(workers)),
+        Job::Sim(workers, picks) => {
+            let picks = read_picks(rt.alloc(), picks)?;
+            run_engine(rt, Engine::Sim(workers, picks))
+        }
+        Job::Format {
+            disk,
+            plan,
+            m,
+            n,
+            k,
+        } => format_disk(rt, disk, plan, m, n, k),
+        Job::Feed {
+            disk,
+            plan,
+            workers,
+        } => {
+            let (disk, plan) = open_disk(rt, disk, plan)?;
+            run_engine(rt, Engine::Feed(disk, plan, workers))
+        }
+        Job::Show { disk, plan } => show_disk(rt, disk, plan),
+        Job::Help(text) => match print!(rt; "{text}") {
+            Ok(()) => Ok(()),
+            Err(_) => Err(Fault::Output),
+        },
     }
 }
 
@@ -158,6 +191,18 @@ fn answer<R: Input + Print + AllocGlobal>(
                 workers,
                 picks.as_slice(),
             )
+        }
+        Engine::Feed(disk, plan, workers) => {
+            feed::<_, _, _, Stock, StockCalls>(
+                rt.alloc(),
+                disk,
+                &plan,
+                workers,
+                &mut reader,
+                &mut writer,
+                calls,
+            )
+            .1
         }
     }
 }

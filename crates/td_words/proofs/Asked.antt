@@ -1,110 +1,115 @@
 -- What the matches of a parse ask for.
-use Rattle.std.proofs.Common.{◌≡◌, ◌≢◌, ◌⊎◌, inl, inr, ℕ, ◌<◌, ◌≤◌, ◌^◌, List, [], ◌∷◌, Option, Some, None, option_map, get_or, Result, Ok, Err, IfOk, IfErr, refl, ap, ap₂, sym, ◌∙◌, subst, arith, codes, lit<}
-use Rattle.std.specs.Prelude.{Box}
-use Rattle.std.specs.Box.{box_value}
-use Rattle.std.specs.Str.Parse.{ParsesUnsigned, IsNumeral, AllDigits, digits_value, without_leading_plus}
+use Rattle.std.proofs.Common.{◌≡◌, ◌≢◌, ◌⊎◌, inl, inr, ℕ, ◌+◌, ◌<◌, ◌≤◌, ◌^◌, List, [], Option, Some, None, option_map, get_or, Result, Ok, Err, IfOk, IfErr, IfNone, refl, ap, sym, ◌∙◌, subst, arith, codes, lit<}
+use Rattle.std.specs.Borrow.{Bor}
+use Rattle.std.specs.Str.Parse.{ParsesUnsigned, IsNumeral, digits_value, without_leading_plus}
 use Rattle.clap.specs.declared.parser.matches.Found.{Found}
-use Rattle.clap.specs.declared.parser.matches.SubCommand.{SubCommand}
-use Rattle.clap.specs.declared.parser.matches.ArgMatches.TheViews.{out-SubCommand}
 use Rattle.clap.specs.declared.error.kind.ErrorKind.{ErrorKind}
 use Rattle.clap.specs.declared.error.kind.ErrorKind.TheVariants.{DisplayHelp, OutOfMemory}
 use Rattle.clap.specs.Matches.{one_text, ReadsOne}
-use Rattle.clap.specs.Words.{Row, Text, one_of, first_of, rows_of, subcommand_rows, subcommand_of}
+use Rattle.clap.specs.Words.{Row, Text, one_of, first_of, rows_of, subcommand_of}
 use Rattle.clap.proofs.WalkLemmas.{one_text-rows}
 use Rattle.clap.specs.Faults.{fault_of}
 use Rattle.clap.specs.Kinds.{IsAmong}
 use Rattle.td_words.specs.declared.job.Job.{Job}
-use Rattle.td_words.specs.declared.job.Job.TheVariants.{Batch, Run, Sim, Help}
+use Rattle.td_words.specs.declared.job.Job.TheVariants.{Batch, Run, Sim, Format, Feed, Show, Help}
 use Rattle.td_words.specs.declared.job.WordsError.{WordsError}
 use Rattle.td_words.specs.declared.job.WordsError.TheVariants.{Words, Memory}
-use Rattle.td_words.specs.Jobs.{IsHelp, IsSim}
-use Rattle.td_words.specs.Command.{td, IsWorkers, IsNamed, HasValues, HasWorkers, IsAsked, IsRefused, name_of}
+use Rattle.td_words.specs.Jobs.{IsHelp, IsOf}
+use Rattle.td_words.specs.Command.{td, IsNumber, IsWorkers, IsNamed, HasValues, HasWorkers, IsAsked, IsRefused, name_of, IsFormat, IsFeed}
 
--- the number of shards, as it is read
-module _ {E : Type 0} (Reads : List ℕ → Result ℕ E → Type 0) (numbers : (t : List ℕ) (x : Result ℕ E) → Reads t x → ParsesUnsigned 8 10 t x) (f : Found) (r : Option ℕ) (none : one_text f (codes "workers") ≡ None → r ≡ None)
-    (value : (t : List ℕ) → one_text f (codes "workers") ≡ Some t → ReadsOne Reads t r) where
-  pub workers_read : (w : ℕ) → r ≡ Some w → 1 ≤ w → w ≤ 16 → IsWorkers (rows_of f) w
-  workers_read w is low high = by (one_text f (codes "workers")) refl
+-- a number, as it is read
+module _ {E : Type 0} (bits : ℕ) (Reads : List ℕ → Result ℕ E → Type 0) (numbers : (t : List ℕ) (x : Result ℕ E) → Reads t x → ParsesUnsigned bits 10 t x) (f : Found) (id : Text) (r : Option ℕ)
+    (none : one_text f id ≡ None → r ≡ None) (value : (t : List ℕ) → one_text f id ≡ Some t → ReadsOne Reads t r) (least most : ℕ) where
+  pub number_read : (n : ℕ) → r ≡ Some n → (n < 2 ^ bits → (least ≤ n) × (n ≤ most)) → IsNumber id least most (rows_of f) n
+  number_read n is within = by (one_text f id) refl
     where
-      by : (o : Option (List ℕ)) → one_text f (codes "workers") ≡ o → IsWorkers (rows_of f) w
+      by : (o : Option (List ℕ)) → one_text f id ≡ o → IsNumber id least most (rows_of f) n
       by None e = let lacks = none e in absurd cc
       by (Some t) e =
-          let h = numbers t (Ok w) (subst (ReadsOne Reads t) is (value t e)) in
-          (t, sym (one_text-rows f (codes "workers")) ∙ e, h.0.0, h.1, low, high)
+          let h = numbers t (Ok n) (subst (ReadsOne Reads t) is (value t e)) in
+          let lies = within (subst (λ d. d < 2 ^ bits) (sym h.1) h.0.1) in
+          (t, sym (one_text-rows f id) ∙ e, h.0.0, h.1, lies.0, lies.1)
 
-  pub no_workers : ((w : ℕ) → r ≡ Some w → 1 ≤ w → w ≤ 16 → ⊥) → (w : ℕ) → IsWorkers (rows_of f) w → ⊥
-  no_workers lacks w is = by r refl (value is.0 (one_text-rows f (codes "workers") ∙ is.1))
+  pub no_number : most < 2 ^ bits → ((n : ℕ) → r ≡ Some n → least ≤ n → n ≤ most → ⊥) → (n : ℕ) → IsNumber id least most (rows_of f) n → ⊥
+  no_number fits lacks n is = by r refl (value is.0 (one_text-rows f id ∙ is.1))
     where
       by : (o : Option ℕ) → r ≡ o → ReadsOne Reads is.0 o → ⊥
       by (Some v) e h =
-          let read = numbers is.0 (Ok v) h in let same : v ≡ w = read.1 ∙ sym is.3 in
-          lacks w (e ∙ ap Some same) is.4 is.5
-      by None e h = let n = is.3 in let most = is.5 in numbers is.0 (Err h.0) h.1 (is.2, omega (arith, n, most))
+          let read = numbers is.0 (Ok v) h in let same : v ≡ n = read.1 ∙ sym is.3 in
+          lacks n (e ∙ ap Some same) is.4 is.5
+      by None e h = let d = is.3 in let upper = is.5 in numbers is.0 (Err h.0) h.1 (is.2, omega (arith, d, upper, fits))
 
--- the name of a subcommand and its rows
-pub same_name : {Z : Type 0} (o : Option (Box SubCommand Z)) → option_map (λ b. (out-SubCommand (box_value b)).name.now) o ≡ option_map (λ (p : Text × List Row). p.0) (subcommand_rows o)
-same_name None = refl
-same_name (Some b) = refl
+-- where there is nothing
+pub when_none : {A X : Type 0} (o : Option A) → o ≡ None → X → IfNone o X
+when_none {A} {X} o e x = subst (λ o. IfNone o X) (sym e) x
 
-pub met_is : (o : Option (Text × List Row)) (name : Text) (rows : List Row) → option_map (λ p. p.0) o ≡ Some name → option_map (λ p. p.1) o ≡ Some rows → o ≡ Some (name, rows)
-met_is None name rows e h = cc
-met_is (Some p) name rows e h = let a : p.0 ≡ name = cc in let b : p.1 ≡ rows = cc in λ i. Some (a i, b i)
-
+-- the rows of a subcommand of a name
 pub met_some : (o : Option (Text × List Row)) (name : Text) → option_map (λ p. p.0) o ≡ Some name → (rows : List Row) × (o ≡ Some (name, rows))
 met_some None name e = cc
 met_some (Some p) name e = let a : p.0 ≡ name = cc in (p.1, λ i. Some (a i, p.1))
+
+-- a job that is named is one of the subcommand that is met
+pub is_of : (met : Option (Text × List Row)) (name : Text) (rows : List Row) → met ≡ Some (name, rows) → (job : Job) → IsNamed met job → IsOf name rows job
+is_of met name rows is job n =
+    let e = sym n.1 ∙ is in
+    let a : name_of job ≡ name = let f : Some (name_of job) ≡ Some name = ap (option_map (λ p. p.0)) e in cc in
+    let b : n.0 ≡ rows = let f : Some n.0 ≡ Some rows = ap (option_map (λ p. p.1)) e in cc in
+    (a, subst (λ l. HasValues l job) b n.2)
 
 -- a parse that takes the words is refused for want of memory alone
 pub only_memory : (r : Result Job WordsError) (kind : ErrorKind) → IfOk r (λ job. IsHelp job × (kind ≡ DisplayHelp)) → IfErr r (λ e. (e ≡ Memory) ⊎ ((e ≡ Words) × (kind ≢ DisplayHelp) × (kind ≢ OutOfMemory))) → kind ≡ OutOfMemory → r ≡ Err Memory
 only_memory (Ok job) kind ok err e = let h = ok.1 in absurd cc
 only_memory (Err error) kind ok err e = elim err [ inl memory ↦ ap Err memory | inr h ↦ absurd (h.2 e) ]
 
--- a name that is another's
-apart : (a b : Text) (j k : ℕ) → get_or a 0 0 ≡ j → get_or b 0 0 ≡ k → j < k → a ≡ b → ⊥
-apart a b j k at other below e = let f = ap (λ l. get_or l 0 0) e in omega (arith, at, other, below, f)
+-- names are told apart by their first two letters
+mark : Text → ℕ
+mark name = get_or name 0 0 + get_or name 1 0
 
--- a simulation that no a value
-pub no_sim_workers : (rows : List Row) → ((w : ℕ) → IsWorkers rows w → ⊥) → (job : Job) → IsSim job → HasValues rows job → ⊥
-no_sim_workers rows lacks Batch s h = s
-no_sim_workers rows lacks (Run w) s h = s
-no_sim_workers rows lacks (Sim w picks) s h = lacks w h.0
-no_sim_workers rows lacks (Help text) s h = s
+-- the jobs of each name, and their values
+pub only_batch : (rows : List Row) (job : Job) → IsOf (codes "batch") rows job → job ≡ Batch
+unfolding mark
+only_batch rows Batch h = refl
+only_batch rows _ h = let f = ap mark h.0 in absurd (omega (arith, f))
 
-pub no_sim_picks : (rows : List Row) → first_of (codes "picks") rows ≡ None → (job : Job) → IsSim job → HasValues rows job → ⊥
-no_sim_picks rows lacks Batch s h = s
-no_sim_picks rows lacks (Run w) s h = s
-no_sim_picks rows lacks (Sim w picks) s h = let e = h.1 in cc
-no_sim_picks rows lacks (Help text) s h = s
+pub only_run : (rows : List Row) (job : Job) → IsOf (codes "run") rows job → (w : ℕ) × (job ≡ Run w) × IsWorkers rows w
+unfolding mark
+only_run rows (Run w) h = (w, refl, h.1)
+only_run rows _ h = let f = ap mark h.0 in absurd (omega (arith, f))
 
-abbrev met_at : Text → List Row → Option (Text × List Row)
-met_at name rows = Some (name, rows)
+pub only_sim : (rows : List Row) (job : Job) → IsOf (codes "sim") rows job → (w : ℕ) × (picks : Bor Text) × IsWorkers rows w × (first_of (codes "picks") rows ≡ Some picks.now)
+unfolding mark
+only_sim rows (Sim w picks) h = (w, picks, h.1.0, h.1.1)
+only_sim rows _ h = let f = ap mark h.0 in absurd (omega (arith, f))
 
--- what is met is `run`, without a number of shards
-pub no_run : (met : Option (Text × List Row)) (rows : List Row) → option_map (λ p. p.0) met ≡ Some (codes "run") → option_map (λ p. p.1) met ≡ Some rows
-    → ((w : ℕ) → IsWorkers rows w → ⊥) → (job : Job) → IsNamed met job → ⊥
-no_run met rows name is lacks job named = by job named.0 (sym named.1 ∙ met_is met (codes "run") rows name is) named.2
-  where
-    by : (job : Job) (others : List Row) → met_at (name_of job) others ≡ met_at (codes "run") rows → HasValues others job → ⊥
-    by Batch others e h = let n : Some (codes "batch") ≡ Some (codes "run") = ap (option_map (λ p. p.0)) e in let m : codes "batch" ≡ codes "run" = cc in apart (codes "batch") (codes "run") 98 114 refl refl (omega arith) m
-    by (Run w) others e h = let n : Some others ≡ Some rows = ap (option_map (λ p. p.1)) e in let same : others ≡ rows = cc in lacks w (subst (λ l. IsWorkers l w) same h)
-    by (Sim w picks) others e h = let n : Some (codes "run") ≡ Some (codes "sim") = ap (option_map (λ p. p.0)) (sym e) in let m : codes "run" ≡ codes "sim" = cc in apart (codes "run") (codes "sim") 114 115 refl refl (omega arith) m
-    by (Help text) others e h = h
+pub only_format : (rows : List Row) (job : Job) → IsOf (codes "format") rows job → (disk : Bor Text) × (plan : Bor Text) × (m : ℕ) × (n : ℕ) × (k : ℕ) × (job ≡ Format disk plan m n k) × HasValues rows (Format disk plan m n k)
+unfolding mark
+only_format rows (Format disk plan m n k) h = (disk, plan, m, n, k, refl, h.1)
+only_format rows _ h = let f = ap mark h.0 in absurd (omega (arith, f))
 
-pub batch_met : (met : Option (Text × List Row)) → option_map (λ p. p.0) met ≡ Some (codes "batch") → IsNamed met Batch
-batch_met met e = let m = met_some met (codes "batch") e in (m.0, m.1, tt)
+pub only_feed : (rows : List Row) (job : Job) → IsOf (codes "feed") rows job → (disk : Bor Text) × (plan : Bor Text) × (w : ℕ) × (job ≡ Feed disk plan w) × HasValues rows (Feed disk plan w)
+unfolding mark
+only_feed rows (Feed disk plan w) h = (disk, plan, w, refl, h.1)
+only_feed rows _ h = let f = ap mark h.0 in absurd (omega (arith, f))
+
+pub only_show : (rows : List Row) (job : Job) → IsOf (codes "show") rows job → (disk : Bor Text) × (plan : Bor Text) × HasValues rows (Show disk plan)
+unfolding mark
+only_show rows (Show disk plan) h = (disk, plan, h.1)
+only_show rows _ h = let f = ap mark h.0 in absurd (omega (arith, f))
+
+-- a value that is lacking
+pub lacks : (id : Text) (rows : List Row) (text : Text) → first_of id rows ≡ None → first_of id rows ≡ Some text → ⊥
+lacks id rows text none some = cc
 
 -- a job that is named, where clap takes the words
 pub asked_by : (words : List (List ℕ)) (job : Job) → fault_of td words ≡ [] → IsNamed (subcommand_of td words) job → IsAsked words job
-asked_by words Batch e n = (e, n)
-asked_by words (Run w) e n = (e, n)
-asked_by words (Sim w picks) e n = (e, n)
 asked_by words (Help text) e n = absurd n.2
+asked_by words _ e n = (e, n)
 
 pub has_workers : (met : Option (Text × List Row)) (job : Job) → IsNamed met job → HasWorkers job
-has_workers met Batch n = tt
 has_workers met (Run w) n = (n.2.4, n.2.5)
 has_workers met (Sim w picks) n = (n.2.0.4, n.2.0.5)
-has_workers met (Help text) n = tt
+has_workers met (Feed disk plan w) n = (n.2.2.4, n.2.2.5)
+has_workers met _ n = tt
 
 -- help is asked for, where the parse failed with help
 pub helped_by : (words : List (List ℕ)) (r : Result Job WordsError) (kind : ErrorKind) → IfOk r (λ job. IsHelp job × (kind ≡ DisplayHelp)) → (kind ≡ OutOfMemory) ⊎ IsAmong kind (fault_of td words) → IfOk r (IsAsked words)
@@ -112,18 +117,14 @@ helped_by words (Err error) kind ok among = tt
 helped_by words (Ok job) kind ok among = by job ok among
   where
     by : (job : Job) → IsHelp job × (kind ≡ DisplayHelp) → (kind ≡ OutOfMemory) ⊎ IsAmong kind (fault_of td words) → IsAsked words job
-    by Batch h a = absurd h.0
-    by (Run w) h a = absurd h.0
-    by (Sim w picks) h a = absurd h.0
     by (Help text) h (inl memory) = let e = h.1 in cc
     by (Help text) h (inr a) = subst (λ k. IsAmong k (fault_of td words)) h.1 a
+    by _ h a = absurd h.0
 
 pub help_has_workers : (r : Result Job WordsError) (kind : ErrorKind) → IfOk r (λ job. IsHelp job × (kind ≡ DisplayHelp)) → IfOk r HasWorkers
 help_has_workers (Err error) kind ok = tt
-help_has_workers (Ok Batch) kind ok = tt
-help_has_workers (Ok (Run w)) kind ok = absurd ok.0
-help_has_workers (Ok (Sim w picks)) kind ok = absurd ok.0
 help_has_workers (Ok (Help text)) kind ok = tt
+help_has_workers (Ok _) kind ok = absurd ok.0
 
 pub refused_by : (words : List (List ℕ)) (r : Result Job WordsError) (kind : ErrorKind) → IfErr r (λ e. (e ≡ Memory) ⊎ ((e ≡ Words) × (kind ≢ DisplayHelp) × (kind ≢ OutOfMemory)))
     → (kind ≡ OutOfMemory) ⊎ IsAmong kind (fault_of td words) → IfErr r (λ e. (e ≡ Memory) ⊎ ((e ≡ Words) × IsRefused words))
@@ -140,33 +141,135 @@ refused_by words (Err error) kind (inr h) (inr among) = inr (h.0, ((λ job n non
 pub none_named : (words : List (List ℕ)) → ((job : Job) → IsNamed (subcommand_of td words) job → ⊥) → fault_of td words ≡ [] → IsRefused words
 none_named words lacks e = ((λ job n f. lacks job n), (λ only. let k = sym e ∙ only in cc))
 
--- the one job that is named
+-- the job that is named by what clap met at given words
+pub met_of : (met : Option (Text × List Row)) (name : Text) (job : Job) → IsNamed met job → option_map (λ p. p.0) met ≡ Some name → (rows : List Row) × (met ≡ Some (name, rows)) × IsOf name rows job
+met_of met name job n at = let m = met_some met name at in (m.0, m.1, is_of met name m.0 m.1 job n)
+
+-- a value of what was met
+pub value_met : {X : Type 0} (value : List Row → X) (x : X) (met : Option (Text × List Row)) (name : Text) (rows : List Row) → met ≡ Some (name, rows) → option_map (λ p. value p.1) met ≡ Some x → value rows ≡ x
+value_met {X} value x met name rows is at =
+    let here : Some (value rows) ≡ Some x = sym (ap (option_map (λ p. value p.1)) is) ∙ at in cc
+
+-- a number that is written so
+pub written : (id : Text) (least most : ℕ) (rows : List Row) (text : List ℕ) (n : ℕ) → IsNumber id least most rows n → one_of id rows ≡ Some text → n ≡ digits_value 10 (without_leading_plus text)
+written id least most rows text n h at =
+    let same : h.0 ≡ text = let there = h.1 in cc in h.3 ∙ ap (λ t. digits_value 10 (without_leading_plus t)) same
+
 pub named_batch : (met : Option (Text × List Row)) (job : Job) → IsNamed met job → option_map (λ p. p.0) met ≡ Some (codes "batch") → job ≡ Batch
-named_batch met job n name = by job n.0 (sym (ap (option_map (λ p. p.0)) n.1) ∙ name) n.2
-  where
-    by : (job : Job) (rows : List Row) → Some (name_of job) ≡ Some (codes "batch") → HasValues rows job → job ≡ Batch
-    by Batch rows e h = refl
-    by (Run w) rows e h = let f : codes "batch" ≡ codes "run" = cc in absurd (apart (codes "batch") (codes "run") 98 114 refl refl (omega arith) f)
-    by (Sim w picks) rows e h = let f : codes "batch" ≡ codes "sim" = cc in absurd (apart (codes "batch") (codes "sim") 98 115 refl refl (omega arith) f)
-    by (Help text) rows e h = absurd h
+named_batch met job n name = let m = met_of met (codes "batch") job n name in only_batch m.0 job m.2
 
 pub named_run : (met : Option (Text × List Row)) (job : Job) → IsNamed met job → option_map (λ p. p.0) met ≡ Some (codes "run") → option_map (λ p. one_of (codes "workers") p.1) met ≡ Some (Some (codes "1")) → job ≡ Run 1
-named_run met job n name value = by job n.0 (sym (ap (option_map (λ p. p.0)) n.1) ∙ name) (sym (ap (option_map (λ p. one_of (codes "workers") p.1)) n.1) ∙ value) n.2
-  where
-    by : (job : Job) (rows : List Row) → Some (name_of job) ≡ Some (codes "run") → Some (one_of (codes "workers") rows) ≡ Some (Some (codes "1")) → HasValues rows job → job ≡ Run 1
-    by Batch rows e v h = let f : codes "batch" ≡ codes "run" = cc in absurd (apart (codes "batch") (codes "run") 98 114 refl refl (omega arith) f)
-    by (Run w) rows e v h =
-        let text : h.0 ≡ codes "1" = let there = h.1 in cc in
-        ap Run (h.3 ∙ ap (λ t. digits_value 10 (without_leading_plus t)) text)
-    by (Sim w picks) rows e v h = let f : codes "run" ≡ codes "sim" = cc in absurd (apart (codes "run") (codes "sim") 114 115 refl refl (omega arith) f)
-    by (Help text) rows e v h = absurd h
+named_run met job n name value =
+    let m = met_of met (codes "run") job n name in
+    let only = only_run m.0 job m.2 in
+    only.1 ∙ ap Run (written (codes "workers") 1 16 m.0 (codes "1") only.0 only.2 (value_met (one_of (codes "workers")) (Some (codes "1")) met (codes "run") m.0 m.1 value))
+
+pub batch_met : (met : Option (Text × List Row)) → option_map (λ p. p.0) met ≡ Some (codes "batch") → IsNamed met Batch
+batch_met met e = let m = met_some met (codes "batch") e in (m.0, m.1, tt)
+
+-- a number of one digit, which is there
+abbrev OneDigit : ℕ → Text → ℕ → Type 0
+OneDigit radix text number = IsNumeral radix (without_leading_plus text) × (number ≡ digits_value radix (without_leading_plus text))
+
+one : OneDigit 10 (codes "1") 1
+one = ((omega arith, (lit< tt, tt)), refl)
+
+two : OneDigit 10 (codes "2") 2
+two = ((omega arith, (lit< tt, tt)), refl)
+
+three : OneDigit 10 (codes "3") 3
+three = ((omega arith, (lit< tt, tt)), refl)
+
+four : OneDigit 10 (codes "4") 4
+four = ((omega arith, (lit< tt, tt)), refl)
+
+number_there : (id : Text) (least most : ℕ) (rows : List Row) (text : Text) (n : ℕ) → one_of id rows ≡ Some text → OneDigit 10 text n → least ≤ n → n ≤ most → IsNumber id least most rows n
+number_there id least most rows text n at digit low high = (text, at, digit.0, digit.1, low, high)
 
 pub run_met : (met : Option (Text × List Row)) → option_map (λ p. p.0) met ≡ Some (codes "run") → option_map (λ p. one_of (codes "workers") p.1) met ≡ Some (Some (codes "1")) → IsNamed met (Run 1)
 run_met met name value =
     let m = met_some met (codes "run") name in
-    let here : Some (one_of (codes "workers") m.0) ≡ Some (Some (codes "1")) = sym (ap (option_map (λ p. one_of (codes "workers") p.1)) m.1) ∙ value in
-    let one : one_of (codes "workers") m.0 ≡ Some (codes "1") = cc in
-    (m.0, m.1, (codes "1", one, (omega arith, numeral), refl, omega arith, omega arith))
-  where
-    numeral : AllDigits 10 (codes "1")
-    numeral = (lit< tt, tt)
+    (m.0, m.1, number_there (codes "workers") 1 16 m.0 (codes "1") 1 (value_met (one_of (codes "workers")) (Some (codes "1")) met (codes "run") m.0 m.1 value) one (omega arith) (omega arith))
+
+-- some reference to a text
+abbrev pub to : Text → Bor Text
+to text = record { ref_ptr = (0, 0); now = text }
+
+abbrev pub FormatValues : Type 0
+FormatValues = Option Text × Option Text × Option Text × Option Text × Option Text
+
+abbrev pub format_values : List Row → FormatValues
+format_values rows = (first_of (codes "disk") rows, first_of (codes "plan") rows, one_of (codes "m") rows, one_of (codes "n") rows, one_of (codes "k") rows)
+
+abbrev pub given_format : FormatValues
+given_format = (Some (codes "d"), Some (codes "p"), Some (codes "4"), Some (codes "2"), Some (codes "3"))
+
+pub format_met : (met : Option (Text × List Row)) → option_map (λ p. p.0) met ≡ Some (codes "format") → option_map (λ p. format_values p.1) met ≡ Some given_format → IsNamed met (Format (to (codes "d")) (to (codes "p")) 4 2 3)
+format_met met name values =
+    let m = met_some met (codes "format") name in
+    let v = value_met format_values given_format met (codes "format") m.0 m.1 values in (
+      m.0,
+      m.1,
+      (
+        ap (λ (x : FormatValues). x.0) v,
+        ap (λ (x : FormatValues). x.1) v,
+        number_there (codes "m") 0 4294967295 m.0 (codes "4") 4 (ap (λ (x : FormatValues). x.2) v) four (omega arith) (omega arith),
+        number_there (codes "n") 0 4294967295 m.0 (codes "2") 2 (ap (λ (x : FormatValues). x.3) v) two (omega arith) (omega arith),
+        number_there (codes "k") 0 4294967295 m.0 (codes "3") 3 (ap (λ (x : FormatValues). x.4) v) three (omega arith) (omega arith),
+      ),
+    )
+
+some_is : (a b : Text) (o : Option Text) → o ≡ Some a → o ≡ Some b → a ≡ b
+some_is a b o e h = cc
+
+pub named_format : (met : Option (Text × List Row)) (job : Job) → IsNamed met job → option_map (λ p. p.0) met ≡ Some (codes "format") → option_map (λ p. format_values p.1) met ≡ Some given_format → IsFormat (codes "d") (codes "p") 4 2 3 job
+named_format met job n name values =
+    let m = met_of met (codes "format") job n name in
+    let only = only_format m.0 job m.2 in
+    let v = value_met format_values given_format met (codes "format") m.0 m.1 values in
+    let has = only.6 in
+    subst (IsFormat (codes "d") (codes "p") 4 2 3) (sym only.5) (
+      some_is only.0.now (codes "d") (first_of (codes "disk") m.0) has.0 (ap (λ (x : FormatValues). x.0) v),
+      some_is only.1.now (codes "p") (first_of (codes "plan") m.0) has.1 (ap (λ (x : FormatValues). x.1) v),
+      written (codes "m") 0 4294967295 m.0 (codes "4") only.2 has.2 (ap (λ (x : FormatValues). x.2) v),
+      written (codes "n") 0 4294967295 m.0 (codes "2") only.3 has.3 (ap (λ (x : FormatValues). x.3) v),
+      written (codes "k") 0 4294967295 m.0 (codes "3") only.4 has.4 (ap (λ (x : FormatValues). x.4) v),
+    )
+
+abbrev pub FeedValues : Type 0
+FeedValues = Option Text × Option Text × Option Text
+
+abbrev pub feed_values : List Row → FeedValues
+feed_values rows = (first_of (codes "disk") rows, first_of (codes "plan") rows, one_of (codes "workers") rows)
+
+abbrev pub given_feed : FeedValues
+given_feed = (Some (codes "d"), Some (codes "p"), Some (codes "1"))
+
+pub feed_met : (met : Option (Text × List Row)) → option_map (λ p. p.0) met ≡ Some (codes "feed") → option_map (λ p. feed_values p.1) met ≡ Some given_feed → IsNamed met (Feed (to (codes "d")) (to (codes "p")) 1)
+feed_met met name values =
+    let m = met_some met (codes "feed") name in
+    let v = value_met feed_values given_feed met (codes "feed") m.0 m.1 values in (
+      m.0,
+      m.1,
+      (
+        ap (λ (x : FeedValues). x.0) v,
+        ap (λ (x : FeedValues). x.1) v,
+        number_there (codes "workers") 1 16 m.0 (codes "1") 1 (ap (λ (x : FeedValues). x.2) v) one (omega arith) (omega arith),
+      ),
+    )
+
+pub named_feed : (met : Option (Text × List Row)) (job : Job) → IsNamed met job → option_map (λ p. p.0) met ≡ Some (codes "feed") → option_map (λ p. feed_values p.1) met ≡ Some given_feed → IsFeed (codes "d") (codes "p") 1 job
+named_feed met job n name values =
+    let m = met_of met (codes "feed") job n name in
+    let only = only_feed m.0 job m.2 in
+    let v = value_met feed_values given_feed met (codes "feed") m.0 m.1 values in
+    let has = only.4 in
+    subst (IsFeed (codes "d") (codes "p") 1) (sym only.3) (
+      some_is only.0.now (codes "d") (first_of (codes "disk") m.0) has.0 (ap (λ (x : FeedValues). x.0) v),
+      some_is only.1.now (codes "p") (first_of (codes "plan") m.0) has.1 (ap (λ (x : FeedValues). x.1) v),
+      written (codes "workers") 1 16 m.0 (codes "1") only.2 has.2 (ap (λ (x : FeedValues). x.2) v),
+    )
+
+-- for want of memory alone
+pub memory_alone : (r : Result Job WordsError) (P : Job → Type 0) → r ≡ Err Memory → IfOk r P × IfErr r (λ e. e ≡ Memory)
+memory_alone r P e = subst (λ r. IfOk r P × IfErr r (λ e. e ≡ Memory)) (sym e) (tt, refl)

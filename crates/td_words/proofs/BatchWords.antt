@@ -1,5 +1,5 @@
 -- What clap computes of the words `td batch` and `td run`. It stands apart from the proof of `words`, since it takes long.
-use Rattle.std.proofs.Common.{◌≡◌, refl, true, List, ℕ, Option, Some, None, codes, option_map, ◌∷◌, []}
+use Rattle.std.proofs.Common.{◌≡◌, refl, true, Some, codes, option_map}
 use Rattle.clap.specs.Words.{is_simple, takes, subcommand_of, one_of}
 use Rattle.clap.specs.Faults.{is_simple_and_free}
 use Rattle.clap.proofs.OnLiterals.{clap_on_literals}

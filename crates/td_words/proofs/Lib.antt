@@ -1,2 +1,3 @@
-pub mod BatchWords
 pub mod Asked
+pub mod BatchWords
+pub mod DiskWords

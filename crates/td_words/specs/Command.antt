@@ -7,7 +7,7 @@ use Rattle.clap.specs.Kinds.{IsAmong}
 use Rattle.clap.specs.declared.builder.value_parser.ValueParser.TheVariants as parser
 use Rattle.clap.specs.declared.error.kind.ErrorKind.TheVariants.{DisplayHelp}
 use Rattle.td_words.specs.declared.job.Job.{Job}
-use Rattle.td_words.specs.declared.job.Job.TheVariants.{Batch, Run, Sim, Help}
+use Rattle.td_words.specs.declared.job.Job.TheVariants.{Batch, Run, Sim, Format, Feed, Show, Help}
 
 -- `--workers W`, a number of 1 to 16, and 1 where it is not given
 abbrev pub workers_rule : Rule
@@ -26,6 +26,14 @@ picks_rule = record (new_rule (codes "picks")) {
   defaults = codes "0" ∷ [];
 }
 
+-- a word that has to stand there
+abbrev pub word_rule : Text → Rule
+word_rule id = record (new_rule id) { value_names = 1; required = true }
+
+-- a number that has to stand there, one that 32 bits hold
+abbrev pub number_rule : Text → Rule
+number_rule id = record (word_rule id) { parser = Some (parser.Unsigned 0 4294967295) }
+
 -- the subcommands
 abbrev pub batch_app : App
 batch_app = new_app (codes "batch")
@@ -36,11 +44,24 @@ run_app = with_rule (new_app (codes "run")) workers_rule
 abbrev pub sim_app : App
 sim_app = with_rule (with_rule (new_app (codes "sim")) workers_rule) picks_rule
 
+abbrev pub with_files : App → App
+with_files app = with_rule (with_rule app (word_rule (codes "disk"))) (word_rule (codes "plan"))
+
+abbrev pub format_app : App
+format_app = with_rule (with_rule (with_rule (with_files (new_app (codes "format"))) (number_rule (codes "m"))) (number_rule (codes "n"))) (number_rule (codes "k"))
+
+abbrev pub feed_app : App
+feed_app = with_rule (with_files (new_app (codes "feed"))) workers_rule
+
+abbrev pub show_app : App
+show_app = with_files (new_app (codes "show"))
+
 -- `td`, which needs one of them
+abbrev pub alone : App
+alone = let named = new_app (codes "td") in record named { top = record named.top { subcommand_required = true } }
+
 abbrev pub td : App
-td =
-    let named = new_app (codes "td") in
-    with_subcommand (with_subcommand (with_subcommand (record named { top = record named.top { subcommand_required = true } }) batch_app.top) run_app.top) sim_app.top
+td = with_subcommand (with_subcommand (with_subcommand (with_subcommand (with_subcommand (with_subcommand alone batch_app.top) run_app.top) sim_app.top) format_app.top) feed_app.top) show_app.top
 
 abbrev pub batch_words : List (List ℕ)
 batch_words = codes "td" ∷ codes "batch" ∷ []
@@ -48,22 +69,39 @@ batch_words = codes "td" ∷ codes "batch" ∷ []
 abbrev pub run_words : List (List ℕ)
 run_words = codes "td" ∷ codes "run" ∷ []
 
--- the number of shards that a subcommand has, where clap says so: 1 to 16, in decimal, as `u8` is read
+abbrev pub format_words : List (List ℕ)
+format_words = codes "td" ∷ codes "format" ∷ codes "d" ∷ codes "p" ∷ codes "4" ∷ codes "2" ∷ codes "3" ∷ []
+
+abbrev pub feed_words : List (List ℕ)
+feed_words = codes "td" ∷ codes "feed" ∷ codes "d" ∷ codes "p" ∷ []
+
+-- the number that a subcommand has at a name, where clap says so: in decimal, as Rust reads it, and between these
+abbrev pub IsNumber : Text → ℕ → ℕ → List Row → ℕ → Type 0
+IsNumber id least most rows number = (text : List ℕ) × (one_of id rows ≡ Some text)
+    × IsNumeral 10 (without_leading_plus text) × (number ≡ digits_value 10 (without_leading_plus text)) × (least ≤ number) × (number ≤ most)
+
+-- the number of shards, 1 to 16
 abbrev pub IsWorkers : List Row → ℕ → Type 0
-IsWorkers rows workers = (text : List ℕ) × (one_of (codes "workers") rows ≡ Some text)
-    × IsNumeral 10 (without_leading_plus text) × (workers ≡ digits_value 10 (without_leading_plus text)) × (1 ≤ workers) × (workers ≤ 16)
+IsWorkers = IsNumber (codes "workers") 1 16
 
 -- the name of a job's subcommand, and its values there
 abbrev pub name_of : Job → Text
 name_of Batch = codes "batch"
 name_of (Run workers) = codes "run"
 name_of (Sim workers picks) = codes "sim"
+name_of (Format disk plan m n k) = codes "format"
+name_of (Feed disk plan workers) = codes "feed"
+name_of (Show disk plan) = codes "show"
 name_of (Help text) = codes "help"
 
 abbrev pub HasValues : List Row → Job → Type 0
 HasValues rows Batch = Unit {0}
 HasValues rows (Run workers) = IsWorkers rows workers
 HasValues rows (Sim workers picks) = IsWorkers rows workers × (first_of (codes "picks") rows ≡ Some picks.now)
+HasValues rows (Format disk plan m n k) = (first_of (codes "disk") rows ≡ Some disk.now) × (first_of (codes "plan") rows ≡ Some plan.now)
+    × IsNumber (codes "m") 0 4294967295 rows m × IsNumber (codes "n") 0 4294967295 rows n × IsNumber (codes "k") 0 4294967295 rows k
+HasValues rows (Feed disk plan workers) = (first_of (codes "disk") rows ≡ Some disk.now) × (first_of (codes "plan") rows ≡ Some plan.now) × IsWorkers rows workers
+HasValues rows (Show disk plan) = (first_of (codes "disk") rows ≡ Some disk.now) × (first_of (codes "plan") rows ≡ Some plan.now)
 HasValues rows (Help text) = ⊥
 
 -- the subcommand at which a parse arrived is the job's, and has its values
@@ -79,8 +117,18 @@ IsAsked words job = (fault_of td words ≡ []) × IsNamed (subcommand_of td word
 abbrev pub HasWorkers : Job → Type 0
 HasWorkers (Run workers) = (1 ≤ workers) × (workers ≤ 16)
 HasWorkers (Sim workers picks) = (1 ≤ workers) × (workers ≤ 16)
+HasWorkers (Feed disk plan workers) = (1 ≤ workers) × (workers ≤ 16)
 HasWorkers _ = Unit {0}
 
 -- the words ask for no job, nor for help alone
 abbrev pub IsRefused : List (List ℕ) → Type 0
 IsRefused words = ((job : Job) → IsNamed (subcommand_of td words) job → fault_of td words ≡ [] → ⊥) × (fault_of td words ≢ DisplayHelp ∷ [])
+
+-- a formatting with these values, and a feed
+abbrev pub IsFormat : Text → Text → ℕ → ℕ → ℕ → Job → Type 0
+IsFormat a b x y z (Format disk plan m n k) = (disk.now ≡ a) × (plan.now ≡ b) × (m ≡ x) × (n ≡ y) × (k ≡ z)
+IsFormat a b x y z _ = ⊥
+
+abbrev pub IsFeed : Text → Text → ℕ → Job → Type 0
+IsFeed a b w (Feed disk plan workers) = (disk.now ≡ a) × (plan.now ≡ b) × (workers ≡ w)
+IsFeed a b w _ = ⊥

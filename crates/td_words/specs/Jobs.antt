@@ -1,13 +1,21 @@
--- Kinds of jobs, in the words of private functions. No public contract cites this file.
+-- Kinds of jobs and of commands, in the words of private functions. No public contract cites this file.
+use Rattle.std.specs.Prelude.{◌≡◌, List, Bool}
+use Rattle.clap.specs.Words.{Row, Text}
+use Rattle.clap.specs.declared.builder.command.Command.{Command}
+use Rattle.clap.specs.declared.builder.command.Command.TheViews.{out-Command}
 use Rattle.td_words.specs.declared.job.Job.{Job}
-use Rattle.td_words.specs.declared.job.Job.TheVariants.{Sim, Help}
+use Rattle.td_words.specs.declared.job.Job.TheVariants.{Help}
+use Rattle.td_words.specs.Command.{name_of, HasValues}
 
 -- a job that prints a text
 abbrev pub IsHelp : Job → Type 0
 IsHelp (Help text) = Unit {0}
 IsHelp _ = ⊥
 
--- a simulation
-abbrev pub IsSim : Job → Type 0
-IsSim (Sim workers picks) = Unit {0}
-IsSim _ = ⊥
+-- a job of the subcommand of this name, with these values
+abbrev pub IsOf : Text → List Row → Job → Type 0
+IsOf name rows job = (name_of job ≡ name) × HasValues rows job
+
+-- the command has global arguments
+abbrev pub has_globals : Command → Bool
+has_globals c = (out-Command c).has_globals

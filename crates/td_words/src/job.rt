@@ -1,6 +1,6 @@
 //! What the program can be asked for.
 
-/// What is asked for.
+/// What is asked for. A list of picks and the names of files are as they were given.
 #[derive(Debug, Drop)]
 pub enum Job<'a> {
     /// To run a batch from standard input to standard output.
@@ -9,6 +9,26 @@ pub enum Job<'a> {
     Run(u8),
     /// The same by a hall of so many shards that take turns, with this list of picks, which is not read yet.
     Sim(u8, &'a str),
+    /// To make the file `disk` and format it for the plan in the file `plan`, with `m` records a cell, `n` cells and `k` states
+    /// a slot; these are not compared with their limits yet.
+    Format {
+        disk: &'a str,
+        plan: &'a str,
+        m: u32,
+        n: u32,
+        k: u32,
+    },
+    /// To feed the epochs of standard input to the disk `disk`, by a hall of so many shards.
+    Feed {
+        disk: &'a str,
+        plan: &'a str,
+        workers: u8,
+    },
+    /// To write what the disk `disk` tells.
+    Show {
+        disk: &'a str,
+        plan: &'a str,
+    },
     /// To print this text.
     Help(String),
 }

@@ -1,60 +1,28 @@
 //! What the program is asked to do, from the words that it is given.
-ghost use Rattle.std.specs.Prelude.{◌≡◌, ◌≢◌, ◌⊎◌, ◌↔◌, ◌≤◌, ℕ, false, IsTrue, IfOk, IfErr, IfSome, IfNone, map, string_bytes, Ok, Err};
-ghost use Rattle.clap.specs.Words.{app_of, found_of, kind_of, rule_of, rows_of, subcommand_rows_of, with_subcommand};
+ghost use Rattle.std.specs.Prelude.{◌≡◌, ◌≢◌, ◌⊎◌, ◌↔◌, ◌≤◌, ℕ, IsTrue, IfOk, IfErr, IfSome, IfNone, map, string_bytes, Ok, Err, Some, None, codes};
+ghost use Rattle.clap.specs.Words.{found_of, first_of, kind_of, rows_of, subcommand_rows_of};
 ghost use Rattle.td_words.specs.declared.job.Job.{Job as AnyJob};
-ghost use Rattle.td_words.specs.Command.{td, batch_app, run_app, sim_app, workers_rule, picks_rule, batch_words, run_words, IsAsked, IsNamed, HasValues, IsWorkers, HasWorkers, IsRefused};
-ghost use Rattle.td_words.specs.Jobs.{IsHelp, IsSim};
+ghost use Rattle.td_words.specs.Command.{batch_words, run_words, format_words, feed_words, IsAsked, IsNamed, IsNumber, IsWorkers, HasWorkers, IsRefused, IsFormat, IsFeed};
+ghost use Rattle.td_words.specs.Jobs.{IsHelp, IsOf};
 
+use crate::commands::command;
 use crate::job::{Job, WordsError};
-use clap::builder::ValueParser;
 use clap::error::ErrorKind;
-use clap::{Arg, ArgMatches, Command, Error};
-use std::alloc::{AllocError, Global};
+use clap::{ArgMatches, Error};
+use std::alloc::Global;
 
-/// What help says of the program and of each command, in one line.
-const TD: &str =
-    "A dataflow engine: takes a plan and epochs of records, and gives the records of each epoch at the plan's outputs";
-
-const BATCH: &str =
-    "Reads a plan and its epochs from standard input, and writes the output records of each epoch to standard output";
-
-const RUN: &str = "Does what batch does, by an engine that passes messages between shards";
-
-const SIM: &str =
-    "Does what run does, shard by shard in turn, and writes the notifications before the output records";
-
-/// What help says of the options.
-const WORKERS: &str = "How many shards, 1 to 16";
-
-const PICKS: &str =
-    "Which message or notification is taken in each turn: numbers joined by commas, over and over";
-
-/// What help says at its end.
-const TD_MORE: &str = "\
-Output goes to standard output, faults to standard error. Exit status: 0, 1 after a fault, 2 for words that do not parse.
-Faults are explained in docs/FAULTS.md";
-
-const BATCH_MORE: &str = "\
-Reads:  the lines of a plan, a line '--', and lines 'INPUT KEY VALUE', where a line '.' closes an epoch
-Writes: lines 'EPOCH VERTEX KEY VALUE', after all was read; nothing where there is a fault
-Exit status: 0, or 1 after a fault, which is told on standard error
-Faults are explained in docs/FAULTS.md";
-
-const SIM_MORE: &str = "\
-Reads:  the lines of a plan, a line '--', and lines 'INPUT KEY VALUE', where a line '.' closes an epoch
-Writes: lines 'note SHARD VERTEX TIME', and then lines 'EPOCH VERTEX KEY VALUE', after all was read; nothing where there is a fault
-Exit status: 0, or 1 after a fault, which is told on standard error
-Faults are explained in docs/FAULTS.md";
-
-/// What these words ask for, of which the first is the program's name. The subcommands are `batch`, `run [--workers W]` and
-/// `sim [--workers W] [--picks LIST]`, where W is 1 to 16, and 1 where it is not given, and LIST is `0` where it is not given.
-/// Refusals: `Words` where clap refuses the words, and `Memory`.
+/// What these words ask for, of which the first is the program's name. The subcommands are `batch`, `run [--workers W]`,
+/// `sim [--workers W] [--picks LIST]`, `format DISK PLAN M N K`, `feed [--workers W] DISK PLAN` and `show DISK PLAN`, where W is
+/// 1 to 16, and 1 where it is not given, LIST is `0` where it is not given, and M, N and K are numbers of 32 bits. Refusals:
+/// `Words` where clap refuses the words, and `Memory`.
 pub fn words<'a>(alloc: Global, given: &'a [String]) -> Result<Job<'a>, WordsError>
     ensures ok { IfOk result (IsAsked (map string_bytes given.entry.now)) }
     ensures workers { IfOk result HasWorkers }
     ensures err { IfErr result (λ e. (e ≡ WordsError.Memory) ⊎ ((e ≡ WordsError.Words) × IsRefused (map string_bytes given.entry.now))) }
     ensures batch { map string_bytes given.entry.now ≡ batch_words → (result ≡ Ok Job.Batch) ⊎ (result ≡ Err WordsError.Memory) }
     ensures run { map string_bytes given.entry.now ≡ run_words → (result ≡ Ok (Job.Run 1)) ⊎ (result ≡ Err WordsError.Memory) }
+    ensures format { map string_bytes given.entry.now ≡ format_words → IfOk result (IsFormat (codes "d") (codes "p") 4 2 3) × IfErr result (λ e. e ≡ WordsError.Memory) }
+    ensures feed { map string_bytes given.entry.now ≡ feed_words → IfOk result (IsFeed (codes "d") (codes "p") 1) × IfErr result (λ e. e ≡ WordsError.Memory) }
 {
     let Ok(command) = command(alloc) else {
         return Err(WordsError::Memory);
@@ -74,22 +42,103 @@ fn named<'a>(matches: &ArgMatches<'a>) -> Option<Job<'a>>
     ensures some { IfSome result (IsNamed (subcommand_rows_of matches.now)) }
     ensures none { IfNone result ((job : AnyJob) → IsNamed (subcommand_rows_of matches.now) job → ⊥) }
 {
-    match matches.subcommand_name() {
-        Some("batch") => Some(Job::Batch),
-        Some("run") => Some(Job::Run(workers_of(matches.subcommand_matches("run")?)?)),
-        Some("sim") => sim_job(matches.subcommand_matches("sim")?),
+    let (name, found) = matches.subcommand()?;
+    job_of(name, found)
+}
+
+/// The job of the subcommand of this name, with these matches.
+fn job_of<'a>(name: &str, matches: &ArgMatches<'a>) -> Option<Job<'a>>
+    ensures some { IfSome result (IsOf name.now (rows_of (found_of matches.now))) }
+    ensures none { IfNone result ((job : AnyJob) → IsOf name.now (rows_of (found_of matches.now)) job → ⊥) }
+{
+    match name {
+        "batch" => Some(Job::Batch),
+        "run" => run_job(matches),
+        "sim" => sim_job(matches),
+        "format" => format_job(matches),
+        "feed" => feed_job(matches),
+        "show" => show_job(matches),
         _ => None,
     }
 }
 
-/// The simulation that the matches of `sim` ask for.
-fn sim_job<'a>(matches: &ArgMatches<'a>) -> Option<Job<'a>>
-    ensures some { IfSome result (λ job. IsSim job × HasValues (rows_of (found_of matches.now)) job) }
-    ensures none { IfNone result ((job : AnyJob) → IsSim job → HasValues (rows_of (found_of matches.now)) job → ⊥) }
+/// The run that the matches of `run` ask for.
+fn run_job<'a>(matches: &ArgMatches<'a>) -> Option<Job<'a>>
+    ensures some { IfSome result (IsOf (codes "run") (rows_of (found_of matches.now))) }
+    ensures none { IfNone result ((job : AnyJob) → IsOf (codes "run") (rows_of (found_of matches.now)) job → ⊥) }
 {
     let workers = workers_of(matches)?;
-    let picks = matches.get_str("picks")?;
+    Some(Job::Run(workers))
+}
+
+/// The simulation that the matches of `sim` ask for.
+fn sim_job<'a>(matches: &ArgMatches<'a>) -> Option<Job<'a>>
+    ensures some { IfSome result (IsOf (codes "sim") (rows_of (found_of matches.now))) }
+    ensures none { IfNone result ((job : AnyJob) → IsOf (codes "sim") (rows_of (found_of matches.now)) job → ⊥) }
+{
+    let workers = workers_of(matches)?;
+    let picks = word_of(matches, "picks")?;
     Some(Job::Sim(workers, picks))
+}
+
+/// The formatting that the matches of `format` ask for.
+fn format_job<'a>(matches: &ArgMatches<'a>) -> Option<Job<'a>>
+    ensures some { IfSome result (IsOf (codes "format") (rows_of (found_of matches.now))) }
+    ensures none { IfNone result ((job : AnyJob) → IsOf (codes "format") (rows_of (found_of matches.now)) job → ⊥) }
+{
+    let disk = word_of(matches, "disk")?;
+    let plan = word_of(matches, "plan")?;
+    let m = number_of(matches, "m")?;
+    let n = number_of(matches, "n")?;
+    let k = number_of(matches, "k")?;
+    Some(Job::Format {
+        disk,
+        plan,
+        m,
+        n,
+        k,
+    })
+}
+
+/// The feed that the matches of `feed` ask for.
+fn feed_job<'a>(matches: &ArgMatches<'a>) -> Option<Job<'a>>
+    ensures some { IfSome result (IsOf (codes "feed") (rows_of (found_of matches.now))) }
+    ensures none { IfNone result ((job : AnyJob) → IsOf (codes "feed") (rows_of (found_of matches.now)) job → ⊥) }
+{
+    let disk = word_of(matches, "disk")?;
+    let plan = word_of(matches, "plan")?;
+    let workers = workers_of(matches)?;
+    Some(Job::Feed {
+        disk,
+        plan,
+        workers,
+    })
+}
+
+/// The look at a disk that the matches of `show` ask for.
+fn show_job<'a>(matches: &ArgMatches<'a>) -> Option<Job<'a>>
+    ensures some { IfSome result (IsOf (codes "show") (rows_of (found_of matches.now))) }
+    ensures none { IfNone result ((job : AnyJob) → IsOf (codes "show") (rows_of (found_of matches.now)) job → ⊥) }
+{
+    let disk = word_of(matches, "disk")?;
+    let plan = word_of(matches, "plan")?;
+    Some(Job::Show { disk, plan })
+}
+
+/// The word of an argument.
+fn word_of<'a>(matches: &ArgMatches<'a>, id: &str) -> Option<&'a str>
+    ensures some { IfSome result (λ word. first_of id.now (rows_of (found_of matches.now)) ≡ Some word.now) }
+    ensures none { IfNone result (first_of id.now (rows_of (found_of matches.now)) ≡ None) }
+{
+    matches.get_str(id)
+}
+
+/// The number of an argument. Clap has refused any that `u32` does not hold.
+fn number_of(matches: &ArgMatches<'_>, id: &str) -> Option<u32>
+    ensures some { IfSome result (IsNumber id.now 0 4294967295 (rows_of (found_of matches.now))) }
+    ensures none { IfNone result ((number : ℕ) → IsNumber id.now 0 4294967295 (rows_of (found_of matches.now)) number → ⊥) }
+{
+    matches.get_one::<u32>(id)
 }
 
 /// The number of shards that matches have. Clap has refused any number that is not 1 to 16.
@@ -110,77 +159,6 @@ fn is_shard_count(workers: u8) -> bool
     ensures { IsTrue result ↔ ((1 ≤ workers) × (workers ≤ 16)) }
 {
     1 <= workers && workers <= 16
-}
-
-/// `td` with its subcommands.
-fn command<'a>(alloc: Global) -> Result<Command<'a>, AllocError>
-    ensures { IfOk result (λ c. app_of c ≡ td) }
-{
-    let td = Command::new(alloc, "td")
-        .about(TD)
-        .after_help(TD_MORE)
-        .subcommand_required(true);
-    let td = with_batch(alloc, td)?;
-    let td = with_run(alloc, td)?;
-    with_sim(alloc, td)
-}
-
-/// With `batch`.
-fn with_batch<'a>(alloc: Global, td: Command<'a>) -> Result<Command<'a>, AllocError>
-    ensures { IfOk result (λ c. app_of c ≡ with_subcommand (app_of td.entry) batch_app.top) }
-{
-    let batch = Command::new(alloc, "batch")
-        .about(BATCH)
-        .after_help(BATCH_MORE);
-    td.subcommand(batch)
-}
-
-/// With `run`.
-fn with_run<'a>(alloc: Global, td: Command<'a>) -> Result<Command<'a>, AllocError>
-    ensures { IfOk result (λ c. app_of c ≡ with_subcommand (app_of td.entry) run_app.top) }
-{
-    let run = Command::new(alloc, "run")
-        .about(RUN)
-        .after_help(BATCH_MORE)
-        .arg(workers_arg(alloc))?;
-    td.subcommand(run)
-}
-
-/// With `sim`.
-fn with_sim<'a>(alloc: Global, td: Command<'a>) -> Result<Command<'a>, AllocError>
-    ensures { IfOk result (λ c. app_of c ≡ with_subcommand (app_of td.entry) sim_app.top) }
-{
-    let sim = Command::new(alloc, "sim")
-        .about(SIM)
-        .after_help(SIM_MORE)
-        .arg(workers_arg(alloc))?
-        .arg(picks_arg(alloc))?;
-    td.subcommand(sim)
-}
-
-/// `--workers W`.
-fn workers_arg<'a>(alloc: Global) -> Arg<'a>
-    ensures rule { rule_of result ≡ workers_rule }
-    ensures local { result.global ≡ false }
-{
-    Arg::new(alloc, "workers")
-        .long("workers")
-        .value_name("W")
-        .value_parser(ValueParser::signed(1, 16))
-        .default_value("1")
-        .help(WORKERS)
-}
-
-/// `--picks LIST`.
-fn picks_arg<'a>(alloc: Global) -> Arg<'a>
-    ensures rule { rule_of result ≡ picks_rule }
-    ensures local { result.global ≡ false }
-{
-    Arg::new(alloc, "picks")
-        .long("picks")
-        .value_name("LIST")
-        .default_value("0")
-        .help(PICKS)
 }
 
 /// Help is answered by its text.

@@ -1,21 +1,13 @@
-use Rattle.std.proofs.Common.{◌≡◌, ℕ, IfNone, IfSome, None, Some, sym, ap, ◌∙◌, subst, option_map, codes}
+use Rattle.std.proofs.Common.{refl, codes}
 use Rattle.clap.specs.Words.{found_of, rows_of}
-use Rattle.clap.proofs.WalkLemmas.{first_value-rows}
-use Rattle.td_words.specs.declared.job.Job.{Job}
-use Rattle.td_words.specs.Jobs.{IsSim}
-use Rattle.td_words.specs.Command.{HasValues}
-use Rattle.td_words.proofs.Asked.{no_sim_workers, no_sim_picks}
+use Rattle.td_words.proofs.Asked.{when_none, lacks, only_sim}
 use Rattle.td_words.proofs.parse.sim_job.Goals as goal
 
 pub returns-in_err-workers-clause-none : goal.returns-in_err-workers-clause-none
-returns-in_err-workers-clause-none c =
-    subst (λ o. IfNone o ((job : Job) → IsSim job → HasValues (rows_of (found_of c.args.matches.now)) job → ⊥)) (sym c.from_residual.ensures)
-    (no_sim_workers (rows_of (found_of c.args.matches.now)) c.in_err-workers.ensures.none)
+returns-in_err-workers-clause-none c = when_none _ c.from_residual.ensures (λ job h. let only = only_sim (rows_of (found_of c.args.matches.now)) job h in c.in_err-workers.ensures.none only.0 only.2)
 
 pub returns-in_err-picks-clause-none : goal.returns-in_err-picks-clause-none
-returns-in_err-picks-clause-none c =
-    subst (λ o. IfNone o ((job : Job) → IsSim job → HasValues (rows_of (found_of c.args.matches.now)) job → ⊥)) (sym c.from_residual-in_err-picks.ensures)
-    (no_sim_picks (rows_of (found_of c.args.matches.now)) (sym (first_value-rows (found_of c.args.matches.now) (codes "picks")) ∙ sym c.in_err-picks.ensures))
+returns-in_err-picks-clause-none c = when_none _ c.from_residual-in_err-picks.ensures (λ job h. let only = only_sim (rows_of (found_of c.args.matches.now)) job h in lacks (codes "picks") (rows_of (found_of c.args.matches.now)) _ c.in_err-picks.ensures.none only.3)
 
 pub returns-clause-some : goal.returns-clause-some
-returns-clause-some c = (tt, (c.in_ok-workers.ensures.some, sym (first_value-rows (found_of c.args.matches.now) (codes "picks")) ∙ sym c.in_ok-picks.ensures))
+returns-clause-some c = (refl, (c.in_ok-workers.ensures.some, c.in_ok-picks.ensures.some))

@@ -1,13 +1,14 @@
-use Rattle.std.proofs.Common.{◌≡◌, ◌∙◌, ◌⊎◌, [], refl, Some, Ok, inl, inr, ap, ap₂, sym, subst, map, option_map, codes}
+use Rattle.std.proofs.Common.{◌≡◌, ◌∙◌, ◌⊎◌, [], refl, Ok, inl, inr, ap, ap₂, sym, subst, map, option_map, codes}
 use Rattle.std.specs.Prelude.{string_bytes}
 use Rattle.clap.specs.Words.{kind_of, is_simple, takes, subcommand_of, subcommand_rows_of, one_of}
 use Rattle.clap.specs.Faults.{fault_of, is_simple_and_free}
 use Rattle.clap.specs.Kinds.{IsAmong}
 use Rattle.clap.specs.declared.error.kind.ErrorKind.TheVariants.{OutOfMemory}
-use Rattle.td_words.specs.declared.job.Job.TheVariants.{Batch, Run}
+use Rattle.td_words.specs.declared.job.Job.TheVariants.{Batch, Run, Format, Feed}
 use Rattle.td_words.specs.Command.{td, IsNamed}
-use Rattle.td_words.proofs.Asked.{asked_by, has_workers, helped_by, help_has_workers, refused_by, none_named, named_batch, named_run, run_met, batch_met, only_memory}
+use Rattle.td_words.proofs.Asked.{asked_by, helped_by, refused_by, none_named, named_batch, named_run, named_format, named_feed, batch_met, run_met, format_met, feed_met, only_memory, memory_alone, format_values, feed_values, to}
 use Rattle.td_words.proofs.BatchWords.{td_is_simple, td_is_free, batch_is_taken, batch_is_named, run_is_taken, run_is_named, run_has_one}
+use Rattle.td_words.proofs.DiskWords.{format_is_taken, format_is_named, format_has, feed_is_taken, feed_is_named, feed_has}
 use Rattle.td_words.proofs.parse.words.Goals as goal
 
 pub returns-in-Err-clause-err : goal.returns-in-Err-clause-err
@@ -66,3 +67,46 @@ returns-clause-run c = λ e.
     let met : subcommand_rows_of found.matches ≡ subcommand_of td given = (found.ensures.matches (ap is_simple c.in-Ok.ensures ∙ td_is_simple)).1 ∙ ap (λ a. subcommand_of a given) c.in-Ok.ensures in
     let is = met ∙ ap (subcommand_of td) e in
     absurd (c.in-None.ensures.none (Run 1) (run_met (subcommand_rows_of found.matches) (ap (option_map (λ p. p.0)) is ∙ run_is_named) (ap (option_map (λ p. one_of (codes "workers") p.1)) is ∙ run_has_one)))
+
+pub returns-in-Err-clause-format : goal.returns-in-Err-clause-format
+returns-in-Err-clause-format c = λ e. memory_alone _ _ (only_memory _ _ c.asked_instead.ensures.ok c.asked_instead.ensures.err (c.in-Err.ensures.passes (ap₂ takes c.in-Ok.ensures e ∙ format_is_taken)))
+
+pub returns-in-Some-clause-format : goal.returns-in-Some-clause-format
+returns-in-Some-clause-format c = λ e.
+    let given = map string_bytes c.args.given.now in
+    let found = c.in-Ok-try_get_matches_from in
+    let met : subcommand_rows_of found.matches ≡ subcommand_of td given = (found.ensures.matches (ap is_simple c.in-Ok.ensures ∙ td_is_simple)).1 ∙ ap (λ a. subcommand_of a given) c.in-Ok.ensures in
+    let is = met ∙ ap (subcommand_of td) e in
+    (named_format (subcommand_rows_of found.matches) c.in-Some.job c.in-Some.ensures.some (ap (option_map (λ p. p.0)) is ∙ format_is_named) (ap (option_map (λ p. format_values p.1)) is ∙ format_has), tt)
+
+pub returns-clause-format : goal.returns-clause-format
+returns-clause-format c = λ e.
+    let given = map string_bytes c.args.given.now in
+    let found = c.in-Ok-try_get_matches_from in
+    let met : subcommand_rows_of found.matches ≡ subcommand_of td given = (found.ensures.matches (ap is_simple c.in-Ok.ensures ∙ td_is_simple)).1 ∙ ap (λ a. subcommand_of a given) c.in-Ok.ensures in
+    let is = met ∙ ap (subcommand_of td) e in
+    absurd (c.in-None.ensures.none (Format (to (codes "d")) (to (codes "p")) 4 2 3) (format_met (subcommand_rows_of found.matches) (ap (option_map (λ p. p.0)) is ∙ format_is_named) (ap (option_map (λ p. format_values p.1)) is ∙ format_has)))
+
+pub returns-in-Err-clause-feed : goal.returns-in-Err-clause-feed
+returns-in-Err-clause-feed c = λ e. memory_alone _ _ (only_memory _ _ c.asked_instead.ensures.ok c.asked_instead.ensures.err (c.in-Err.ensures.passes (ap₂ takes c.in-Ok.ensures e ∙ feed_is_taken)))
+
+pub returns-in-Some-clause-feed : goal.returns-in-Some-clause-feed
+returns-in-Some-clause-feed c = λ e.
+    let given = map string_bytes c.args.given.now in
+    let found = c.in-Ok-try_get_matches_from in
+    let met : subcommand_rows_of found.matches ≡ subcommand_of td given = (found.ensures.matches (ap is_simple c.in-Ok.ensures ∙ td_is_simple)).1 ∙ ap (λ a. subcommand_of a given) c.in-Ok.ensures in
+    let is = met ∙ ap (subcommand_of td) e in
+    (named_feed (subcommand_rows_of found.matches) c.in-Some.job c.in-Some.ensures.some (ap (option_map (λ p. p.0)) is ∙ feed_is_named) (ap (option_map (λ p. feed_values p.1)) is ∙ feed_has), tt)
+
+pub returns-clause-feed : goal.returns-clause-feed
+returns-clause-feed c = λ e.
+    let given = map string_bytes c.args.given.now in
+    let found = c.in-Ok-try_get_matches_from in
+    let met : subcommand_rows_of found.matches ≡ subcommand_of td given = (found.ensures.matches (ap is_simple c.in-Ok.ensures ∙ td_is_simple)).1 ∙ ap (λ a. subcommand_of a given) c.in-Ok.ensures in
+    let is = met ∙ ap (subcommand_of td) e in
+    absurd (c.in-None.ensures.none (Feed (to (codes "d")) (to (codes "p")) 1) (feed_met (subcommand_rows_of found.matches) (ap (option_map (λ p. p.0)) is ∙ feed_is_named) (ap (option_map (λ p. feed_values p.1)) is ∙ feed_has)))
+
+pub returns-in-Err-clause-ok : goal.returns-in-Err-clause-ok
+returns-in-Err-clause-ok c =
+    helped_by (map string_bytes c.args.given.now) c.asked_instead.result (kind_of c.in-Err.error) c.asked_instead.ensures.ok
+    (subst (λ a. (kind_of c.in-Err.error ≡ OutOfMemory) ⊎ IsAmong (kind_of c.in-Err.error) (fault_of a (map string_bytes c.args.given.now))) c.in-Ok.ensures (c.in-Err.ensures.kinds (ap is_simple_and_free c.in-Ok.ensures ∙ td_is_free)))

@@ -1,0 +1,11 @@
+use Rattle.std.proofs.Common.{ap, ap₂, ◌≡◌, ◌∙◌}
+use Rattle.std.proofs.lemmas.Result.{IfOk-weaker}
+use Rattle.clap.specs.Words.{App, app_of, with_rule, with_subcommand}
+use Rattle.td_words.specs.Command.{show_app}
+use Rattle.td_words.proofs.commands.with_show.Goals as goal
+
+pub returns : goal.returns
+returns c =
+    let grown_1 = c.in_ok-leaf.ensures.shape ∙ ap₂ with_rule c.new_leaf-leaf.ensures.app c.word_arg.ensures.rule in
+    let is : app_of c.in_ok-leaf-2.leaf ≡ show_app = c.in_ok-leaf-2.ensures.shape ∙ ap₂ with_rule grown_1 c.word_arg-2.ensures.rule in
+    IfOk-weaker c.with_leaf.result _ _ (λ m h. h ∙ ap (λ (a : App). with_subcommand (app_of c.args.td) a.top) is) c.with_leaf.ensures

@@ -1,0 +1,234 @@
+//! The commands of the program, as clap has them.
+ghost use Rattle.std.specs.Prelude.{◌≡◌, false, IfOk};
+ghost use Rattle.clap.specs.Words.{app_of, new_app, rule_of, with_rule, with_subcommand};
+ghost use Rattle.td_words.specs.Command.{td, batch_app, run_app, sim_app, format_app, feed_app, show_app, workers_rule, picks_rule, word_rule, number_rule};
+ghost use Rattle.td_words.specs.Jobs.{has_globals};
+
+use clap::builder::ValueParser;
+use clap::{Arg, Command};
+use std::alloc::{AllocError, Global};
+
+/// What help says of the program and of each command, in one line.
+const TD: &str =
+    "A dataflow engine: takes a plan and epochs of records, and gives the records of each epoch at the plan's outputs";
+
+const BATCH: &str =
+    "Reads a plan and its epochs from standard input, and writes the output records of each epoch to standard output";
+
+const RUN: &str = "Does what batch does, by an engine that passes messages between shards";
+
+const SIM: &str =
+    "Does what run does, shard by shard in turn, and writes the notifications before the output records";
+
+const FORMAT: &str =
+    "Makes a disk, a file that keeps the epochs and the states of a plan, with no epochs on it";
+
+const FEED: &str =
+    "Puts epochs from standard input on a disk, and writes the output records of each epoch to standard output";
+
+const SHOW: &str =
+    "Writes what is on a disk: the states that the last cut kept, and the epochs after it";
+
+/// What help says of the options and of the other arguments.
+const WORKERS: &str = "How many shards, 1 to 16";
+
+const PICKS: &str =
+    "Which message or notification is taken in each turn: numbers joined by commas, over and over";
+
+const NEW_DISK: &str = "The file to make; one that is there is written anew";
+
+const DISK: &str = "A file that td format made for this plan";
+
+const PLAN: &str = "A file with the lines of a plan";
+
+const RECORDS: &str = "How many records an epoch may have, 1 to 65536";
+
+const CELLS: &str = "How many epochs there may be after a cut, 1 to 65536";
+
+const STATES: &str = "How many states a cut may keep, 1 to 1048576";
+
+/// What help says at its end.
+const TD_MORE: &str = "\
+Output goes to standard output, faults to standard error. Exit status: 0, 1 after a fault, 2 for words that do not parse.
+Faults are explained in docs/FAULTS.md";
+
+const BATCH_MORE: &str = "\
+Reads:  the lines of a plan, a line '--', and lines 'INPUT KEY VALUE', where a line '.' closes an epoch
+Writes: lines 'EPOCH VERTEX KEY VALUE', after all was read; nothing where there is a fault
+Exit status: 0, or 1 after a fault, which is told on standard error
+Faults are explained in docs/FAULTS.md";
+
+const SIM_MORE: &str = "\
+Reads:  the lines of a plan, a line '--', and lines 'INPUT KEY VALUE', where a line '.' closes an epoch
+Writes: lines 'note SHARD VERTEX TIME', and then lines 'EPOCH VERTEX KEY VALUE', after all was read; nothing where there is a fault
+Exit status: 0, or 1 after a fault, which is told on standard error
+Faults are explained in docs/FAULTS.md";
+
+const FORMAT_MORE: &str = "\
+Reads:  PLAN
+Writes: DISK, of 8308 + 64 K + N (25 + 24 M) bytes
+Exit status: 0, or 1 after a fault, which is told on standard error
+Faults are explained in docs/FAULTS.md";
+
+const FEED_MORE: &str = "\
+Reads:  PLAN, DISK, and lines 'INPUT KEY VALUE', where a line '.' closes an epoch; a line 'cut' between epochs keeps the states and frees the epochs' room
+Writes: DISK; a line 'ack EPOCH' as soon as an epoch is on it; at a cut and at the end lines 'EPOCH VERTEX KEY VALUE', of all epochs after the cut before; and a line 'cut EPOCH'
+Exit status: 0, or 1 after a fault, which is told on standard error
+Faults are explained in docs/FAULTS.md";
+
+const SHOW_MORE: &str = "\
+Reads:  PLAN and DISK
+Writes: a line 'kept EPOCH', the last cut; 'told EPOCH', the last epoch; 'state VERTEX KEY A B' for each state kept; 'epoch EPOCH RECORDS' for each epoch after the cut
+Exit status: 0, or 1 after a fault, which is told on standard error
+Faults are explained in docs/FAULTS.md";
+
+/// `td` with its subcommands.
+pub(crate) fn command<'a>(alloc: Global) -> Result<Command<'a>, AllocError>
+    ensures { IfOk result (λ c. app_of c ≡ td) }
+{
+    let td = Command::new(alloc, "td")
+        .about(TD)
+        .after_help(TD_MORE)
+        .subcommand_required(true);
+    let td = with_batch(alloc, td)?;
+    let td = with_run(alloc, td)?;
+    let td = with_sim(alloc, td)?;
+    let td = with_format(alloc, td)?;
+    let td = with_feed(alloc, td)?;
+    with_show(alloc, td)
+}
+
+/// With `batch`.
+fn with_batch<'a>(alloc: Global, td: Command<'a>) -> Result<Command<'a>, AllocError>
+    ensures { IfOk result (λ c. app_of c ≡ with_subcommand (app_of td.entry) batch_app.top) }
+{
+    let leaf = new_leaf(alloc, "batch", BATCH, BATCH_MORE);
+    with_leaf(td, leaf)
+}
+
+/// With `run`.
+fn with_run<'a>(alloc: Global, td: Command<'a>) -> Result<Command<'a>, AllocError>
+    ensures { IfOk result (λ c. app_of c ≡ with_subcommand (app_of td.entry) run_app.top) }
+{
+    let leaf = new_leaf(alloc, "run", RUN, BATCH_MORE);
+    let leaf = with_arg(leaf, workers_arg(alloc))?;
+    with_leaf(td, leaf)
+}
+
+/// With `sim`.
+fn with_sim<'a>(alloc: Global, td: Command<'a>) -> Result<Command<'a>, AllocError>
+    ensures { IfOk result (λ c. app_of c ≡ with_subcommand (app_of td.entry) sim_app.top) }
+{
+    let leaf = new_leaf(alloc, "sim", SIM, SIM_MORE);
+    let leaf = with_arg(leaf, workers_arg(alloc))?;
+    let leaf = with_arg(leaf, picks_arg(alloc))?;
+    with_leaf(td, leaf)
+}
+
+/// With `format`.
+fn with_format<'a>(alloc: Global, td: Command<'a>) -> Result<Command<'a>, AllocError>
+    ensures { IfOk result (λ c. app_of c ≡ with_subcommand (app_of td.entry) format_app.top) }
+{
+    let leaf = new_leaf(alloc, "format", FORMAT, FORMAT_MORE);
+    let leaf = with_arg(leaf, word_arg(alloc, "disk", "DISK", NEW_DISK))?;
+    let leaf = with_arg(leaf, word_arg(alloc, "plan", "PLAN", PLAN))?;
+    let leaf = with_arg(leaf, number_arg(alloc, "m", "M", RECORDS))?;
+    let leaf = with_arg(leaf, number_arg(alloc, "n", "N", CELLS))?;
+    let leaf = with_arg(leaf, number_arg(alloc, "k", "K", STATES))?;
+    with_leaf(td, leaf)
+}
+
+/// With `feed`.
+fn with_feed<'a>(alloc: Global, td: Command<'a>) -> Result<Command<'a>, AllocError>
+    ensures { IfOk result (λ c. app_of c ≡ with_subcommand (app_of td.entry) feed_app.top) }
+{
+    let leaf = new_leaf(alloc, "feed", FEED, FEED_MORE);
+    let leaf = with_arg(leaf, word_arg(alloc, "disk", "DISK", DISK))?;
+    let leaf = with_arg(leaf, word_arg(alloc, "plan", "PLAN", PLAN))?;
+    let leaf = with_arg(leaf, workers_arg(alloc))?;
+    with_leaf(td, leaf)
+}
+
+/// With `show`.
+fn with_show<'a>(alloc: Global, td: Command<'a>) -> Result<Command<'a>, AllocError>
+    ensures { IfOk result (λ c. app_of c ≡ with_subcommand (app_of td.entry) show_app.top) }
+{
+    let leaf = new_leaf(alloc, "show", SHOW, SHOW_MORE);
+    let leaf = with_arg(leaf, word_arg(alloc, "disk", "DISK", DISK))?;
+    let leaf = with_arg(leaf, word_arg(alloc, "plan", "PLAN", PLAN))?;
+    with_leaf(td, leaf)
+}
+
+/// A subcommand without arguments, with what help says of it, in one line and at its end.
+fn new_leaf<'a>(alloc: Global, name: &'a str, about: &'a str, more: &'a str) -> Command<'a>
+    ensures app { app_of result ≡ new_app name.entry.now }
+    ensures globals { has_globals result ≡ false }
+{
+    Command::new(alloc, name).about(about).after_help(more)
+}
+
+/// A command and one argument more, none of which is global.
+fn with_arg<'a>(command: Command<'a>, arg: Arg<'a>) -> Result<Command<'a>, AllocError>
+    requires local { arg.global ≡ false }
+    requires globals { has_globals command ≡ false }
+    ensures shape { IfOk result (λ c. app_of c ≡ with_rule (app_of command.entry) (rule_of arg.entry)) }
+    ensures globals { IfOk result (λ c. has_globals c ≡ false) }
+{
+    command.arg(arg)
+}
+
+/// `td` and one subcommand more, without a global argument.
+fn with_leaf<'a>(td: Command<'a>, leaf: Command<'a>) -> Result<Command<'a>, AllocError>
+    requires globals { has_globals leaf ≡ false }
+    ensures { IfOk result (λ c. app_of c ≡ with_subcommand (app_of td.entry) (app_of leaf.entry).top) }
+{
+    td.subcommand(leaf)
+}
+
+/// `--workers W`.
+fn workers_arg<'a>(alloc: Global) -> Arg<'a>
+    ensures rule { rule_of result ≡ workers_rule }
+    ensures local { result.global ≡ false }
+{
+    Arg::new(alloc, "workers")
+        .long("workers")
+        .value_name("W")
+        .value_parser(ValueParser::signed(1, 16))
+        .default_value("1")
+        .help(WORKERS)
+}
+
+/// `--picks LIST`.
+fn picks_arg<'a>(alloc: Global) -> Arg<'a>
+    ensures rule { rule_of result ≡ picks_rule }
+    ensures local { result.global ≡ false }
+{
+    Arg::new(alloc, "picks")
+        .long("picks")
+        .value_name("LIST")
+        .default_value("0")
+        .help(PICKS)
+}
+
+/// A word that has to stand there.
+fn word_arg<'a>(alloc: Global, id: &'a str, name: &'a str, help: &'a str) -> Arg<'a>
+    ensures rule { rule_of result ≡ word_rule id.entry.now }
+    ensures local { result.global ≡ false }
+{
+    Arg::new(alloc, id)
+        .value_name(name)
+        .required(true)
+        .help(help)
+}
+
+/// A number of 32 bits that has to stand there.
+fn number_arg<'a>(alloc: Global, id: &'a str, name: &'a str, help: &'a str) -> Arg<'a>
+    ensures rule { rule_of result ≡ number_rule id.entry.now }
+    ensures local { result.global ≡ false }
+{
+    Arg::new(alloc, id)
+        .value_name(name)
+        .required(true)
+        .value_parser(ValueParser::unsigned(0, 4_294_967_295))
+        .help(help)
+}
