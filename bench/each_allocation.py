@@ -126,18 +126,17 @@ class Played:
     def is_told(self, lines, number):
         """Whether a run whose disk failed, or a feed of which was refused, tells what was acknowledged until then."""
         at = next(index for index, line in enumerate(lines) if line.startswith(FAILED) or line == AGAIN)
-        if lines[:at] != self.want[1][:at]:
-            return False
         count = next(count for count in range(1, len(self.steps) + 1) if self.lines_after(count) > at or count == len(self.steps))
-        text = self.plan + b"".join(self.steps[:count]) + b"recover\n"
-        status, lines, errors = self.run(text, REFUSED=str(number))
-        if self.steps[count - 1].startswith(OTHER_DISK):
-            return (status, errors) == (0, b"")
-        begin = max([index for index, step in enumerate(self.steps[:count]) if step.startswith(OTHER_DISK)], default=0)
-        lines = lines[self.lines_after(begin):]
-        acknowledged = max([int(line[4:]) for line in lines if line.startswith(b"ack ")], default=0)
-        told = [int(line.split(b":")[0].split()[1]) for line in lines[at:] if line.startswith((b"kept ", b"epoch "))]
-        return (status, errors) == (0, b"") and bool(told) and told[-1] >= acknowledged
+        done = self.steps[:count]
+        status, lines, errors = self.run(self.plan + b"".join(done) + b"recover\n", REFUSED=str(number))
+        if (status, errors) != (0, b"") or lines[:at] != self.want[1][:at]:
+            return False
+        if done[-1].startswith(OTHER_DISK):
+            return True
+        begin = max(index for index, step in enumerate(done) if step.startswith(OTHER_DISK))
+        acknowledged = max([int(line[4:]) for line in lines[self.lines_after(begin):at] if line.startswith(b"ack ")], default=0)
+        told = [int(line.split(b":")[0].split()[1]) for line in lines[at + 1:] if line.startswith((b"kept ", b"epoch "))]
+        return bool(told) and told[-1] >= acknowledged
 
     def refuse_each(self):
         """Counts the allocations, the calls that were made again and the disks that failed; the script ends at another answer."""
