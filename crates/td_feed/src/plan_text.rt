@@ -1,5 +1,5 @@
 //! A plan, from a file of its own.
-ghost use Rattle.std.specs.Prelude.{◌≡◌, ◌≢◌, ◌⊎◌, ◌^◌, IfOk, IfErr, IfSome};
+ghost use Rattle.std.specs.Prelude.{◌≡◌, ◌≢◌, ◌⊎◌, ◌^◌, [], IfOk, IfErr, OnOk, IfSome};
 ghost use Rattle.td_plan.specs.declared.error.PlanError.{PlanError as AnyError};
 ghost use Rattle.td_plan.specs.Texts.{PlanText, PlanFault};
 ghost use Rattle.td_feed.specs.Narrowed.{narrow, narrowed};
@@ -18,6 +18,8 @@ pub fn read_plan<R: Source>(alloc: Global, reader: &mut R) -> Result<Plan, Fault
     ensures ok { IfOk result (λ plan. IfSome (R.remaining reader.old) (λ text. PlanText text plan)) }
     ensures fault { IfErr result (λ f. (f ≡ Fault.File) ⊎ ((f ≡ Fault.Memory)
         ⊎ ((e : AnyError) × (f ≡ Fault.Plan e) × IfSome (R.remaining reader.old) (λ text. PlanFault text e)))) }
+    // It has read all.
+    ensures end { OnOk result (IfSome (R.remaining reader.new) (λ rest. rest ≡ [])) }
     ensures file { R.EndsWithin reader.old (2 ^ 32) → IfErr result (λ f. f ≢ Fault.File) }
 {
     let text = read_file(alloc, reader)?;
@@ -27,6 +29,7 @@ pub fn read_plan<R: Source>(alloc: Global, reader: &mut R) -> Result<Plan, Fault
 /// All that a reader of a file gives. Refusals: `File`, as of `read_plan`; `Memory`.
 fn read_file<R: Source>(alloc: Global, reader: &mut R) -> Result<Vec<u8>, Fault>
     ensures ok { IfOk result (λ bytes. IfSome (R.remaining reader.old) (λ text. bytes.items ≡ text)) }
+    ensures end { OnOk result (IfSome (R.remaining reader.new) (λ rest. rest ≡ [])) }
     ensures err { IfErr result (λ f. (f ≡ Fault.File) ⊎ (f ≡ Fault.Memory)) }
     ensures steady { R.EndsWithin reader.old (2 ^ 32) → IfErr result (λ f. f ≡ Fault.Memory) }
 {
