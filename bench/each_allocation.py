@@ -7,15 +7,18 @@ It runs `td batch`, `run` and `sim` on the files, by default on the examples, an
 Each run must answer as with ample memory, or write nothing to standard output, `td: memory` to standard error, and end with
 status 1.
 
-Without files it also runs `hall_steps` on its rows (rows/steps.txt), where a call of a hall that was refused is made once
-more. Each run must then answer as the row says, but for a line `refused: memory`; or, where the program itself lacked memory
-before the first call, end with status 1 and no answer."""
+Without files it also runs `engine_steps` on its rows (rows/steps.txt, and those of rows/keeper.txt whose disk does not stop or
+fail), where a call that was refused is made once more. Each run must then answer as the row says, but for a line
+`refused: memory`; or, where the program itself lacked memory before the first call, end with status 1 and no answer. Where a
+feed was refused, which is not made once more, or the disk in memory could not grow its record of calls and failed, the run is
+made again up to there, and a recovery must then tell at least what was acknowledged."""
 
 import concurrent.futures
 import importlib.machinery
 import importlib.util
 import os
 import pathlib
+import re
 import shutil
 import subprocess
 import sys
@@ -23,13 +26,21 @@ import tempfile
 
 ROOT = pathlib.Path(__file__).resolve().parent.parent
 TD = ROOT / "crates/td/out/td"
-STEPS = ROOT / "crates/hall_steps/out/hall_steps"
-ROWS = ROOT / "rows/steps.txt"
+STEPS = ROOT / "crates/engine_steps/out/engine_steps"
+ROWS = ("rows/steps.txt", "rows/keeper.txt")
 EXAMPLES = sorted((ROOT / "examples").glob("*.td"))
 REFUSED = (1, b"", b"td: memory\n")
-# What `hall_steps` prints for a call that is made once more, and how it ends where there was none to make again.
+# What `engine_steps` prints for a call that is made once more, and how it ends where there was none to make again.
 AGAIN = b"refused: memory"
 BEFORE = (1, b"", b"Error: Memory\n")
+# What it prints where the disk in memory could not grow its record.
+FAILED = b"refused: device"
+# Commands of rows that are not run: those of disks that stop or fail by themselves.
+LEFT_OUT = re.compile(rb"(?m)^(stop|fail|crash) ")
+# Commands after which another disk is there, or other bytes on it.
+OTHER_DISK = (b"format", b"blank", b"byte", b"size")
+# The allocations of reading the input hang on its length, so each is filled up to so many bytes more.
+ROOM = 64
 # So many runs in a row that meet no refusal end the count.
 UNTOUCHED = 40
 
@@ -61,51 +72,102 @@ def refuse_each(library, name, words, text):
 
 
 def rows_of_steps():
-    """The rows of `hall_steps`, read as ./check reads them."""
+    """The rows of `engine_steps`, read as ./check reads them: their titles, and their commands."""
     loader = importlib.machinery.SourceFileLoader("check", str(ROOT / "check"))
     check = importlib.util.module_from_spec(importlib.util.spec_from_loader("check", loader))
     loader.exec_module(check)
-    return check.read_rows(ROWS)
+    rows = [row for file in ROWS for row in check.read_rows(ROOT / file)]
+    return [(row.title, row.commands()[0]) for row in rows if not LEFT_OUT.search(row.commands()[0].text["<"])]
+
+
+def filled(text, length):
+    """A text of commands, with a comment behind it up to a length."""
+    return text + b"#" * (length - len(text) - 1) + b"\n"
+
+
+def steps_in(text):
+    """The plan, and the commands, each with the lines that are its own."""
+    plan, _, rest = text.partition(b"--\n")
+    return plan + b"--\n", re.findall(rb"(?m)^feed .*\n(?:(?!end$).*\n)*end\n|^.*\n", rest)
 
 
 def is_as_written(got, want):
     """Whether an output is that of a row, but for one line that tells of the call that was made again. What a drain
-    delivered before it was refused, its second answer does not count."""
+    delivered, or a keeper released, before it was refused, its second answer does not count."""
     if AGAIN not in got:
         return got == want
     at = got.index(AGAIN)
     rest = got[:at] + got[at + 1:]
-    if got[at + 1:at + 2] and got[at + 1].startswith(b"drained"):
-        return rest[:at] + rest[at + 1:] == want[:at] + want[at + 1:] and want[at].startswith(b"drained")
+    for counted in (b"drained", b"released"):
+        if all(lines[at:at + 1] and lines[at].startswith(counted) for lines in (rest, want)):
+            return rest[:at] + rest[at + 1:] == want[:at] + want[at + 1:]
     return rest == want
 
 
-def refuse_steps(library, row):
-    """Counts the allocations of a row that is played, and the calls that were made again; the script ends at another answer."""
-    want = (row.status, row.text[">"].splitlines(), row.text["!"])
-    again = untouched = number = 0
-    while untouched < UNTOUCHED:
-        number += 1
-        status, output, errors = answer(library, [], row.text["<"], STEPS, REFUSED=str(number))
-        lines = output.splitlines()
-        if (status, output, errors) != BEFORE and not ((status, errors) == (want[0], want[2]) and is_as_written(lines, want[1])):
-            sys.exit(f"{row.title}: with allocation {number} refused: {status, output, errors}")
-        again += AGAIN in lines
-        untouched = 0 if (status, lines, errors) != want else untouched + 1
-    return number - UNTOUCHED, again
+class Played:
+    """A row of `engine_steps` that is played with refusals."""
+
+    def __init__(self, library, row):
+        self.library = library
+        self.title, command = row
+        self.text = command.text["<"]
+        self.length = len(self.text) + ROOM
+        self.want = command.status, command.text[">"].splitlines(), command.text["!"]
+        self.plan, self.steps = steps_in(self.text)
+
+    def run(self, text, **refused):
+        status, output, errors = answer(self.library, [], filled(text, self.length), STEPS, **refused)
+        return status, output.splitlines(), errors
+
+    def lines_after(self, count):
+        """How many lines so many commands print."""
+        return len(self.run(self.plan + b"".join(self.steps[:count]))[1])
+
+    def is_told(self, lines, number):
+        """Whether a run whose disk failed, or a feed of which was refused, tells what was acknowledged until then."""
+        at = next(index for index, line in enumerate(lines) if line.startswith(FAILED) or line == AGAIN)
+        count = next(count for count in range(1, len(self.steps) + 1) if self.lines_after(count) > at or count == len(self.steps))
+        done = self.steps[:count]
+        status, lines, errors = self.run(self.plan + b"".join(done) + b"recover\n", REFUSED=str(number))
+        if (status, errors) != (0, b"") or lines[:at] != self.want[1][:at]:
+            return False
+        if done[-1].startswith(OTHER_DISK):
+            return True
+        begin = max(index for index, step in enumerate(done) if step.startswith(OTHER_DISK))
+        acknowledged = max([int(line[4:]) for line in lines[self.lines_after(begin):at] if line.startswith(b"ack ")], default=0)
+        told = [int(line.split(b":")[0].split()[1]) for line in lines[at + 1:] if line.startswith((b"kept ", b"epoch "))]
+        return bool(told) and told[-1] >= acknowledged
+
+    def refuse_each(self):
+        """Counts the allocations, the calls that were made again and the disks that failed; the script ends at another answer."""
+        again = failed = untouched = number = 0
+        while untouched < UNTOUCHED:
+            number += 1
+            status, lines, errors = self.run(self.text, REFUSED=str(number))
+            untouched += 1
+            if (status, lines, errors) == self.want:
+                continue
+            untouched = 0
+            if (status, errors) == (self.want[0], self.want[2]) and is_as_written(lines, self.want[1]):
+                again += 1
+            elif any(line.startswith(FAILED) or line == AGAIN for line in lines) and self.is_told(lines, number):
+                failed += 1
+            elif (status, b"".join(lines), errors) != BEFORE:
+                sys.exit(f"{self.title}: with allocation {number} refused: {status, lines, errors}")
+        return number - UNTOUCHED, again, failed
 
 
 def refuse_all_steps(library):
-    """Prints how many calls were made again over all rows of `hall_steps`."""
+    """Prints how many calls were made again over all rows of `engine_steps`."""
     if not STEPS.exists():
-        sys.exit(f"{STEPS} is not there: cd crates/hall_steps && rt run")
+        sys.exit(f"{STEPS} is not there: cd crates/engine_steps && rt run")
     rows = rows_of_steps()
     with concurrent.futures.ThreadPoolExecutor() as pool:
-        counts = list(pool.map(lambda row: refuse_steps(library, row), rows))
-    numbers, again = map(sum, zip(*counts))
-    if again == 0:
-        sys.exit("hall_steps: no call was refused")
-    print(f"{len(rows)} rows of hall_steps: {numbers} allocations, {again} calls made again, no other answer")
+        counts = list(pool.map(lambda row: Played(library, row).refuse_each(), rows))
+    numbers, again, failed = map(sum, zip(*counts))
+    if again == 0 or failed == 0:
+        sys.exit(f"engine_steps: {again} calls were refused, and {failed} disks failed")
+    print(f"{len(rows)} rows of engine_steps: {numbers} allocations, {again} calls made again, {failed} disks failed or feeds refused, no other answer")
 
 
 def main():

@@ -29,8 +29,8 @@ def rows():
     loader = importlib.machinery.SourceFileLoader("check", str(ROOT / "check"))
     check = importlib.util.module_from_spec(importlib.util.spec_from_loader("check", loader))
     loader.exec_module(check)
-    found = {row.title: row for row in check.read_rows(ROOT / "rows/hall.txt")}
-    return [found[title] for title in ROWS]
+    found = {row.title: row.commands()[0] for row in check.read_rows(ROOT / "rows/hall.txt")}
+    return [(title, found[title]) for title in ROWS]
 
 
 def without_notes(text):
@@ -49,10 +49,10 @@ def main():
         sys.exit(f"{TD} is not there: cd crates/td && rt run")
     runs = [(row, workers, picks) for row in rows() for workers in WORKERS for picks in PICKS]
     with concurrent.futures.ThreadPoolExecutor() as pool:
-        answers = list(pool.map(lambda run: answer(run[0].text["<"], *run[1:]), runs))
-    for (row, workers, picks), got in zip(runs, answers):
-        if got != (0, without_notes(row.text[">"]), b""):
-            sys.exit(f"{row.title}: {workers} shards, picks {picks}: {got}")
+        answers = list(pool.map(lambda run: answer(run[0][1].text["<"], *run[1:]), runs))
+    for ((title, command), workers, picks), got in zip(runs, answers):
+        if got != (0, without_notes(command.text[">"]), b""):
+            sys.exit(f"{title}: {workers} shards, picks {picks}: {got}")
     print(f"{len(runs)} runs of td sim, the same output lines whatever was picked")
 
 

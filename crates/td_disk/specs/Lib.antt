@@ -1,4 +1,5 @@
 pub mod Disk
+pub mod Fail
 pub mod FileDisk
 pub mod Fuse
 pub mod MakeError

@@ -1,12 +1,13 @@
 //! A disk of a fixed number of bytes, as code above is proved against it: between two syncs a crash
 //! may leave any bytes in each range that was written, and nothing else changes. The one contract
 //! is that of the trait [`Disk`]. [`MemoryDisk`] keeps it and can be crashed at every moment,
-//! [`FuseDisk`] keeps it where its inner disk does and stops at a chosen call, and [`FileDisk`] is
-//! a file: no contract claims that one keeps it.
+//! [`FuseDisk`] keeps it where its inner disk does and stops at a chosen call, [`FailDisk`] likewise
+//! and one of its calls fails, and [`FileDisk`] is a file: no contract claims that one keeps it.
 #![tactic(auto)]
 
 mod disk;
 mod error;
+mod fail;
 mod file;
 mod fuse;
 pub mod laws;
@@ -14,6 +15,7 @@ mod memory;
 
 pub use disk::Disk;
 pub use error::{Fault, MakeError};
+pub use fail::FailDisk;
 pub use file::FileDisk;
 pub use fuse::FuseDisk;
 pub use memory::{Fill, MemoryDisk};

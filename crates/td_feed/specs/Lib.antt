@@ -1,3 +1,5 @@
 pub mod Orders
+pub mod Narrowed
 pub mod Shown
 pub mod Fed
+pub mod Carried

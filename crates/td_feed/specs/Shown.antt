@@ -33,10 +33,14 @@ state_line ((vertex, key), state) =
 abbrev pub state_lines : StateList → List ℕ
 state_lines states = flat_map state_line states
 
--- `epoch E COUNT` for each epoch, of which the first has this number
+-- `epoch E COUNT`
+abbrev pub epoch_line : ℕ → Submitted → List ℕ
+epoch_line e s = codes "epoch " ++ decimal e ++ 32 ∷ decimal (length s.batch) ++ 10 ∷ []
+
+-- of some epochs, of which the first has this number
 abbrev pub epoch_lines : ℕ → List Submitted → List ℕ
 epoch_lines e [] = []
-epoch_lines e (s ∷ more) = codes "epoch " ++ decimal e ++ 32 ∷ decimal (length s.batch) ++ 10 ∷ epoch_lines (e + 1) more
+epoch_lines e (s ∷ more) = epoch_line e s ++ epoch_lines (e + 1) more
 
 -- THE LINES FOR A STANDING
 abbrev pub shown : Standing → List ℕ

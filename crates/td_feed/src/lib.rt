@@ -3,15 +3,15 @@
 //! epoch of the input, once; and what `show` writes is what the disk tells.
 #![tactic(auto)]
 
-mod feed;
 mod feeding;
-mod format;
+mod formatting;
 mod order;
 mod plan_text;
-mod show;
+mod showing;
+mod under_way;
 
-pub use feed::feed;
-pub use format::{format, shape_of};
+pub use feeding::feed;
+pub use formatting::{format, shape_of};
 pub use order::{FeedLine, Order, read_orders};
 pub use plan_text::read_plan;
-pub use show::show;
+pub use showing::show;

@@ -1,9 +1,8 @@
 //! A plan, from a file of its own.
-ghost use Rattle.std.specs.Prelude.{◌≡◌, ◌≢◌, ◌⊎◌, ◌^◌, true, IfOk, IfErr, IfSome};
-ghost use Rattle.std.specs.List.{list_all};
-ghost use Rattle.std.specs.Char.{is_ascii};
+ghost use Rattle.std.specs.Prelude.{◌≡◌, ◌≢◌, ◌⊎◌, ◌^◌, IfOk, IfErr, IfSome};
 ghost use Rattle.td_plan.specs.declared.error.PlanError.{PlanError as AnyError};
 ghost use Rattle.td_plan.specs.Texts.{PlanText, PlanFault};
+ghost use Rattle.td_feed.specs.Narrowed.{narrow, narrowed};
 
 use std::alloc::Global;
 use td_console::{Fault, Source, ascii_text, plan_fault, read_all};
@@ -18,26 +17,54 @@ const DELETE: u8 = 127;
 pub fn read_plan<R: Source>(alloc: Global, reader: &mut R) -> Result<Plan, Fault>
     ensures ok { IfOk result (λ plan. IfSome (R.remaining reader.old) (λ text. PlanText text plan)) }
     ensures fault { IfErr result (λ f. (f ≡ Fault.File) ⊎ ((f ≡ Fault.Memory)
-        ⊎ ((e : AnyError) × (f ≡ Fault.Plan e) × IfSome (R.remaining reader.old) (λ text. list_all is_ascii text ≡ true → PlanFault text e)))) }
+        ⊎ ((e : AnyError) × (f ≡ Fault.Plan e) × IfSome (R.remaining reader.old) (λ text. PlanFault text e)))) }
     ensures file { R.EndsWithin reader.old (2 ^ 32) → IfErr result (λ f. f ≢ Fault.File) }
 {
-    let mut text = match read_all(alloc, reader) {
-        Ok(text) => text,
-        Err(Fault::Input) => return Err(Fault::File),
-        Err(fault) => return Err(fault),
-    };
-    replace_wide(&mut text);
+    let text = read_file(alloc, reader)?;
+    plan_of(alloc, text)
+}
+
+/// All that a reader of a file gives. Refusals: `File`, as of `read_plan`; `Memory`.
+fn read_file<R: Source>(alloc: Global, reader: &mut R) -> Result<Vec<u8>, Fault>
+    ensures ok { IfOk result (λ bytes. IfSome (R.remaining reader.old) (λ text. bytes.items ≡ text)) }
+    ensures err { IfErr result (λ f. (f ≡ Fault.File) ⊎ (f ≡ Fault.Memory)) }
+    ensures steady { R.EndsWithin reader.old (2 ^ 32) → IfErr result (λ f. f ≡ Fault.Memory) }
+{
+    match read_all(alloc, reader) {
+        Ok(text) => Ok(text),
+        Err(Fault::Input) => Err(Fault::File),
+        Err(fault) => Err(fault),
+    }
+}
+
+/// The plan that a text spells. Refusals: the fault of the text; `Memory`.
+fn plan_of(alloc: Global, text: Vec<u8>) -> Result<Plan, Fault>
+    ensures ok { IfOk result (PlanText text.items) }
+    ensures fault { IfErr result (λ f. (f ≡ Fault.Memory) ⊎ ((e : AnyError) × (f ≡ Fault.Plan e) × PlanFault text.items e)) }
+{
+    let text = narrowed(text);
     match ascii_text(&text) {
-        Some(text) => Plan::read(alloc, text).map_err(plan_fault),
+        Some(text) => match Plan::read(alloc, text) {
+            Ok(plan) => Ok(plan),
+            Err(error) => Err(plan_fault(error)),
+        },
         None => unreachable!(),
     }
 }
 
-/// Puts a control character in the place of each byte above 127.
-fn replace_wide(text: &mut Vec<u8>) {
+/// A text with a control character in the place of each byte above 127.
+fn narrowed(mut text: Vec<u8>) -> Vec<u8>
+    ensures { result.items ≡ narrowed text.items }
+{
     for at in 0..text.len() {
-        if !text[at].is_ascii() {
-            text[at] = DELETE;
-        }
+        text[at] = narrow(text[at]);
     }
+    text
+}
+
+/// A byte, or a control character in the place of one above 127.
+fn narrow(byte: u8) -> u8
+    ensures { result ≡ narrow byte }
+{
+    if byte.is_ascii() { byte } else { DELETE }
 }

@@ -17,8 +17,9 @@ use Rattle.td_machine.specs.Steps.{Answer, collect_step, to_collect, outputs_at,
 use Rattle.td_machine.specs.Steps.Answer.{has_collected, has_cut}
 use Rattle.td_machine.specs.Sound.{Sound, run_states, outs_by}
 use Rattle.td_standing.specs.Standing.{batches_of}
-use Rattle.td_keeper.specs.Keeping.{Keeping, IsKeeping}
+use Rattle.td_keeper.specs.Keeping.{Keeping, IsKeeping, words_at}
 use Rattle.td_keeper.specs.Halls.{IsOwn, meant_outs, with_collected, collected_hall, last_passed}
+use Rattle.td_keeper.proofs.Kept.{now_published}
 use Rattle.td_keeper.proofs.Rows.{Falls, IsLast, row, passes, at_most, at_least, last_is}
 use Rattle.td_keeper.proofs.Runs.{out_at, in_a_row, length_outs, outs_at, states_on}
 
@@ -116,6 +117,8 @@ module _ {D : Type 0} (answers : Answers) (states_join : StatesJoin answers) (ou
     released = keeping.released;
     base_states = keeping.base_states;
     collected = omega (arith, keeping.collected, own.collected);
+    done = let few = at_most_released in let most = released in omega (arith, few, most, own.collected, keeping.done);
+    watched = now_published k.watch (words_at k.standing (collect_step S).1.collected);
   }
 
   -- and the hall is still its own
@@ -152,6 +155,8 @@ module _ {D : Type 0} (answers : Answers) (states_join : StatesJoin answers) (ou
     released = let most = released in omega (arith, before, most);
     base_states = cut_meaning e after before states is;
     collected = collected;
+    done = keeping.done;
+    watched = keeping.watched;
   }
 
   -- of what the hall answers

@@ -1,6 +1,6 @@
 -- The cut that a keeper writes.
 use Rattle.std.proofs.Common.{◌≡◌, ◌==◌, ℕ, ◌+◌, ◌-◌, ◌^◌, ◌<◌, ◌≤◌, true, false, Bool, List, [], length, take, drop, append-nil, refl, sym, ap, ◌∙◌, subst, arith}
-use Rattle.std.specs.Prelude.{Some, None, nat_lt, not, if◌then◌else◌}
+use Rattle.std.specs.Prelude.{Option, Some, None, nat_lt, not, if◌then◌else◌}
 use Rattle.std.proofs.lemmas.Bool.{ltb-true, ltb-false, le-ltb}
 use Rattle.std.specs.List.{list_all, list_any}
 use Rattle.std.proofs.lemmas.List.{take-map}
@@ -19,7 +19,8 @@ use Rattle.td_slots.specs.Slot.{are_states, FitsState}
 use Rattle.td_slots.specs.declared.slots.Checkpoint.{Checkpoint}
 use Rattle.td_journal.specs.Numbers.{greatest}
 use Rattle.td_journal.specs.declared.submitted.Submitted.{Submitted}
-use Rattle.td_standing.specs.Standing.{Standing, batches_of, with_more, cut_at}
+use Rattle.td_watch.specs.View.{View}
+use Rattle.td_standing.specs.Standing.{Standing, standing_from, batches_of, with_more, cut_at}
 use Rattle.td_standing.specs.Stops.{Advance}
 use Rattle.td_standing.specs.Told.{folds_of}
 use Rattle.td_standing.specs.Tells.{IsCut, side_after}
@@ -27,7 +28,7 @@ use Rattle.td_standing.specs.Advanced.{states_by}
 use Rattle.td_standing.specs.declared.error.KeeperError.TheVariants.{Broken, TooManyKeys}
 use Rattle.td_keeper.specs.Refused.{write_refusal}
 use Rattle.td_keeper.specs.declared.keeper.Taken.{Taken}
-use Rattle.td_keeper.specs.Keeping.{Keeping, keeping_of, IsKeeping, with_checkpoint}
+use Rattle.td_keeper.specs.Keeping.{Keeping, keeping_of, IsKeeping, with_checkpoint, words_at, published}
 
 -- the laws, as they are handed in
 abbrev pub Folded : Answers → Type 0
@@ -77,10 +78,10 @@ module _ {D : Type 0} (answers : Answers) (k : Keeping D) (is : IsKeeping k answ
       (subst (λ (states : StateList). Advance (states_by answers k.plan) k.standing (cut_at k.standing n states)) same by_run)
 
 -- what the keeper is once it is written
-pub as_written : {D : Type 0} (old new : D) (plan : List Line) (head : Head) (c d : Checkpoint) (w v : List Submitted) (broken : Bool) (cut : Taken) (collected : ℕ) (q : List EpochOut)
+pub as_written : {D : Type 0} (old new : D) (plan : List Line) (head : Head) (c d : Checkpoint) (w v : List Submitted) (broken : Bool) (cut : Taken) (collected : ℕ) (q : List EpochOut) (watch : Option View)
     → c.epoch ≤ cut.epoch → d.slot ≡ side_after c.slot (cut.epoch - c.epoch) → d.epoch ≡ cut.epoch → d.last ≡ greatest c.last (take (cut.epoch - c.epoch) w) → d.states ≡ cut.states → v ≡ drop (cut.epoch - c.epoch) w
-    → keeping_of new plan head d v broken None collected q ≡ with_checkpoint (keeping_of old plan head c w broken (Some cut) collected q) new
-as_written old new plan head c d w v broken cut collected q after slot epoch last states rest =
+    → keeping_of new plan head d v broken None collected q (published watch (words_at (standing_from d v) collected)) ≡ with_checkpoint (keeping_of old plan head c w broken (Some cut) collected q watch) new
+as_written old new plan head c d w v broken cut collected q watch after slot epoch last states rest =
     let at : d.epoch ≡ c.epoch + (cut.epoch - c.epoch) = omega (arith, epoch, after) in
     λ i. record {
       device = new;
@@ -94,6 +95,7 @@ as_written old new plan head c d w v broken cut collected q after slot epoch las
       waiting = false;
       collected = collected;
       queue = q;
+      watch = published watch (words_at (record { epoch = at i; states = states i; last = last i; submitted = rest i }) collected);
     }
 
 pub not_above : (a b : ℕ) → (a < b → ⊥) → b ≤ a

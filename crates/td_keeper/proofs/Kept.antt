@@ -1,6 +1,6 @@
 -- What a keeper keeps right in its memory, from one call to the next.
 use Rattle.std.proofs.Common.{◌≡◌, ℕ, zero, suc, ◌+◌, ◌-◌, ◌^◌, ◌<◌, ◌≤◌, true, List, [], ◌∷◌, ◌++◌, length, take, drop, refl, sym, ap, ◌∙◌, subst, arith}
-use Rattle.std.specs.Prelude.{All, None, Bool, false}
+use Rattle.std.specs.Prelude.{All, Option, Some, None, Bool, false}
 use Rattle.std.proofs.lemmas.List.{length-append, length-drop, length-map, map-append, take-append-le}
 use Rattle.std.proofs.lemmas.List.Elements.{All-append, All-cons, All-nil, All-drop}
 use Rattle.td_stamp.specs.declared.values.Entry.{Entry}
@@ -14,11 +14,21 @@ use Rattle.td_slots.specs.Slot.{are_states}
 use Rattle.td_slots.specs.declared.slots.Checkpoint.{Checkpoint}
 use Rattle.td_journal.specs.Cell.{is_batch}
 use Rattle.td_journal.specs.declared.submitted.Submitted.{Submitted}
-use Rattle.td_standing.specs.Standing.{Standing, standing_from, batches_of, submission, last_epoch, nothing_told}
+use Rattle.td_standing.specs.Standing.{Standing, standing_from, batches_of, submission, last_epoch, nothing_told, with_more, cut_at}
 use Rattle.td_standing.specs.Told.{inputs_of, folds_of}
 use Rattle.td_standing.specs.Tells.{side_after}
 use Rattle.td_standing.specs.Read.{MayStand}
-use Rattle.td_keeper.specs.Keeping.{Keeping, keeping_of, IsKeeping, IsFreshlyOpened, with_batch, with_checkpoint}
+use Rattle.td_watch.specs.View.{View}
+use Rattle.td_watch.specs.Words.{IsAtMost, KeepsOrder}
+use Rattle.td_keeper.specs.Keeping.{Keeping, keeping_of, IsKeeping, IsFreshlyOpened, with_batch, with_checkpoint, words_at, words_of, published, IsBelow}
+
+-- a writer that published words is not above them
+at_most_itself : (words : List ℕ) → IsAtMost words words
+at_most_itself words = (omega arith, omega arith, omega arith)
+
+pub now_published : (o : Option View) (words : List ℕ) → IsBelow (published o words) words
+now_published None words = tt
+now_published (Some v) words = at_most_itself words
 
 module _ {D : Type 0} (answers : Answers) (k : Keeping D) where
   abbrev b : List (List Entry)
@@ -38,6 +48,8 @@ module _ {D : Type 0} (answers : Answers) (k : Keeping D) where
         released = omega (arith, fresh.base);
         base_states = fresh.base_states ∙ ap (λ (n : ℕ). states_after answers (tree_of k.plan) k.standing.states b n) (sym none);
         collected = omega (arith, fresh.base, fresh.collected);
+        done = omega (arith, fresh.collected);
+        watched = subst (λ (o : Option View). IsBelow o (words_of k)) (sym fresh.unwatched) tt;
       }
 
   -- one epoch more
@@ -61,6 +73,8 @@ module _ {D : Type 0} (answers : Answers) (k : Keeping D) where
         released = omega (arith, is.released, size);
         base_states = is.base_states ∙ ap (λ (l : List (List Entry)). (run answers (tree_of k.plan) k.standing.states l).states) (sym same);
         collected = is.collected;
+        done = omega (arith, is.done, size);
+        watched = now_published k.watch (words_at (with_more k.standing x) k.collected);
       }
 
   side_is : (side n : ℕ) → side_after side n ≤ 1
@@ -86,15 +100,17 @@ module _ {D : Type 0} (answers : Answers) (k : Keeping D) where
         released = omega (arith, is.released, is.from_checkpoint, size);
         base_states = ap (λ (m : ℕ). states_after answers (tree_of k.plan) k.base_states (batches_of (drop n w)) m) (sym none);
         collected = is.collected;
+        done = omega (arith, is.done, is.released, is.from_checkpoint, size);
+        watched = now_published k.watch (words_at (cut_at k.standing n k.base_states) k.collected);
       }
 
 -- as it is opened, and as it sees itself then
 module _ {D : Type 0} (answers : Answers) (device : D) (plan : List Line) (head : Head) (c : Checkpoint) (w : List Submitted) (collected : ℕ) (q : List EpochOut) where
   abbrev new : Keeping D
-  new = keeping_of device plan head c w false None collected q
+  new = keeping_of device plan head c w false None collected q None
 
   pub fresh : collected ≡ c.epoch → q ≡ [] → IsFreshlyOpened new
-  fresh e none = record { whole = refl; base = refl; base_states = refl; none_waits = refl; collected = e; queue = none }
+  fresh e none = record { whole = refl; base = refl; base_states = refl; none_waits = refl; collected = e; queue = none; unwatched = refl }
 
   pub new_keeping : collected ≡ c.epoch → q ≡ [] → MayStand plan head c.slot (standing_from c w) → IsKeeping new answers
   new_keeping e none stands = opened answers new (fresh e none) stands
@@ -121,6 +137,8 @@ elsewhere answers k device broken is = record {
   released = is.released;
   base_states = is.base_states;
   collected = is.collected;
+  done = is.done;
+  watched = is.watched;
 }
 
 -- and the cut waits no more
@@ -135,4 +153,10 @@ set_down answers k device broken waiting is = record {
   released = is.released;
   base_states = is.base_states;
   collected = is.collected;
+  done = is.done;
+  watched = is.watched;
 }
+
+-- the words of a keeper are in order
+pub in_order : {D : Type 0} (answers : Answers) (k : Keeping D) → IsKeeping k answers → KeepsOrder (words_of k)
+in_order answers k is = (omega (arith, is.from_checkpoint, is.collected), is.done)

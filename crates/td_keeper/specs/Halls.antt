@@ -10,7 +10,7 @@ use Rattle.td_machine.specs.Active.{unpassed, has_passed}
 use Rattle.td_machine.specs.Steps.{release_step, collect_step, cut_at_by}
 use Rattle.td_machine.specs.Sound.{outs_by}
 use Rattle.td_standing.specs.Standing.{batches_of}
-use Rattle.td_keeper.specs.Keeping.{Keeping, since_base}
+use Rattle.td_keeper.specs.Keeping.{Keeping, since_base, words_at, published}
 
 -- some batches are a beginning of others
 abbrev pub Begin : List (List Entry) → List (List Entry) → Type 0
@@ -36,7 +36,11 @@ module _ {D : Type 0} (k : Keeping D) where
 
   -- the keeper after all that a hall collects was brought into the queue
   abbrev pub with_collected : HallState → Keeping D
-  with_collected S = record k { collected = (collect_step S).1.collected; queue = k.queue ++ outs_by (collect_step S).0 }
+  with_collected S = record k {
+    collected = (collect_step S).1.collected;
+    queue = k.queue ++ outs_by (collect_step S).0;
+    watch = published k.watch (words_at k.standing (collect_step S).1.collected);
+  }
 
   -- with a cut of a hall as its base, which waits to be written
   abbrev pub with_cut : HallState → Keeping D

@@ -12,6 +12,8 @@ use Rattle.td_slots.specs.Slot.{are_states}
 use Rattle.td_slots.specs.declared.slots.Checkpoint.{Checkpoint}
 use Rattle.td_journal.specs.Cell.{is_batch}
 use Rattle.td_journal.specs.declared.submitted.Submitted.{Submitted}
+use Rattle.td_watch.specs.View.{View, view_of}
+use Rattle.td_watch.specs.Words.{IsAtMost}
 use Rattle.td_standing.specs.Standing.{Standing, standing_from, last_epoch, batches_of, submission, with_more, cut_at}
 use Rattle.td_standing.specs.Told.{inputs_of, folds_of}
 use Rattle.td_standing.specs.Tells.{side_after}
@@ -19,7 +21,8 @@ use Rattle.td_keeper.specs.declared.keeper.Taken.{Taken}
 
 -- A KEEPER: its disk, the plan, the disk's head, the slot in which its checkpoint stands, and what it stands for; whether the
 -- device failed in an earlier call that writes; its base, which is the last cut that it took, or the checkpoint, and whether
--- that cut waits to be written; the last epoch that it collected, and the outputs that were collected and not yet handed out
+-- that cut waits to be written; the last epoch that it collected, and the outputs that were collected and not yet handed out;
+-- and the writer of a watch, where one is attached
 pub record Keeping (D : Type 0) : Type 0 where
   pub device : D
   pub plan : List Line
@@ -32,6 +35,21 @@ pub record Keeping (D : Type 0) : Type 0 where
   pub waiting : Bool
   pub collected : ℕ
   pub queue : List EpochOut
+  pub watch : Option View
+
+-- the words of a watch: the last epoch that is acknowledged, the last that was collected, and the last that is kept
+abbrev pub words_at : Standing → ℕ → List ℕ
+words_at s collected = last_epoch s ∷ collected ∷ s.epoch ∷ []
+
+-- a writer after it published words, where one is attached
+abbrev pub published : Option View → List ℕ → Option View
+published None words = None
+published (Some v) words = Some (view_of v.watch words)
+
+-- no word of a writer is above these, where one is attached
+abbrev pub IsBelow : Option View → List ℕ → Type 0
+IsBelow None words = Unit {0}
+IsBelow (Some v) words = IsAtMost v.words words
 
 -- the base, where a cut was taken since the checkpoint, and where none was
 abbrev pub base_of : Checkpoint → Option Taken → ℕ
@@ -47,8 +65,8 @@ is_waiting None = false
 is_waiting (Some t) = t.waits
 
 -- of what it keeps in memory
-abbrev pub keeping_of : {D : Type 0} → D → List Line → Head → Checkpoint → List Submitted → Bool → Option Taken → ℕ → List EpochOut → Keeping D
-keeping_of device plan head c w broken t collected queue = record {
+abbrev pub keeping_of : {D : Type 0} → D → List Line → Head → Checkpoint → List Submitted → Bool → Option Taken → ℕ → List EpochOut → Option View → Keeping D
+keeping_of device plan head c w broken t collected queue watch = record {
   device = device;
   plan = plan;
   head = head;
@@ -60,6 +78,7 @@ keeping_of device plan head c w broken t collected queue = record {
   waiting = is_waiting t;
   collected = collected;
   queue = queue;
+  watch = watch;
 }
 
 module _ {D : Type 0} (k : Keeping D) where
@@ -71,14 +90,23 @@ module _ {D : Type 0} (k : Keeping D) where
     pub none_waits : k.waiting ≡ false
     pub collected : k.collected ≡ k.standing.epoch
     pub queue : k.queue ≡ []
+    pub unwatched : k.watch ≡ None
 
   -- the batches of the epochs after the base
   abbrev pub since_base : List (List Entry)
   since_base = drop (k.base - k.standing.epoch) (batches_of k.standing.submitted)
 
+  -- its words
+  abbrev pub words_of : List ℕ
+  words_of = words_at k.standing k.collected
+
   -- with one epoch more
   abbrev pub with_batch : D → ℕ → List Entry → Keeping D
-  with_batch device request batch = record k { device = device; standing = with_more k.standing (submission request batch ∷ []) }
+  with_batch device request batch = record k {
+    device = device;
+    standing = with_more k.standing (submission request batch ∷ []);
+    watch = published k.watch (words_at (with_more k.standing (submission request batch ∷ [])) k.collected);
+  }
 
   -- with the cut that waited as its checkpoint
   abbrev pub with_checkpoint : D → Keeping D
@@ -87,6 +115,7 @@ module _ {D : Type 0} (k : Keeping D) where
     side = side_after k.side (k.base - k.standing.epoch);
     standing = cut_at k.standing (k.base - k.standing.epoch) k.base_states;
     waiting = false;
+    watch = published k.watch (words_at (cut_at k.standing (k.base - k.standing.epoch) k.base_states) k.collected);
   }
 
   -- WHAT EACH KEEPER KEEPS RIGHT in its memory: what it stands for may stand on its disk, and its base is one of its epochs, with
@@ -101,3 +130,5 @@ module _ {D : Type 0} (k : Keeping D) where
     pub released : k.base ≤ last_epoch k.standing
     pub base_states : k.base_states ≡ states_after answers (tree_of k.plan) k.standing.states (batches_of k.standing.submitted) (k.base - k.standing.epoch)
     pub collected : k.base ≤ k.collected
+    pub done : k.collected ≤ last_epoch k.standing
+    pub watched : IsBelow k.watch words_of

@@ -7,6 +7,7 @@ ghost use Rattle.td_keeper.specs.Halls.{IsOwn, with_collected, collected_hall, m
 ghost use Rattle.td_standing.specs.declared.error.KeeperError.TheVariants.{Foreign, Memory};
 
 use crate::keeper::Keeper;
+use crate::watch::{publish, words_at};
 use std::collections::VecDeque;
 use td_batch::laws::run_joins;
 use td_calls::Law;
@@ -18,7 +19,8 @@ use td_standing::KeeperError;
 
 impl<D: Disk, L: Law> Keeper<D, L> {
     /// Brings into the queue the outputs of the epochs that have passed in a hall since the last that was collected, and answers
-    /// how many epochs these are. They are those of the batch meaning of what this keeper stands for, each epoch's once.
+    /// how many epochs these are. They are those of the batch meaning of what this keeper stands for, each epoch's once. A
+    /// writer that is attached publishes how far they come.
     ///
     /// Refusals, with nothing changed: `Foreign`, where the hall is none of this keeper's, and `Memory`.
     pub fn collect(&mut self, hall: &mut Hall<L>) -> Result<u64, KeeperError>
@@ -56,6 +58,8 @@ impl<D: Disk, L: Law> Keeper<D, L> {
         let count = outs.len() as u64;
         append(&mut self.queue, outs);
         self.collected += count;
+        let words = words_at(&self.checkpoint, &self.submitted, self.collected);
+        publish(&mut self.watch, words);
         Ok(count)
     }
 

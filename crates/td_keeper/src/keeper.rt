@@ -21,6 +21,7 @@ use td_plan::Plan;
 use td_slots::Checkpoint;
 use td_stamp::{Batch, EpochOut, States};
 use td_standing::{KeeperError, format_device, laws, recover_device};
+use td_watch::Writer;
 
 /// A cut that was taken since the checkpoint was written, and whether it waits to be written.
 #[derive(Drop)]
@@ -45,6 +46,7 @@ pub struct Keeper<D: Disk, L: Law> {
     pub(crate) taken: Option<Taken>,
     pub(crate) collected: u64,
     pub(crate) queue: VecDeque<EpochOut>,
+    pub(crate) watch: Option<Writer>,
     pub(crate) law: PhantomData<L>,
 }
 
@@ -57,10 +59,10 @@ impl<D: Disk, L: Law> Model for Keeper<D, L> {
 
     ghost Value = { Keeping D };
 
-    ghost view = { λ k. keeping_of k.device k.plan k.head k.checkpoint k.submitted.items k.broken k.taken k.collected k.queue.items };
+    ghost view = { λ k. keeping_of k.device k.plan k.head k.checkpoint k.submitted.items k.broken k.taken k.collected k.queue.items k.watch };
 
     ghost invariant = { λ k. (size_of k.head.shape ≤ D.capacity k.device)
-        × IsKeeping (keeping_of k.device k.plan k.head k.checkpoint k.submitted.items k.broken k.taken k.collected k.queue.items) L.answers
+        × IsKeeping (keeping_of k.device k.plan k.head k.checkpoint k.submitted.items k.broken k.taken k.collected k.queue.items k.watch) L.answers
         × (D.is_lawful k.device
         → HeldWhere k.broken L.answers k.plan k.head k.checkpoint.slot (standing_from k.checkpoint k.submitted.items) (D.state k.device)) };
 }
@@ -107,6 +109,7 @@ impl<D: Disk, L: Law> Keeper<D, L> {
                 broken: false,
                 taken: None,
                 queue: VecDeque::new(alloc),
+                watch: None,
                 law: PhantomData,
             }),
             Err(refusal) => Err((refusal, device)),
@@ -153,6 +156,7 @@ impl<D: Disk, L: Law> Keeper<D, L> {
                 broken: false,
                 taken: None,
                 queue: VecDeque::new(alloc),
+                watch: None,
                 law: PhantomData,
             }),
             Err(refusal) => Err((refusal, device)),
@@ -192,6 +196,7 @@ impl<D: Disk, L: Law> Keeper<D, L> {
             taken: _,
             collected: _,
             queue: _,
+            watch: _,
             law: _,
         } = self;
         device

@@ -6,11 +6,11 @@
 mod collect;
 mod cut;
 mod keeper;
+pub mod laws;
 mod own;
 mod release;
 mod submit;
-#[cfg(test)]
-mod tests;
+mod watch;
 mod write_cut;
 
 pub use keeper::Keeper;

@@ -1,5 +1,5 @@
 //! Submitting batches.
-ghost use Rattle.std.specs.Prelude.{◌≡◌, ◌⊎◌, ◌↔◌, ◌+◌, [], ◌∷◌, false, true, Some, None, IfOk, IfErr};
+ghost use Rattle.std.specs.Prelude.{◌≡◌, ◌⊎◌, ◌↔◌, ◌+◌, ◌≤◌, [], ◌∷◌, false, true, Some, None, IfOk, IfErr};
 ghost use Rattle.td_disk.specs.Disk.{Rises};
 ghost use Rattle.td_gate.specs.CrashSafe.{CrashSafe, Unchanged};
 ghost use Rattle.td_standing.specs.Standing.{last_epoch, submission};
@@ -10,6 +10,7 @@ ghost use Rattle.td_keeper.specs.Refused.{submit_refusal};
 ghost use Rattle.td_standing.specs.declared.error.KeeperError.TheVariants.{Memory, Device};
 
 use crate::keeper::Keeper;
+use crate::watch::publish;
 use td_calls::Law;
 use td_disk::Disk;
 use td_journal::{Journal, JournalError, Submitted};
@@ -22,7 +23,7 @@ const ENDS: u64 = 1 << 63;
 impl<D: Disk, L: Law> Keeper<D, L> {
     /// Puts a batch on the journal as the next epoch, and answers its number: from then on it is acknowledged, and whatever a
     /// crash leaves of the disk tells it. It takes the batch as it is, and writes 25 + 24 M bytes for a journal of M records an
-    /// epoch.
+    /// epoch. A writer that is attached publishes it.
     ///
     /// Refusals, with the batch handed back, the first that holds: `Broken`, where the device failed in an earlier call that
     /// writes; `NoSuchInput`, where a record names no input of the plan; `TooManyRecords`, where there are more than a cell
@@ -42,6 +43,9 @@ impl<D: Disk, L: Law> Keeper<D, L> {
         ensures lawful { D.is_lawful self.old.device ↔ D.is_lawful self.new.device }
         ensures unwritten { IfErr result (λ e. e.0 ≡ Memory → D.is_lawful self.old.device
             → CrashSafe Unchanged (D.state self.old.device) (D.state self.new.device)) }
+
+        // What a crash may leave after the call is among what it may leave since the start.
+        ensures later { D.is_lawful self.old.device → (D.state self.old.device).moment ≤ (D.state self.new.device).moment }
 
         // In each image since the start of the call the disk tells an advance of the standing with this batch, which holds
         // every epoch of the standing.
@@ -68,6 +72,8 @@ impl<D: Disk, L: Law> Keeper<D, L> {
             Ok(()) => {
                 self.submitted
                     .push_back_reserved(Submitted { request: 0, batch });
+                let words = [epoch, self.collected, self.checkpoint.epoch];
+                publish(&mut self.watch, words);
                 Ok(epoch)
             }
             Err(refusal) => match refusal {

@@ -11,6 +11,7 @@ ghost use Rattle.td_keeper.specs.Refused.{write_refusal};
 ghost use Rattle.td_standing.specs.declared.error.KeeperError.TheVariants.{Memory, Device, TooManyKeys};
 
 use crate::keeper::{Keeper, Taken};
+use crate::watch::{publish, words_at};
 use std::collections::VecDeque;
 use td_calls::Law;
 use td_disk::Disk;
@@ -20,7 +21,7 @@ use td_standing::{KeeperError, laws, write_states};
 
 impl<D: Disk, L: Law> Keeper<D, L> {
     /// Writes the cut that waits into the slot beside the checkpoint, and answers its epoch; None where none waits. From then on
-    /// it is the checkpoint, and the cells of the epochs up to it are free.
+    /// it is the checkpoint, and the cells of the epochs up to it are free. A writer that is attached publishes it.
     ///
     /// Refusals, the first that holds: `Broken`, where the device failed in an earlier call that writes; `TooManyKeys`, where
     /// there are more states than a slot holds: the cut waits no more. Then `Memory`, and the cut waits still; in all these
@@ -38,6 +39,9 @@ impl<D: Disk, L: Law> Keeper<D, L> {
         ensures device { IsErrOf result Device → Rises (D.failures self.old.device) (D.failures self.new.device) }
         ensures size { D.capacity self.new.device ≡ D.capacity self.old.device }
         ensures lawful { D.is_lawful self.old.device ↔ D.is_lawful self.new.device }
+
+        // What a crash may leave after the call is among what it may leave since the start.
+        ensures later { D.is_lawful self.old.device → (D.state self.old.device).moment ≤ (D.state self.new.device).moment }
 
         // In each image since the start of the call the disk tells an advance of the standing which holds every epoch of it.
         ensures images { D.is_lawful self.old.device → self.old.broken ≡ false
@@ -70,6 +74,8 @@ impl<D: Disk, L: Law> Keeper<D, L> {
             Ok(()) => {
                 drop_first(&mut self.submitted, count);
                 self.checkpoint = checkpoint_of(newest, count, last, cut);
+                let words = words_at(&self.checkpoint, &self.submitted, self.collected);
+                publish(&mut self.watch, words);
                 Ok(Some(self.checkpoint.epoch))
             }
             Err(refusal) => match refusal {

@@ -15,6 +15,8 @@ mod head;
 #[cfg(test)]
 mod journal;
 #[cfg(test)]
+mod keeper;
+#[cfg(test)]
 mod plan;
 #[cfg(test)]
 mod progress;
@@ -28,3 +30,5 @@ mod slots;
 mod stamp;
 #[cfg(test)]
 mod task;
+#[cfg(test)]
+mod watch;

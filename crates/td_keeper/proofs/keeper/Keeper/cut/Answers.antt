@@ -30,7 +30,7 @@ cut_at-requires-clause-released g c =
 pub invariant_of-self : goal.invariant_of-self
 invariant_of-self g c =
     let now = c.in_ok-bring_in.ensures.collected in
-    let q : Keeping g.row.D.Denot = keeping_of c.self.inside.device c.self.inside.plan c.self.inside.head c.self.inside.checkpoint c.self.inside.submitted.items c.self.inside.broken c.self.inside.taken c.self.inside.collected c.self.inside.queue.items in
+    let q : Keeping g.row.D.Denot = keeping_of c.self.inside.device c.self.inside.plan c.self.inside.head c.self.inside.checkpoint c.self.inside.submitted.items c.self.inside.broken c.self.inside.taken c.self.inside.collected c.self.inside.queue.items c.self.inside.watch in
     let own : IsOwn q c.bring_in.new.hall = subst (λ (p : Keeping g.row.D.Denot). IsOwn p c.bring_in.new.hall) (sym (c.self.view_is ∙ now.0)) (subst (IsOwn (with_collected c.args.self.now c.args.hall.now)) (sym now.1) (own_after c.args.self.now c.args.hall.now (c.is_own.ensures.0 c.if-not-is_own.false))) in
     let passed = c.base_has_passed.ensures c.bring_in.new.hall c.each_is_sound.ensures.reached in
     let last = is_last g.L.Law.answers c.run_joins.ensures.states c.run_joins.ensures.outs q c.self.invariant.1 c.bring_in.new.hall own c.each_is_sound.ensures.sound passed in
@@ -59,7 +59,7 @@ returns-clause-own g c =
 pub returns-clause-cut : goal.returns-clause-cut
 returns-clause-cut g c =
     let now = c.in_ok-bring_in.ensures.collected in
-    let q : Keeping g.row.D.Denot = keeping_of c.self.inside.device c.self.inside.plan c.self.inside.head c.self.inside.checkpoint c.self.inside.submitted.items c.self.inside.broken c.self.inside.taken c.self.inside.collected c.self.inside.queue.items in
+    let q : Keeping g.row.D.Denot = keeping_of c.self.inside.device c.self.inside.plan c.self.inside.head c.self.inside.checkpoint c.self.inside.submitted.items c.self.inside.broken c.self.inside.taken c.self.inside.collected c.self.inside.queue.items c.self.inside.watch in
     let view : q ≡ with_collected c.args.self.now c.args.hall.now = c.self.view_is ∙ now.0 in
     let own : IsOwn q c.bring_in.new.hall = subst (λ (p : Keeping g.row.D.Denot). IsOwn p c.bring_in.new.hall) (sym view) (subst (IsOwn (with_collected c.args.self.now c.args.hall.now)) (sym now.1) (own_after c.args.self.now c.args.hall.now (c.is_own.ensures.0 c.if-not-is_own.false))) in
     let passed = c.base_has_passed.ensures c.bring_in.new.hall c.each_is_sound.ensures.reached in
@@ -76,7 +76,7 @@ returns-clause-cut g c =
 pub returns-clause-meaning : goal.returns-clause-meaning
 returns-clause-meaning g c =
     let now = c.in_ok-bring_in.ensures.collected in
-    let q : Keeping g.row.D.Denot = keeping_of c.self.inside.device c.self.inside.plan c.self.inside.head c.self.inside.checkpoint c.self.inside.submitted.items c.self.inside.broken c.self.inside.taken c.self.inside.collected c.self.inside.queue.items in
+    let q : Keeping g.row.D.Denot = keeping_of c.self.inside.device c.self.inside.plan c.self.inside.head c.self.inside.checkpoint c.self.inside.submitted.items c.self.inside.broken c.self.inside.taken c.self.inside.collected c.self.inside.queue.items c.self.inside.watch in
     let view : q ≡ with_collected c.args.self.now c.args.hall.now = c.self.view_is ∙ now.0 in
     let own : IsOwn q c.bring_in.new.hall = subst (λ (p : Keeping g.row.D.Denot). IsOwn p c.bring_in.new.hall) (sym view) (subst (IsOwn (with_collected c.args.self.now c.args.hall.now)) (sym now.1) (own_after c.args.self.now c.args.hall.now (c.is_own.ensures.0 c.if-not-is_own.false))) in
     let passed = c.base_has_passed.ensures c.bring_in.new.hall c.each_is_sound.ensures.reached in

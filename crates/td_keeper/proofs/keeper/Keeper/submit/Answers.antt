@@ -1,5 +1,7 @@
 use Rattle.std.proofs.Common.{◌≡◌, ⊎_elim, Result, Err, ℕ, ◌+◌, ◌≤◌, true, false, List, [], ◌∷◌, ◌++◌, sym, ap, ◌∙◌, subst, arith}
-use Rattle.std.specs.Prelude.{None}
+use Rattle.std.specs.Prelude.{Option, None, length}
+use Rattle.std.proofs.lemmas.List.{length-append}
+use Rattle.td_watch.specs.View.{View}
 use Rattle.td_plan.specs.Tree.{tree_of}
 use Rattle.td_gate.specs.CrashSafe.{CrashSafe, Unchanged}
 use Rattle.td_head.specs.Layout.{size_of}
@@ -12,7 +14,7 @@ use Rattle.td_standing.specs.Stops.{Advance, Holds}
 use Rattle.td_standing.specs.Told.{inputs_of, ring_of}
 use Rattle.td_standing.specs.Tells.{HasRoom}
 use Rattle.td_standing.specs.Advanced.{SinceAdvance, HeldWhere, states_by}
-use Rattle.td_keeper.specs.Keeping.{Keeping, IsKeeping, keeping_of}
+use Rattle.td_keeper.specs.Keeping.{Keeping, IsKeeping, keeping_of, words_at, published}
 use Rattle.td_keeper.specs.Refused.{submit_refusal}
 use Rattle.td_keeper.proofs.Accepting.{IsAccepted, accepted}
 use Rattle.td_keeper.proofs.Kept.{submitted, elsewhere}
@@ -67,7 +69,7 @@ returns-in-Ok-clause-images g c =
     let batch = c.args.batch in
     let x : List Submitted = submission 0 batch ∷ [] in
     let still : Advance (states_by answers plan) (with_more s x) s = c.standings_advance.ensures.not_yet (tree_of plan) s x in
-    let k = keeping_of device plan head c.self.inside.checkpoint c.self.inside.submitted.items c.self.inside.broken c.self.inside.taken c.self.inside.collected c.self.inside.queue.items in
+    let k = keeping_of device plan head c.self.inside.checkpoint c.self.inside.submitted.items c.self.inside.broken c.self.inside.taken c.self.inside.collected c.self.inside.queue.items c.self.inside.watch in
     let none : submit_refusal k batch ≡ None = ap (λ (z : Keeping g.row.D.Denot). submit_refusal z batch) c.self.view_is ∙ (sym c.refusal_of.ensures ∙ is_none c.refusal_of.result c.in_default.not-Some) in
     let taken : IsAccepted k batch = accepted k batch none in
     let epoch : c.last_epoch-epoch.result + 1 ≡ last_epoch s + 1 = ap (λ (n : ℕ). n + 1) (c.last_epoch-epoch.ensures ∙ sym (ap (λ (z : Keeping g.row.D.Denot). last_epoch z.standing) c.self.view_is)) in
@@ -93,7 +95,7 @@ invariant_of-self-in-Ok g c =
     let side = c.self.inside.checkpoint.slot in
     let batch = c.args.batch in
     let x : List Submitted = submission 0 batch ∷ [] in
-    let k = keeping_of device plan head c.self.inside.checkpoint c.self.inside.submitted.items c.self.inside.broken c.self.inside.taken c.self.inside.collected c.self.inside.queue.items in
+    let k = keeping_of device plan head c.self.inside.checkpoint c.self.inside.submitted.items c.self.inside.broken c.self.inside.taken c.self.inside.collected c.self.inside.queue.items c.self.inside.watch in
     let none : submit_refusal k batch ≡ None = ap (λ (z : Keeping g.row.D.Denot). submit_refusal z batch) c.self.view_is ∙ (sym c.refusal_of.ensures ∙ is_none c.refusal_of.result c.in_default.not-Some) in
     let taken : IsAccepted k batch = accepted k batch none in
     let epoch : c.last_epoch-epoch.result + 1 ≡ last_epoch s + 1 = ap (λ (n : ℕ). n + 1) (c.last_epoch-epoch.ensures ∙ sym (ap (λ (z : Keeping g.row.D.Denot). last_epoch z.standing) c.self.view_is)) in
@@ -101,10 +103,14 @@ invariant_of-self-in-Ok g c =
     let room : HasRoom head.shape s (c.last_epoch-epoch.result + 1) = has_room k batch (c.last_epoch-epoch.result + 1) taken epoch in
     let lawful : is_batch (inputs_of plan) batch ≡ true = lawful_batch c.inputs_are_accepted.ensures c.batches_are_in_order.ensures.written plan batch c.vertices-plan.ensures.lawful c.list-in_order.ensures.sorted taken.named in
     let new = c.submit_batch.new.device in
-    let items : c.push_back_reserved.new.self.items ≡ c.self.inside.submitted.items ++ x = c.push_back_reserved.ensures.items ∙ ap (λ (l : List Submitted). l ++ x) c.reserve.ensures.items in (
+    let items : c.push_back_reserved.new.self.items ≡ c.self.inside.submitted.items ++ x = c.push_back_reserved.ensures.items ∙ ap (λ (l : List Submitted). l ++ x) c.reserve.ensures.items in
+    let size : length (c.self.inside.submitted.items ++ x) ≡ length c.self.inside.submitted.items + 1 = length-append c.self.inside.submitted.items x in
+    let last : c.last_epoch-epoch.result + 1 ≡ last_epoch (with_more s x) = omega (arith, epoch, size) in
+    let watch : c.publish.new.watch ≡ published c.self.inside.watch (words_at (with_more s x) c.self.inside.collected) = c.publish.ensures ∙ ap (λ (n : ℕ). published c.self.inside.watch (n ∷ c.self.inside.collected ∷ s.epoch ∷ [])) last in (
       subst (λ (n : ℕ). size_of head.shape ≤ n) (sym c.in-Ok.ensures.size) c.self.invariant.0,
-      subst (λ (v : List Submitted). IsKeeping (keeping_of new plan head c.self.inside.checkpoint v c.self.inside.broken c.self.inside.taken c.self.inside.collected c.self.inside.queue.items) answers) (sym items)
-          (submitted answers k new 0 batch c.self.invariant.1 lawful taken.room taken.small),
+      subst (λ (v : List Submitted). IsKeeping (keeping_of new plan head c.self.inside.checkpoint v c.self.inside.broken c.self.inside.taken c.self.inside.collected c.self.inside.queue.items c.publish.new.watch) answers) (sym items)
+          (subst (λ (o : Option View). IsKeeping (keeping_of new plan head c.self.inside.checkpoint (c.self.inside.submitted.items ++ x) c.self.inside.broken c.self.inside.taken c.self.inside.collected c.self.inside.queue.items o) answers) (sym watch)
+          (submitted answers k new 0 batch c.self.invariant.1 lawful taken.room taken.small)),
       λ l.
           let old = c.in-Ok.ensures.lawful.1 l in
           let keeps = keeps_of c.self.inside.broken answers plan head side s (state device) taken.whole (c.self.invariant.2 old) in
@@ -124,7 +130,7 @@ returns-in-Device-clause-images g c =
     let batch = c.args.batch in
     let x : List Submitted = submission 0 batch ∷ [] in
     let still : Advance (states_by answers plan) (with_more s x) s = c.standings_advance.ensures.not_yet (tree_of plan) s x in
-    let k = keeping_of device plan head c.self.inside.checkpoint c.self.inside.submitted.items c.self.inside.broken c.self.inside.taken c.self.inside.collected c.self.inside.queue.items in
+    let k = keeping_of device plan head c.self.inside.checkpoint c.self.inside.submitted.items c.self.inside.broken c.self.inside.taken c.self.inside.collected c.self.inside.queue.items c.self.inside.watch in
     let none : submit_refusal k batch ≡ None = ap (λ (z : Keeping g.row.D.Denot). submit_refusal z batch) c.self.view_is ∙ (sym c.refusal_of.ensures ∙ is_none c.refusal_of.result c.in_default.not-Some) in
     let taken : IsAccepted k batch = accepted k batch none in
     let epoch : c.last_epoch-epoch.result + 1 ≡ last_epoch s + 1 = ap (λ (n : ℕ). n + 1) (c.last_epoch-epoch.ensures ∙ sym (ap (λ (z : Keeping g.row.D.Denot). last_epoch z.standing) c.self.view_is)) in
@@ -151,7 +157,7 @@ returns-in_default-refusal-clause-images g c =
     let batch = c.args.batch in
     let x : List Submitted = submission 0 batch ∷ [] in
     let still : Advance (states_by answers plan) (with_more s x) s = c.standings_advance.ensures.not_yet (tree_of plan) s x in
-    let k = keeping_of device plan head c.self.inside.checkpoint c.self.inside.submitted.items c.self.inside.broken c.self.inside.taken c.self.inside.collected c.self.inside.queue.items in
+    let k = keeping_of device plan head c.self.inside.checkpoint c.self.inside.submitted.items c.self.inside.broken c.self.inside.taken c.self.inside.collected c.self.inside.queue.items c.self.inside.watch in
     let none : submit_refusal k batch ≡ None = ap (λ (z : Keeping g.row.D.Denot). submit_refusal z batch) c.self.view_is ∙ (sym c.refusal_of.ensures ∙ is_none c.refusal_of.result c.in_default.not-Some) in
     let taken : IsAccepted k batch = accepted k batch none in
     let epoch : c.last_epoch-epoch.result + 1 ≡ last_epoch s + 1 = ap (λ (n : ℕ). n + 1) (c.last_epoch-epoch.ensures ∙ sym (ap (λ (z : Keeping g.row.D.Denot). last_epoch z.standing) c.self.view_is)) in
@@ -178,7 +184,7 @@ invariant_of-self-in-Device g c =
     let batch = c.args.batch in
     let x : List Submitted = submission 0 batch ∷ [] in
     let still : Advance (states_by answers plan) (with_more s x) s = c.standings_advance.ensures.not_yet (tree_of plan) s x in
-    let k = keeping_of device plan head c.self.inside.checkpoint c.self.inside.submitted.items c.self.inside.broken c.self.inside.taken c.self.inside.collected c.self.inside.queue.items in
+    let k = keeping_of device plan head c.self.inside.checkpoint c.self.inside.submitted.items c.self.inside.broken c.self.inside.taken c.self.inside.collected c.self.inside.queue.items c.self.inside.watch in
     let none : submit_refusal k batch ≡ None = ap (λ (z : Keeping g.row.D.Denot). submit_refusal z batch) c.self.view_is ∙ (sym c.refusal_of.ensures ∙ is_none c.refusal_of.result c.in_default.not-Some) in
     let taken : IsAccepted k batch = accepted k batch none in
     let epoch : c.last_epoch-epoch.result + 1 ≡ last_epoch s + 1 = ap (λ (n : ℕ). n + 1) (c.last_epoch-epoch.ensures ∙ sym (ap (λ (z : Keeping g.row.D.Denot). last_epoch z.standing) c.self.view_is)) in
@@ -189,7 +195,7 @@ invariant_of-self-in-Device g c =
     let holds : Holds (with_more s x) (last_epoch s) = c.standings_advance.ensures.holds s (last_epoch s) x (omega arith) in
     let new = c.submit_batch.new.device in (
       subst (λ (n : ℕ). size_of head.shape ≤ n) (sym c.in-Err.ensures.size) c.self.invariant.0,
-      subst (λ (v : List Submitted). IsKeeping (keeping_of new plan head c.self.inside.checkpoint v true c.self.inside.taken c.self.inside.collected c.self.inside.queue.items) answers) (sym c.reserve.ensures.items)
+      subst (λ (v : List Submitted). IsKeeping (keeping_of new plan head c.self.inside.checkpoint v true c.self.inside.taken c.self.inside.collected c.self.inside.queue.items c.self.inside.watch) answers) (sym c.reserve.ensures.items)
           (elsewhere answers k new true c.self.invariant.1),
       λ l.
           let old = c.in-Err.ensures.lawful.1 l in
@@ -212,7 +218,7 @@ invariant_of-self-in_default-refusal g c =
     let side = c.self.inside.checkpoint.slot in
     let batch = c.args.batch in
     let x : List Submitted = submission 0 batch ∷ [] in
-    let k = keeping_of device plan head c.self.inside.checkpoint c.self.inside.submitted.items c.self.inside.broken c.self.inside.taken c.self.inside.collected c.self.inside.queue.items in
+    let k = keeping_of device plan head c.self.inside.checkpoint c.self.inside.submitted.items c.self.inside.broken c.self.inside.taken c.self.inside.collected c.self.inside.queue.items c.self.inside.watch in
     let none : submit_refusal k batch ≡ None = ap (λ (z : Keeping g.row.D.Denot). submit_refusal z batch) c.self.view_is ∙ (sym c.refusal_of.ensures ∙ is_none c.refusal_of.result c.in_default.not-Some) in
     let taken : IsAccepted k batch = accepted k batch none in
     let epoch : c.last_epoch-epoch.result + 1 ≡ last_epoch s + 1 = ap (λ (n : ℕ). n + 1) (c.last_epoch-epoch.ensures ∙ sym (ap (λ (z : Keeping g.row.D.Denot). last_epoch z.standing) c.self.view_is)) in
@@ -221,7 +227,7 @@ invariant_of-self-in_default-refusal g c =
     let lawful : is_batch (inputs_of plan) batch ≡ true = lawful_batch c.inputs_are_accepted.ensures c.batches_are_in_order.ensures.written plan batch c.vertices-plan.ensures.lawful c.list-in_order.ensures.sorted taken.named in
     let new = c.submit_batch.new.device in (
       subst (λ (n : ℕ). size_of head.shape ≤ n) (sym c.in-Err.ensures.size) c.self.invariant.0,
-      subst (λ (v : List Submitted). IsKeeping (keeping_of new plan head c.self.inside.checkpoint v c.self.inside.broken c.self.inside.taken c.self.inside.collected c.self.inside.queue.items) answers) (sym c.reserve.ensures.items)
+      subst (λ (v : List Submitted). IsKeeping (keeping_of new plan head c.self.inside.checkpoint v c.self.inside.broken c.self.inside.taken c.self.inside.collected c.self.inside.queue.items c.self.inside.watch) answers) (sym c.reserve.ensures.items)
           (elsewhere answers k new c.self.inside.broken c.self.invariant.1),
       λ l.
           let old = c.in-Err.ensures.lawful.1 l in
@@ -236,3 +242,33 @@ returns-in_default-refusal-clause-unwritten g c is =
     let memory : c.in-Err.refusal ≡ JournalError.Memory = ⊎_elim (λ m. m) (λ d. absurd (c.in_default-refusal.not-Device d)) c.in-Err.ensures.refusals in
     subst (λ (z : Keeping g.row.D.Denot). g.D.Disk.is_lawful z.device → CrashSafe Unchanged (g.D.Disk.state z.device) (g.D.Disk.state c.submit_batch.new.device)) c.self.view_is
     (λ old. c.in-Err.ensures.unwritten (ap as_err memory) old)
+
+pub returns-in-Ok-clause-later : goal.returns-in-Ok-clause-later
+returns-in-Ok-clause-later g c =
+    let state = g.D.Disk.state in
+    let answers = g.L.Law.answers in
+    let device = c.self.inside.device in
+    let plan = c.self.inside.plan in
+    let head = c.self.inside.head in
+    let s = standing_from c.self.inside.checkpoint c.self.inside.submitted.items in
+    let side = c.self.inside.checkpoint.slot in
+    let batch = c.args.batch in
+    let k = keeping_of device plan head c.self.inside.checkpoint c.self.inside.submitted.items c.self.inside.broken c.self.inside.taken c.self.inside.collected c.self.inside.queue.items c.self.inside.watch in
+    let none : submit_refusal k batch ≡ None = ap (λ (z : Keeping g.row.D.Denot). submit_refusal z batch) c.self.view_is ∙ (sym c.refusal_of.ensures ∙ is_none c.refusal_of.result c.in_default.not-Some) in
+    subst (λ (z : Keeping g.row.D.Denot). g.D.Disk.is_lawful z.device → (state z.device).moment ≤ (state c.submit_batch.new.device).moment) c.self.view_is
+    (λ old. c.in-Ok.ensures.later old (keeps_of c.self.inside.broken answers plan head side s (state device) (accepted k batch none).whole (c.self.invariant.2 old)).durable)
+
+pub returns-in-Device-clause-later : goal.returns-in-Device-clause-later
+returns-in-Device-clause-later g c =
+    let state = g.D.Disk.state in
+    let answers = g.L.Law.answers in
+    let device = c.self.inside.device in
+    let plan = c.self.inside.plan in
+    let head = c.self.inside.head in
+    let s = standing_from c.self.inside.checkpoint c.self.inside.submitted.items in
+    let side = c.self.inside.checkpoint.slot in
+    let batch = c.args.batch in
+    let k = keeping_of device plan head c.self.inside.checkpoint c.self.inside.submitted.items c.self.inside.broken c.self.inside.taken c.self.inside.collected c.self.inside.queue.items c.self.inside.watch in
+    let none : submit_refusal k batch ≡ None = ap (λ (z : Keeping g.row.D.Denot). submit_refusal z batch) c.self.view_is ∙ (sym c.refusal_of.ensures ∙ is_none c.refusal_of.result c.in_default.not-Some) in
+    subst (λ (z : Keeping g.row.D.Denot). g.D.Disk.is_lawful z.device → (state z.device).moment ≤ (state c.submit_batch.new.device).moment) c.self.view_is
+    (λ old. c.in-Err.ensures.later old (keeps_of c.self.inside.broken answers plan head side s (state device) (accepted k batch none).whole (c.self.invariant.2 old)).durable)

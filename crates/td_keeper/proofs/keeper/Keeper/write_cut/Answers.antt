@@ -1,6 +1,7 @@
 use Rattle.std.proofs.Common.{◌≡◌, ⊎_elim, inl, inr, Result, Err, ℕ, ◌+◌, ◌-◌, ◌^◌, ◌<◌, ◌≤◌, true, false, [], length, take, refl, sym, ap, ◌∙◌, subst, arith}
 use Rattle.std.specs.Prelude.{Option, Some, None}
 use Rattle.td_plan.specs.Tree.{tree_of}
+use Rattle.td_watch.specs.View.{View}
 use Rattle.td_head.specs.Layout.{size_of}
 use Rattle.td_slots.specs.Slot.{are_states}
 use Rattle.td_slots.specs.declared.slots.Slots.{Slots}
@@ -12,7 +13,7 @@ use Rattle.td_standing.specs.Told.{folds_of, slots_of}
 use Rattle.td_standing.specs.Tells.{IsCut, side_after}
 use Rattle.td_standing.specs.Advanced.{SinceAdvance, HeldWhere, states_by}
 use Rattle.td_keeper.specs.declared.keeper.Taken.{Taken}
-use Rattle.td_keeper.specs.Keeping.{Keeping, IsKeeping, keeping_of, with_checkpoint}
+use Rattle.td_keeper.specs.Keeping.{Keeping, IsKeeping, keeping_of, with_checkpoint, published}
 use Rattle.td_keeper.specs.Refused.{write_refusal}
 use Rattle.td_keeper.proofs.Cutting.{lawful, most, is_cut, advance, as_written, not_above, write_none}
 use Rattle.td_keeper.proofs.Kept.{written, set_down}
@@ -55,8 +56,8 @@ returns-in-Ok-clause-images g c =
     let cut = c.in-Some.cut in
     let n = cut.epoch - checkpoint.epoch in
     let at : c.self.inside.taken ≡ Some cut = c.in-Some.ensures.some.0 in
-    let k = keeping_of device plan head checkpoint w c.self.inside.broken (Some cut) c.self.inside.collected c.self.inside.queue.items in
-    let is : IsKeeping k answers = subst (λ (t : Option Taken). IsKeeping (keeping_of device plan head checkpoint w c.self.inside.broken t c.self.inside.collected c.self.inside.queue.items) answers) at c.self.invariant.1 in
+    let k = keeping_of device plan head checkpoint w c.self.inside.broken (Some cut) c.self.inside.collected c.self.inside.queue.items c.self.inside.watch in
+    let is : IsKeeping k answers = subst (λ (t : Option Taken). IsKeeping (keeping_of device plan head checkpoint w c.self.inside.broken t c.self.inside.collected c.self.inside.queue.items c.self.inside.watch) answers) at c.self.invariant.1 in
     let wide : head.shape.k ≤ 1048576 = subst (λ (z : Keeping g.row.D.Denot). z.head.shape.k ≤ 1048576) (sym c.self.view_is) c.slots-slots.ensures.few in
     let slots : c.slots-slots.result ≡ slots_of head.shape = c.slots-slots.ensures.slots ∙ sym (ap (λ (z : Keeping g.row.D.Denot). slots_of z.head.shape) c.self.view_is) in
     let few : length cut.states ≤ head.shape.k = subst (λ (z : Slots). length cut.states ≤ z.k) slots (not_above c.slots-slots.result.k (length cut.states) (λ lt. let z = c.in-Ok.ensures.too_many.1 lt in absurd (cc z))) in
@@ -89,8 +90,8 @@ returns-in-Device-clause-images g c =
     let cut = c.in-Some.cut in
     let n = cut.epoch - checkpoint.epoch in
     let at : c.self.inside.taken ≡ Some cut = c.in-Some.ensures.some.0 in
-    let k = keeping_of device plan head checkpoint w c.self.inside.broken (Some cut) c.self.inside.collected c.self.inside.queue.items in
-    let is : IsKeeping k answers = subst (λ (t : Option Taken). IsKeeping (keeping_of device plan head checkpoint w c.self.inside.broken t c.self.inside.collected c.self.inside.queue.items) answers) at c.self.invariant.1 in
+    let k = keeping_of device plan head checkpoint w c.self.inside.broken (Some cut) c.self.inside.collected c.self.inside.queue.items c.self.inside.watch in
+    let is : IsKeeping k answers = subst (λ (t : Option Taken). IsKeeping (keeping_of device plan head checkpoint w c.self.inside.broken t c.self.inside.collected c.self.inside.queue.items c.self.inside.watch) answers) at c.self.invariant.1 in
     let wide : head.shape.k ≤ 1048576 = subst (λ (z : Keeping g.row.D.Denot). z.head.shape.k ≤ 1048576) (sym c.self.view_is) c.slots-slots.ensures.few in
     let slots : c.slots-slots.result ≡ slots_of head.shape = c.slots-slots.ensures.slots ∙ sym (ap (λ (z : Keeping g.row.D.Denot). slots_of z.head.shape) c.self.view_is) in
     let few : length cut.states ≤ head.shape.k = subst (λ (z : Slots). length cut.states ≤ z.k) slots (not_above c.slots-slots.result.k (length cut.states) (λ lt. let z = c.in-Err.ensures.too_many.1 lt in let d = c.in-Device.is in absurd (cc (z, d)))) in
@@ -160,12 +161,12 @@ returns-in_default-refusal-clause-refused g c =
     let cut = c.in-Some.cut in
     let n = cut.epoch - checkpoint.epoch in
     let at : c.self.inside.taken ≡ Some cut = c.in-Some.ensures.some.0 in
-    let k = keeping_of device plan head checkpoint w c.self.inside.broken (Some cut) c.self.inside.collected c.self.inside.queue.items in
-    let is : IsKeeping k answers = subst (λ (t : Option Taken). IsKeeping (keeping_of device plan head checkpoint w c.self.inside.broken t c.self.inside.collected c.self.inside.queue.items) answers) at c.self.invariant.1 in
+    let k = keeping_of device plan head checkpoint w c.self.inside.broken (Some cut) c.self.inside.collected c.self.inside.queue.items c.self.inside.watch in
+    let is : IsKeeping k answers = subst (λ (t : Option Taken). IsKeeping (keeping_of device plan head checkpoint w c.self.inside.broken t c.self.inside.collected c.self.inside.queue.items c.self.inside.watch) answers) at c.self.invariant.1 in
     let slots : c.slots-slots.result ≡ slots_of head.shape = c.slots-slots.ensures.slots ∙ sym (ap (λ (z : Keeping g.row.D.Denot). slots_of z.head.shape) c.self.view_is) in
     let few : length cut.states ≤ head.shape.k = subst (λ (z : Slots). length cut.states ≤ z.k) slots (not_above c.slots-slots.result.k (length cut.states) (λ lt. c.in_default-refusal.not-TooManyKeys (let z = c.in-Err.ensures.too_many.1 lt in cc z))) in
-    let none : write_refusal (keeping_of device plan head checkpoint w c.self.inside.broken c.self.inside.taken c.self.inside.collected c.self.inside.queue.items) ≡ None =
-    subst (λ (t : Option Taken). write_refusal (keeping_of device plan head checkpoint w c.self.inside.broken t c.self.inside.collected c.self.inside.queue.items) ≡ None) (sym at) (write_none k c.if-self.false few) in
+    let none : write_refusal (keeping_of device plan head checkpoint w c.self.inside.broken c.self.inside.taken c.self.inside.collected c.self.inside.queue.items c.self.inside.watch) ≡ None =
+    subst (λ (t : Option Taken). write_refusal (keeping_of device plan head checkpoint w c.self.inside.broken t c.self.inside.collected c.self.inside.queue.items c.self.inside.watch) ≡ None) (sym at) (write_none k c.if-self.false few) in
     inr (sym (ap (λ (z : Keeping g.row.D.Denot). write_refusal z) c.self.view_is) ∙ none, inl refl)
 
 pub returns-in_default-refusal-clause-unchanged : goal.returns-in_default-refusal-clause-unchanged
@@ -183,11 +184,11 @@ returns-in_default-refusal-clause-unchanged g c =
     let cut = c.in-Some.cut in
     let n = cut.epoch - checkpoint.epoch in
     let at : c.self.inside.taken ≡ Some cut = c.in-Some.ensures.some.0 in
-    let k = keeping_of device plan head checkpoint w c.self.inside.broken (Some cut) c.self.inside.collected c.self.inside.queue.items in
-    let is : IsKeeping k answers = subst (λ (t : Option Taken). IsKeeping (keeping_of device plan head checkpoint w c.self.inside.broken t c.self.inside.collected c.self.inside.queue.items) answers) at c.self.invariant.1 in
+    let k = keeping_of device plan head checkpoint w c.self.inside.broken (Some cut) c.self.inside.collected c.self.inside.queue.items c.self.inside.watch in
+    let is : IsKeeping k answers = subst (λ (t : Option Taken). IsKeeping (keeping_of device plan head checkpoint w c.self.inside.broken t c.self.inside.collected c.self.inside.queue.items c.self.inside.watch) answers) at c.self.invariant.1 in
     let same : new ≡ device = ⊎_elim (λ d. absurd (c.in_default-refusal.not-Device d)) (λ e. e) c.in-Err.ensures.untouched in
-    inr (inr (ap (λ (d : g.row.D.Denot). keeping_of d plan head checkpoint w c.self.inside.broken (Some cut) c.self.inside.collected c.self.inside.queue.items) same
-    ∙ (ap (λ (t : Option Taken). keeping_of device plan head checkpoint w c.self.inside.broken t c.self.inside.collected c.self.inside.queue.items) (sym at) ∙ c.self.view_is)))
+    inr (inr (ap (λ (d : g.row.D.Denot). keeping_of d plan head checkpoint w c.self.inside.broken (Some cut) c.self.inside.collected c.self.inside.queue.items c.self.inside.watch) same
+    ∙ (ap (λ (t : Option Taken). keeping_of device plan head checkpoint w c.self.inside.broken t c.self.inside.collected c.self.inside.queue.items c.self.inside.watch) (sym at) ∙ c.self.view_is)))
 
 pub invariant_of-self-in-Ok : goal.invariant_of-self-in-Ok
 invariant_of-self-in-Ok g c =
@@ -204,8 +205,8 @@ invariant_of-self-in-Ok g c =
     let cut = c.in-Some.cut in
     let n = cut.epoch - checkpoint.epoch in
     let at : c.self.inside.taken ≡ Some cut = c.in-Some.ensures.some.0 in
-    let k = keeping_of device plan head checkpoint w c.self.inside.broken (Some cut) c.self.inside.collected c.self.inside.queue.items in
-    let is : IsKeeping k answers = subst (λ (t : Option Taken). IsKeeping (keeping_of device plan head checkpoint w c.self.inside.broken t c.self.inside.collected c.self.inside.queue.items) answers) at c.self.invariant.1 in
+    let k = keeping_of device plan head checkpoint w c.self.inside.broken (Some cut) c.self.inside.collected c.self.inside.queue.items c.self.inside.watch in
+    let is : IsKeeping k answers = subst (λ (t : Option Taken). IsKeeping (keeping_of device plan head checkpoint w c.self.inside.broken t c.self.inside.collected c.self.inside.queue.items c.self.inside.watch) answers) at c.self.invariant.1 in
     let wide : head.shape.k ≤ 1048576 = subst (λ (z : Keeping g.row.D.Denot). z.head.shape.k ≤ 1048576) (sym c.self.view_is) c.slots-slots.ensures.few in
     let slots : c.slots-slots.result ≡ slots_of head.shape = c.slots-slots.ensures.slots ∙ sym (ap (λ (z : Keeping g.row.D.Denot). slots_of z.head.shape) c.self.view_is) in
     let few : length cut.states ≤ head.shape.k = subst (λ (z : Slots). length cut.states ≤ z.k) slots (not_above c.slots-slots.result.k (length cut.states) (λ lt. let z = c.in-Ok.ensures.too_many.1 lt in absurd (cc z))) in
@@ -218,10 +219,11 @@ invariant_of-self-in-Ok g c =
     let v = c.drop_first.new.submitted.items in
     let none : c.take_waiting.new.taken ≡ None = c.in-Some.ensures.some.2 in
     let after : checkpoint.epoch ≤ cut.epoch = is.from_checkpoint in
-    let now : keeping_of new plan head d v c.self.inside.broken None c.self.inside.collected c.self.inside.queue.items ≡ with_checkpoint k new =
-    as_written device new plan head checkpoint d w v c.self.inside.broken cut c.self.inside.collected c.self.inside.queue.items after c.checkpoint_of.ensures.slot c.checkpoint_of.ensures.epoch (c.checkpoint_of.ensures.last ∙ last) c.checkpoint_of.ensures.states c.drop_first.ensures in (
+    let now : keeping_of new plan head d v c.self.inside.broken None c.self.inside.collected c.self.inside.queue.items c.publish.new.watch ≡ with_checkpoint k new =
+    ap (λ (o : Option View). keeping_of new plan head d v c.self.inside.broken None c.self.inside.collected c.self.inside.queue.items o) (c.publish.ensures ∙ ap (published c.self.inside.watch) c.words_at-words.ensures)
+    ∙ as_written device new plan head checkpoint d w v c.self.inside.broken cut c.self.inside.collected c.self.inside.queue.items c.self.inside.watch after c.checkpoint_of.ensures.slot c.checkpoint_of.ensures.epoch (c.checkpoint_of.ensures.last ∙ last) c.checkpoint_of.ensures.states c.drop_first.ensures in (
       subst (λ (m : ℕ). size_of head.shape ≤ m) (sym c.in-Ok.ensures.size) c.self.invariant.0,
-      subst (λ (t : Option Taken). IsKeeping (keeping_of new plan head d v c.self.inside.broken t c.self.inside.collected c.self.inside.queue.items) answers) (sym none)
+      subst (λ (t : Option Taken). IsKeeping (keeping_of new plan head d v c.self.inside.broken t c.self.inside.collected c.self.inside.queue.items c.publish.new.watch) answers) (sym none)
           (subst (λ (z : Keeping g.row.D.Denot). IsKeeping z answers) (sym now) (written answers k new is of_folds)),
       λ l.
           let old = c.in-Ok.ensures.lawful.1 l in
@@ -246,8 +248,8 @@ invariant_of-self-in-Device g c =
     let cut = c.in-Some.cut in
     let n = cut.epoch - checkpoint.epoch in
     let at : c.self.inside.taken ≡ Some cut = c.in-Some.ensures.some.0 in
-    let k = keeping_of device plan head checkpoint w c.self.inside.broken (Some cut) c.self.inside.collected c.self.inside.queue.items in
-    let is : IsKeeping k answers = subst (λ (t : Option Taken). IsKeeping (keeping_of device plan head checkpoint w c.self.inside.broken t c.self.inside.collected c.self.inside.queue.items) answers) at c.self.invariant.1 in
+    let k = keeping_of device plan head checkpoint w c.self.inside.broken (Some cut) c.self.inside.collected c.self.inside.queue.items c.self.inside.watch in
+    let is : IsKeeping k answers = subst (λ (t : Option Taken). IsKeeping (keeping_of device plan head checkpoint w c.self.inside.broken t c.self.inside.collected c.self.inside.queue.items c.self.inside.watch) answers) at c.self.invariant.1 in
     let wide : head.shape.k ≤ 1048576 = subst (λ (z : Keeping g.row.D.Denot). z.head.shape.k ≤ 1048576) (sym c.self.view_is) c.slots-slots.ensures.few in
     let slots : c.slots-slots.result ≡ slots_of head.shape = c.slots-slots.ensures.slots ∙ sym (ap (λ (z : Keeping g.row.D.Denot). slots_of z.head.shape) c.self.view_is) in
     let few : length cut.states ≤ head.shape.k = subst (λ (z : Slots). length cut.states ≤ z.k) slots (not_above c.slots-slots.result.k (length cut.states) (λ lt. let z = c.in-Err.ensures.too_many.1 lt in let d = c.in-Device.is in absurd (cc (z, d)))) in

@@ -1,0 +1,155 @@
+#!/usr/bin/env python3
+"""Takes the time of `td feed` beside what it cannot be faster than, and beside sqlite3.
+
+    bench/feed.py [--epochs N] [--recovery-only] [FOLDER]     needs crates/td/out/td (see the README) and a C compiler
+
+TOTAL on a file of FOLDER (by default of the system's folder for such files): 20,000 epochs of 1, 10 and 1,000 records with 100
+keys, and a cut each 1,000 epochs. Beside it, one after the other in each of three rounds:
+
+- `limit`: bench/feed_limit.c, which makes the same writes and syncs and nothing else;
+- `sqlite`: sqlite3 with synchronous=FULL and a write-ahead log, which keeps the same totals, one transaction an epoch.
+
+It prints epochs a second, of each the best round, and the ratio to the limit. Wanted: at least 0.85.
+
+Then recovery: a full journal of 65,536 cells of 16 records is shown and fed nothing, beside a plain read of the file (in pieces of
+64 KiB, from the system's memory); it prints the seconds, and the greatest memory in use beside the records' 24 bytes each. Wanted:
+at most 3 times the plain read, and 3 times the records."""
+
+import argparse
+import os
+import pathlib
+import shutil
+import sqlite3
+import subprocess
+import sys
+import tempfile
+import time
+
+ROOT = pathlib.Path(__file__).resolve().parent.parent
+TD = ROOT / "crates/td/out/td"
+TOTAL = "0 input\n1 fold 40 0\n2 output 1\n"
+KEYS = 100
+CUT_EVERY = 1000
+SIZES = (1, 10, 1000)
+ROUNDS = 3
+
+
+def batches(epochs, size):
+    """Of each epoch its records, as keys and values."""
+    return ([((epoch + at) % KEYS, at % 7 - 3) for at in range(size)] for epoch in range(epochs))
+
+
+def write_input(file, epochs, size):
+    with open(file, "w", encoding="ascii") as out:
+        for number, batch in enumerate(batches(epochs, size), 1):
+            out.write("".join(f"0 {key} {value}\n" for key, value in batch) + ".\n")
+            if number % CUT_EVERY == 0:
+                out.write("cut\n")
+
+
+def run(*words, **streams):
+    """Seconds, and the greatest memory in use, in bytes."""
+    begin = time.monotonic()
+    process = subprocess.Popen([str(word) for word in words], **streams)
+    _, status, usage = os.wait4(process.pid, 0)
+    process.returncode = os.waitstatus_to_exitcode(status)
+    if process.returncode != 0:
+        sys.exit(f"{words} ended with status {process.returncode}")
+    return time.monotonic() - begin, usage.ru_maxrss * 1024
+
+
+def time_feed(folder, size, cells):
+    plan, disk = folder / "total.plan", folder / "total.disk"
+    plan.write_text(TOTAL)
+    run(TD, "format", disk, plan, size, cells, KEYS)
+    with open(folder / "input") as given:
+        seconds, memory = run(TD, "feed", disk, plan, stdin=given, stdout=subprocess.DEVNULL)
+    disk.unlink()
+    return seconds, memory
+
+
+def time_limit(folder, limit, epochs, size, cells):
+    disk = folder / "limit.disk"
+    printed = subprocess.run([limit, disk, str(size), str(cells), str(KEYS), str(epochs), str(CUT_EVERY)],
+                             check=True, capture_output=True, text=True).stdout
+    disk.unlink()
+    return float(printed)
+
+
+def time_sqlite(folder, epochs, size):
+    file = folder / "totals.sqlite"
+    base = sqlite3.connect(file, isolation_level=None)
+    base.execute("PRAGMA journal_mode=WAL")
+    base.execute("PRAGMA synchronous=FULL")
+    base.execute("CREATE TABLE totals (key INTEGER PRIMARY KEY, a INTEGER, b INTEGER)")
+    begin = time.monotonic()
+    for batch in batches(epochs, size):
+        base.execute("BEGIN")
+        base.executemany("INSERT INTO totals VALUES (?, ?, 1) ON CONFLICT (key) DO UPDATE SET a = a + excluded.a, b = b + 1", batch)
+        base.execute("COMMIT")
+    seconds = time.monotonic() - begin
+    base.close()
+    for left in folder.glob("totals.sqlite*"):
+        left.unlink()
+    return seconds
+
+
+def compare(folder, limit, epochs):
+    print("| Records an epoch | td feed | the limit | sqlite3 | td to the limit |")
+    print("|---|---|---|---|---|")
+    for size in SIZES:
+        cells = min(CUT_EVERY, epochs)
+        write_input(folder / "input", epochs, size)
+        times = {"td": [], "limit": [], "sqlite": []}
+        for _ in range(ROUNDS):
+            times["limit"].append(time_limit(folder, limit, epochs, size, cells))
+            times["td"].append(time_feed(folder, size, cells)[0])
+            times["sqlite"].append(time_sqlite(folder, epochs, size))
+        td, low, other = (epochs / min(times[name]) for name in ("td", "limit", "sqlite"))
+        print(f"| {size:,} | {td:,.0f} | {low:,.0f} | {other:,.0f} | {td / low:.2f} |", flush=True)
+
+
+def compare_recovery(folder, limit):
+    records, cells = 16, 65_536
+    plan, disk = folder / "total.plan", folder / "full.disk"
+    plan.write_text(TOTAL)
+    run(TD, "format", disk, plan, records, cells, KEYS)
+    with open(folder / "input", "w", encoding="ascii") as out:
+        for batch in batches(cells, records):
+            out.write("".join(f"0 {key} {value}\n" for key, value in batch) + ".\n")
+    with open(folder / "input") as given:
+        run(TD, "feed", disk, plan, stdin=given, stdout=subprocess.DEVNULL)
+    plain = min(float(subprocess.run([limit, disk, *"12345", "plain"], check=True, capture_output=True, text=True).stdout)
+                for _ in range(5))
+    shown = [run(TD, "show", disk, plan, stdout=subprocess.DEVNULL) for _ in range(5)]
+    fed = [run(TD, "feed", disk, plan, stdin=subprocess.DEVNULL, stdout=subprocess.DEVNULL) for _ in range(2)]
+    held = records * cells * 24
+    print(f"a full journal of {cells:,} cells of {records} records, {disk.stat().st_size:,} bytes: a plain read {plain * 1000:.1f} ms")
+    for name, runs in (("show", shown), ("feed of no input", fed)):
+        seconds, memory = min(each[0] for each in runs), max(each[1] for each in runs)
+        print(f"  td {name}: {seconds * 1000:.1f} ms, {seconds / plain:.1f} times; {memory / 1e6:.0f} MB, {memory / held:.1f} times the records")
+
+
+def main():
+    words = argparse.ArgumentParser(description=__doc__, formatter_class=argparse.RawDescriptionHelpFormatter)
+    words.add_argument("--epochs", type=int, default=20_000)
+    words.add_argument("--recovery-only", action="store_true")
+    words.add_argument("--sync", choices=("fsync", "fdatasync"), default="fsync", help="what the limit syncs with, as td does")
+    words.add_argument("folder", nargs="?")
+    given = words.parse_args()
+    if not TD.exists():
+        sys.exit(f"{TD} is not there: cd crates/td && rt run")
+    compiler = next(filter(None, map(shutil.which, ("cc", "gcc", "clang"))), None)
+    if compiler is None:
+        print("skipped: no C compiler is here")
+        return
+    with tempfile.TemporaryDirectory(dir=given.folder) as name:
+        folder = pathlib.Path(name)
+        limit = folder / "feed_limit"
+        subprocess.run([compiler, "-O2", f"-DSYNC={given.sync}", "-o", limit, ROOT / "bench/feed_limit.c"], check=True)
+        if not given.recovery_only:
+            compare(folder, limit, given.epochs)
+        compare_recovery(folder, limit)
+
+
+main()

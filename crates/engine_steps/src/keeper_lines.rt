@@ -1,0 +1,77 @@
+//! The answers of a keeper.
+use crate::error::StepError;
+use crate::lines::{print_entries, print_epoch, print_states};
+use td_stamp::{Batch, EpochOut, States};
+use td_standing::KeeperError;
+
+/// `refused: ..`, but for want of memory.
+pub(crate) fn print_keeper_refusal(rt: &impl Print, refusal: KeeperError) -> Result<(), StepError> {
+    match refusal {
+        KeeperError::Memory => Err(StepError::Memory),
+        refusal => Ok(println!(rt; "refused: {refusal}")?),
+    }
+}
+
+/// `kept EPOCH:` and the states; and for each epoch after it `epoch EPOCH:` and its entries.
+pub(crate) fn print_opening(
+    rt: &impl Print,
+    opening: Result<(u64, States, Vec<Batch>), KeeperError>,
+) -> Result<(), StepError> {
+    let (kept, states, batches) = opening?;
+    print!(rt; "kept {kept}:")?;
+    print_states(rt, &states)?;
+    let mut epoch = kept;
+    for batch in &batches {
+        epoch = epoch.saturating_add(1);
+        print!(rt; "epoch {epoch}:")?;
+        print_entries(rt, batch)?;
+    }
+    Ok(())
+}
+
+/// `ack EPOCH`; or why the batch is refused, and the entries that come back.
+pub(crate) fn print_submitted(
+    rt: &impl Print,
+    submitted: Result<u64, (KeeperError, Batch)>,
+) -> Result<(), StepError> {
+    match submitted {
+        Ok(epoch) => Ok(println!(rt; "ack {epoch}")?),
+        Err((KeeperError::Memory, _batch)) => Err(StepError::Memory),
+        Err((refusal, batch)) => {
+            print!(rt; "refused: {refusal}, back came")?;
+            print_entries(rt, &batch)
+        }
+    }
+}
+
+/// What was done, and how many, or which epoch.
+pub(crate) fn print_number(
+    rt: &impl Print,
+    done: &str,
+    answer: Result<u64, KeeperError>,
+) -> Result<(), StepError> {
+    match answer {
+        Ok(number) => Ok(println!(rt; "{done} {number}")?),
+        Err(refusal) => print_keeper_refusal(rt, refusal),
+    }
+}
+
+/// `epoch EPOCH:` and its outputs; or `none`.
+pub(crate) fn print_next_out(rt: &impl Print, out: Option<EpochOut>) -> Result<(), StepError> {
+    match out {
+        Some(out) => print_epoch(rt, &out),
+        None => Ok(println!(rt; "none")?),
+    }
+}
+
+/// `written EPOCH`, or `none`.
+pub(crate) fn print_written(
+    rt: &impl Print,
+    written: Result<Option<u64>, KeeperError>,
+) -> Result<(), StepError> {
+    match written {
+        Ok(Some(epoch)) => Ok(println!(rt; "written {epoch}")?),
+        Ok(None) => Ok(println!(rt; "none")?),
+        Err(refusal) => print_keeper_refusal(rt, refusal),
+    }
+}

@@ -1,0 +1,211 @@
+//! The answers of a hall.
+use crate::error::StepError;
+use crate::hands::Hands;
+use td_calls::Stock;
+use td_core::{Cut, Hall, HallError};
+use td_stamp::{Batch, EpochOut, Rec, States, Time};
+use td_task::{Done, KeyAt, KeyedItems, Task, TaskError, Work};
+
+/// `refused: ..`, but for want of memory.
+pub(crate) fn print_refusal(rt: &impl Print, error: HallError) -> Result<(), StepError> {
+    match error {
+        HallError::Memory => Err(StepError::Memory),
+        error => Ok(println!(rt; "refused: {error}")?),
+    }
+}
+
+/// Why a batch came back, and its entries.
+pub(crate) fn print_back(
+    rt: &impl Print,
+    error: HallError,
+    batch: &Batch,
+) -> Result<(), StepError> {
+    print!(rt; "refused: {error}, back came")?;
+    print_entries(rt, batch)
+}
+
+/// ` (INPUT KEY VAL)` for each, and the end of the line.
+pub(crate) fn print_entries(rt: &impl Print, batch: &Batch) -> Result<(), StepError> {
+    for entry in batch.list() {
+        print!(rt; " ({} {} {})", entry.input, entry.rec.key, entry.rec.val)?;
+    }
+    Ok(println!(rt; "")?)
+}
+
+/// The task that was taken, which stands last; or `none`.
+pub(crate) fn print_taken(
+    rt: &impl Print,
+    taken: Result<bool, HallError>,
+    hands: &Hands,
+) -> Result<(), StepError> {
+    match taken {
+        Ok(taken) => print_last_task(rt, taken, hands),
+        Err(error) => print_refusal(rt, error),
+    }
+}
+
+fn print_last_task(rt: &impl Print, taken: bool, hands: &Hands) -> Result<(), StepError> {
+    match hands.tasks.back() {
+        Some(task) if taken => print_task(rt, task),
+        _ => Ok(println!(rt; "none")?),
+    }
+}
+
+/// `task NUMBER: shard SHARD, vertex VERTEX, time TIME`, and what it is to do.
+fn print_task(rt: &impl Print, task: &Task) -> Result<(), StepError> {
+    let number = task.number();
+    let shard = task.shard();
+    let vertex = task.vertex();
+    print!(rt; "task {number}: shard {shard}, vertex {vertex}, time ")?;
+    print_time(rt, task.time())?;
+    match task.work() {
+        Work::Messages(port, recs) => {
+            print!(rt; ", port {port}:")?;
+            print_recs(rt, recs.as_slice())?;
+        }
+        Work::Notification(items) => print_keys(rt, items)?,
+    }
+    Ok(println!(rt; "")?)
+}
+
+/// `1`, `1<0>` or `1<0,1>`: an epoch, and the counters, the outermost loop's first.
+fn print_time(rt: &impl Print, time: &Time) -> Result<(), StepError> {
+    let epoch = time.epoch();
+    print!(rt; "{epoch}")?;
+    let Some((first, inner)) = time.turns().split_first() else {
+        return Ok(());
+    };
+    print!(rt; "<{first}")?;
+    for counter in inner {
+        print!(rt; ",{counter}")?;
+    }
+    Ok(print!(rt; ">")?)
+}
+
+/// ` (KEY VAL)` for each.
+fn print_recs(rt: &impl Print, recs: &[Rec]) -> Result<(), StepError> {
+    for rec in recs {
+        print!(rt; " ({} {})", rec.key, rec.val)?;
+    }
+    Ok(())
+}
+
+fn print_keys(rt: &impl Print, items: &KeyedItems) -> Result<(), StepError> {
+    for index in 0..items.len() {
+        print_key(rt, items.at(index))?;
+    }
+    Ok(())
+}
+
+/// `, key KEY:`, and ` (PORT VAL)` for each of its items.
+fn print_key(rt: &impl Print, at: KeyAt<'_>) -> Result<(), StepError> {
+    print!(rt; ", key {}:", at.key)?;
+    for item in at.items {
+        print!(rt; " ({} {})", item.port, item.val)?;
+    }
+    Ok(())
+}
+
+/// What the task that was run sends, which stands last; or `none`.
+pub(crate) fn print_run(
+    rt: &impl Print,
+    run: Result<bool, TaskError>,
+    hands: &Hands,
+) -> Result<(), StepError> {
+    match run {
+        Ok(run) => print_last_done(rt, run, hands),
+        Err(TaskError::Memory) => Err(StepError::Memory),
+        Err(error) => Ok(println!(rt; "refused: {error}")?),
+    }
+}
+
+fn print_last_done(rt: &impl Print, run: bool, hands: &Hands) -> Result<(), StepError> {
+    match hands.dones.back() {
+        Some(done) if run => print_done(rt, done),
+        _ => Ok(println!(rt; "none")?),
+    }
+}
+
+fn print_done(rt: &impl Print, done: &Done<Stock>) -> Result<(), StepError> {
+    print!(rt; "sends")?;
+    print_recs(rt, done.sent())?;
+    Ok(println!(rt; "")?)
+}
+
+/// `given`, or `none` where none was run.
+pub(crate) fn print_given(
+    rt: &impl Print,
+    given: Result<bool, HallError>,
+) -> Result<(), StepError> {
+    match given {
+        Ok(given) => {
+            let answer = if given { "given" } else { "none" };
+            Ok(println!(rt; "{answer}")?)
+        }
+        Err(error) => print_refusal(rt, error),
+    }
+}
+
+/// The outputs of each epoch; or `none`.
+pub(crate) fn print_epochs(rt: &impl Print, epochs: &[EpochOut]) -> Result<(), StepError> {
+    if epochs.is_empty() {
+        println!(rt; "none")?;
+    }
+    for epoch in epochs {
+        print_epoch(rt, epoch)?;
+    }
+    Ok(())
+}
+
+/// `epoch EPOCH:` and ` (VERTEX KEY VAL)` for each record.
+pub(crate) fn print_epoch(rt: &impl Print, out: &EpochOut) -> Result<(), StepError> {
+    print!(rt; "epoch {}:", out.epoch)?;
+    for told in out.recs.list() {
+        print!(rt; " ({} {} {})", told.vertex, told.rec.key, told.rec.val)?;
+    }
+    Ok(println!(rt; "")?)
+}
+
+/// `cut EPOCH:`, and the states.
+pub(crate) fn print_cut(rt: &impl Print, made: Result<Cut, HallError>) -> Result<(), StepError> {
+    match made {
+        Ok(cut) => {
+            print!(rt; "cut {}:", cut.epoch)?;
+            print_states(rt, &cut.states)
+        }
+        Err(error) => print_refusal(rt, error),
+    }
+}
+
+/// ` (VERTEX KEY A B)` for each, and the end of the line.
+pub(crate) fn print_states(rt: &impl Print, states: &States) -> Result<(), StepError> {
+    for ((vertex, key), state) in states.list() {
+        print!(rt; " ({vertex} {key} {} {})", state.a, state.b)?;
+    }
+    Ok(println!(rt; "")?)
+}
+
+/// `unpassed EPOCH`, or `none`.
+pub(crate) fn print_unpassed(rt: &impl Print, epoch: Option<u64>) -> Result<(), StepError> {
+    match epoch {
+        Some(epoch) => Ok(println!(rt; "unpassed {epoch}")?),
+        None => Ok(println!(rt; "none")?),
+    }
+}
+
+/// `shards N, batches N, collected EPOCH, given N, open, base EPOCH:`, and the states of the base.
+pub(crate) fn print_hall(rt: &impl Print, hall: &Hall<Stock>) -> Result<(), StepError> {
+    let (base, states) = hall.base();
+    let closed = if hall.is_closed() { "closed" } else { "open" };
+    print!(rt;
+        "shards {}, batches {}, ",
+        hall.workers(),
+        hall.inputs().len()
+    )?;
+    print!(rt;
+        "collected {}, given {}, {closed}, base {base}:",
+        hall.collected(),
+        hall.given()
+    )?;
+    print_states(rt, states)
+}

@@ -1,0 +1,194 @@
+//! What commands are done on.
+use crate::catalogue::Catalogue;
+use crate::command::Command;
+use crate::error::StepError;
+use crate::hall_command::HallCall;
+use crate::hands::Hands;
+use crate::keeper_command::KeeperCall;
+use crate::keeper_lines::{print_next_out, print_number, print_submitted, print_written};
+use crate::lines::{
+    print_cut, print_epochs, print_given, print_hall, print_refusal, print_run, print_taken,
+    print_unpassed,
+};
+use crate::release::{batch_of, release};
+use crate::store::{Store, print_fault};
+use crate::watch::{attach, detach, read};
+use std::alloc::Global;
+use std::{io, mem};
+use td_calls::{Closures, Stock};
+use td_console::StdWriter;
+use td_core::Hall;
+use td_core::laws::each_is_sound;
+use td_plan::Plan;
+use td_stamp::States;
+use td_watch::Reader;
+
+/// Epochs are numbered up to this.
+const LAST: u64 = (1 << 63) - 1;
+
+/// Two halls of a plan, the states with which the next begins, the tasks that are out, and a disk.
+#[derive(Drop)]
+pub(crate) struct Stage {
+    alloc: Global,
+    plan: Plan,
+    calls: Catalogue,
+    states: States,
+    hall: Option<Hall<Stock>>,
+    other: Option<Hall<Stock>>,
+    hands: Hands,
+    store: Store,
+    reader: Option<Reader>,
+}
+
+impl Stage {
+    /// No halls yet, with no states, and no disk.
+    pub(crate) fn new(alloc: Global, plan: Plan) -> Stage {
+        Stage {
+            alloc,
+            plan,
+            calls: Catalogue { is_there: true },
+            states: States::new(alloc),
+            hall: None,
+            other: None,
+            hands: Hands::new(alloc),
+            store: Store::Empty,
+            reader: None,
+        }
+    }
+
+    /// Does a command, and prints its answer. After `Memory` the command may be done again.
+    pub(crate) fn step(&mut self, rt: &impl Print, command: Command<'_>) -> Result<(), StepError> {
+        match command {
+            Command::State(vertex, key, state) => Ok(self.states.set(vertex, key, state)?),
+            Command::Open(workers, first) => {
+                let states = self.states.copy()?;
+                self.open(workers, first, states)
+            }
+            Command::Other => Ok(mem::swap(&mut self.hall, &mut self.other)),
+            Command::Closures(is_there) => {
+                self.calls = Catalogue { is_there };
+                Ok(())
+            }
+            Command::Disk(call) => self.store.call(rt, self.alloc, &self.plan, call),
+            Command::Keeper(call) => self.keeper_call(rt, call),
+            Command::Feed(workers, input) => self.feed(rt, workers, input),
+            Command::Hall(call) => self.hall_call(rt, call),
+        }
+    }
+
+    /// Opens another hall.
+    fn open(&mut self, workers: u8, first: u64, states: States) -> Result<(), StepError> {
+        if !(1..=16).contains(&workers) || !(1..=LAST).contains(&first) {
+            return Err(StepError::Syntax);
+        }
+        let hall = Hall::open(self.alloc, &self.plan, states, first, workers)?;
+        self.other = mem::replace(&mut self.hall, Some(hall));
+        Ok(())
+    }
+
+    /// A call of the keeper.
+    fn keeper_call(&mut self, rt: &impl Print, call: KeeperCall<'_>) -> Result<(), StepError> {
+        let Store::Kept(keeper) = &mut self.store else {
+            return Err(StepError::NoKeeper);
+        };
+        match call {
+            KeeperCall::Opening(workers) => {
+                let (epoch, states, _batches) = keeper.opening()?;
+                self.open(workers, epoch.saturating_add(1), states)
+            }
+            KeeperCall::Submit(entries) => {
+                print_submitted(rt, keeper.submit(batch_of(self.alloc, entries)?))
+            }
+            KeeperCall::Release => {
+                print_number(rt, "released", keeper.release(hall_of(&mut self.hall)?))
+            }
+            KeeperCall::Collect => {
+                print_number(rt, "collected", keeper.collect(hall_of(&mut self.hall)?))
+            }
+            KeeperCall::NextOut => print_next_out(rt, keeper.next_out()),
+            KeeperCall::Cut => print_number(rt, "cut", keeper.cut(hall_of(&mut self.hall)?)),
+            KeeperCall::WriteCut => print_written(rt, keeper.write_cut()),
+            KeeperCall::Attach => {
+                self.reader = attach(rt, self.alloc, keeper)?;
+                Ok(())
+            }
+            KeeperCall::Read => read(rt, &mut self.reader),
+            KeeperCall::Detach => detach(rt, keeper),
+        }
+    }
+
+    /// Feeds the disk. After `Memory` it is not done again: some of it may be done.
+    fn feed(&mut self, rt: &impl Print, workers: u8, input: &str) -> Result<(), StepError> {
+        if !(1..=16).contains(&workers) {
+            return Err(StepError::Syntax);
+        }
+        let (device, ended) = td_feed::feed::<_, _, _, Stock, Catalogue>(
+            self.alloc,
+            self.store.take()?,
+            &self.plan,
+            workers,
+            &mut input.as_bytes(),
+            &mut StdWriter(io::writer(rt)),
+            &self.calls,
+        );
+        self.store = Store::Disk(device);
+        print_fault(rt, ended)
+    }
+
+    /// A call of the hall.
+    fn hall_call(&mut self, rt: &impl Print, call: HallCall<'_>) -> Result<(), StepError> {
+        let hall = hall_of(&mut self.hall)?;
+        let hands = &mut self.hands;
+        match call {
+            HallCall::Release(entries) => release(rt, self.alloc, hall, entries),
+            HallCall::Take(shard, pick) => print_taken(rt, hands.take(hall, shard, pick), hands),
+            HallCall::Run => print_run(rt, hands.run(&self.calls), hands),
+            HallCall::Give(end) => print_given(rt, hands.give(hall, end)),
+            HallCall::Rounds => {
+                hands.rounds(hall, &self.calls)?;
+                Ok(println!(rt; "nothing left")?)
+            }
+            HallCall::Drain => drain(rt, hall, &self.calls),
+            HallCall::Collect => print_epochs(rt, hall.collect()?.as_slice()),
+            HallCall::Cut => print_cut(rt, hall.cut()),
+            HallCall::CutAt(epoch) => cut_at(rt, hall, epoch),
+            HallCall::Close => Ok(hall.close()),
+            HallCall::Unpassed => print_unpassed(rt, hall.unpassed()),
+            HallCall::Tell => print_hall(rt, hall),
+        }
+    }
+}
+
+/// The hall that was opened last.
+fn hall_of(hall: &mut Option<Hall<Stock>>) -> Result<&mut Hall<Stock>, StepError> {
+    match hall {
+        Some(hall) => Ok(hall),
+        None => Err(StepError::NoHall),
+    }
+}
+
+/// Drains a hall, if there are closures for its plan.
+fn drain(rt: &impl Print, hall: &mut Hall<Stock>, calls: &Catalogue) -> Result<(), StepError> {
+    if let Err(error) = calls.fits(hall.plan()) {
+        return Ok(println!(rt; "refused: {error}")?);
+    }
+    match hall.drain::<Catalogue>(calls) {
+        Ok(drained) => {
+            Ok(println!(rt;
+                "drained {} messages, {} notes",
+                drained.messages, drained.notes
+            )?)
+        }
+        Err(error) => print_refusal(rt, error),
+    }
+}
+
+/// Cuts at an epoch, if it is one after which a hall may be cut.
+fn cut_at(rt: &impl Print, hall: &mut Hall<Stock>, epoch: u64) -> Result<(), StepError> {
+    each_is_sound(hall);
+    let base = hall.base().0;
+    if epoch < base || epoch - base > hall.inputs().len() as u64 {
+        return Ok(println!(rt; "refused: no epoch of the hall")?);
+    }
+    print_cut(rt, hall.cut_at(epoch))
+}

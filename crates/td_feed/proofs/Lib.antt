@@ -1,0 +1,6 @@
+pub mod Carrying
+pub mod Released
+pub mod Accepted
+pub mod Printable
+pub mod Narrowed
+pub mod Refused

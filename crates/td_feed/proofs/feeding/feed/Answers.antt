@@ -1,0 +1,82 @@
+use Rattle.std.proofs.Common.{◌≡◌, ◌≤◌, List, ◌++◌, sym, ap, ◌∙◌, subst}
+use Rattle.std.specs.Prelude.{IfSome}
+use Rattle.std.proofs.lemmas.Option.{IfSome_then}
+use Rattle.std.proofs.lemmas.Result.{on_ok_weaker}
+use Rattle.td_plan.specs.Lines.{Line}
+use Rattle.td_gate.specs.CrashSafe.{CrashSafe, Unchanged}
+use Rattle.td_journal.specs.declared.submitted.Submitted.{Submitted}
+use Rattle.td_standing.specs.Stops.{Stands}
+use Rattle.td_standing.specs.Advanced.{states_by}
+use Rattle.td_feed.specs.Orders.{orders_of, submitted_by}
+use Rattle.td_feed.specs.Fed.{EachTellsHistory, EachTellsSome}
+use Rattle.td_feed.specs.Carried.{StandsFor, Carries, Leaves}
+use Rattle.td_feed.proofs.Carrying.{either_way, in_some, leaves_all, ended_some, ended_all, none_more, still_each, found}
+use Rattle.td_feed.proofs.feeding.feed.Goals as goal
+
+pub returns-in-Err-clause-safe : goal.returns-in-Err-clause-safe
+returns-in-Err-clause-safe g c =
+    in_some (g.R.Source.remaining c.args.reader.now) (λ input lawful history told.
+    none_more g.L.Law.answers c.args.plan.now history (submitted_by (orders_of c.args.plan.now input)) (g.D.Disk.state c.args.disk) told)
+
+pub returns-in-Err-recover-clause-safe : goal.returns-in-Err-recover-clause-safe
+returns-in-Err-recover-clause-safe g c =
+    in_some (g.R.Source.remaining c.args.reader.now) (λ input lawful history told.
+    let state = g.D.Disk.state in
+    let answers = g.L.Law.answers in
+    let old = c.args.disk in
+    let new = c.in-Err-recover.disk in
+    let plan = c.args.plan.now in
+    let safe : CrashSafe Unchanged (state old) (state new) = c.in-Err-recover.ensures.crash_safe_back lawful in
+    none_more answers plan history (submitted_by (orders_of plan input)) (state new)
+    (still_each answers plan history (state old) (state new) safe
+    (λ i image. g.met.D.Disk.counts_now new (state old).moment i (c.in-Err-recover.ensures.lawful_back.0 lawful) safe.later image) told))
+
+pub returns-clause-fed : goal.returns-clause-fed
+returns-clause-fed g c =
+    on_ok_weaker c.obey-ended.result
+    (λ known. IfSome_then (g.R.Source.remaining c.args.reader.now) known (λ input carries lawful history told.
+    let state = g.D.Disk.state in
+    let answers = g.L.Law.answers in
+    let old = c.args.disk in
+    let keeper = c.in-Ok.keeper in
+    let new = c.obey-ended.new.keeper in
+    let plan = c.args.plan.now in
+    let now = c.in-Ok.ensures.lawful.0 lawful in
+    let safe : CrashSafe Unchanged (state old) (state keeper.device) = c.in-Ok.ensures.crash_safe lawful in
+    let stands : Stands (states_by answers plan) keeper.standing history =
+    found answers plan history (state old) (state keeper.device) safe
+    (λ i image. g.met.D.Disk.counts_now keeper.device (state old).moment i now safe.later image) told
+    c.told_in_parts.ensures.one_answer (g.met.D.Disk.reads_image keeper.device now) keeper.standing (c.in-Ok.ensures.told lawful) in
+    let by_keeper : StandsFor answers keeper history = subst (λ (p : List Line). Stands (states_by answers p) keeper.standing history) (sym c.in-Ok.ensures.plan) stands in
+    let more : List Submitted = submitted_by (orders_of plan input) in
+    let ended : EachTellsHistory answers keeper.plan (history ++ more) (state new.device) =
+    ended_all g.D.Disk.is_lawful state answers c.told_in_parts.ensures.together keeper new history more by_keeper carries c.into_disk.ensures.held (c.obey-ended.ensures.lawful.0 now) in
+    subst (λ (d : g.row.D.Denot). EachTellsHistory answers plan (history ++ more) (state d)) (sym c.into_disk.ensures.disk)
+    (subst (λ (p : List Line). EachTellsHistory answers p (history ++ more) (state new.device)) c.in-Ok.ensures.plan ended)))
+    c.obey-ended.ensures.fed
+
+pub returns-clause-safe : goal.returns-clause-safe
+returns-clause-safe g c =
+    let answers = g.L.Law.answers in
+    let plan = c.args.plan.now in
+    let keeper = c.in-Ok.keeper in
+    let new = c.obey-ended.new.keeper in
+    let state = g.D.Disk.state in
+    IfSome_then (g.R.Source.remaining c.args.reader.now)
+    (either_way c.obey-ended.result (g.R.Source.remaining c.args.reader.now)
+    (λ input carries. leaves_all g.D.Disk.is_lawful state answers keeper new (submitted_by (orders_of plan input)) carries)
+    c.obey-ended.ensures.fed c.obey-ended.ensures.left)
+    (λ input leaves lawful history told.
+    let old = c.args.disk in
+    let now = c.in-Ok.ensures.lawful.0 lawful in
+    let safe : CrashSafe Unchanged (state old) (state keeper.device) = c.in-Ok.ensures.crash_safe lawful in
+    let stands : Stands (states_by answers plan) keeper.standing history =
+    found answers plan history (state old) (state keeper.device) safe
+    (λ i image. g.met.D.Disk.counts_now keeper.device (state old).moment i now safe.later image) told
+    c.told_in_parts.ensures.one_answer (g.met.D.Disk.reads_image keeper.device now) keeper.standing (c.in-Ok.ensures.told lawful) in
+    let by_keeper : StandsFor answers keeper history = subst (λ (p : List Line). Stands (states_by answers p) keeper.standing history) (sym c.in-Ok.ensures.plan) stands in
+    let more : List Submitted = submitted_by (orders_of plan input) in
+    let ended : EachTellsSome answers keeper.plan history more (state new.device) =
+    ended_some g.D.Disk.is_lawful state answers c.told_in_parts.ensures.together keeper new history more by_keeper leaves c.into_disk.ensures.held (c.obey-ended.ensures.lawful.0 now) in
+    subst (λ (d : g.row.D.Denot). EachTellsSome answers plan history more (state d)) (sym c.into_disk.ensures.disk)
+    (subst (λ (p : List Line). EachTellsSome answers p history more (state new.device)) c.in-Ok.ensures.plan ended))

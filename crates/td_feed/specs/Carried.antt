@@ -1,0 +1,35 @@
+-- What the calls of a feed leave of a keeper, seen from the keeper before them.
+use Rattle.std.specs.Prelude.{◌≡◌, ◌⊎◌, ℕ, suc, ◌≤◌, false, List, ◌++◌, length, take}
+use Rattle.td_plan.specs.Lines.{Line}
+use Rattle.td_calls.specs.Answers.{Answers}
+use Rattle.td_disk.specs.Disk.{DiskState}
+use Rattle.td_journal.specs.declared.submitted.Submitted.{Submitted}
+use Rattle.td_standing.specs.Stops.{Stands}
+use Rattle.td_standing.specs.Advanced.{states_by}
+use Rattle.td_keeper.specs.Keeping.{Keeping}
+use Rattle.td_feed.specs.Fed.{TellsHistory}
+
+-- a keeper's standing stands for a history
+abbrev pub StandsFor : {D : Type 0} → Answers → Keeping D → List Submitted → Type 0
+StandsFor answers k history = Stands (states_by answers k.plan) k.standing history
+
+-- THE KEEPER GOES ON with these batches: the device did not fail, and what stood for a history stands for it and them
+pub record Carries {D : Type 0} (answers : Answers) (old new : Keeping D) (x : List Submitted) : Type 0 where
+  pub plan : new.plan ≡ old.plan
+  pub whole : new.broken ≡ false
+  pub stands : (history : List Submitted) → StandsFor answers old history → StandsFor answers new (history ++ x)
+
+-- an image tells a history with the first n of more batches, or with one more of them
+abbrev pub TellsSome : Answers → List Line → List Submitted → List Submitted → ℕ → List ℕ → Type 0
+TellsSome answers plan history more n image = TellsHistory answers plan (history ++ take n more) image ⊎ ((suc n ≤ length more) × TellsHistory answers plan (history ++ take (suc n) more) image)
+
+-- THE DEVICE FAILED, with the first n of more batches submitted, while one more perhaps was: each image tells so many
+abbrev pub Stopped : {D : Type 0} → (D → Type 0) → (D → DiskState) → Answers → Keeping D → Keeping D → List Submitted → ℕ → Type 0
+Stopped is_lawful state answers old new more n = (history : List Submitted) → StandsFor answers old history
+    → is_lawful new.device → (c : List ℕ) → (state new.device).images c → TellsSome answers old.plan history more n c
+
+-- WHAT A REFUSAL LEAVES, where more batches were to be submitted: some of them were
+pub record Leaves {D : Type 0} (is_lawful : D → Type 0) (state : D → DiskState) (answers : Answers) (old new : Keeping D) (more : List Submitted) : Type 0 where
+  pub count : ℕ
+  pub few : count ≤ length more
+  pub left : Carries answers old new (take count more) ⊎ Stopped is_lawful state answers old new more count

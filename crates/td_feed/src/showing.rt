@@ -1,0 +1,151 @@
+//! What a disk tells, in lines.
+ghost use Rattle.std.specs.Prelude.{◌≡◌, ◌≢◌, ◌⊎◌, ◌↔◌, ◌++◌, ◌+◌, ◌<◌, ◌^◌, ℕ, Ok, length, string_bytes, IfOk, IfErr, OnOk};
+ghost use Rattle.td_disk.specs.Disk.{IsDurable, Rises};
+ghost use Rattle.td_gate.specs.CrashSafe.{CrashSafe, Unchanged};
+ghost use Rattle.td_journal.specs.Numbers.{greatest};
+ghost use Rattle.td_standing.specs.Standing.{Standing, standing_from};
+ghost use Rattle.td_standing.specs.Read.{standing_of, Refused};
+ghost use Rattle.td_standing.specs.Told.{Told};
+ghost use Rattle.td_standing.specs.declared.error.KeeperError.TheVariants.{Device};
+ghost use Rattle.td_feed.specs.Shown.{shown, head_lines, last_line, state_line, state_lines, epoch_line, epoch_lines, ShowsTold, IsRefusedAs};
+
+use std::alloc::Global;
+use std::fmt::Write;
+use td_console::{Fault, Sink, write_answer};
+use td_disk::Disk;
+use td_journal::Submitted;
+use td_plan::Plan;
+use td_slots::Checkpoint;
+use td_stamp::{State, States};
+use td_standing::{Recovered, laws, recover_device};
+
+/// Writes what a disk tells for a plan: `kept C`, the epoch of its checkpoint; `told T`, the last epoch on it; `last Q`, the
+/// greatest request number, where there is one; a line `state VERTEX KEY A B` for each state of the checkpoint in order; and
+/// a line `epoch E COUNT` for each epoch after it, with the number of its records. It begins with a sync, and writes nothing
+/// to the disk.
+///
+/// Refusals, with nothing written to the writer: what the disk refuses, as a keeper's; `Memory`; and the keeper's `Device`.
+/// Where the writer failed, `Output`, and some may have been written.
+pub fn show<D: Disk, W: Sink>(
+    alloc: Global,
+    disk: &mut D,
+    plan: &Plan,
+    writer: &mut W,
+) -> Result<(), Fault>
+    ensures size { D.capacity disk.new ≡ D.capacity disk.old }
+    ensures lawful { D.is_lawful disk.old ↔ D.is_lawful disk.new }
+    ensures shown { OnOk result ((s : Standing) × ShowsTold (W.contents writer.old) (W.contents writer.new) s
+        × (D.is_lawful disk.old → IsDurable (D.state disk.new) × Told plan.now (D.state disk.new).bytes (Ok s))) }
+    ensures refused { IfErr result (λ f. (f ≡ Fault.Output) ⊎ ((f ≡ Fault.Memory)
+        ⊎ (((f ≡ Fault.Keeper Device) × Rises (D.failures disk.old) (D.failures disk.new))
+        ⊎ IsRefusedAs f (λ e. D.is_lawful disk.old → IsDurable (D.state disk.new) × Told plan.now (D.state disk.new).bytes (Refused e))))) }
+    ensures room { ((n : ℕ) → W.HasRoom writer.old n) → IfErr result (λ f. f ≢ Fault.Output) }
+    ensures nothing { IfErr result (λ f. (f ≡ Fault.Output) ⊎ (writer.new ≡ writer.old)) }
+    ensures crash_safe { D.is_lawful disk.old → CrashSafe Unchanged (D.state disk.old) (D.state disk.new) }
+{
+    laws::told_in_parts();
+    let (_plan, recovered) = recover_device(alloc, disk, plan)?;
+    let text = text_of(alloc, &recovered)?;
+    write_answer(writer, text.as_str())
+}
+
+/// The lines for what was read. Refusal: `Memory`.
+fn text_of(alloc: Global, recovered: &Recovered) -> Result<String, Fault>
+    requires small { recovered.now.checkpoint.epoch + length recovered.now.submitted.items < 2 ^ 63 }
+    ensures ok { IfOk result (λ text. string_bytes text ≡ shown (standing_of recovered.now)) }
+    ensures err { IfErr result (λ f. f ≡ Fault.Memory) }
+{
+    let checkpoint = &recovered.checkpoint;
+    let submitted = recovered.submitted.as_slice();
+    let mut text = String::new(alloc);
+    print_head(&mut text, checkpoint, submitted)?;
+    print_states(&mut text, &checkpoint.states)?;
+    print_epochs(&mut text, checkpoint.epoch, submitted)?;
+    Ok(text)
+}
+
+/// Appends `kept C`, `told T`, and `last Q` where there is a request number. Refusal: `Memory`.
+fn print_head(
+    text: &mut String,
+    checkpoint: &Checkpoint,
+    submitted: &[Submitted],
+) -> Result<(), Fault>
+    requires small { checkpoint.now.epoch + length submitted.now < 2 ^ 63 }
+    ensures ok { OnOk result (string_bytes text.new ≡ string_bytes text.old ++ head_lines (standing_from checkpoint.now submitted.now)) }
+    ensures err { IfErr result (λ f. f ≡ Fault.Memory) }
+{
+    let kept = checkpoint.epoch;
+    let told = kept + submitted.len() as u64;
+    writeln!(text, "kept {kept}")?;
+    writeln!(text, "told {told}")?;
+    print_last(text, last_request(checkpoint.last, submitted))
+}
+
+/// Appends `last Q`, where there is a request number. Refusal: `Memory`.
+fn print_last(text: &mut String, last: u64) -> Result<(), Fault>
+    ensures ok { OnOk result (string_bytes text.new ≡ string_bytes text.old ++ last_line last) }
+    ensures err { IfErr result (λ f. f ≡ Fault.Memory) }
+{
+    if last > 0 {
+        writeln!(text, "last {last}")?;
+    }
+    Ok(())
+}
+
+/// The greatest of a request number and those of some epochs.
+fn last_request(last: u64, submitted: &[Submitted]) -> u64
+    ensures { result ≡ greatest last submitted.now }
+{
+    let mut greatest = last;
+    for each in submitted {
+        greatest = greatest.max(each.request);
+    }
+    greatest
+}
+
+/// Appends the lines of states. Refusal: `Memory`.
+fn print_states(text: &mut String, states: &States) -> Result<(), Fault>
+    ensures ok { OnOk result (string_bytes text.new ≡ string_bytes text.old ++ state_lines states.now) }
+    ensures err { IfErr result (λ f. f ≡ Fault.Memory) }
+{
+    for (place, state) in states.list() {
+        print_state(text, place.0, place.1, *state)?;
+    }
+    Ok(())
+}
+
+/// Appends the line of a state. Refusal: `Memory`.
+fn print_state(text: &mut String, vertex: u8, key: u64, state: State) -> Result<(), Fault>
+    ensures ok { OnOk result (string_bytes text.new ≡ string_bytes text.old ++ state_line ((vertex, key), state)) }
+    ensures err { IfErr result (λ f. f ≡ Fault.Memory) }
+{
+    let a = state.a;
+    let b = state.b;
+    write!(text, "state {vertex} {key}")?;
+    writeln!(text, " {a} {b}")?;
+    Ok(())
+}
+
+/// Appends the lines of the epochs after one. Refusal: `Memory`.
+fn print_epochs(text: &mut String, kept: u64, submitted: &[Submitted]) -> Result<(), Fault>
+    requires small { kept + length submitted.now < 2 ^ 63 }
+    ensures ok { OnOk result (string_bytes text.new ≡ string_bytes text.old ++ epoch_lines (kept + 1) submitted.now) }
+    ensures err { IfErr result (λ f. f ≡ Fault.Memory) }
+{
+    let mut epoch = kept;
+    for each in submitted {
+        epoch += 1;
+        print_epoch(text, epoch, each)?;
+    }
+    Ok(())
+}
+
+/// Appends the line of an epoch. Refusal: `Memory`.
+fn print_epoch(text: &mut String, epoch: u64, submitted: &Submitted) -> Result<(), Fault>
+    ensures ok { OnOk result (string_bytes text.new ≡ string_bytes text.old ++ epoch_line epoch submitted.now) }
+    ensures err { IfErr result (λ f. f ≡ Fault.Memory) }
+{
+    let count = submitted.batch.len();
+    writeln!(text, "epoch {epoch} {count}")?;
+    Ok(())
+}
