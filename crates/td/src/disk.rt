@@ -17,9 +17,11 @@ pub(crate) fn format_disk<R: Files<File = File> + AllocGlobal>(
     n: u32,
     k: u32,
 ) -> Result<(), Fault> {
+    let held = hold_streams(rt)?;
     let plan = plan_at(rt, plan)?;
     let shape = shape_of(m, n, k)?;
     let mut disk = FileDisk::create(rt, disk, shape.bytes())?;
+    drop(held);
     format(rt.alloc(), &mut disk, &plan, shape)
 }
 
@@ -40,17 +42,34 @@ pub(crate) fn open_disk<R: Files<File = File> + AllocGlobal>(
     disk: &str,
     plan: &str,
 ) -> Result<(FileDisk, Plan), Fault> {
+    let held = hold_streams(rt)?;
     let plan = plan_at(rt, plan)?;
     let disk = FileDisk::open(rt, disk)?;
+    drop(held);
     Ok((disk, plan))
 }
 
 /// The plan in the file at `path`.
 fn plan_at<R: Files<File = File> + AllocGlobal>(rt: &R, path: &str) -> Result<Plan, Fault> {
-    let file = match File::open(rt, path) {
-        Ok(file) => file,
-        Err(error) if error.kind() == io::ErrorKind::OutOfMemory => return Err(Fault::Memory),
-        Err(_) => return Err(Fault::File),
-    };
+    let file = open_to_read(rt, path)?;
     read_plan(rt.alloc(), &mut StdReader(file))
+}
+
+/// Takes the numbers of the standard streams that are closed for as long as the answer is held. A file that is opened gets
+/// the lowest number that is free: a disk that got that of standard output would be written over by the lines of the answer.
+fn hold_streams<R: Files<File = File>>(rt: &R) -> Result<[File; 3], Fault> {
+    Ok([
+        open_to_read(rt, "/")?,
+        open_to_read(rt, "/")?,
+        open_to_read(rt, "/")?,
+    ])
+}
+
+/// The file at `path`, to be read. Refusals: `File`, `Memory`.
+fn open_to_read<R: Files<File = File>>(rt: &R, path: &str) -> Result<File, Fault> {
+    match File::open(rt, path) {
+        Ok(file) => Ok(file),
+        Err(error) if error.kind() == io::ErrorKind::OutOfMemory => Err(Fault::Memory),
+        Err(_) => Err(Fault::File),
+    }
 }

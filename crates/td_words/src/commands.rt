@@ -21,13 +21,13 @@ const SIM: &str =
     "Does what run does, shard by shard in turn, and writes the notifications before the output records";
 
 const FORMAT: &str =
-    "Makes a disk, a file that keeps the epochs and the states of a plan, with no epochs on it";
+    "Makes a disk, a file for the epochs and the states of a plan, with none on it yet";
 
 const FEED: &str =
     "Puts epochs from standard input on a disk, and writes the output records of each epoch to standard output";
 
 const SHOW: &str =
-    "Writes what is on a disk: the states that the last cut kept, and the epochs after it";
+    "Writes what a disk has: the states that the last cut kept, and the epochs after it";
 
 /// What help says of the options and of the other arguments.
 const WORKERS: &str = "How many shards, 1 to 16";
@@ -71,14 +71,16 @@ Exit status: 0, or 1 after a fault, which is told on standard error
 Faults are explained in docs/FAULTS.md";
 
 const FEED_MORE: &str = "\
-Reads:  PLAN, DISK, and lines 'INPUT KEY VALUE', where a line '.' closes an epoch; a line 'cut' between epochs keeps the states and frees the epochs' room
-Writes: DISK; a line 'ack EPOCH' as soon as an epoch is on it; at a cut and at the end lines 'EPOCH VERTEX KEY VALUE', of all epochs after the cut before; and a line 'cut EPOCH'
+Reads:  PLAN, DISK, and lines 'INPUT KEY VALUE', where a line '.' closes an epoch, and a line 'cut' between epochs cuts
+Writes: DISK, and lines 'ack EPOCH' once an epoch is on it, 'EPOCH VERTEX KEY VALUE' at a cut and at the end, and 'cut EPOCH'
+A cut keeps the states on DISK, and frees the room of the epochs up to it
 Exit status: 0, or 1 after a fault, which is told on standard error
 Faults are explained in docs/FAULTS.md";
 
 const SHOW_MORE: &str = "\
 Reads:  PLAN and DISK
-Writes: a line 'kept EPOCH', the last cut; 'told EPOCH', the last epoch; 'state VERTEX KEY A B' for each state kept; 'epoch EPOCH RECORDS' for each epoch after the cut
+Writes: a line 'kept EPOCH', of the last cut, and 'told EPOCH', of the last epoch; 'last REQUEST' where there is one;
+        lines 'state VERTEX KEY A B', the states kept, and 'epoch EPOCH RECORDS', the epochs after the cut
 Exit status: 0, or 1 after a fault, which is told on standard error
 Faults are explained in docs/FAULTS.md";
 
