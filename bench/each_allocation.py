@@ -119,15 +119,22 @@ class Played:
         status, output, errors = answer(self.library, [], filled(text, self.length), STEPS, **refused)
         return status, output.splitlines(), errors
 
-    def lines_after(self, count):
+    def lines_after(self, count, **refused):
         """How many lines so many commands print."""
-        return len(self.run(self.plan + b"".join(self.steps[:count]))[1])
+        return len(self.run(self.plan + b"".join(self.steps[:count]), **refused)[1])
+
+    def steps_until(self, at, **refused):
+        """How many commands it takes to print the line `at`, counted from 0."""
+        low, high = 0, len(self.steps)
+        while low + 1 < high:
+            middle = (low + high) // 2
+            low, high = (low, middle) if self.lines_after(middle, **refused) > at else (middle, high)
+        return high
 
     def is_told(self, lines, number):
         """Whether a run whose disk failed, or a feed of which was refused, tells what was acknowledged until then."""
         at = next(index for index, line in enumerate(lines) if line.startswith(FAILED) or line == AGAIN)
-        count = next(count for count in range(1, len(self.steps) + 1) if self.lines_after(count) > at or count == len(self.steps))
-        done = self.steps[:count]
+        done = self.steps[:self.steps_until(at, REFUSED=str(number))]
         status, lines, errors = self.run(self.plan + b"".join(done) + b"recover\n", REFUSED=str(number))
         if (status, errors) != (0, b"") or lines[:at] != self.want[1][:at]:
             return False
