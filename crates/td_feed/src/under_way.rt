@@ -157,7 +157,7 @@ impl<L: Law> Feeding<L> {
     ) -> Result<(), Fault>
         requires fits { first_lack (C.has_map calls.now) (C.has_group calls.now) (C.has_fold calls.now) (vertices self.old.hall.plan) ≡ None }
         ensures plan { OnOk result (self.new.hall.plan ≡ self.old.hall.plan) }
-        ensures same { keeper.new ≡ record keeper.old { collected = keeper.new.collected; queue = keeper.new.queue } }
+        ensures same { keeper.new ≡ record keeper.old { collected = keeper.new.collected; queue = keeper.new.queue; watch = keeper.new.watch } }
         ensures none_left { OnOk result (keeper.new.queue ≡ []) }
     {
         self.release(keeper)?;

@@ -59,7 +59,7 @@ returns-clause-left g c =
     let end = YieldsList-end source yielded c.loop-order.order-iterator c.loop-order.yielded_by c.next.result c.next.new.self c.in-None.is c.next.ensures.steps in
     let same : yielded ≡ all = sym (map-id yielded) ∙ end.0 in
     let so_far = c.loop-order.invariant.carried in
-    let last : Carries answers there new [] = moved answers there new (record there { collected = new.collected; queue = new.queue }) c.settle.ensures.same refl refl so_far.whole in
+    let last : Carries answers there new [] = moved answers there new (record there { collected = new.collected; queue = new.queue; watch = new.watch }) c.settle.ensures.same refl refl so_far.whole in
     at_err c.settle.result
     (leaves_all g.D.Disk.is_lawful g.D.Disk.state answers old new (submissions all)
     (subst (λ (x : List Submitted). Carries answers old new x) (append-nil (submissions yielded) ∙ ap submissions same) (then_carries answers old there new (submissions yielded) [] so_far last)))

@@ -12,7 +12,7 @@ returns-in_err-epoch-clause-left g c =
     let old = c.args.keeper.now in
     let settled = c.settle.new.keeper in
     let new = c.cut.new.self in
-    let first : Carries answers old settled [] = moved answers old settled (record old { collected = settled.collected; queue = settled.queue }) c.in_ok-settle.ensures.same refl refl c.requires.whole in
+    let first : Carries answers old settled [] = moved answers old settled (record old { collected = settled.collected; queue = settled.queue; watch = settled.watch }) c.in_ok-settle.ensures.same refl refl c.requires.whole in
     let whole = first.whole in
     let second : Carries answers settled new [] =
     ⊎_elim
@@ -31,7 +31,7 @@ returns-in_err-write_cut-clause-left g c =
     let settled = c.settle.new.keeper in
     let cut = c.cut.new.self in
     let new = c.write_cut.new.keeper in
-    let first : Carries answers old settled [] = moved answers old settled (record old { collected = settled.collected; queue = settled.queue }) c.in_ok-settle.ensures.same refl refl c.requires.whole in
+    let first : Carries answers old settled [] = moved answers old settled (record old { collected = settled.collected; queue = settled.queue; watch = settled.watch }) c.in_ok-settle.ensures.same refl refl c.requires.whole in
     let second : Carries answers settled cut [] = moved answers settled cut (with_cut (with_collected settled c.settle.new.self.hall) c.cut.new.hall) c.in_ok-epoch.ensures.cut.2 refl refl first.whole in
     at_err c.from_residual-in_err-write_cut.result
     (then_leaves g.D.Disk.is_lawful g.D.Disk.state answers old cut new [] [] [] [] refl (then_carries answers old settled cut [] [] first second) c.in_err-write_cut.ensures.left)
@@ -43,7 +43,7 @@ returns-in_err-line-clause-left g c =
     let settled = c.settle.new.keeper in
     let cut = c.cut.new.self in
     let new = c.write_cut.new.keeper in
-    let first : Carries answers old settled [] = moved answers old settled (record old { collected = settled.collected; queue = settled.queue }) c.in_ok-settle.ensures.same refl refl c.requires.whole in
+    let first : Carries answers old settled [] = moved answers old settled (record old { collected = settled.collected; queue = settled.queue; watch = settled.watch }) c.in_ok-settle.ensures.same refl refl c.requires.whole in
     let second : Carries answers settled cut [] = moved answers settled cut (with_cut (with_collected settled c.settle.new.self.hall) c.cut.new.hall) c.in_ok-epoch.ensures.cut.2 refl refl first.whole in
     at_err c.from_residual-in_err-line.result
     (leaves_none g.D.Disk.is_lawful g.D.Disk.state answers old new [] (then_carries answers old cut new [] [] (then_carries answers old settled cut [] [] first second) c.in_ok-write_cut.ensures.carried))
@@ -55,7 +55,7 @@ returns-clause-left g c =
     let settled = c.settle.new.keeper in
     let cut = c.cut.new.self in
     let new = c.write_cut.new.keeper in
-    let first : Carries answers old settled [] = moved answers old settled (record old { collected = settled.collected; queue = settled.queue }) c.in_ok-settle.ensures.same refl refl c.requires.whole in
+    let first : Carries answers old settled [] = moved answers old settled (record old { collected = settled.collected; queue = settled.queue; watch = settled.watch }) c.in_ok-settle.ensures.same refl refl c.requires.whole in
     let second : Carries answers settled cut [] = moved answers settled cut (with_cut (with_collected settled c.settle.new.self.hall) c.cut.new.hall) c.in_ok-epoch.ensures.cut.2 refl refl first.whole in
     at_err c.write_answer.result
     (leaves_none g.D.Disk.is_lawful g.D.Disk.state answers old new [] (then_carries answers old cut new [] [] (then_carries answers old settled cut [] [] first second) c.in_ok-write_cut.ensures.carried))
