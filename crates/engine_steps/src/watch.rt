@@ -1,8 +1,8 @@
 //! A watch beside a keeper.
 use crate::error::StepError;
 use std::alloc::Global;
-use td_disk::Disk;
 use td_calls::Law;
+use td_disk::Disk;
 use td_keeper::Keeper;
 use td_watch::{Reader, Watch};
 
@@ -37,6 +37,10 @@ pub(crate) fn detach<D: Disk, L: Law>(
     rt: &impl Print,
     keeper: &mut Keeper<D, L>,
 ) -> Result<(), StepError> {
-    let answer = if keeper.detach().is_some() { "detached" } else { "none" };
+    let answer = if keeper.detach().is_some() {
+        "detached"
+    } else {
+        "none"
+    };
     Ok(println!(rt; "{answer}")?)
 }

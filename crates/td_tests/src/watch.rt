@@ -34,11 +34,7 @@ fn fresh(alloc: Global) -> Result<(KeeperInMemory, Hall<Stock>), Fail> {
 }
 
 /// Lets a hall come to the outputs of the epochs that it lacks.
-fn work(
-    keeper: &KeeperInMemory,
-    hall: &mut Hall<Stock>,
-    calls: &StockCalls,
-) -> Result<(), Fail> {
+fn work(keeper: &KeeperInMemory, hall: &mut Hall<Stock>, calls: &StockCalls) -> Result<(), Fail> {
     keeper.release(hall)?;
     calls.fits(hall.plan())?;
     hall.drain::<StockCalls>(calls)?;
