@@ -143,7 +143,7 @@ class Played:
         begin = max(index for index, step in enumerate(done) if step.startswith(OTHER_DISK))
         acknowledged = max([int(line[4:]) for line in lines[self.lines_after(begin):at] if line.startswith(b"ack ")], default=0)
         told = [int(line.split(b":")[0].split()[1]) for line in lines[at + 1:] if line.startswith((b"kept ", b"epoch "))]
-        return bool(told) and told[-1] >= acknowledged
+        return max(told, default=0) >= acknowledged
 
     def refuse_each(self):
         """Counts the allocations, the calls that were made again and the disks that failed; the script ends at another answer."""
