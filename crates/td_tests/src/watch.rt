@@ -1,5 +1,5 @@
 //! A watch beside a keeper, with readers in other threads.
-ghost use Rattle.std.specs.Prelude.{◌≡◌, Some, IfSome, OnOk, option_map};
+ghost use Rattle.std.specs.Prelude.{◌≡◌, Some, IfSome, option_map};
 
 use std::alloc::Global;
 use std::process::Abort;
@@ -33,30 +33,22 @@ fn fresh(alloc: Global) -> Result<(KeeperInMemory, Hall<Stock>), Fail> {
     Ok((keeper, hall))
 }
 
-/// Lets a hall come to the outputs of the epochs that it lacks.
-fn work(keeper: &KeeperInMemory, hall: &mut Hall<Stock>, calls: &StockCalls) -> Result<(), Fail> {
-    keeper.release(hall)?;
-    calls.fits(hall.plan())?;
-    hall.drain::<StockCalls>(calls)?;
-    Ok(())
-}
-
-/// Submits an epoch, and keeps it in a cut.
+/// Submits an epoch, lets a hall come to its outputs, and keeps it in a cut.
 fn keep_one(
     alloc: Global,
     keeper: &mut KeeperInMemory,
     hall: &mut Hall<Stock>,
     calls: &StockCalls,
-) -> Result<(), Fail>
-    ensures { OnOk result (option_map (λ v. v.watch) keeper.new.watch ≡ option_map (λ v. v.watch) keeper.old.watch) }
+) -> Option<()>
+    ensures { IfSome result (λ _. option_map (λ v. v.watch) keeper.new.watch ≡ option_map (λ v. v.watch) keeper.old.watch) }
 {
-    if keeper.submit(Bag::new(alloc)).is_err() {
-        return Err(Fail::from("no epoch"));
-    }
-    work(keeper, hall, calls)?;
-    keeper.cut(hall)?;
-    keeper.write_cut()?;
-    Ok(())
+    keeper.submit(Bag::new(alloc)).ok()?;
+    keeper.release(hall).ok()?;
+    calls.fits(hall.plan()).ok()?;
+    hall.drain::<StockCalls>(calls).ok()?;
+    keeper.cut(hall).ok()?;
+    keeper.write_cut().ok()?;
+    Some(())
 }
 
 /// Does so twenty times, and answers the writer that was attached, where all went well.
@@ -71,9 +63,7 @@ fn keep_twenty(
     let mut keeper = keeper;
     let mut hall = hall;
     for _ in 0..20u32 {
-        if keep_one(alloc, &mut keeper, &mut hall, calls).is_err() {
-            return None;
-        }
+        keep_one(alloc, &mut keeper, &mut hall, calls)?;
     }
     keeper.detach()
 }
