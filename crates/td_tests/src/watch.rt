@@ -54,14 +54,12 @@ fn keep_one(
 /// Does so twenty times, and answers the writer that was attached, where all went well.
 fn keep_twenty(
     alloc: Global,
-    keeper: KeeperInMemory,
-    hall: Hall<Stock>,
+    mut keeper: KeeperInMemory,
+    mut hall: Hall<Stock>,
     calls: &StockCalls,
 ) -> Option<Writer>
     ensures { IfSome result (λ w. option_map (λ v. v.watch) keeper.watch ≡ Some w.watch) }
 {
-    let mut keeper = keeper;
-    let mut hall = hall;
     for _ in 0..20u32 {
         keep_one(alloc, &mut keeper, &mut hall, calls)?;
     }
@@ -99,7 +97,7 @@ fn read_beside<R: Threads + Abort + Sync>(
     let (writer, ((first_rises, first), (second_rises, second))) = join(
         rt,
         move || -> Option<Writer>
-            ensures { IfSome result (λ w. w.watch ≡ first.watch) }
+            ensures { IfSome result (λ w. option_map (λ v. v.watch) keeper.watch ≡ Some w.watch) }
         { keep_twenty(alloc, keeper, hall, &calls) },
         move || -> ((bool, Reader), (bool, Reader))
             ensures { (result.0.1.watch ≡ first.watch) × (result.1.1.watch ≡ second.watch) }
