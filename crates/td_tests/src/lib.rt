@@ -30,5 +30,3 @@ mod slots;
 mod stamp;
 #[cfg(test)]
 mod task;
-#[cfg(test)]
-mod watch;
