@@ -12,8 +12,8 @@ use td_progress::Table;
 use td_progress::laws::in_any_order;
 
 impl<L: Law> Hall<L> {
-    /// The least released epoch after the base that has not passed, if there is one. It takes no memory, and O(log e) time for
-    /// each epoch that has passed since the base, with e epochs open.
+    /// The least released epoch after the base that has not passed, if there is one. It takes no memory, and O(log n log e)
+    /// time with n epochs since the base, e of them open.
     pub fn unpassed(&self) -> Option<u64>
         ensures { result ≡ unpassed self.now }
     {
@@ -28,7 +28,8 @@ impl<L: Law> Hall<L> {
     }
 }
 
-/// The last of the epochs after one, and before the next that is released, up to which all have passed; or that one.
+/// The last of the epochs after one, and before the next that is released, up to which all have passed; or that one. An epoch before
+/// one that has passed has passed, so it is found by halving.
 pub(crate) fn last_passed(table: &Table, after: u64, next: u64) -> u64
     requires { after < next }
     ensures after { after ≤ result }
@@ -37,11 +38,14 @@ pub(crate) fn last_passed(table: &Table, after: u64, next: u64) -> u64
     ensures unpassed { find (λ e. not (has_passed table.now.stamps e)) (numbers_from (after + 1) (next - (after + 1))) ≡ next_below (result + 1) next }
 {
     let mut last = after;
-    for epoch in after + 1..next {
-        if !table.passed(epoch) {
-            return last;
+    let mut after_it = next;
+    while last + 1 < after_it {
+        let middle = last + (after_it - last) / 2;
+        if table.passed(middle) {
+            last = middle;
+        } else {
+            after_it = middle;
         }
-        last = epoch;
     }
     last
 }
