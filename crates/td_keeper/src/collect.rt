@@ -11,9 +11,9 @@ use crate::watch::{publish, words_at};
 use std::collections::VecDeque;
 use td_batch::laws::run_joins;
 use td_calls::Law;
-use td_core::Hall;
-use td_core::laws::each_is_sound;
 use td_disk::Disk;
+use td_pool::AnyHall;
+use td_pool::laws::each_is_sound;
 use td_stamp::EpochOut;
 use td_standing::KeeperError;
 
@@ -23,16 +23,16 @@ impl<D: Disk, L: Law> Keeper<D, L> {
     /// writer that is attached publishes how far they come.
     ///
     /// Refusals, with nothing changed: `Foreign`, where the hall is none of this keeper's, and `Memory`.
-    pub fn collect(&mut self, hall: &mut Hall<L>) -> Result<u64, KeeperError>
-        ensures own { IfOk result (λ _. IsOwn self.old hall.old) }
-        ensures collected { IfOk result (λ n. (self.new ≡ with_collected self.old hall.old) × (hall.new ≡ collected_hall hall.old)
-            × (n ≡ length (outs_by (collect_step hall.old).0))) }
-        ensures meaning { IfOk result (λ n. outs_by (collect_step hall.old).0 ≡ meant_outs self.old L.answers self.old.collected (self.old.collected + n)) }
-        ensures foreign { IfErr result (λ e. e ≡ Foreign → IsOwn self.old hall.old → ⊥) }
-        ensures refused { IfErr result (λ e. (e ≡ Foreign) ⊎ ((e ≡ Memory) × IsOwn self.old hall.old)) }
-        ensures unchanged { OnErr result ((self.new ≡ self.old) × (hall.new ≡ hall.old)) }
+    pub fn collect<H: AnyHall<L>>(&mut self, hall: &mut H) -> Result<u64, KeeperError>
+        ensures own { IfOk result (λ _. IsOwn self.old (H.state hall.old)) }
+        ensures collected { IfOk result (λ n. (self.new ≡ with_collected self.old (H.state hall.old)) × (H.state hall.new ≡ collected_hall (H.state hall.old))
+            × (n ≡ length (outs_by (collect_step (H.state hall.old)).0))) }
+        ensures meaning { IfOk result (λ n. outs_by (collect_step (H.state hall.old)).0 ≡ meant_outs self.old L.answers self.old.collected (self.old.collected + n)) }
+        ensures foreign { IfErr result (λ e. e ≡ Foreign → IsOwn self.old (H.state hall.old) → ⊥) }
+        ensures refused { IfErr result (λ e. (e ≡ Foreign) ⊎ ((e ≡ Memory) × IsOwn self.old (H.state hall.old))) }
+        ensures unchanged { OnErr result ((self.new ≡ self.old) × (H.state hall.new ≡ H.state hall.old)) }
     {
-        if self.is_own(hall) {
+        if self.owns(hall) {
             self.bring_in(hall)
         } else {
             Err(KeeperError::Foreign)
@@ -41,18 +41,18 @@ impl<D: Disk, L: Law> Keeper<D, L> {
 
     /// Brings into the queue what a hall of this keeper's collects, for which room is made first, and answers how many epochs
     /// that is. Refusal: `Memory`, with nothing changed.
-    pub(crate) fn bring_in(&mut self, hall: &mut Hall<L>) -> Result<u64, KeeperError>
-        requires { IsOwn self.old hall.old }
-        ensures collected { IfOk result (λ n. (self.new ≡ with_collected self.old hall.old) × (hall.new ≡ collected_hall hall.old)
-            × (n ≡ length (outs_by (collect_step hall.old).0))) }
-        ensures meaning { IfOk result (λ n. outs_by (collect_step hall.old).0 ≡ meant_outs self.old L.answers self.old.collected (self.old.collected + n)) }
+    pub(crate) fn bring_in<H: AnyHall<L>>(&mut self, hall: &mut H) -> Result<u64, KeeperError>
+        requires { IsOwn self.old (H.state hall.old) }
+        ensures collected { IfOk result (λ n. (self.new ≡ with_collected self.old (H.state hall.old)) × (H.state hall.new ≡ collected_hall (H.state hall.old))
+            × (n ≡ length (outs_by (collect_step (H.state hall.old)).0))) }
+        ensures meaning { IfOk result (λ n. outs_by (collect_step (H.state hall.old)).0 ≡ meant_outs self.old L.answers self.old.collected (self.old.collected + n)) }
         ensures memory { IfErr result (λ e. e ≡ Memory) }
-        ensures unchanged { OnErr result ((self.new ≡ self.old) × (hall.new ≡ hall.old)) }
+        ensures unchanged { OnErr result ((self.new ≡ self.old) × (H.state hall.new ≡ H.state hall.old)) }
     {
         run_joins::<L>();
         each_is_sound(hall);
-        self.queue.reserve(hall.inputs().len())?;
-        let Ok(outs) = hall.collect() else {
+        self.queue.reserve(hall.hall().inputs().len())?;
+        let Ok(outs) = hall.collect_outputs() else {
             return Err(KeeperError::Memory);
         };
         let count = outs.len() as u64;

@@ -12,10 +12,11 @@ ghost use Rattle.td_standing.specs.declared.error.KeeperError.TheVariants.{Forei
 use crate::keeper::{Keeper, Taken};
 use td_batch::laws::run_joins;
 use td_calls::Law;
-use td_core::laws::each_is_sound;
-use td_core::{Cut, Hall};
+use td_core::Cut;
 use td_disk::Disk;
 use td_machine::laws::base_has_passed;
+use td_pool::AnyHall;
+use td_pool::laws::each_is_sound;
 use td_standing::KeeperError;
 
 impl<D: Disk, L: Law> Keeper<D, L> {
@@ -27,23 +28,23 @@ impl<D: Disk, L: Law> Keeper<D, L> {
     /// Refusals, the first that holds: `Foreign`, where the hall is none of this keeper's, with nothing changed; `NotPassed` of
     /// the first epoch after the base, where that was released and has not passed; `CutWaiting`, where an earlier cut waits to
     /// be written; and `Memory`. What was collected stays.
-    pub fn cut(&mut self, hall: &mut Hall<L>) -> Result<u64, KeeperError>
-        ensures own { IfOk result (λ _. IsOwn self.old hall.old × (cut_refusal self.old hall.old ≡ None)) }
-        ensures cut { IfOk result (λ epoch. (epoch ≡ last_passed hall.old) × (hall.new ≡ cut_hall (collected_hall hall.old))
-            × (self.new ≡ with_cut (with_collected self.old hall.old) hall.new)) }
+    pub fn cut<H: AnyHall<L>>(&mut self, hall: &mut H) -> Result<u64, KeeperError>
+        ensures own { IfOk result (λ _. IsOwn self.old (H.state hall.old) × (cut_refusal self.old (H.state hall.old) ≡ None)) }
+        ensures cut { IfOk result (λ epoch. (epoch ≡ last_passed (H.state hall.old)) × (H.state hall.new ≡ cut_hall (collected_hall (H.state hall.old)))
+            × (self.new ≡ with_cut (with_collected self.old (H.state hall.old)) (H.state hall.new))) }
         ensures meaning { IfOk result (λ epoch. self.new.base_states ≡ states_after L.answers (tree_of self.old.plan) self.old.standing.states (batches_of self.old.standing.submitted) (epoch - self.old.standing.epoch)) }
-        ensures foreign { IfErr result (λ e. e ≡ Foreign → (IsOwn self.old hall.old → ⊥) × (self.new ≡ self.old) × (hall.new ≡ hall.old)) }
+        ensures foreign { IfErr result (λ e. e ≡ Foreign → (IsOwn self.old (H.state hall.old) → ⊥) × (self.new ≡ self.old) × (H.state hall.new ≡ H.state hall.old)) }
         ensures refused { IfErr result (λ e. (e ≡ Foreign)
-            ⊎ (IsOwn self.old hall.old × ((cut_refusal self.old hall.old ≡ Some e) ⊎ (e ≡ Memory)))) }
-        ensures collected { IfErr result (λ e. ((e ≡ Foreign) ⊎ (e ≡ Memory) × (self.new ≡ self.old) × (hall.new ≡ hall.old))
-            ⊎ ((self.new ≡ with_collected self.old hall.old) × (hall.new ≡ collected_hall hall.old))) }
+            ⊎ (IsOwn self.old (H.state hall.old) × ((cut_refusal self.old (H.state hall.old) ≡ Some e) ⊎ (e ≡ Memory)))) }
+        ensures collected { IfErr result (λ e. ((e ≡ Foreign) ⊎ (e ≡ Memory) × (self.new ≡ self.old) × (H.state hall.new ≡ H.state hall.old))
+            ⊎ ((self.new ≡ with_collected self.old (H.state hall.old)) × (H.state hall.new ≡ collected_hall (H.state hall.old)))) }
 
         // What is brought into the queue before is the batch meaning's.
-        ensures outs { IsOwn self.old hall.old → outs_by (collect_step hall.old).0 ≡ meant_outs self.old L.answers self.old.collected (collect_step hall.old).1.collected }
+        ensures outs { IsOwn self.old (H.state hall.old) → outs_by (collect_step (H.state hall.old)).0 ≡ meant_outs self.old L.answers self.old.collected (collect_step (H.state hall.old)).1.collected }
     {
         run_joins::<L>();
         base_has_passed::<L>();
-        if !self.is_own(hall) {
+        if !self.owns(hall) {
             return Err(KeeperError::Foreign);
         }
         self.collects_what_is_meant(hall);
@@ -53,7 +54,7 @@ impl<D: Disk, L: Law> Keeper<D, L> {
             Ok(last) => last,
             Err(refusal) => return Err(refusal),
         };
-        let Ok(Cut { epoch, states }) = hall.cut_at(last) else {
+        let Ok(Cut { epoch, states }) = hall.cut_at_epoch(last) else {
             return Err(KeeperError::Memory);
         };
         self.taken = Some(Taken {
@@ -65,10 +66,10 @@ impl<D: Disk, L: Law> Keeper<D, L> {
     }
 
     /// What a hall of this keeper's collects is the batch meaning's, and goes as far as all has passed.
-    fn collects_what_is_meant(&self, hall: &Hall<L>)
-        requires { IsOwn self.now hall.now }
-        ensures outs { outs_by (collect_step hall.now).0 ≡ meant_outs self.now L.answers self.now.collected (collect_step hall.now).1.collected }
-        ensures far { last_passed hall.now ≤ (collect_step hall.now).1.collected }
+    fn collects_what_is_meant<H: AnyHall<L>>(&self, hall: &H)
+        requires { IsOwn self.now (H.state hall.now) }
+        ensures outs { outs_by (collect_step (H.state hall.now)).0 ≡ meant_outs self.now L.answers self.now.collected (collect_step (H.state hall.now)).1.collected }
+        ensures far { last_passed (H.state hall.now) ≤ (collect_step (H.state hall.now)).1.collected }
     {
         run_joins::<L>();
         base_has_passed::<L>();
@@ -77,11 +78,11 @@ impl<D: Disk, L: Law> Keeper<D, L> {
     }
 
     /// At which epoch a hall of this keeper's is to be cut. Refusals: `NotPassed`, then `CutWaiting`.
-    fn place_of_cut(&self, hall: &Hall<L>) -> Result<u64, KeeperError>
-        requires { IsOwn self.now hall.now }
-        ensures accepted { IfOk result (λ _. cut_refusal self.now hall.now ≡ None) }
-        ensures epoch { IfOk result (λ epoch. epoch ≡ last_passed hall.now) }
-        ensures refused { IfErr result (λ e. cut_refusal self.now hall.now ≡ Some e) }
+    fn place_of_cut<H: AnyHall<L>>(&self, hall: &H) -> Result<u64, KeeperError>
+        requires { IsOwn self.now (H.state hall.now) }
+        ensures accepted { IfOk result (λ _. cut_refusal self.now (H.state hall.now) ≡ None) }
+        ensures epoch { IfOk result (λ epoch. epoch ≡ last_passed (H.state hall.now)) }
+        ensures refused { IfErr result (λ e. cut_refusal self.now (H.state hall.now) ≡ Some e) }
     {
         each_is_sound(hall);
         let waits = match &self.taken {
@@ -89,10 +90,10 @@ impl<D: Disk, L: Law> Keeper<D, L> {
             None => false,
         };
         let base = self.base().0;
-        let last = match hall.unpassed() {
+        let last = match hall.hall().unpassed() {
             Some(epoch) if epoch <= base + 1 => return Err(KeeperError::NotPassed(epoch)),
             Some(epoch) => epoch - 1,
-            None => base + hall.inputs().len() as u64,
+            None => base + hall.hall().inputs().len() as u64,
         };
         if waits {
             Err(KeeperError::CutWaiting)

@@ -10,12 +10,20 @@ use td_calls::Law;
 use td_core::Hall;
 use td_disk::Disk;
 use td_journal::Submitted;
+use td_pool::AnyHall;
 use td_stamp::{Batch, States};
 
 impl<D: Disk, L: Law> Keeper<D, L> {
+    /// Whether what is lent is one of this keeper's halls.
+    pub(crate) fn owns<H: AnyHall<L>>(&self, hall: &H) -> bool
+        ensures { IsTrue result ↔ IsOwn self.now (H.state hall.now) }
+    {
+        self.is_own(hall.hall())
+    }
+
     /// Whether a hall is one of this keeper's: its plan, its base and the last epoch that was collected are the keeper's, and its
     /// batches are a beginning of the keeper's since that base. It takes no memory.
-    pub(crate) fn is_own(&self, hall: &Hall<L>) -> bool
+    fn is_own(&self, hall: &Hall<L>) -> bool
         ensures { IsTrue result ↔ IsOwn self.now hall.now }
     {
         let (epoch, states) = self.base();

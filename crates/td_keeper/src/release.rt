@@ -10,12 +10,12 @@ ghost use Rattle.td_standing.specs.declared.error.KeeperError.TheVariants.{Forei
 use crate::keeper::Keeper;
 use std::collections::VecDeque;
 use td_calls::Law;
-use td_core::Hall;
-use td_core::laws::each_is_sound;
 use td_disk::Disk;
 use td_journal::Submitted;
 use td_machine::laws::reached_in_order;
 use td_plan::laws::look_ups;
+use td_pool::AnyHall;
+use td_pool::laws::each_is_sound;
 use td_standing::KeeperError;
 
 impl<D: Disk, L: Law> Keeper<D, L> {
@@ -24,40 +24,40 @@ impl<D: Disk, L: Law> Keeper<D, L> {
     ///
     /// Refusals: `Foreign`, with nothing changed, where the hall is none of this keeper's, or is closed; and `Memory`, after
     /// which some of them were released, and the next call goes on.
-    pub fn release(&self, hall: &mut Hall<L>) -> Result<u64, KeeperError>
-        ensures own { IfOk result (λ _. IsOwn self.now hall.old × (hall.old.closed ≡ false)) }
-        ensures released { IfOk result (λ n. (n ≡ length (lacking self.now hall.old)) × (hall.new ≡ with_released hall.old (lacking self.now hall.old))) }
-        ensures all { IfOk result (λ _. hall.new.batches ≡ since_base self.now) }
-        ensures foreign { IfErr result (λ e. e ≡ Foreign → (IsOwn self.now hall.old → hall.old.closed ≡ false → ⊥) × (hall.new ≡ hall.old)) }
+    pub fn release<H: AnyHall<L>>(&self, hall: &mut H) -> Result<u64, KeeperError>
+        ensures own { IfOk result (λ _. IsOwn self.now (H.state hall.old) × ((H.state hall.old).closed ≡ false)) }
+        ensures released { IfOk result (λ n. (n ≡ length (lacking self.now (H.state hall.old))) × (H.state hall.new ≡ with_released (H.state hall.old) (lacking self.now (H.state hall.old)))) }
+        ensures all { IfOk result (λ _. (H.state hall.new).batches ≡ since_base self.now) }
+        ensures foreign { IfErr result (λ e. e ≡ Foreign → (IsOwn self.now (H.state hall.old) → (H.state hall.old).closed ≡ false → ⊥) × (H.state hall.new ≡ H.state hall.old)) }
         ensures refused { IfErr result (λ e. (e ≡ Foreign)
-            ⊎ ((e ≡ Memory) × (IsOwn self.now hall.old × (hall.old.closed ≡ false)))) }
-        ensures some { IfErr result (λ e. (n : ℕ) × (hall.new ≡ with_released hall.old (take n (lacking self.now hall.old)))) }
+            ⊎ ((e ≡ Memory) × (IsOwn self.now (H.state hall.old) × ((H.state hall.old).closed ≡ false)))) }
+        ensures some { IfErr result (λ e. (n : ℕ) × (H.state hall.new ≡ with_released (H.state hall.old) (take n (lacking self.now (H.state hall.old))))) }
     {
-        if hall.is_closed() || !self.is_own(hall) {
+        if hall.hall().is_closed() || !self.owns(hall) {
             return Err(KeeperError::Foreign);
         }
         each_is_sound(hall);
         let submitted = &self.submitted;
-        let has = self.past() + hall.inputs().len();
-        release_after(hall, submitted, has)
+        let has = self.past() + hall.hall().inputs().len();
+        release_after::<L, H>(hall, submitted, has)
     }
 }
 
 /// Releases into a hall copies of the batches that were submitted after the first so many, one after another, and answers how
 /// many. Refusal: `Memory`, after which some of them were released. A hall that is open and has numbers left for all of them
 /// refuses nothing else.
-fn release_after<L: Law>(
-    hall: &mut Hall<L>,
+fn release_after<L: Law, H: AnyHall<L>>(
+    hall: &mut H,
     submitted: &VecDeque<Submitted>,
     has: usize,
 ) -> Result<u64, KeeperError>
     requires within { has ≤ length submitted.now.items }
-    requires not_closed { hall.old.closed ≡ false }
-    requires numbers { hall.old.next + length (drop has submitted.now.items) ≤ 2 ^ 63 }
-    requires batches { All (λ s. is_batch (inputs_of hall.old.plan) s.batch ≡ true) submitted.now.items }
+    requires not_closed { (H.state hall.old).closed ≡ false }
+    requires numbers { (H.state hall.old).next + length (drop has submitted.now.items) ≤ 2 ^ 63 }
+    requires batches { All (λ s. is_batch (inputs_of (H.state hall.old).plan) s.batch ≡ true) submitted.now.items }
     ensures released { IfOk result (λ n. (n ≡ length (drop has submitted.now.items))
-        × (hall.new ≡ with_released hall.old (batches_of (drop has submitted.now.items)))) }
-    ensures some { IfErr result (λ e. (n : ℕ) × (hall.new ≡ with_released hall.old (take n (batches_of (drop has submitted.now.items))))) }
+        × (H.state hall.new ≡ with_released (H.state hall.old) (batches_of (drop has submitted.now.items)))) }
+    ensures some { IfErr result (λ e. (n : ℕ) × (H.state hall.new ≡ with_released (H.state hall.old) (take n (batches_of (drop has submitted.now.items))))) }
     ensures memory { IfErr result (λ e. e ≡ Memory) }
 {
     look_ups();
@@ -66,7 +66,7 @@ fn release_after<L: Law>(
     let mut released = 0;
     for at in has..submitted.len() {
         let batch = submitted[at].batch.copy()?;
-        match hall.release(batch) {
+        match hall.release_batch(batch) {
             Ok(_epoch) => released += 1,
             Err(_memory) => return Err(KeeperError::Memory),
         }

@@ -7,5 +7,5 @@ use Rattle.td_keeper.proofs.release.release_after.Given as goal
 abbrev pub invariant-loop-at : goal.invariant-loop-at
 invariant-loop-at g l = record {
   count : l.released ≡ l.at - l.has;
-  hall : l.hall ≡ with_released l.fn.hall (batches_of (take (l.at - l.has) (drop l.has l.submitted.items)));
+  hall : g.H.AnyHall.state l.hall ≡ with_released (g.H.AnyHall.state l.fn.hall) (batches_of (take (l.at - l.has) (drop l.has l.submitted.items)));
 }

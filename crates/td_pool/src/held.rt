@@ -1,0 +1,200 @@
+//! What lies under a pool's lock.
+ghost use Rattle.std.specs.Prelude.{◌≡◌, ◌⊎◌, ◌+◌, ◌-◌, ◌<◌, ◌≤◌, ◌^◌, true, false, IfOk, IfErr, OnOk, OnErr, None};
+ghost use Rattle.crossbeam_utils.specs.Padded.{padded_value};
+ghost use Rattle.td_machine.specs.Active.{has_passed, unpassed};
+ghost use Rattle.td_machine.specs.Sound.{run_states};
+ghost use Rattle.td_machine.specs.Steps.{Refusal, Gives, Takes, accepts, release_step, collect_step, cut_at_by, cut_by, close_step};
+ghost use Rattle.td_machine.specs.Steps.Answer.{refused, has_released, has_taken, has_given, has_collected, has_cut, has_closed};
+ghost use Rattle.td_core.specs.Refusals.{IsRefused, error_of};
+ghost use Rattle.td_core.specs.Meant.{IsMeant};
+ghost use Rattle.td_core.specs.Taking.{IsTakeRefused};
+ghost use Rattle.td_core.specs.declared.error.HallError.TheVariants.{Memory};
+ghost use Rattle.td_pool.specs.Lents.{lent};
+
+use crate::any_hall::AnyHall;
+use crate::seat::{Crew, Seat};
+use std::marker::Model;
+use std::sync::ledger::{Book, Share};
+use td_calls::Law;
+use td_core::laws::each_is_sound;
+use td_core::{Cut, Hall, HallError};
+use td_machine::laws::reached_in_order;
+use td_stamp::{Batch, EpochOut};
+use td_task::{Done, Task};
+
+/// The hall of a pool, for as long as its lock is held. Contracts see the hall's state, and whether the pool is stopped. By its type
+/// it stays the hall with which the pool was made, to which as many tasks were given since as its seats have counted: it cannot be
+/// exchanged, and `give` alone gives to it.
+#[derive(Drop)]
+pub struct Held<K: Crew, L: Law> {
+    hall: Hall<L>,
+    pub(crate) is_stopped: bool,
+    pub(crate) gives: Book<K>,
+    pub(crate) rest: Share<K>,
+}
+
+impl<K: Crew, L: Law> Model for Held<K, L> {
+    ghost use Rattle.std.specs.Prelude.{◌≡◌, ◌+◌};
+    ghost use Rattle.td_pool.specs.Lents.{Lent, lent};
+
+    ghost Value = { Lent };
+
+    ghost view = { λ h. lent h.hall h.is_stopped };
+
+    ghost invariant = { λ h. (h.hall.given ≡ K.start + h.gives.total) × (h.rest.parts ≡ 0) × (h.rest.amount ≡ 0) };
+}
+
+impl<K: Crew, L: Law> Held<K, L> {
+    /// A hall to which as many tasks were given as the book begins with.
+    pub(crate) fn new(hall: Hall<L>, gives: Book<K>, rest: Share<K>) -> Self
+        requires { (hall.given ≡ K.start + gives.total) × (rest.parts ≡ 0) × (rest.amount ≡ 0) }
+        ensures { result ≡ lent hall false }
+    {
+        Held {
+            hall,
+            is_stopped: false,
+            gives,
+            rest,
+        }
+    }
+
+    /// The hall, and the book with all that no seat has.
+    pub(crate) fn into_parts(self) -> (Hall<L>, Book<K>, Share<K>)
+        ensures hall { result.0 ≡ self.hall }
+        ensures given { result.0.given ≡ K.start + result.1.total }
+        ensures rest { (result.2.parts ≡ 0) × (result.2.amount ≡ 0) }
+    {
+        let Held {
+            hall,
+            is_stopped: _,
+            gives,
+            rest,
+        } = self;
+        (hall, gives, rest)
+    }
+
+    /// The hall, to read.
+    pub fn hall(&self) -> &Hall<L>
+        ensures { result.now ≡ self.now.hall }
+    {
+        &self.hall
+    }
+
+    /// Whether the pool is stopped.
+    pub fn is_stopped(&self) -> bool
+        ensures { result ≡ self.now.stopped }
+    {
+        self.is_stopped
+    }
+
+    /// Releases a batch, and answers its epoch, as `Hall::release` does. The workers are to be woken after it, by `Pool::wake`.
+    pub fn release(&mut self, batch: Batch) -> Result<u64, (HallError, Batch)>
+        requires { accepts self.old.hall.plan batch ≡ true }
+        ensures released { IfOk result (λ epoch. release_step self.old.hall batch ≡ (has_released epoch, self.new.hall)) }
+        ensures refused { IfErr result (λ e. IsRefused (release_step self.old.hall batch) self.old.hall e.0) }
+        ensures err { OnErr result (self.new ≡ self.old) }
+        ensures back { IfErr result (λ e. e.1 ≡ batch) }
+        ensures stopped { self.new.stopped ≡ self.old.stopped }
+    {
+        self.hall.release(batch)
+    }
+
+    /// The outputs of the epochs that have passed since the last that was collected, as `Hall::collect` answers them.
+    pub fn collect(&mut self) -> Result<Vec<EpochOut>, HallError>
+        ensures ok { IfOk result (λ outs. collect_step self.old.hall ≡ (has_collected outs.items, self.new.hall)) }
+        ensures meaning { IfOk result (λ outs. IsMeant L.answers self.old.hall outs.items) }
+        ensures err { OnErr result (self.new ≡ self.old) }
+        ensures memory { IfErr result (λ e. e ≡ Memory) }
+        ensures stopped { self.new.stopped ≡ self.old.stopped }
+    {
+        self.hall.collect()
+    }
+
+    /// Cuts at the last released epoch, as `Hall::cut` does.
+    pub fn cut(&mut self) -> Result<Cut, HallError>
+        ensures cut { IfOk result (λ cut. cut_by self.old.hall (unpassed self.old.hall) (self.old.hall.next - 1) ≡ (has_cut cut.epoch cut.states, self.new.hall)) }
+        ensures meaning { IfOk result (λ cut. cut.states ≡ run_states L.answers self.old.hall cut.epoch) }
+        ensures refused { IfErr result (IsRefused (cut_by self.old.hall (unpassed self.old.hall) (self.old.hall.next - 1)) self.old.hall) }
+        ensures err { OnErr result (self.new ≡ self.old) }
+        ensures stopped { self.new.stopped ≡ self.old.stopped }
+    {
+        self.hall.cut()
+    }
+
+    /// Cuts at an epoch, as `Hall::cut_at` does.
+    pub fn cut_at(&mut self, epoch: u64) -> Result<Cut, HallError>
+        requires after { self.old.hall.base ≤ epoch }
+        requires released { epoch < self.old.hall.next }
+        ensures cut { IfOk result (λ cut. cut_at_by self.old.hall (has_passed self.old.hall epoch) epoch ≡ (has_cut cut.epoch cut.states, self.new.hall)) }
+        ensures meaning { IfOk result (λ cut. cut.states ≡ run_states L.answers self.old.hall cut.epoch) }
+        ensures refused { IfErr result (IsRefused (cut_at_by self.old.hall (has_passed self.old.hall epoch) epoch) self.old.hall) }
+        ensures err { OnErr result (self.new ≡ self.old) }
+        ensures stopped { self.new.stopped ≡ self.old.stopped }
+    {
+        self.hall.cut_at(epoch)
+    }
+
+    /// Takes a task of a shard, its first, if it has one.
+    pub(crate) fn take(&mut self, shard: u8) -> Result<Option<Task>, HallError>
+        ensures taken { IfOk result (λ task. Takes self.old.hall shard (has_taken task) self.new.hall) }
+        ensures refused { IfErr result (IsTakeRefused self.old.hall shard) }
+        ensures err { OnErr result (self.new ≡ self.old) }
+        ensures stopped { self.new.stopped ≡ self.old.stopped }
+    {
+        self.hall.take(shard, 0)
+    }
+
+    /// Takes a task back that was run, as `Hall::give` does. Nothing else raises the hall's count of gives, and the seat's rises with
+    /// it. Refusals, with nothing changed and the task handed back: `Stranger` and `Memory`.
+    pub fn give(&mut self, seat: &mut Seat<K, L>, done: Done<L>) -> Result<(), (HallError, Done<L>)>
+        ensures given { OnOk result (Gives L.answers self.old.hall done has_given self.new.hall) }
+        ensures counted { OnOk result (padded_value seat.new.gives ≡ padded_value seat.old.gives + 1) }
+        ensures refused { IfErr result (λ e. (e.0 ≡ Memory) ⊎ ((r : Refusal) × (e.0 ≡ error_of r) × Gives L.answers self.old.hall done (refused r) self.old.hall)) }
+        ensures err { OnErr result ((self.new ≡ self.old) × (padded_value seat.new.gives ≡ padded_value seat.old.gives)) }
+        ensures back { IfErr result (λ e. e.1 ≡ done) }
+        ensures stopped { self.new.stopped ≡ self.old.stopped }
+        ensures seat { (seat.new.shard ≡ seat.old.shard) × (seat.new.hand ≡ seat.old.hand) }
+    {
+        reached_in_order::<L>();
+        let Held {
+            hall,
+            is_stopped: _,
+            gives,
+            rest: _,
+        } = self;
+        let Seat {
+            shard: _,
+            gives: count,
+            hand: _,
+            share,
+        } = seat;
+        gives.audit(share);
+        each_is_sound(hall);
+        hall.give(done)?;
+        gives.add(share, 1);
+        **count += 1;
+        Ok(())
+    }
+}
+
+impl<K: Crew, L: Law> AnyHall<L> for Held<K, L> {
+    ghost use Rattle.td_pool.specs.Lents.{Lent};
+
+    ghost state = { λ h. h.hall };
+
+    fn hall(&self) -> &Hall<L> {
+        self.hall()
+    }
+
+    fn release_batch(&mut self, batch: Batch) -> Result<u64, (HallError, Batch)> {
+        self.release(batch)
+    }
+
+    fn collect_outputs(&mut self) -> Result<Vec<EpochOut>, HallError> {
+        self.collect()
+    }
+
+    fn cut_at_epoch(&mut self, epoch: u64) -> Result<Cut, HallError> {
+        self.cut_at(epoch)
+    }
+}

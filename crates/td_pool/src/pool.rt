@@ -1,0 +1,145 @@
+//! Making pools, lending their halls, and gathering their seats.
+ghost use Rattle.std.specs.Prelude.{◌≡◌, ◌⊎◌, ◌+◌, ◌&&◌, ◌==◌, true, None, map, sum, length, All, IfOk, IfErr, is_ok};
+ghost use Rattle.std.specs.List.{list_all};
+ghost use Rattle.std.specs.Sync.Mutex.{mutex_guard_value};
+ghost use Rattle.crossbeam_utils.specs.Padded.{padded_value};
+ghost use Rattle.td_machine.specs.Active.{unpassed};
+ghost use Rattle.td_pool.specs.Hands.{is_empty};
+ghost use Rattle.td_pool.specs.declared.error.PoolError.TheVariants.{NotAll, Memory};
+
+use crate::error::PoolError;
+use crate::held::Held;
+use crate::seat::{Crew, Seat};
+use std::alloc::Global;
+use std::sync::ledger::Blank;
+use std::sync::{Condvar, Mutex, MutexGuard, Wait};
+use td_calls::Law;
+use td_core::Hall;
+
+/// A hall behind a lock, on which workers in threads of their own work, each from a seat of this pool.
+#[derive(Drop)]
+pub struct Pool<K: Crew, L: Law> {
+    pub(crate) held: Mutex<Held<K, L>>,
+    /// There may be something to take, or the pool was stopped.
+    pub(crate) has_work: Condvar,
+    /// A worker found nothing to take, or the pool was stopped.
+    pub(crate) has_rest: Condvar,
+    shards: u8,
+    ghost shards_is: { shards ≡ K.shards },
+}
+
+impl<K: Crew, L: Law> Pool<K, L> {
+    /// A pool over a hall, and a seat for each of its shards, in order. `blank` is the name of the pool and its seats, with a part
+    /// for each shard. Refusal, with the hall handed back: `Memory`.
+    pub fn new(
+        alloc: Global,
+        hall: Hall<L>,
+        blank: Blank,
+    ) -> Result<(Pool<K, L>, Vec<Seat<K, L>>), (PoolError, Hall<L>)>
+        requires name { blank.name ≡ K.name }
+        requires parts { (blank.parts ≡ K.parts) × (K.parts ≡ K.shards) }
+        requires hall { (hall.workers ≡ K.shards) × (hall.given ≡ K.start) }
+        ensures seats { IfOk result (λ made. length made.1.items ≡ K.shards) }
+        ensures free { IfOk result (λ made. All (λ s. (is_empty s.hand ≡ true) × (padded_value s.gives ≡ 0)) made.1.items) }
+        ensures back { IfErr result (λ e. (e.0 ≡ Memory) × (e.1 ≡ hall)) }
+    {
+        let shards = hall.workers();
+        let (book, mut rest) = blank.open::<K>();
+        let Ok(mut seats) = Vec::with_capacity(alloc, shards as usize) else {
+            return Err((PoolError::Memory, hall));
+        };
+        for shard in 0..shards {
+            let share = rest.split_off(1, 0);
+            seats.push_reserved(Seat::new(shard, share));
+        }
+        let pool = Pool {
+            held: Mutex::new(Held::new(hall, book, rest)),
+            has_work: Condvar::new(),
+            has_rest: Condvar::new(),
+            shards,
+        };
+        Ok((pool, seats))
+    }
+
+    /// The hall, under the lock. It is any hall that workers may have left: what is known of it is what its type says.
+    pub fn hall<R: Wait>(&self, rt: &R) -> MutexGuard<'_, Held<K, L>> {
+        self.held.lock(rt)
+    }
+
+    /// Wakes the workers that wait for something to take, as is to be done after a release.
+    pub fn wake(&self) {
+        self.has_work.notify_all();
+    }
+
+    /// Stops the workers: each ends its `work` once it has given what it holds.
+    pub fn stop<R: Wait>(&self, rt: &R) {
+        let mut held = self.held.lock(rt);
+        held.is_stopped = true;
+        drop(held);
+        self.has_work.notify_all();
+        self.has_rest.notify_all();
+    }
+
+    /// Waits until every released epoch has passed or the pool is stopped, and lends the hall. It lets the lock go while it waits.
+    pub fn settle<R: Wait>(&self, rt: &R) -> MutexGuard<'_, Held<K, L>>
+        ensures { let held = mutex_guard_value result in (held.stopped ≡ true) ⊎ (unpassed held.hall ≡ None) }
+    {
+        let mut held = self.held.lock(rt);
+        for _turn in rt.forever() {
+            if held.is_stopped() || held.hall().unpassed().is_none() {
+                return held;
+            }
+            held = self.has_rest.wait(rt, held);
+        }
+        unreachable!()
+    }
+
+    /// The hall, where all seats are there and free. Since the pool was made as many tasks were given to it as the seats have counted.
+    /// Refusal, with the pool and the seats handed back: `NotAll`, exactly where seats are missing, or one holds a task, or a task
+    /// that was run and not given.
+    pub fn gather(
+        self,
+        seats: Vec<Seat<K, L>>,
+    ) -> Result<Hall<L>, (PoolError, Pool<K, L>, Vec<Seat<K, L>>)>
+        requires { K.parts ≡ K.shards }
+        ensures gives { IfOk result (λ hall. hall.given ≡ K.start + sum (map (λ s. padded_value s.gives) seats.items)) }
+        ensures exact { is_ok result ≡ (length seats.items == K.shards && list_all (λ s. is_empty s.hand) seats.items) }
+        ensures back { IfErr result (λ e. (e.0 ≡ NotAll) × (e.2.items ≡ seats.items)) }
+    {
+        if !are_all(seats.as_slice(), self.shards) {
+            return Err((PoolError::NotAll, self, seats));
+        }
+        let Pool {
+            held,
+            has_work: _,
+            has_rest: _,
+            shards: _,
+        } = self;
+        let (hall, mut book, mut all) = held.into_inner().into_parts();
+        for seat in seats {
+            let Seat {
+                shard: _,
+                hand: _,
+                gives: _,
+                share,
+            } = seat;
+            all.merge(share);
+        }
+        book.audit(&mut all);
+        Ok(hall)
+    }
+}
+
+/// Whether these are so many seats, none of which holds anything.
+fn are_all<K: Crew, L: Law>(seats: &[Seat<K, L>], shards: u8) -> bool
+    ensures { result ≡ (length seats.now == shards && list_all (λ s. is_empty s.hand) seats.now) }
+{
+    seats.len() == shards as usize && are_free(seats)
+}
+
+/// Whether no seat holds anything.
+fn are_free<K: Crew, L: Law>(seats: &[Seat<K, L>]) -> bool
+    ensures { result ≡ list_all (λ s. is_empty s.hand) seats.now }
+{
+    seats.iter().all(|seat| seat.hand().is_empty())
+}
