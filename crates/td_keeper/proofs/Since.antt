@@ -35,7 +35,7 @@ module _ (answers : Answers) (plan : List Line) (together : Together) (head : He
   itself image advance told = tells answers plan together s s x (last_epoch s) head side image advance (omega arith) told
 
   -- nothing was written
-  pub untouched : (state : DiskState) → ((c : List ℕ) → state.since state.moment c → state.images c) → Advance (states_by answers plan) (with_more s x) s
+  untouched : (state : DiskState) → ((c : List ℕ) → state.since state.moment c → state.images c) → Advance (states_by answers plan) (with_more s x) s
       → Keeps plan head side s state → SinceAdvance answers plan s x (last_epoch s) state.moment state
   untouched state only advance keeps c left = itself c advance (subst (Tells plan head side s) (sym (keeps.durable c (only c left))) keeps.tells)
 

@@ -26,19 +26,13 @@ abbrev as_err : AnyError → Result (Unit {0}) AnyError
 as_err e = Err e
 
 pub returns-in-Some-clause-further : goal.returns-in-Some-clause-further
-returns-in-Some-clause-further g c =
-    let state = g.D.Disk.state in
-    let answers = g.L.Law.answers in
-    let device = c.self.inside.device in
-    let x : List Submitted = submission 0 c.args.batch ∷ [] in
-    subst (λ (z : Keeping g.row.D.Denot). g.D.Disk.is_lawful z.device → z.broken ≡ false → AdvancesSince answers z.plan z.standing x (last_epoch z.standing) (state z.device) (state device)) c.self.view_is
-    (λ old whole t f le left. inl left)
+returns-in-Some-clause-further g c old whole t f le left = inl left
 
 pub returns-in-Some-clause-images : goal.returns-in-Some-clause-images
 returns-in-Some-clause-images g c old whole =
     let state = g.D.Disk.state in
     by_further g.D.Disk.is_lawful state g.met.D.Disk.only_now g.L.Law.answers c.told_in_parts.ensures.together c.standings_advance.ensures.not_yet c.self.view_is c.self.invariant.2
-    (submission 0 c.args.batch ∷ []) (state c.self.inside.device) old whole (returns-in-Some-clause-further g c old whole)
+    (submission 0 c.args.batch ∷ []) (state c.args.self.now.device) old whole (returns-in-Some-clause-further g c old whole)
 
 pub returns-then-is_err-clause-further : goal.returns-then-is_err-clause-further
 returns-then-is_err-clause-further g c =
