@@ -1,4 +1,4 @@
--- What the images since the start of a call tell, as advances of the standing.
+-- What the images since the start of a call tell, and those since an earlier moment, as advances of the standing.
 use Rattle.std.proofs.Common.{◌≡◌, inl, inr, ⊎_elim, ℕ, true, false, List, sym, subst, arith}
 use Rattle.std.specs.Prelude.{Ok}
 use Rattle.td_plan.specs.Lines.{Line}

@@ -1,5 +1,5 @@
 -- What an image tells after a stop, seen from the standing before it.
-use Rattle.std.specs.Prelude.{◌≡◌, ◌⊎◌, ℕ, ◌≤◌, Bool, true, false, List, Ok}
+use Rattle.std.specs.Prelude.{◌⊎◌, ℕ, ◌≤◌, Bool, true, false, List, Ok}
 use Rattle.td_stamp.specs.declared.values.Entry.{Entry}
 use Rattle.td_stamp.specs.States.{StateList}
 use Rattle.td_plan.specs.Lines.{Line}
