@@ -1,20 +1,28 @@
--- What the images since the start of a call tell, as advances of the standing.
-use Rattle.std.proofs.Common.{⊎_elim, ℕ, true, List, sym, subst, arith}
+-- What the images since the start of a call tell, and those since an earlier moment, as advances of the standing.
+use Rattle.std.proofs.Common.{◌≡◌, inl, inr, ⊎_elim, ℕ, true, false, List, sym, subst, arith}
 use Rattle.std.specs.Prelude.{Ok}
 use Rattle.td_plan.specs.Lines.{Line}
+use Rattle.td_plan.specs.Tree.{Nodes, tree_of}
 use Rattle.td_calls.specs.Answers.{Answers}
+use Rattle.td_batch.specs.Meaning.{run}
 use Rattle.td_disk.specs.Disk.{DiskState}
 use Rattle.td_head.specs.declared.head.Head.{Head}
 use Rattle.td_journal.specs.declared.submitted.Submitted.{Submitted}
 use Rattle.td_standing.specs.Standing.{Standing, last_epoch, with_more}
 use Rattle.td_standing.specs.Stops.{Advance, Holds}
 use Rattle.td_standing.specs.Told.{Told}
-use Rattle.td_standing.specs.Tells.{Tells, Keeps, SinceTells}
-use Rattle.td_standing.specs.Advanced.{TellsAdvance, SinceAdvance, HeldWhere, states_by}
+use Rattle.td_standing.specs.Tells.{Tells, Keeps, TellsSince}
+use Rattle.td_standing.specs.Advanced.{TellsAdvance, SinceAdvance, AdvancesSince, HeldWhere, states_by}
+use Rattle.td_keeper.specs.Keeping.{Keeping}
+use Rattle.td_keeper.proofs.Submitting.{keeps_of}
 
 -- what is told in parts is told, as it is handed in
 abbrev pub Together : Type 0
 Together = (plan : List Line) (head : Head) (side : ℕ) (s : Standing) (image : List ℕ) → Tells plan head side s image → Told plan image (Ok s)
+
+-- and that a standing is an advance of itself
+abbrev pub NotYet : Answers → Type 0
+NotYet answers = (nodes : Nodes) (s : Standing) (x : List Submitted) → Advance (λ b y. (run answers nodes b y).states) (with_more s x) s
 
 module _ (answers : Answers) (plan : List Line) (together : Together) (s t : Standing) (x : List Submitted) (n : ℕ) where
   -- an image that tells an advance
@@ -27,18 +35,38 @@ module _ (answers : Answers) (plan : List Line) (together : Together) (head : He
   itself image advance told = tells answers plan together s s x (last_epoch s) head side image advance (omega arith) told
 
   -- nothing was written
-  pub untouched : (state : DiskState) → ((c : List ℕ) → state.since state.moment c → state.images c) → Advance (states_by answers plan) (with_more s x) s
+  untouched : (state : DiskState) → ((c : List ℕ) → state.since state.moment c → state.images c) → Advance (states_by answers plan) (with_more s x) s
       → Keeps plan head side s state → SinceAdvance answers plan s x (last_epoch s) state.moment state
   untouched state only advance keeps c left = itself c advance (subst (Tells plan head side s) (sym (keeps.durable c (only c left))) keeps.tells)
 
   -- it, or another that holds its epochs
-  pub either : (moment : ℕ) (state : DiskState) (other : ℕ) (t : Standing) → Advance (states_by answers plan) (with_more s x) s → Advance (states_by answers plan) (with_more s x) t
-      → Holds t (last_epoch s) → SinceTells (Tells plan head side s) (Tells plan head other t) moment state
-      → SinceAdvance answers plan s x (last_epoch s) moment state
-  either moment state other t same next holds begun c left =
-      ⊎_elim (λ told. itself c same told) (λ told. tells answers plan together s t x (last_epoch s) head other c next holds told) (begun c left)
+  pub either : (old new : DiskState) (other : ℕ) (t : Standing) → Advance (states_by answers plan) (with_more s x) s → Advance (states_by answers plan) (with_more s x) t
+      → Holds t (last_epoch s) → TellsSince (Tells plan head side s) (Tells plan head other t) old new
+      → AdvancesSince answers plan s x (last_epoch s) old new
+  either old new other t same next holds begun moment c le left = ⊎_elim
+      (λ was. inl was)
+      (λ now. inr (⊎_elim (λ told. itself c same told) (λ told. tells answers plan together s t x (last_epoch s) head other c next holds told) now))
+      (begun moment c le left)
+
+  -- since the start of the call, when each image told the standing
+  pub from_start : (old new : DiskState) → ((c : List ℕ) → old.since old.moment c → old.images c) → Advance (states_by answers plan) (with_more s x) s
+      → Keeps plan head side s old → AdvancesSince answers plan s x (last_epoch s) old new → SinceAdvance answers plan s x (last_epoch s) old.moment new
+  from_start old new only advance keeps further c left =
+      ⊎_elim (λ was. untouched old only advance keeps c was) (λ told. told) (further old.moment c (omega arith) left)
 
 -- where the device failed: what may be left now might have been left since the start
 pub held : (answers : Answers) (plan : List Line) (head : Head) (side : ℕ) (s : Standing) (x : List Submitted) (moment : ℕ) (state : DiskState)
     → ((c : List ℕ) → state.images c → state.since moment c) → SinceAdvance answers plan s x (last_epoch s) moment state → HeldWhere true answers plan head side s state
 held answers plan head side s x moment state counts since c image = (x, since c (counts c image))
+
+-- of a keeper: in each image since the start of a call, by what is known of those since an earlier moment
+pub by_further : {D : Type 0} (is_lawful : D → Type 0) (state : D → DiskState) → ((d : D) (c : List ℕ) → is_lawful d → (state d).since (state d).moment c → (state d).images c)
+    → (answers : Answers) → Together → NotYet answers → {k z : Keeping D} → k ≡ z → (is_lawful k.device → HeldWhere k.broken answers k.plan k.head k.side k.standing (state k.device))
+    → (x : List Submitted) (new : DiskState) → is_lawful z.device → z.broken ≡ false
+    → AdvancesSince answers z.plan z.standing x (last_epoch z.standing) (state z.device) new
+    → SinceAdvance answers z.plan z.standing x (last_epoch z.standing) (state z.device).moment new
+by_further {D = D} is_lawful state only answers together not_yet {k = k} {z = z} is held x new =
+    subst (λ (v : Keeping D). is_lawful v.device → v.broken ≡ false → AdvancesSince answers v.plan v.standing x (last_epoch v.standing) (state v.device) new → SinceAdvance answers v.plan v.standing x (last_epoch v.standing) (state v.device).moment new) is
+    (λ old whole further.
+    let keeps = keeps_of k.broken answers k.plan k.head k.side k.standing (state k.device) whole (held old) in
+    from_start answers k.plan together k.head k.side k.standing x (state k.device) new (λ c. only k.device c old) (not_yet (tree_of k.plan) k.standing x) keeps further)

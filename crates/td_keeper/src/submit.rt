@@ -4,7 +4,7 @@ ghost use Rattle.td_disk.specs.Disk.{Rises};
 ghost use Rattle.td_gate.specs.CrashSafe.{CrashSafe, Unchanged};
 ghost use Rattle.td_standing.specs.Standing.{last_epoch, submission};
 ghost use Rattle.td_standing.specs.Told.{ring_of};
-ghost use Rattle.td_standing.specs.Advanced.{SinceAdvance};
+ghost use Rattle.td_standing.specs.Advanced.{SinceAdvance, AdvancesSince};
 ghost use Rattle.td_keeper.specs.Keeping.{with_batch};
 ghost use Rattle.td_keeper.specs.Refused.{submit_refusal};
 ghost use Rattle.td_standing.specs.declared.error.KeeperError.TheVariants.{Memory, Device};
@@ -51,6 +51,10 @@ impl<D: Disk, L: Law> Keeper<D, L> {
         // every epoch of the standing.
         ensures images { D.is_lawful self.old.device → self.old.broken ≡ false
             → SinceAdvance L.answers self.old.plan self.old.standing (submission 0 batch ∷ []) (last_epoch self.old.standing) (D.state self.old.device).moment (D.state self.new.device) }
+
+        // Each image since an earlier moment was one by the start of the call, or the disk tells such an advance in it.
+        ensures further { D.is_lawful self.old.device → self.old.broken ≡ false
+            → AdvancesSince L.answers self.old.plan self.old.standing (submission 0 batch ∷ []) (last_epoch self.old.standing) (D.state self.old.device) (D.state self.new.device) }
     {
         laws::told_in_parts();
         laws::standings_advance::<L>();

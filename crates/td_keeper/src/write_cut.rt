@@ -5,7 +5,7 @@ ghost use Rattle.td_standing.specs.Standing.{last_epoch};
 ghost use Rattle.td_journal.specs.Numbers.{greatest};
 ghost use Rattle.td_standing.specs.Told.{slots_of};
 ghost use Rattle.td_standing.specs.Tells.{side_after};
-ghost use Rattle.td_standing.specs.Advanced.{SinceAdvance};
+ghost use Rattle.td_standing.specs.Advanced.{SinceAdvance, AdvancesSince};
 ghost use Rattle.td_keeper.specs.Keeping.{is_waiting, with_checkpoint};
 ghost use Rattle.td_keeper.specs.Refused.{write_refusal};
 ghost use Rattle.td_standing.specs.declared.error.KeeperError.TheVariants.{Memory, Device, TooManyKeys};
@@ -46,6 +46,10 @@ impl<D: Disk, L: Law> Keeper<D, L> {
         // In each image since the start of the call the disk tells an advance of the standing which holds every epoch of it.
         ensures images { D.is_lawful self.old.device → self.old.broken ≡ false
             → SinceAdvance L.answers self.old.plan self.old.standing [] (last_epoch self.old.standing) (D.state self.old.device).moment (D.state self.new.device) }
+
+        // Each image since an earlier moment was one by the start of the call, or the disk tells such an advance in it.
+        ensures further { D.is_lawful self.old.device → self.old.broken ≡ false
+            → AdvancesSince L.answers self.old.plan self.old.standing [] (last_epoch self.old.standing) (D.state self.old.device) (D.state self.new.device) }
     {
         laws::told_in_parts();
         laws::standings_advance::<L>();

@@ -9,11 +9,6 @@ use Rattle.td_standing.specs.Tells.{Tells, EachTells, Keeps}
 pub each_keeps : (plan : List Line) (head : Head) (side : ℕ) (s : Standing) (state : DiskState) → Keeps plan head side s state → EachTells plan head side s state
 each_keeps plan head side s state keeps c image = subst (Tells plan head side s) (sym (keeps.durable c image)) keeps.tells
 
--- nothing was written
-pub still_tells : (plan : List Line) (head : Head) (side : ℕ) (s : Standing) (state : DiskState) → ((c : List ℕ) → state.since state.moment c → state.images c) → Keeps plan head side s state
-    → (c : List ℕ) → state.since state.moment c → Tells plan head side s c
-still_tells plan head side s state only keeps c left = each_keeps plan head side s state keeps c (only c left)
-
 -- the same is read, and a crash leaves it still
 pub keeps_after : (plan : List Line) (head : Head) (side : ℕ) (s : Standing) (old new : DiskState) → Keeps plan head side s old → IsDurable new → new.bytes ≡ old.bytes → Keeps plan head side s new
 keeps_after plan head side s old new keeps durable same = record { durable = durable; tells = subst (Tells plan head side s) (sym same) keeps.tells }

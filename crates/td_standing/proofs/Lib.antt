@@ -1,5 +1,6 @@
 mod Requests
 mod Composes
+mod Joins
 mod Places
 mod Crash
 mod Moments

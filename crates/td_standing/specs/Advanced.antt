@@ -1,5 +1,5 @@
 -- What an image tells after a stop, seen from the standing before it.
-use Rattle.std.specs.Prelude.{◌≡◌, ℕ, Bool, true, false, List, Ok}
+use Rattle.std.specs.Prelude.{◌⊎◌, ℕ, ◌≤◌, Bool, true, false, List, Ok}
 use Rattle.td_stamp.specs.declared.values.Entry.{Entry}
 use Rattle.td_stamp.specs.States.{StateList}
 use Rattle.td_plan.specs.Lines.{Line}
@@ -28,6 +28,10 @@ pub record TellsAdvance (answers : Answers) (plan : List Line) (s : Standing) (x
 -- Each image since a moment does.
 abbrev pub SinceAdvance : Answers → List Line → Standing → List Submitted → ℕ → ℕ → DiskState → Type 0
 SinceAdvance answers plan s x n moment state = (c : List ℕ) → state.since moment c → TellsAdvance answers plan s x n c
+
+-- Each image since a moment up to old was one by then, or it does.
+abbrev pub AdvancesSince : Answers → List Line → Standing → List Submitted → ℕ → DiskState → DiskState → Type 0
+AdvancesSince answers plan s x n old new = (t : ℕ) (c : List ℕ) → t ≤ old.moment → new.since t c → old.since t c ⊎ TellsAdvance answers plan s x n c
 
 -- WHAT A DISK HOLDS FOR A KEEPER: its standing, image by image; and after a fault of the device in a call that writes, an
 -- advance of it with what was then submitted, which holds all of its epochs.

@@ -33,9 +33,9 @@ pub record Tells (plan : List Line) (head : Head) (side : ℕ) (s : Standing) (i
 abbrev pub EachTells : List Line → Head → ℕ → Standing → DiskState → Type 0
 EachTells plan head side s state = (c : List ℕ) → state.images c → Tells plan head side s c
 
--- Each image since a moment tells the one standing or the other.
-abbrev pub SinceTells : (List ℕ → Type 0) → (List ℕ → Type 0) → ℕ → DiskState → Type 0
-SinceTells one other moment state = (c : List ℕ) → state.since moment c → one c ⊎ other c
+-- Each image since a moment up to old was one by then, or it tells the one standing or the other.
+abbrev pub TellsSince : (List ℕ → Type 0) → (List ℕ → Type 0) → DiskState → DiskState → Type 0
+TellsSince one other old new = (t : ℕ) (c : List ℕ) → t ≤ old.moment → new.since t c → old.since t c ⊎ (one c ⊎ other c)
 
 -- A disk of which a crash leaves what is read, and that tells this standing.
 pub record Keeps (plan : List Line) (head : Head) (side : ℕ) (s : Standing) (state : DiskState) : Type 0 where

@@ -31,7 +31,7 @@ ghost use Rattle.td_standing.specs.Refusals.{of_head, of_slots, of_journal};
 ghost use Rattle.td_standing.specs.Standing.{Standing, last_epoch, last_request, batches_of, with_more, cut_at, nothing_told};
 ghost use Rattle.td_standing.specs.Stops.{Advance, Stands, Begins, Holds};
 ghost use Rattle.td_standing.specs.Told.{Told, inputs_of, folds_of, slots_of, ring_of, floor_of};
-ghost use Rattle.td_standing.specs.Tells.{Tells, EachTells, IsFormatted, HasRoom, IsFresh, IsCut, side_after, first_head};
+ghost use Rattle.td_standing.specs.Tells.{Tells, EachTells, TellsSince, IsFormatted, HasRoom, IsFresh, IsCut, side_after, first_head};
 
 use td_calls::Law;
 use td_disk::Disk;
@@ -60,6 +60,25 @@ pub fn standings_advance<L: Law>()
     ensures holds_cut { (s : Standing) (n k : ℕ) (states : StateList) → k ≤ length s.submitted → Holds s n
         → Holds (cut_at s k states) n }
 {}
+
+/// Advances join: what is an advance of a standing after a submit, or after a cut, is one of the standing before it, with all
+/// that was submitted; and it stays one whatever is submitted later. A cut leaves the last epoch as it was.
+pub fn advances_join<L: Law>()
+    ensures submitted { (nodes : Nodes) (s u : Standing) (x y : List AnySubmitted)
+        → Advance (λ b z. (run L.answers nodes b z).states) (with_more (with_more s x) y) u
+        → Advance (λ b z. (run L.answers nodes b z).states) (with_more s (x ++ y)) u }
+    ensures cut { (nodes : Nodes) (s u : Standing) (k : ℕ) (states : StateList) (y : List AnySubmitted) → k ≤ length s.submitted
+        → states ≡ (run L.answers nodes s.states (batches_of (take k s.submitted))).states
+        → Advance (λ b z. (run L.answers nodes b z).states) (with_more (cut_at s k states) y) u
+        → Advance (λ b z. (run L.answers nodes b z).states) (with_more s y) u }
+    ensures later { (nodes : Nodes) (s u : Standing) (y : List AnySubmitted)
+        → Advance (λ b z. (run L.answers nodes b z).states) s u
+        → Advance (λ b z. (run L.answers nodes b z).states) (with_more s y) u }
+    ensures last { (s : Standing) (k : ℕ) (states : StateList) → k ≤ length s.submitted
+        → last_epoch (cut_at s k states) ≡ last_epoch s }
+{
+    td_batch::laws::run_joins::<L>();
+}
 
 /// The last request number never falls: not where a disk tells an advance that holds all epochs of before, not by a
 /// submit, and not by a cut; and it is at least that of each batch submitted.
@@ -174,21 +193,21 @@ pub fn cut_is_written()
     td_journal::laws::told_numbers_rise();
 }
 
-/// The crash clause of a submit, by the contracts of `Journal::clear` and `Region::put` alone: each image since its start
-/// tells the standing, or it with the batch; once both answered Ok, each image tells it with the batch.
+/// The crash clause of a submit, by the contracts of `Journal::clear` and `Region::put` alone: each image since a moment up
+/// to its start was one by then, or it tells the standing, or it with the batch; once both answered Ok, each image tells it
+/// with the batch.
 pub fn submit_is_safe<D: Disk>()
     ensures cleared { (plan : List Line) (head : AnyHead) (side : ℕ) (s : Standing) (e : ℕ) (old mid : D)
         → HasRoom head.shape s e → EachTells plan head side s (D.state old)
         → CrashSafe (Clears (ring_of head.shape s.epoch) (suc e)) (D.state old) (D.state mid)
-        → (c : List ℕ) → (D.state mid).since (D.state old).moment c → Tells plan head side s c }
+        → (t : ℕ) (c : List ℕ) → t ≤ (D.state old).moment → (D.state mid).since t c → (D.state old).since t c ⊎ Tells plan head side s c }
     ensures begun { (plan : List Line) (head : AnyHead) (side : ℕ) (s : Standing) (e : ℕ) (x : AnySubmitted) (old mid new : D)
         → HasRoom head.shape s e → IsFresh head.version s x.request → IsCellBatch (inputs_of plan) head.shape.m x
         → EachTells plan head side s (D.state old) → D.is_lawful mid
         → CrashSafe (Clears (ring_of head.shape s.epoch) (suc e)) (D.state old) (D.state mid)
         → IsGone (ring_of head.shape s.epoch) (suc e) (D.state mid)
         → CrashSafe (Puts (cell_of (ring_of head.shape s.epoch) e) (cell_bytes head.shape.m e x.request x.batch)) (D.state mid) (D.state new)
-        → (c : List ℕ) → (D.state new).since (D.state old).moment c → Tells plan head side s c
-        ⊎ Tells plan head side (with_more s (x ∷ [])) c }
+        → TellsSince (Tells plan head side s) (Tells plan head side (with_more s (x ∷ []))) (D.state old) (D.state new) }
     ensures done { (plan : List Line) (head : AnyHead) (side : ℕ) (s : Standing) (e : ℕ) (x : AnySubmitted) (old mid new : D)
         → HasRoom head.shape s e → IsFresh head.version s x.request → IsCellBatch (inputs_of plan) head.shape.m x
         → EachTells plan head side s (D.state old) → D.is_lawful mid → D.is_lawful new
@@ -208,8 +227,7 @@ pub fn write_cut_is_safe<D: Disk>()
         → EachTells plan head side s (D.state old) → IsCut plan head.shape s k states
         → greatest s.last (take k s.submitted) < 2 ^ 64
         → CrashSafe (Puts (slot (slots_of head.shape) (1 - side)) (slot_bytes head.shape.k (s.epoch + k) (greatest s.last (take k s.submitted)) states)) (D.state old) (D.state new)
-        → (c : List ℕ) → (D.state new).since (D.state old).moment c → Tells plan head side s c
-        ⊎ Tells plan head (side_after side k) (cut_at s k states) c }
+        → TellsSince (Tells plan head side s) (Tells plan head (side_after side k) (cut_at s k states)) (D.state old) (D.state new) }
     ensures done { (plan : List Line) (head : AnyHead) (side : ℕ) (s : Standing) (k : ℕ) (states : StateList) (old new : D)
         → EachTells plan head side s (D.state old) → IsCut plan head.shape s k states
         → greatest s.last (take k s.submitted) < 2 ^ 64 → D.is_lawful new

@@ -10,7 +10,7 @@ ghost use Rattle.td_journal.specs.Numbers.{greatest};
 ghost use Rattle.td_journal.specs.Cell.{ring_len, is_batch};
 ghost use Rattle.td_standing.specs.Standing.{Standing, submission, with_more, cut_at};
 ghost use Rattle.td_standing.specs.Told.{inputs_of, slots_of, ring_of};
-ghost use Rattle.td_standing.specs.Tells.{Tells, Keeps, SinceTells, HasRoom, IsFresh, IsCut, side_after};
+ghost use Rattle.td_standing.specs.Tells.{Tells, Keeps, TellsSince, HasRoom, IsFresh, IsCut, side_after};
 
 use crate::laws;
 use std::alloc::Global;
@@ -45,12 +45,12 @@ pub fn submit_batch<D: Disk>(
     ensures later { D.is_lawful device.old → IsDurable (D.state device.old)
         → (D.state device.old).moment ≤ (D.state device.new).moment }
 
-    // Each image since the start of the call tells the standing, or it with the batch.
+    // Each image since a moment up to the start of the call was one by then, or it tells the standing, or it with the batch.
     ensures begun { D.is_lawful device.old → (plan : List Line) (head : Head) (side : ℕ) (s : Standing)
         → journal.now ≡ ring_of head.shape s.epoch → HasRoom head.shape s epoch → IsFresh head.version s request
         → is_batch (inputs_of plan) batch.now ≡ true
         → Keeps plan head side s (D.state device.old)
-        → SinceTells (Tells plan head side s) (Tells plan head side (with_more s (submission request batch.now ∷ []))) (D.state device.old).moment (D.state device.new) }
+        → TellsSince (Tells plan head side s) (Tells plan head side (with_more s (submission request batch.now ∷ []))) (D.state device.old) (D.state device.new) }
 
     // After want of memory each image tells the standing still.
     ensures kept { IsErrOf result JournalError.Memory → D.is_lawful device.old
@@ -105,12 +105,12 @@ pub fn write_states<D: Disk>(
     ensures later { D.is_lawful device.old → IsDurable (D.state device.old)
         → (D.state device.old).moment ≤ (D.state device.new).moment }
 
-    // Each image since the start of the call tells the standing, or it cut there.
+    // Each image since a moment up to the start of the call was one by then, or it tells the standing, or it cut there.
     ensures begun { D.is_lawful device.old → (plan : List Line) (head : Head) (s : Standing) (k : ℕ)
         → slots.now ≡ slots_of head.shape → epoch ≡ s.epoch + k → last ≡ greatest s.last (take k s.submitted)
         → IsCut plan head.shape s k states.now
         → Keeps plan head newest s (D.state device.old)
-        → SinceTells (Tells plan head newest s) (Tells plan head (side_after newest k) (cut_at s k states.now)) (D.state device.old).moment (D.state device.new) }
+        → TellsSince (Tells plan head newest s) (Tells plan head (side_after newest k) (cut_at s k states.now)) (D.state device.old) (D.state device.new) }
 
     // After Ok each image tells it cut there.
     ensures done { OnOk result (D.is_lawful device.old → (plan : List Line) (head : Head) (s : Standing) (k : ℕ)

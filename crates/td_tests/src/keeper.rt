@@ -158,6 +158,7 @@ fn texts_and_laws(rt: HostRuntime) -> Result<(), Fail> {
     assert_eq!(rt; texts.as_str(), "epoch 2 not passed, cell 1, 9");
     laws::advance_stands::<Stock>();
     laws::standings_advance::<Stock>();
+    laws::advances_join::<Stock>();
     laws::last_request_never_falls::<Stock>();
     laws::parts_are_apart();
     laws::told_in_parts();

@@ -1,10 +1,10 @@
-use Rattle.td_standing.proofs.Moments.{tells_cleared, tells_submitted, tells_replaced}
+use Rattle.td_standing.proofs.Moments.{cleared_since, tells_submitted, tells_replaced}
 use Rattle.td_standing.proofs.laws.submit_is_safe.Goals as goal
 
 pub returns-clause-cleared : goal.returns-clause-cleared
 returns-clause-cleared g c plan head side s e old mid room each safe =
     let state = g.D.Disk.state in
-    tells_cleared plan head side s e room c.following_is_cleared.ensures.begun (state old) (state mid) each safe
+    cleared_since plan head side s e room c.following_is_cleared.ensures.begun (state old) (state mid) each safe
 
 pub returns-clause-begun : goal.returns-clause-begun
 returns-clause-begun g c plan head side s e x old mid new room fresh ok each lawful clears gone puts =

@@ -1,9 +1,11 @@
+use Rattle.std.proofs.Common.{inl, inr, ⊎_elim}
 use Rattle.td_standing.proofs.laws.write_cut_is_safe.Goals as goal
 
 pub returns-clause-begun : goal.returns-clause-begun
-returns-clause-begun g c plan head side s k states old new each cut fits puts f left =
-    let from = puts.each f left in
-    c.cut_is_written.ensures.begun plan head side s from.0 f k states (each from.0 from.1) cut fits from.2
+returns-clause-begun g c plan head side s k states old new each cut fits puts t f le left = ⊎_elim
+    (λ was. inl was)
+    (λ from. inr (c.cut_is_written.ensures.begun plan head side s from.0 f k states (each from.0 from.1) cut fits from.2))
+    (puts.before t f le left)
 
 pub returns-clause-done : goal.returns-clause-done
 returns-clause-done g c plan head side s k states old new each cut fits lawful puts is_open f image =

@@ -1,4 +1,4 @@
-use Rattle.std.proofs.Common.{◌≡◌, inl, ℕ, suc, ◌+◌, ◌<◌, ◌≤◌, ◌^◌, List, length, Result, Err, sym, ap, ◌∙◌, subst, arith, rules}
+use Rattle.std.proofs.Common.{◌≡◌, inl, inr, ⊎_elim, ℕ, suc, ◌+◌, ◌<◌, ◌≤◌, ◌^◌, List, length, Result, Err, sym, ap, ◌∙◌, subst, arith, rules}
 use Rattle.td_gate.specs.CrashSafe.{CrashSafe}
 use Rattle.td_gate.specs.declared.region.Region.{Region}
 use Rattle.td_gate.specs.Region.{IsSettled, IsOpen, Puts}
@@ -9,21 +9,20 @@ use Rattle.td_journal.specs.Cell.{cell_of, cell_bytes, IsCellBatch}
 use Rattle.td_journal.specs.Images.{Clears, IsGone}
 use Rattle.td_standing.specs.Standing.{submission}
 use Rattle.td_standing.specs.Told.{inputs_of, ring_of}
-use Rattle.td_standing.proofs.Kept.{each_keeps, still_tells, keeps_after}
+use Rattle.td_standing.proofs.Kept.{each_keeps, keeps_after}
 use Rattle.td_standing.proofs.steps.submit_batch.Goals as goal
 
 pub put-requires-clause-len : goal.put-requires-clause-len
 put-requires-clause-len g c = ap length (c.deref.ensures.value ∙ c.in_ok-payload.ensures.ok) ∙ c.cells_read_back.ensures.size c.args.journal.now.m c.args.epoch c.args.request c.args.batch.now c.requires.few ∙ sym (ap (λ (r : Region). r.len) c.cell_of.ensures.region)
 
 pub returns-in_err-payload-clause-begun : goal.returns-in_err-payload-clause-begun
-returns-in_err-payload-clause-begun g c lawful plan head side s ring room fresh valid keeps f left =
-    inl (still_tells plan head side s (g.D.Disk.state c.args.device.now) (λ d. g.met.D.Disk.only_now c.args.device.now d lawful) keeps f left)
+returns-in_err-payload-clause-begun g c lawful plan head side s ring room fresh valid keeps t f le left = inl left
 
 pub returns-in_err-payload-clause-kept : goal.returns-in_err-payload-clause-kept
 returns-in_err-payload-clause-kept g c is lawful plan head side s keeps = keeps
 
 pub returns-in_err-clear-clause-begun : goal.returns-in_err-clear-clause-begun
-returns-in_err-clear-clause-begun g c lawful plan head side s ring room fresh valid keeps f left =
+returns-in_err-clear-clause-begun g c lawful plan head side s ring room fresh valid keeps t f le left =
     let state = g.D.Disk.state in
     let old = c.args.device.now in
     let mid = c.clear.new.device in
@@ -33,7 +32,7 @@ returns-in_err-clear-clause-begun g c lawful plan head side s ring room fresh va
     let clears : CrashSafe (Clears (ring_of head.shape s.epoch) (suc e)) (state old) (state mid) =
     subst (λ (j : Journal). CrashSafe (Clears j (suc e)) (state old) (state mid)) ring
     (subst (λ (n : ℕ). CrashSafe (Clears c.args.journal.now n) (state old) (state mid)) next (c.in_err-clear.ensures.crash_safe lawful settled)) in
-    inl (c.submit_is_safe.ensures.cleared plan head side s e old mid room (each_keeps plan head side s (state old) keeps) clears f left)
+    ⊎_elim (λ was. inl was) (λ told. inr (inl told)) (c.submit_is_safe.ensures.cleared plan head side s e old mid room (each_keeps plan head side s (state old) keeps) clears t f le left)
 
 abbrev as_err : AnyError → Result (Unit {0}) AnyError
 as_err e = Err e
@@ -46,7 +45,7 @@ returns-in_err-clear-clause-kept g c is lawful plan head side s keeps =
     (c.in_err-clear.ensures.durable was lawful keeps.durable) (c.in_err-clear.ensures.same (ap as_err was) lawful)
 
 pub returns-in_err-put-clause-begun : goal.returns-in_err-put-clause-begun
-returns-in_err-put-clause-begun g c lawful plan head side s ring room fresh valid keeps f left =
+returns-in_err-put-clause-begun g c lawful plan head side s ring room fresh valid keeps t f le left =
     let state = g.D.Disk.state in
     let laws = g.met.D.Disk in
     let old = c.args.device.now in
@@ -81,10 +80,10 @@ returns-in_err-put-clause-begun g c lawful plan head side s ring room fresh vali
       fits = c.in_ok-payload.ensures.fits;
       request = fits;
     } in
-    c.submit_is_safe.ensures.begun plan head side s e (submission r x) old mid new room fresh ok (each_keeps plan head side s (state old) keeps) still clears gone puts f left
+    c.submit_is_safe.ensures.begun plan head side s e (submission r x) old mid new room fresh ok (each_keeps plan head side s (state old) keeps) still clears gone puts t f le left
 
 pub returns-clause-begun : goal.returns-clause-begun
-returns-clause-begun g c lawful plan head side s ring room fresh valid keeps f left =
+returns-clause-begun g c lawful plan head side s ring room fresh valid keeps t f le left =
     let state = g.D.Disk.state in
     let laws = g.met.D.Disk in
     let old = c.args.device.now in
@@ -119,7 +118,7 @@ returns-clause-begun g c lawful plan head side s ring room fresh valid keeps f l
       fits = c.in_ok-payload.ensures.fits;
       request = fits;
     } in
-    c.submit_is_safe.ensures.begun plan head side s e (submission r x) old mid new room fresh ok (each_keeps plan head side s (state old) keeps) still clears gone puts f left
+    c.submit_is_safe.ensures.begun plan head side s e (submission r x) old mid new room fresh ok (each_keeps plan head side s (state old) keeps) still clears gone puts t f le left
 
 pub returns-clause-done : goal.returns-clause-done
 returns-clause-done g c lawful plan head side s ring room fresh valid keeps =

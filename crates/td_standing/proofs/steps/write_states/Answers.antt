@@ -9,7 +9,7 @@ use Rattle.td_standing.proofs.Kept.{each_keeps}
 use Rattle.td_standing.proofs.steps.write_states.Goals as goal
 
 pub returns-in_err-write-clause-begun : goal.returns-in_err-write-clause-begun
-returns-in_err-write-clause-begun g c lawful plan head s k where_ epoch last cut keeps f left =
+returns-in_err-write-clause-begun g c lawful plan head s k where_ epoch last cut keeps t f le left =
     let state = g.D.Disk.state in
     let laws = g.met.D.Disk in
     let old = c.args.device.now in
@@ -22,10 +22,10 @@ returns-in_err-write-clause-begun g c lawful plan head s k where_ epoch last cut
     subst (λ (t : Slots). CrashSafe (Puts (slot t (1 - n)) (slot_bytes t.k (s.epoch + k) (greatest s.last (take k s.submitted)) x)) (state old) (state new)) where_
     (subst (λ (e : ℕ). CrashSafe (Puts (slot c.args.slots.now (1 - n)) (slot_bytes c.args.slots.now.k e (greatest s.last (take k s.submitted)) x)) (state old) (state new)) epoch
     (subst (λ (q : ℕ). CrashSafe (Puts (slot c.args.slots.now (1 - n)) (slot_bytes c.args.slots.now.k c.args.epoch q x)) (state old) (state new)) last (c.in_err-write.ensures.crash_safe lawful settled))) in
-    c.write_cut_is_safe.ensures.begun plan head n s k x old new (each_keeps plan head n s (state old) keeps) cut fits puts f left
+    c.write_cut_is_safe.ensures.begun plan head n s k x old new (each_keeps plan head n s (state old) keeps) cut fits puts t f le left
 
 pub returns-clause-begun : goal.returns-clause-begun
-returns-clause-begun g c lawful plan head s k where_ epoch last cut keeps f left =
+returns-clause-begun g c lawful plan head s k where_ epoch last cut keeps t f le left =
     let state = g.D.Disk.state in
     let laws = g.met.D.Disk in
     let old = c.args.device.now in
@@ -38,7 +38,7 @@ returns-clause-begun g c lawful plan head s k where_ epoch last cut keeps f left
     subst (λ (t : Slots). CrashSafe (Puts (slot t (1 - n)) (slot_bytes t.k (s.epoch + k) (greatest s.last (take k s.submitted)) x)) (state old) (state new)) where_
     (subst (λ (e : ℕ). CrashSafe (Puts (slot c.args.slots.now (1 - n)) (slot_bytes c.args.slots.now.k e (greatest s.last (take k s.submitted)) x)) (state old) (state new)) epoch
     (subst (λ (q : ℕ). CrashSafe (Puts (slot c.args.slots.now (1 - n)) (slot_bytes c.args.slots.now.k c.args.epoch q x)) (state old) (state new)) last (c.in_ok-write.ensures.crash_safe lawful settled))) in
-    c.write_cut_is_safe.ensures.begun plan head n s k x old new (each_keeps plan head n s (state old) keeps) cut fits puts f left
+    c.write_cut_is_safe.ensures.begun plan head n s k x old new (each_keeps plan head n s (state old) keeps) cut fits puts t f le left
 
 pub returns-clause-done : goal.returns-clause-done
 returns-clause-done g c lawful plan head s k where_ epoch last cut keeps =

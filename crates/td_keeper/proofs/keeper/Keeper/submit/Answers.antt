@@ -1,4 +1,4 @@
-use Rattle.std.proofs.Common.{◌≡◌, ⊎_elim, Result, Err, ℕ, ◌+◌, ◌≤◌, true, false, List, [], ◌∷◌, ◌++◌, sym, ap, ◌∙◌, subst, arith}
+use Rattle.std.proofs.Common.{◌≡◌, inl, ⊎_elim, Result, Err, ℕ, ◌+◌, ◌≤◌, true, false, List, [], ◌∷◌, ◌++◌, sym, ap, ◌∙◌, subst, arith}
 use Rattle.std.specs.Prelude.{Option, None, length}
 use Rattle.std.proofs.lemmas.List.{length-append}
 use Rattle.td_watch.specs.View.{View}
@@ -13,52 +13,44 @@ use Rattle.td_standing.specs.Standing.{standing_from, submission, last_epoch, wi
 use Rattle.td_standing.specs.Stops.{Advance, Holds}
 use Rattle.td_standing.specs.Told.{inputs_of, ring_of}
 use Rattle.td_standing.specs.Tells.{HasRoom}
-use Rattle.td_standing.specs.Advanced.{SinceAdvance, HeldWhere, states_by}
+use Rattle.td_standing.specs.Advanced.{AdvancesSince, HeldWhere, states_by}
 use Rattle.td_keeper.specs.Keeping.{Keeping, IsKeeping, keeping_of, words_at, published}
 use Rattle.td_keeper.specs.Refused.{submit_refusal}
 use Rattle.td_keeper.proofs.Accepting.{IsAccepted, accepted}
 use Rattle.td_keeper.proofs.Kept.{submitted, elsewhere}
-use Rattle.td_keeper.proofs.Since.{untouched, either, held}
+use Rattle.td_keeper.proofs.Since.{either, from_start, held, by_further}
 use Rattle.td_keeper.proofs.Submitting.{keeps_of, held_of, no_request, lawful_batch, has_room, is_none}
 use Rattle.td_keeper.proofs.keeper.Keeper.submit.Goals as goal
 
 abbrev as_err : AnyError → Result (Unit {0}) AnyError
 as_err e = Err e
 
+pub returns-in-Some-clause-further : goal.returns-in-Some-clause-further
+returns-in-Some-clause-further g c old whole t f le left = inl left
+
 pub returns-in-Some-clause-images : goal.returns-in-Some-clause-images
-returns-in-Some-clause-images g c =
+returns-in-Some-clause-images g c old whole =
+    let state = g.D.Disk.state in
+    by_further g.D.Disk.is_lawful state g.met.D.Disk.only_now g.L.Law.answers c.told_in_parts.ensures.together c.standings_advance.ensures.not_yet c.self.view_is c.self.invariant.2
+    (submission 0 c.args.batch ∷ []) (state c.args.self.now.device) old whole (returns-in-Some-clause-further g c old whole)
+
+pub returns-then-is_err-clause-further : goal.returns-then-is_err-clause-further
+returns-then-is_err-clause-further g c =
     let state = g.D.Disk.state in
     let answers = g.L.Law.answers in
     let device = c.self.inside.device in
-    let plan = c.self.inside.plan in
-    let head = c.self.inside.head in
-    let s = standing_from c.self.inside.checkpoint c.self.inside.submitted.items in
-    let side = c.self.inside.checkpoint.slot in
-    let batch = c.args.batch in
-    let x : List Submitted = submission 0 batch ∷ [] in
-    let still : Advance (states_by answers plan) (with_more s x) s = c.standings_advance.ensures.not_yet (tree_of plan) s x in
-    subst (λ (z : Keeping g.row.D.Denot). g.D.Disk.is_lawful z.device → z.broken ≡ false → SinceAdvance answers z.plan z.standing x (last_epoch z.standing) (state z.device).moment (state z.device)) c.self.view_is
-    (λ old whole. untouched answers plan c.told_in_parts.ensures.together head side s x (state device) (λ d. g.met.D.Disk.only_now device d old) still
-    (keeps_of c.self.inside.broken answers plan head side s (state device) whole (c.self.invariant.2 old)))
+    let x : List Submitted = submission 0 c.args.batch ∷ [] in
+    subst (λ (z : Keeping g.row.D.Denot). g.D.Disk.is_lawful z.device → z.broken ≡ false → AdvancesSince answers z.plan z.standing x (last_epoch z.standing) (state z.device) (state device)) c.self.view_is
+    (λ old whole t f le left. inl left)
 
 pub returns-then-is_err-clause-images : goal.returns-then-is_err-clause-images
-returns-then-is_err-clause-images g c =
+returns-then-is_err-clause-images g c old whole =
     let state = g.D.Disk.state in
-    let answers = g.L.Law.answers in
-    let device = c.self.inside.device in
-    let plan = c.self.inside.plan in
-    let head = c.self.inside.head in
-    let s = standing_from c.self.inside.checkpoint c.self.inside.submitted.items in
-    let side = c.self.inside.checkpoint.slot in
-    let batch = c.args.batch in
-    let x : List Submitted = submission 0 batch ∷ [] in
-    let still : Advance (states_by answers plan) (with_more s x) s = c.standings_advance.ensures.not_yet (tree_of plan) s x in
-    subst (λ (z : Keeping g.row.D.Denot). g.D.Disk.is_lawful z.device → z.broken ≡ false → SinceAdvance answers z.plan z.standing x (last_epoch z.standing) (state z.device).moment (state device)) c.self.view_is
-    (λ old whole. untouched answers plan c.told_in_parts.ensures.together head side s x (state device) (λ d. g.met.D.Disk.only_now device d old) still
-    (keeps_of c.self.inside.broken answers plan head side s (state device) whole (c.self.invariant.2 old)))
+    by_further g.D.Disk.is_lawful state g.met.D.Disk.only_now g.L.Law.answers c.told_in_parts.ensures.together c.standings_advance.ensures.not_yet c.self.view_is c.self.invariant.2
+    (submission 0 c.args.batch ∷ []) (state c.self.inside.device) old whole (returns-then-is_err-clause-further g c old whole)
 
-pub returns-in-Ok-clause-images : goal.returns-in-Ok-clause-images
-returns-in-Ok-clause-images g c =
+pub returns-in-Ok-clause-further : goal.returns-in-Ok-clause-further
+returns-in-Ok-clause-further g c =
     let state = g.D.Disk.state in
     let answers = g.L.Law.answers in
     let device = c.self.inside.device in
@@ -78,11 +70,17 @@ returns-in-Ok-clause-images g c =
     let lawful : is_batch (inputs_of plan) batch ≡ true = lawful_batch c.inputs_are_accepted.ensures c.batches_are_in_order.ensures.written plan batch c.vertices-plan.ensures.lawful c.list-in_order.ensures.sorted taken.named in
     let more : Advance (states_by answers plan) (with_more s x) (with_more s x) = c.standings_advance.ensures.submitted (tree_of plan) s x in
     let holds : Holds (with_more s x) (last_epoch s) = c.standings_advance.ensures.holds s (last_epoch s) x (omega arith) in
-    subst (λ (z : Keeping g.row.D.Denot). g.D.Disk.is_lawful z.device → z.broken ≡ false → SinceAdvance answers z.plan z.standing x (last_epoch z.standing) (state z.device).moment (state c.submit_batch.new.device)) c.self.view_is
+    subst (λ (z : Keeping g.row.D.Denot). g.D.Disk.is_lawful z.device → z.broken ≡ false → AdvancesSince answers z.plan z.standing x (last_epoch z.standing) (state z.device) (state c.submit_batch.new.device)) c.self.view_is
     (λ old whole.
     let keeps = keeps_of c.self.inside.broken answers plan head side s (state device) whole (c.self.invariant.2 old) in
-    either answers plan c.told_in_parts.ensures.together head side s x (state device).moment (state c.submit_batch.new.device) side (with_more s x) still more holds
+    either answers plan c.told_in_parts.ensures.together head side s x (state device) (state c.submit_batch.new.device) side (with_more s x) still more holds
     (c.in-Ok.ensures.begun old plan head side s ring room (no_request head.version s) lawful keeps))
+
+pub returns-in-Ok-clause-images : goal.returns-in-Ok-clause-images
+returns-in-Ok-clause-images g c old whole =
+    let state = g.D.Disk.state in
+    by_further g.D.Disk.is_lawful state g.met.D.Disk.only_now g.L.Law.answers c.told_in_parts.ensures.together c.standings_advance.ensures.not_yet c.self.view_is c.self.invariant.2
+    (submission 0 c.args.batch ∷ []) (state c.submit_batch.new.device) old whole (returns-in-Ok-clause-further g c old whole)
 
 pub invariant_of-self-in-Ok : goal.invariant_of-self-in-Ok
 invariant_of-self-in-Ok g c =
@@ -118,8 +116,8 @@ invariant_of-self-in-Ok g c =
           (held_of c.self.inside.broken answers plan head side (with_more s x) (state new) taken.whole (c.in-Ok.ensures.done old plan head side s ring room (no_request head.version s) lawful keeps)),
     )
 
-pub returns-in-Device-clause-images : goal.returns-in-Device-clause-images
-returns-in-Device-clause-images g c =
+pub returns-in-Device-clause-further : goal.returns-in-Device-clause-further
+returns-in-Device-clause-further g c =
     let state = g.D.Disk.state in
     let answers = g.L.Law.answers in
     let device = c.self.inside.device in
@@ -139,38 +137,50 @@ returns-in-Device-clause-images g c =
     let lawful : is_batch (inputs_of plan) batch ≡ true = lawful_batch c.inputs_are_accepted.ensures c.batches_are_in_order.ensures.written plan batch c.vertices-plan.ensures.lawful c.list-in_order.ensures.sorted taken.named in
     let more : Advance (states_by answers plan) (with_more s x) (with_more s x) = c.standings_advance.ensures.submitted (tree_of plan) s x in
     let holds : Holds (with_more s x) (last_epoch s) = c.standings_advance.ensures.holds s (last_epoch s) x (omega arith) in
-    subst (λ (z : Keeping g.row.D.Denot). g.D.Disk.is_lawful z.device → z.broken ≡ false → SinceAdvance answers z.plan z.standing x (last_epoch z.standing) (state z.device).moment (state c.submit_batch.new.device)) c.self.view_is
+    subst (λ (z : Keeping g.row.D.Denot). g.D.Disk.is_lawful z.device → z.broken ≡ false → AdvancesSince answers z.plan z.standing x (last_epoch z.standing) (state z.device) (state c.submit_batch.new.device)) c.self.view_is
     (λ old whole.
     let keeps = keeps_of c.self.inside.broken answers plan head side s (state device) whole (c.self.invariant.2 old) in
-    either answers plan c.told_in_parts.ensures.together head side s x (state device).moment (state c.submit_batch.new.device) side (with_more s x) still more holds
+    either answers plan c.told_in_parts.ensures.together head side s x (state device) (state c.submit_batch.new.device) side (with_more s x) still more holds
+    (c.in-Err.ensures.begun old plan head side s ring room (no_request head.version s) lawful keeps))
+
+pub returns-in-Device-clause-images : goal.returns-in-Device-clause-images
+returns-in-Device-clause-images g c old whole =
+    let state = g.D.Disk.state in
+    by_further g.D.Disk.is_lawful state g.met.D.Disk.only_now g.L.Law.answers c.told_in_parts.ensures.together c.standings_advance.ensures.not_yet c.self.view_is c.self.invariant.2
+    (submission 0 c.args.batch ∷ []) (state c.submit_batch.new.device) old whole (returns-in-Device-clause-further g c old whole)
+
+pub returns-in_default-refusal-clause-further : goal.returns-in_default-refusal-clause-further
+returns-in_default-refusal-clause-further g c =
+    let state = g.D.Disk.state in
+    let answers = g.L.Law.answers in
+    let device = c.self.inside.device in
+    let plan = c.self.inside.plan in
+    let head = c.self.inside.head in
+    let s = standing_from c.self.inside.checkpoint c.self.inside.submitted.items in
+    let side = c.self.inside.checkpoint.slot in
+    let batch = c.args.batch in
+    let x : List Submitted = submission 0 batch ∷ [] in
+    let still : Advance (states_by answers plan) (with_more s x) s = c.standings_advance.ensures.not_yet (tree_of plan) s x in
+    let k = keeping_of device plan head c.self.inside.checkpoint c.self.inside.submitted.items c.self.inside.broken c.self.inside.taken c.self.inside.collected c.self.inside.queue.items c.self.inside.watch in
+    let none : submit_refusal k batch ≡ None = ap (λ (z : Keeping g.row.D.Denot). submit_refusal z batch) c.self.view_is ∙ (sym c.refusal_of.ensures ∙ is_none c.refusal_of.result c.in_default.not-Some) in
+    let taken : IsAccepted k batch = accepted k batch none in
+    let epoch : c.last_epoch-epoch.result + 1 ≡ last_epoch s + 1 = ap (λ (n : ℕ). n + 1) (c.last_epoch-epoch.ensures ∙ sym (ap (λ (z : Keeping g.row.D.Denot). last_epoch z.standing) c.self.view_is)) in
+    let ring : c.journal-journal.result ≡ ring_of head.shape s.epoch = c.journal-journal.ensures ∙ sym (ap (λ (z : Keeping g.row.D.Denot). ring_of z.head.shape z.standing.epoch) c.self.view_is) in
+    let room : HasRoom head.shape s (c.last_epoch-epoch.result + 1) = has_room k batch (c.last_epoch-epoch.result + 1) taken epoch in
+    let lawful : is_batch (inputs_of plan) batch ≡ true = lawful_batch c.inputs_are_accepted.ensures c.batches_are_in_order.ensures.written plan batch c.vertices-plan.ensures.lawful c.list-in_order.ensures.sorted taken.named in
+    let more : Advance (states_by answers plan) (with_more s x) (with_more s x) = c.standings_advance.ensures.submitted (tree_of plan) s x in
+    let holds : Holds (with_more s x) (last_epoch s) = c.standings_advance.ensures.holds s (last_epoch s) x (omega arith) in
+    subst (λ (z : Keeping g.row.D.Denot). g.D.Disk.is_lawful z.device → z.broken ≡ false → AdvancesSince answers z.plan z.standing x (last_epoch z.standing) (state z.device) (state c.submit_batch.new.device)) c.self.view_is
+    (λ old whole.
+    let keeps = keeps_of c.self.inside.broken answers plan head side s (state device) whole (c.self.invariant.2 old) in
+    either answers plan c.told_in_parts.ensures.together head side s x (state device) (state c.submit_batch.new.device) side (with_more s x) still more holds
     (c.in-Err.ensures.begun old plan head side s ring room (no_request head.version s) lawful keeps))
 
 pub returns-in_default-refusal-clause-images : goal.returns-in_default-refusal-clause-images
-returns-in_default-refusal-clause-images g c =
+returns-in_default-refusal-clause-images g c old whole =
     let state = g.D.Disk.state in
-    let answers = g.L.Law.answers in
-    let device = c.self.inside.device in
-    let plan = c.self.inside.plan in
-    let head = c.self.inside.head in
-    let s = standing_from c.self.inside.checkpoint c.self.inside.submitted.items in
-    let side = c.self.inside.checkpoint.slot in
-    let batch = c.args.batch in
-    let x : List Submitted = submission 0 batch ∷ [] in
-    let still : Advance (states_by answers plan) (with_more s x) s = c.standings_advance.ensures.not_yet (tree_of plan) s x in
-    let k = keeping_of device plan head c.self.inside.checkpoint c.self.inside.submitted.items c.self.inside.broken c.self.inside.taken c.self.inside.collected c.self.inside.queue.items c.self.inside.watch in
-    let none : submit_refusal k batch ≡ None = ap (λ (z : Keeping g.row.D.Denot). submit_refusal z batch) c.self.view_is ∙ (sym c.refusal_of.ensures ∙ is_none c.refusal_of.result c.in_default.not-Some) in
-    let taken : IsAccepted k batch = accepted k batch none in
-    let epoch : c.last_epoch-epoch.result + 1 ≡ last_epoch s + 1 = ap (λ (n : ℕ). n + 1) (c.last_epoch-epoch.ensures ∙ sym (ap (λ (z : Keeping g.row.D.Denot). last_epoch z.standing) c.self.view_is)) in
-    let ring : c.journal-journal.result ≡ ring_of head.shape s.epoch = c.journal-journal.ensures ∙ sym (ap (λ (z : Keeping g.row.D.Denot). ring_of z.head.shape z.standing.epoch) c.self.view_is) in
-    let room : HasRoom head.shape s (c.last_epoch-epoch.result + 1) = has_room k batch (c.last_epoch-epoch.result + 1) taken epoch in
-    let lawful : is_batch (inputs_of plan) batch ≡ true = lawful_batch c.inputs_are_accepted.ensures c.batches_are_in_order.ensures.written plan batch c.vertices-plan.ensures.lawful c.list-in_order.ensures.sorted taken.named in
-    let more : Advance (states_by answers plan) (with_more s x) (with_more s x) = c.standings_advance.ensures.submitted (tree_of plan) s x in
-    let holds : Holds (with_more s x) (last_epoch s) = c.standings_advance.ensures.holds s (last_epoch s) x (omega arith) in
-    subst (λ (z : Keeping g.row.D.Denot). g.D.Disk.is_lawful z.device → z.broken ≡ false → SinceAdvance answers z.plan z.standing x (last_epoch z.standing) (state z.device).moment (state c.submit_batch.new.device)) c.self.view_is
-    (λ old whole.
-    let keeps = keeps_of c.self.inside.broken answers plan head side s (state device) whole (c.self.invariant.2 old) in
-    either answers plan c.told_in_parts.ensures.together head side s x (state device).moment (state c.submit_batch.new.device) side (with_more s x) still more holds
-    (c.in-Err.ensures.begun old plan head side s ring room (no_request head.version s) lawful keeps))
+    by_further g.D.Disk.is_lawful state g.met.D.Disk.only_now g.L.Law.answers c.told_in_parts.ensures.together c.standings_advance.ensures.not_yet c.self.view_is c.self.invariant.2
+    (submission 0 c.args.batch ∷ []) (state c.submit_batch.new.device) old whole (returns-in_default-refusal-clause-further g c old whole)
 
 pub invariant_of-self-in-Device : goal.invariant_of-self-in-Device
 invariant_of-self-in-Device g c =
@@ -203,8 +213,9 @@ invariant_of-self-in-Device g c =
           let later : (state device).moment ≤ (state new).moment = c.in-Err.ensures.later old keeps.durable in
           subst (λ (v : List Submitted). HeldWhere true answers plan head side (standing_from c.self.inside.checkpoint v) (state new)) (sym c.reserve.ensures.items)
           (held answers plan head side s x (state device).moment (state new) (λ d now. g.met.D.Disk.counts_now new (state device).moment d l later now)
-          (either answers plan c.told_in_parts.ensures.together head side s x (state device).moment (state new) side (with_more s x) still more holds
-          (c.in-Err.ensures.begun old plan head side s ring room (no_request head.version s) lawful keeps))),
+          (from_start answers plan c.told_in_parts.ensures.together head side s x (state device) (state new) (λ d. g.met.D.Disk.only_now device d old) still keeps
+          (either answers plan c.told_in_parts.ensures.together head side s x (state device) (state new) side (with_more s x) still more holds
+          (c.in-Err.ensures.begun old plan head side s ring room (no_request head.version s) lawful keeps)))),
     )
 
 pub invariant_of-self-in_default-refusal : goal.invariant_of-self-in_default-refusal

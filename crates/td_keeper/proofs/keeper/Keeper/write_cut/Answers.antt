@@ -11,37 +11,35 @@ use Rattle.td_standing.specs.Standing.{standing_from, last_epoch, with_more, cut
 use Rattle.td_standing.specs.Stops.{Advance, Holds}
 use Rattle.td_standing.specs.Told.{folds_of, slots_of}
 use Rattle.td_standing.specs.Tells.{IsCut, side_after}
-use Rattle.td_standing.specs.Advanced.{SinceAdvance, HeldWhere, states_by}
+use Rattle.td_standing.specs.Advanced.{AdvancesSince, HeldWhere, states_by}
 use Rattle.td_keeper.specs.declared.keeper.Taken.{Taken}
 use Rattle.td_keeper.specs.Keeping.{Keeping, IsKeeping, keeping_of, with_checkpoint, published}
 use Rattle.td_keeper.specs.Refused.{write_refusal}
 use Rattle.td_keeper.proofs.Cutting.{lawful, most, is_cut, advance, as_written, not_above, write_none}
 use Rattle.td_keeper.proofs.Kept.{written, set_down}
-use Rattle.td_keeper.proofs.Since.{untouched, either, held}
+use Rattle.td_keeper.proofs.Since.{either, from_start, held, by_further}
 use Rattle.td_keeper.proofs.Submitting.{keeps_of, held_of}
 use Rattle.td_keeper.proofs.keeper.Keeper.write_cut.Goals as goal
 
 abbrev as_err : AnyError → Result (Unit {0}) AnyError
 as_err e = Err e
 
-pub returns-in_default-clause-images : goal.returns-in_default-clause-images
-returns-in_default-clause-images g c =
+pub returns-in_default-clause-further : goal.returns-in_default-clause-further
+returns-in_default-clause-further g c =
     let state = g.D.Disk.state in
     let answers = g.L.Law.answers in
     let device = c.self.inside.device in
-    let plan = c.self.inside.plan in
-    let head = c.self.inside.head in
-    let checkpoint = c.self.inside.checkpoint in
-    let side = checkpoint.slot in
-    let w = c.self.inside.submitted.items in
-    let s = standing_from checkpoint w in
-    let still : Advance (states_by answers plan) (with_more s []) s = c.standings_advance.ensures.not_yet (tree_of plan) s [] in
-    subst (λ (z : Keeping g.row.D.Denot). g.D.Disk.is_lawful z.device → z.broken ≡ false → SinceAdvance answers z.plan z.standing [] (last_epoch z.standing) (state z.device).moment (state device)) c.self.view_is
-    (λ old whole. untouched answers plan c.told_in_parts.ensures.together head side s [] (state device) (λ d. g.met.D.Disk.only_now device d old) still
-    (keeps_of c.self.inside.broken answers plan head side s (state device) whole (c.self.invariant.2 old)))
+    subst (λ (z : Keeping g.row.D.Denot). g.D.Disk.is_lawful z.device → z.broken ≡ false → AdvancesSince answers z.plan z.standing [] (last_epoch z.standing) (state z.device) (state device)) c.self.view_is
+    (λ old whole t f le left. inl left)
 
-pub returns-in-Ok-clause-images : goal.returns-in-Ok-clause-images
-returns-in-Ok-clause-images g c =
+pub returns-in_default-clause-images : goal.returns-in_default-clause-images
+returns-in_default-clause-images g c old whole =
+    let state = g.D.Disk.state in
+    by_further g.D.Disk.is_lawful state g.met.D.Disk.only_now g.L.Law.answers c.told_in_parts.ensures.together c.standings_advance.ensures.not_yet c.self.view_is c.self.invariant.2
+    [] (state c.self.inside.device) old whole (returns-in_default-clause-further g c old whole)
+
+pub returns-in-Ok-clause-further : goal.returns-in-Ok-clause-further
+returns-in-Ok-clause-further g c =
     let state = g.D.Disk.state in
     let answers = g.L.Law.answers in
     let device = c.self.inside.device in
@@ -68,14 +66,20 @@ returns-in-Ok-clause-images g c =
     let last : c.last_of_first-last.result ≡ greatest s.last (take n w) = c.last_of_first-last.ensures in
     let next : Advance (states_by answers plan) (with_more s []) (cut_at s n cut.states) = advance answers k is (c.standings_advance.ensures.cut (tree_of plan) s n (most answers k is)) in
     let holds : Holds (cut_at s n cut.states) (last_epoch s) = c.standings_advance.ensures.holds_cut s (last_epoch s) n cut.states (most answers k is) (omega arith) in
-    subst (λ (z : Keeping g.row.D.Denot). g.D.Disk.is_lawful z.device → z.broken ≡ false → SinceAdvance answers z.plan z.standing [] (last_epoch z.standing) (state z.device).moment (state new)) c.self.view_is
+    subst (λ (z : Keeping g.row.D.Denot). g.D.Disk.is_lawful z.device → z.broken ≡ false → AdvancesSince answers z.plan z.standing [] (last_epoch z.standing) (state z.device) (state new)) c.self.view_is
     (λ old whole.
     let keeps = keeps_of c.self.inside.broken answers plan head side s (state device) whole (c.self.invariant.2 old) in
-    either answers plan c.told_in_parts.ensures.together head side s [] (state device).moment (state new) (side_after side n) (cut_at s n cut.states) still next holds
+    either answers plan c.told_in_parts.ensures.together head side s [] (state device) (state new) (side_after side n) (cut_at s n cut.states) still next holds
     (c.in-Ok.ensures.begun old plan head s n slots epoch last is_a_cut keeps))
 
-pub returns-in-Device-clause-images : goal.returns-in-Device-clause-images
-returns-in-Device-clause-images g c =
+pub returns-in-Ok-clause-images : goal.returns-in-Ok-clause-images
+returns-in-Ok-clause-images g c old whole =
+    let state = g.D.Disk.state in
+    by_further g.D.Disk.is_lawful state g.met.D.Disk.only_now g.L.Law.answers c.told_in_parts.ensures.together c.standings_advance.ensures.not_yet c.self.view_is c.self.invariant.2
+    [] (state c.write_states.new.device) old whole (returns-in-Ok-clause-further g c old whole)
+
+pub returns-in-Device-clause-further : goal.returns-in-Device-clause-further
+returns-in-Device-clause-further g c =
     let state = g.D.Disk.state in
     let answers = g.L.Law.answers in
     let device = c.self.inside.device in
@@ -102,49 +106,49 @@ returns-in-Device-clause-images g c =
     let last : c.last_of_first-last.result ≡ greatest s.last (take n w) = c.last_of_first-last.ensures in
     let next : Advance (states_by answers plan) (with_more s []) (cut_at s n cut.states) = advance answers k is (c.standings_advance.ensures.cut (tree_of plan) s n (most answers k is)) in
     let holds : Holds (cut_at s n cut.states) (last_epoch s) = c.standings_advance.ensures.holds_cut s (last_epoch s) n cut.states (most answers k is) (omega arith) in
-    subst (λ (z : Keeping g.row.D.Denot). g.D.Disk.is_lawful z.device → z.broken ≡ false → SinceAdvance answers z.plan z.standing [] (last_epoch z.standing) (state z.device).moment (state new)) c.self.view_is
+    subst (λ (z : Keeping g.row.D.Denot). g.D.Disk.is_lawful z.device → z.broken ≡ false → AdvancesSince answers z.plan z.standing [] (last_epoch z.standing) (state z.device) (state new)) c.self.view_is
     (λ old whole.
     let keeps = keeps_of c.self.inside.broken answers plan head side s (state device) whole (c.self.invariant.2 old) in
-    either answers plan c.told_in_parts.ensures.together head side s [] (state device).moment (state new) (side_after side n) (cut_at s n cut.states) still next holds
+    either answers plan c.told_in_parts.ensures.together head side s [] (state device) (state new) (side_after side n) (cut_at s n cut.states) still next holds
     (c.in-Err.ensures.begun old plan head s n slots epoch last is_a_cut keeps))
 
-pub returns-in-TooManyKeys-clause-images : goal.returns-in-TooManyKeys-clause-images
-returns-in-TooManyKeys-clause-images g c =
+pub returns-in-Device-clause-images : goal.returns-in-Device-clause-images
+returns-in-Device-clause-images g c old whole =
+    let state = g.D.Disk.state in
+    by_further g.D.Disk.is_lawful state g.met.D.Disk.only_now g.L.Law.answers c.told_in_parts.ensures.together c.standings_advance.ensures.not_yet c.self.view_is c.self.invariant.2
+    [] (state c.write_states.new.device) old whole (returns-in-Device-clause-further g c old whole)
+
+pub returns-in-TooManyKeys-clause-further : goal.returns-in-TooManyKeys-clause-further
+returns-in-TooManyKeys-clause-further g c =
     let state = g.D.Disk.state in
     let answers = g.L.Law.answers in
     let device = c.self.inside.device in
-    let plan = c.self.inside.plan in
-    let head = c.self.inside.head in
-    let checkpoint = c.self.inside.checkpoint in
-    let side = checkpoint.slot in
-    let w = c.self.inside.submitted.items in
-    let s = standing_from checkpoint w in
-    let still : Advance (states_by answers plan) (with_more s []) s = c.standings_advance.ensures.not_yet (tree_of plan) s [] in
     let new = c.write_states.new.device in
     let same : new ≡ device = ⊎_elim (λ d. (let m = c.in-TooManyKeys.is in absurd (cc (d, m)))) (λ e. e) c.in-Err.ensures.untouched in
-    subst (λ (z : Keeping g.row.D.Denot). g.D.Disk.is_lawful z.device → z.broken ≡ false → SinceAdvance answers z.plan z.standing [] (last_epoch z.standing) (state z.device).moment (state new)) c.self.view_is
-    (λ old whole. subst (λ (d : g.row.D.Denot). SinceAdvance answers plan s [] (last_epoch s) (state device).moment (state d)) (sym same)
-    (untouched answers plan c.told_in_parts.ensures.together head side s [] (state device) (λ d. g.met.D.Disk.only_now device d old) still
-    (keeps_of c.self.inside.broken answers plan head side s (state device) whole (c.self.invariant.2 old))))
+    subst (λ (z : Keeping g.row.D.Denot). g.D.Disk.is_lawful z.device → z.broken ≡ false → AdvancesSince answers z.plan z.standing [] (last_epoch z.standing) (state z.device) (state new)) c.self.view_is
+    (λ old whole t f le left. inl (subst (λ (d : g.row.D.Denot). (state d).since t f) same left))
 
-pub returns-in_default-refusal-clause-images : goal.returns-in_default-refusal-clause-images
-returns-in_default-refusal-clause-images g c =
+pub returns-in-TooManyKeys-clause-images : goal.returns-in-TooManyKeys-clause-images
+returns-in-TooManyKeys-clause-images g c old whole =
+    let state = g.D.Disk.state in
+    by_further g.D.Disk.is_lawful state g.met.D.Disk.only_now g.L.Law.answers c.told_in_parts.ensures.together c.standings_advance.ensures.not_yet c.self.view_is c.self.invariant.2
+    [] (state c.write_states.new.device) old whole (returns-in-TooManyKeys-clause-further g c old whole)
+
+pub returns-in_default-refusal-clause-further : goal.returns-in_default-refusal-clause-further
+returns-in_default-refusal-clause-further g c =
     let state = g.D.Disk.state in
     let answers = g.L.Law.answers in
     let device = c.self.inside.device in
-    let plan = c.self.inside.plan in
-    let head = c.self.inside.head in
-    let checkpoint = c.self.inside.checkpoint in
-    let side = checkpoint.slot in
-    let w = c.self.inside.submitted.items in
-    let s = standing_from checkpoint w in
-    let still : Advance (states_by answers plan) (with_more s []) s = c.standings_advance.ensures.not_yet (tree_of plan) s [] in
     let new = c.write_states.new.device in
     let same : new ≡ device = ⊎_elim (λ d. absurd (c.in_default-refusal.not-Device d)) (λ e. e) c.in-Err.ensures.untouched in
-    subst (λ (z : Keeping g.row.D.Denot). g.D.Disk.is_lawful z.device → z.broken ≡ false → SinceAdvance answers z.plan z.standing [] (last_epoch z.standing) (state z.device).moment (state new)) c.self.view_is
-    (λ old whole. subst (λ (d : g.row.D.Denot). SinceAdvance answers plan s [] (last_epoch s) (state device).moment (state d)) (sym same)
-    (untouched answers plan c.told_in_parts.ensures.together head side s [] (state device) (λ d. g.met.D.Disk.only_now device d old) still
-    (keeps_of c.self.inside.broken answers plan head side s (state device) whole (c.self.invariant.2 old))))
+    subst (λ (z : Keeping g.row.D.Denot). g.D.Disk.is_lawful z.device → z.broken ≡ false → AdvancesSince answers z.plan z.standing [] (last_epoch z.standing) (state z.device) (state new)) c.self.view_is
+    (λ old whole t f le left. inl (subst (λ (d : g.row.D.Denot). (state d).since t f) same left))
+
+pub returns-in_default-refusal-clause-images : goal.returns-in_default-refusal-clause-images
+returns-in_default-refusal-clause-images g c old whole =
+    let state = g.D.Disk.state in
+    by_further g.D.Disk.is_lawful state g.met.D.Disk.only_now g.L.Law.answers c.told_in_parts.ensures.together c.standings_advance.ensures.not_yet c.self.view_is c.self.invariant.2
+    [] (state c.write_states.new.device) old whole (returns-in_default-refusal-clause-further g c old whole)
 
 pub returns-in_default-refusal-clause-refused : goal.returns-in_default-refusal-clause-refused
 returns-in_default-refusal-clause-refused g c =
@@ -267,6 +271,7 @@ invariant_of-self-in-Device g c =
           let keeps = keeps_of c.self.inside.broken answers plan head side s (state device) c.if-self.false (c.self.invariant.2 old) in
           let later : (state device).moment ≤ (state new).moment = c.in-Err.ensures.later old keeps.durable in
           held answers plan head side s [] (state device).moment (state new) (λ d now. g.met.D.Disk.counts_now new (state device).moment d l later now)
-          (either answers plan c.told_in_parts.ensures.together head side s [] (state device).moment (state new) (side_after side n) (cut_at s n cut.states) still next holds
-          (c.in-Err.ensures.begun old plan head s n slots epoch last is_a_cut keeps)),
+          (from_start answers plan c.told_in_parts.ensures.together head side s [] (state device) (state new) (λ d. g.met.D.Disk.only_now device d old) still keeps
+          (either answers plan c.told_in_parts.ensures.together head side s [] (state device) (state new) (side_after side n) (cut_at s n cut.states) still next holds
+          (c.in-Err.ensures.begun old plan head s n slots epoch last is_a_cut keeps))),
     )
