@@ -1,5 +1,6 @@
 use Rattle.std.proofs.Common.{◌≡◌, ◌+◌, ◌++◌, length, sym, ap, ◌∙◌, subst, arith}
 use Rattle.td_watch.specs.Words.{KeepsOrder}
+use Rattle.td_machine.specs.State.{HallState}
 use Rattle.td_machine.specs.Steps.{collect_step}
 use Rattle.td_machine.specs.Sound.{outs_by}
 use Rattle.td_standing.specs.Standing.{standing_from}
@@ -12,20 +13,20 @@ use Rattle.td_keeper.proofs.keeper.Keeper.bring_in.Goals as goal
 pub append-requires : goal.append-requires
 append-requires g c =
     let keeping = subst (λ (q : Keeping g.row.D.Denot). IsKeeping q g.L.Law.answers) c.self.view_is c.self.invariant.1 in
-    let few = room g.L.Law.answers c.run_joins.ensures.states c.run_joins.ensures.outs c.args.self.now keeping (g.H.AnyHall.state c.args.hall.now) c.requires c.each_is_sound.ensures.sound c.in-Ok.outs.items c.collect.new.self c.in-Ok.ensures.ok in
-    omega (arith, few, c.in_ok-reserve.ensures.ok, c.len.ensures, c.inputs.result.now.ok.0, ap length c.inputs.ensures)
+    let few = room g.L.Law.answers c.run_joins.ensures.states c.run_joins.ensures.outs c.args.self.now keeping (g.H.AnyHall.state c.args.hall.now) c.requires c.each_is_sound.ensures.sound c.in-Ok.outs.items (g.H.AnyHall.state c.collect_outputs.new.self) c.in-Ok.ensures.ok in
+    omega (arith, few, c.in_ok-reserve.ensures.ok, c.len.ensures, c.inputs.result.now.ok.0, ap length c.inputs.ensures, ap (λ (S : HallState). length S.batches) c.hall.ensures)
 
 pub overflow_add-self : goal.overflow_add-self
 overflow_add-self g c =
     let keeping = subst (λ (q : Keeping g.row.D.Denot). IsKeeping q g.L.Law.answers) c.self.view_is c.self.invariant.1 in
-    let few = fits g.L.Law.answers c.run_joins.ensures.states c.run_joins.ensures.outs c.args.self.now keeping (g.H.AnyHall.state c.args.hall.now) c.requires c.each_is_sound.ensures.sound c.in-Ok.outs.items c.collect.new.self c.in-Ok.ensures.ok in
+    let few = fits g.L.Law.answers c.run_joins.ensures.states c.run_joins.ensures.outs c.args.self.now keeping (g.H.AnyHall.state c.args.hall.now) c.requires c.each_is_sound.ensures.sound c.in-Ok.outs.items (g.H.AnyHall.state c.collect_outputs.new.self) c.in-Ok.ensures.ok in
     let same = ap (λ (q : Keeping g.row.D.Denot). q.collected) c.self.view_is in
     omega (arith, few, same, c.len-count.ensures, c.in-Ok.outs.ok.0, c.self.ranges)
 
 pub returns-clause-meaning : goal.returns-clause-meaning
 returns-clause-meaning g c =
     let keeping = subst (λ (q : Keeping g.row.D.Denot). IsKeeping q g.L.Law.answers) c.self.view_is c.self.invariant.1 in
-    meant_by g.L.Law.answers c.run_joins.ensures.states c.run_joins.ensures.outs c.args.self.now keeping (g.H.AnyHall.state c.args.hall.now) c.requires c.each_is_sound.ensures.sound c.in-Ok.outs.items c.collect.new.self c.in-Ok.ensures.ok c.len-count.result (c.len-count.ensures ∙ c.in-Ok.outs.ok.0)
+    meant_by g.L.Law.answers c.run_joins.ensures.states c.run_joins.ensures.outs c.args.self.now keeping (g.H.AnyHall.state c.args.hall.now) c.requires c.each_is_sound.ensures.sound c.in-Ok.outs.items (g.H.AnyHall.state c.collect_outputs.new.self) c.in-Ok.ensures.ok c.len-count.result (c.len-count.ensures ∙ c.in-Ok.outs.ok.0)
 
 pub publish-requires-clause-ordered : goal.publish-requires-clause-ordered
 publish-requires-clause-ordered g c =
@@ -33,7 +34,7 @@ publish-requires-clause-ordered g c =
     let S = (g.H.AnyHall.state c.args.hall.now) in
     let keeping = subst (λ (q : Keeping g.row.D.Denot). IsKeeping q g.L.Law.answers) c.self.view_is c.self.invariant.1 in
     let right = still g.L.Law.answers c.run_joins.ensures.states c.run_joins.ensures.outs k keeping S c.requires c.each_is_sound.ensures.sound in
-    let many = as_many g.L.Law.answers c.run_joins.ensures.states c.run_joins.ensures.outs k keeping S c.requires c.each_is_sound.ensures.sound c.in-Ok.outs.items c.collect.new.self c.in-Ok.ensures.ok in
+    let many = as_many g.L.Law.answers c.run_joins.ensures.states c.run_joins.ensures.outs k keeping S c.requires c.each_is_sound.ensures.sound c.in-Ok.outs.items (g.H.AnyHall.state c.collect_outputs.new.self) c.in-Ok.ensures.ok in
     let same = ap (λ (q : Keeping g.row.D.Denot). q.collected) c.self.view_is in
     let count : c.self.inside.collected + c.len-count.result ≡ (collect_step S).1.collected = omega (arith, many, same, c.requires.collected, c.len-count.ensures, c.in-Ok.outs.ok.0) in
     let standing = ap (λ (q : Keeping g.row.D.Denot). q.standing) c.self.view_is in
@@ -46,7 +47,7 @@ invariant_of-self-2 g c =
     let inside = c.self.inside in
     let keeping = subst (λ (q : Keeping g.row.D.Denot). IsKeeping q g.L.Law.answers) c.self.view_is c.self.invariant.1 in
     let right = still g.L.Law.answers c.run_joins.ensures.states c.run_joins.ensures.outs k keeping S c.requires c.each_is_sound.ensures.sound in
-    let many = as_many g.L.Law.answers c.run_joins.ensures.states c.run_joins.ensures.outs k keeping S c.requires c.each_is_sound.ensures.sound c.in-Ok.outs.items c.collect.new.self c.in-Ok.ensures.ok in
+    let many = as_many g.L.Law.answers c.run_joins.ensures.states c.run_joins.ensures.outs k keeping S c.requires c.each_is_sound.ensures.sound c.in-Ok.outs.items (g.H.AnyHall.state c.collect_outputs.new.self) c.in-Ok.ensures.ok in
     let same = ap (λ (q : Keeping g.row.D.Denot). q.collected) c.self.view_is in
     let count : inside.collected + c.len-count.result ≡ (collect_step S).1.collected = omega (arith, many, same, c.requires.collected, c.len-count.ensures, c.in-Ok.outs.ok.0) in
     let outs : c.append.new.queue.items ≡ inside.queue.items ++ outs_by (collect_step S).0 =

@@ -12,10 +12,11 @@ pub returns-clause-gives : goal.returns-clause-gives
 returns-clause-gives g c =
     let given = c.into_iter-seat-iterator.ensures.into_iter_gives in
     let end = YieldsList-end (YieldsList-from_vec c.args.seats.items given.0 (given.1 ∙ c.args.seats.ok.0)) c.loop-seat.yielded c.loop-seat.seat-iterator c.loop-seat.yielded_by c.next.result c.next.new.self c.in-None.is c.next.ensures.steps in
-    let all = sym (map-id c.loop-seat.yielded) ∙ end.0 in
+    let all : c.loop-seat.yielded ≡ c.args.seats.items = sym (map-id c.loop-seat.yielded) ∙ end.0 in
     let shown = sym c.are_all.ensures ∙ c.if-not-are_all.false in
-    let many = as_many (length c.as_slice.result.now) c.args.self.shards _ shown in
-    let whole = c.audit.ensures.whole (c.loop-seat.invariant.parts ∙ (ap length all ∙ (ap length (sym c.as_slice.ensures.value) ∙ (many ∙ (c.args.self.shards_is ∙ sym c.requires))))) in
+    let many : length c.as_slice.result.now ≡ c.args.self.shards = as_many (length c.as_slice.result.now) c.args.self.shards _ shown in
+    let parts : c.loop-seat.all.parts ≡ g.K.Ledger.parts = c.loop-seat.invariant.parts ∙ (ap length all ∙ (ap length (sym c.as_slice.ensures.value) ∙ (many ∙ (c.args.self.shards_is ∙ sym c.requires)))) in
+    let whole = c.audit.ensures.whole parts in
     let total : c.into_parts-hall.result.1.total ≡ sum (map (λ s. padded_value s.gives) c.args.seats.items) = sym whole ∙ (c.loop-seat.invariant.amount ∙ ap (λ l. sum (map (λ s. padded_value s.gives) l)) all) in
     omega (arith, total, c.into_parts-hall.ensures.given)
 
