@@ -10,3 +10,4 @@ mod Rows
 mod Runs
 mod Since
 mod Submitting
+pub mod Driving

@@ -1,3 +1,4 @@
 pub mod Keeping
 pub mod Refused
 pub mod Halls
+pub mod Driven

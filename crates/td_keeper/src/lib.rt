@@ -4,7 +4,9 @@
 #![tactic(auto)]
 
 mod collect;
+mod command;
 mod cut;
+mod drive;
 mod keeper;
 pub mod laws;
 mod own;
@@ -13,4 +15,5 @@ mod submit;
 mod watch;
 mod write_cut;
 
+pub use command::{Command, Reply};
 pub use keeper::Keeper;

@@ -1,0 +1,46 @@
+//! What a keeper is told to do beside workers, and what it replies.
+use td_stamp::{Batch, EpochOut};
+use td_standing::KeeperError;
+
+/// What a keeper is told to do.
+#[derive(Debug, Drop)]
+pub enum Command {
+    /// To submit a batch.
+    Submit(Batch),
+    /// To release into the pool's hall the epochs that it lacks.
+    Release,
+    /// To wait until every released epoch has passed, or the pool is stopped.
+    Settle,
+    /// To collect what the pool's hall has for it.
+    Collect,
+    /// To hand out the outputs of one epoch.
+    NextOut,
+    /// To cut the pool's hall.
+    Cut,
+    /// To write the cut that waits.
+    WriteCut,
+}
+
+/// What it replies.
+#[derive(Debug, Drop)]
+pub enum Reply {
+    /// The batch is acknowledged as this epoch.
+    Submitted(u64),
+    /// So many epochs were released.
+    Released(u64),
+    /// Every released epoch has passed.
+    Settled,
+    /// So many epochs were collected.
+    Collected(u64),
+    /// The outputs of the next epoch, if there is one.
+    Out(Option<EpochOut>),
+    /// A cut at this epoch was taken.
+    CutTaken(u64),
+    /// The cut that waited was written, and its epoch; None where none waited.
+    Written(Option<u64>),
+    /// The command was refused. A batch that was to be submitted comes back.
+    Refused {
+        error: KeeperError,
+        batch: Option<Batch>,
+    },
+}
