@@ -1,10 +1,10 @@
 -- What the journal has as a batch, the plan accepts.
-use Rattle.std.proofs.Common.{◌≡◌, ℕ, zero, suc, ◌==◌, Bool, true, false, ◌&&◌, ◌||◌, cond, List, [], ◌∷◌, map, filter, length, slice_get, Option, Some, None, refl, sym, ap, ◌∙◌, subst, arith, true≢false}
+use Rattle.std.proofs.Common.{◌≡◌, ℕ, suc, ◌==◌, Bool, true, false, ◌&&◌, ◌||◌, cond, List, [], ◌∷◌, map, filter, slice_get, Option, Some, None, refl, sym, ap, ◌∙◌, arith, true≢false}
 use Rattle.std.specs.List.{list_all, list_any}
 use Rattle.td_stamp.specs.declared.values.Entry.{Entry}
 use Rattle.td_plan.specs.Lines.{Line}
 use Rattle.td_plan.specs.Blocks.{PlacedVertex, vertices}
-use Rattle.td_plan.specs.Faults.{IsPlan, is_input}
+use Rattle.td_plan.specs.Faults.{is_input}
 use Rattle.td_plan.specs.LookedUp.{IsLookedUp}
 use Rattle.td_plan.specs.Inputs.{is_input_of}
 use Rattle.td_journal.specs.Cell.{is_batch}

@@ -1,10 +1,9 @@
 -- Batches of the journal, released into a hall one after another.
-use Rattle.std.proofs.Common.{◌≡◌, ℕ, ◌+◌, ◌-◌, ◌^◌, ◌≤◌, ◌<◌, false, true, Some, List, [], ◌∷◌, ◌++◌, map, take, drop, length, get_or, refl, sym, ap, ◌∙◌, subst, arith}
+use Rattle.std.proofs.Common.{◌≡◌, ℕ, ◌+◌, ◌-◌, ◌^◌, ◌≤◌, ◌<◌, false, true, Some, List, [], ◌∷◌, ◌++◌, take, drop, length, get_or, refl, sym, ap, ◌∙◌, arith}
 use Rattle.std.specs.Prelude.{All, slice_index_or}
-use Rattle.std.proofs.lemmas.List.{take_more, take_all, take-map, get_or-drop, get_or_read, get_or-map, length-drop, length-map, length-take, length-append, drop-drop, drop-map, drop_at, map-append}
+use Rattle.std.proofs.lemmas.List.{take_more, take_all, take-map, get_or-drop, length-drop, length-map, length-take, length-append, drop-drop, drop-map, drop_at, map-append}
 use Rattle.std.proofs.lemmas.List.Elements.{All-get_or}
 use Rattle.td_stamp.specs.declared.values.Entry.{Entry}
-use Rattle.td_plan.specs.Lines.{Line}
 use Rattle.td_plan.specs.Blocks.{PlacedVertex, vertices}
 use Rattle.td_plan.specs.LookedUp.{IsLookedUp}
 use Rattle.std.specs.List.{slice_get}
@@ -14,7 +13,7 @@ use Rattle.td_calls.specs.Answers.{Answers}
 use Rattle.td_machine.specs.State.{HallState}
 use Rattle.td_machine.specs.Steps.{Answer, accepts, release_step}
 use Rattle.td_machine.specs.Sound.{Sound}
-use Rattle.td_standing.specs.Standing.{batches_of, last_epoch}
+use Rattle.td_standing.specs.Standing.{batches_of}
 use Rattle.td_standing.specs.Told.{inputs_of}
 use Rattle.td_keeper.specs.Keeping.{Keeping, IsKeeping, since_base}
 use Rattle.td_keeper.specs.Halls.{IsOwn, lacking, with_released}

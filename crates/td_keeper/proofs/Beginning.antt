@@ -1,5 +1,5 @@
 -- Batches that are a beginning of others, found one after another.
-use Rattle.std.proofs.Common.{◌≡◌, ℕ, ◌+◌, ◌-◌, ◌≤◌, ◌<◌, List, [], ◌∷◌, ◌++◌, take, drop, length, get_or, refl, sym, ap, ◌∙◌, arith}
+use Rattle.std.proofs.Common.{◌≡◌, ℕ, ◌+◌, ◌<◌, List, [], ◌∷◌, ◌++◌, take, drop, length, get_or, sym, ap, ◌∙◌, arith}
 use Rattle.std.proofs.lemmas.List.{append_assoc, drop_more, take_more, take_all, length-drop, length-append, get_or-drop, get_or_append_left, get_or-map}
 use Rattle.td_stamp.specs.declared.values.Entry.{Entry}
 use Rattle.td_journal.specs.declared.submitted.Submitted.{Submitted}

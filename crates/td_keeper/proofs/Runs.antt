@@ -1,6 +1,6 @@
 -- The batch meaning of batches that go on from a base.
 use Rattle.std.proofs.Common.{◌≡◌, ℕ, zero, suc, ◌+◌, ◌≤◌, ◌<◌, List, [], ◌∷◌, ◌++◌, map, take, drop, length, get_or, refl, sym, ap, ◌∙◌, arith}
-use Rattle.std.proofs.lemmas.List.{take-append-drop, take-append-le, length-take-le, length-append, get_or-append-add, get_or_append_left, append_assoc, drop_more}
+use Rattle.std.proofs.lemmas.List.{take-append-drop, take-append-le, length-take-le, get_or-append-add, get_or_append_left, drop_more}
 use Rattle.td_stamp.specs.declared.values.Entry.{Entry}
 use Rattle.td_stamp.specs.declared.values.Output.{Output}
 use Rattle.td_stamp.specs.declared.epoch_out.EpochOut.{EpochOut}

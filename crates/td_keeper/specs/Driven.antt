@@ -1,5 +1,5 @@
 -- What a keeper does beside workers: the hall under their lock is any hall at each command.
-use Rattle.std.specs.Prelude.{◌≡◌, ◌⊎◌, ℕ, ◌+◌, ◌-◌, true, false, List, [], ◌∷◌, length, Option, Some, None}
+use Rattle.std.specs.Prelude.{◌≡◌, ◌⊎◌, ℕ, ◌+◌, ◌-◌, true, false, List, [], ◌∷◌, length, Some, None}
 use Rattle.td_stamp.specs.declared.values.Entry.{Entry}
 use Rattle.td_stamp.specs.declared.epoch_out.EpochOut.{EpochOut}
 use Rattle.td_plan.specs.Tree.{tree_of}
@@ -9,7 +9,6 @@ use Rattle.td_machine.specs.State.{HallState}
 use Rattle.td_machine.specs.Steps.{collect_step}
 use Rattle.td_machine.specs.Sound.{outs_by}
 use Rattle.td_disk.specs.Disk.{DiskState}
-use Rattle.td_standing.specs.declared.error.KeeperError.{KeeperError}
 use Rattle.td_standing.specs.declared.error.KeeperError.TheVariants.{Foreign, NotPassed, TooManyKeys, Device, Memory}
 use Rattle.td_journal.specs.declared.submitted.Submitted.{Submitted as AnySubmitted}
 use Rattle.td_standing.specs.Standing.{last_epoch, batches_of, submission}

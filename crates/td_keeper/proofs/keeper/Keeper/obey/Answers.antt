@@ -1,5 +1,4 @@
-use Rattle.std.proofs.Common.{◌≡◌, sym, ap, Some}
-use Rattle.td_keeper.specs.Driven.{Obeys}
+use Rattle.std.proofs.Common.{ap, Some}
 use Rattle.td_keeper.proofs.keeper.Keeper.obey.Goals as goal
 
 pub returns-in-Submit-clause-obeyed : goal.returns-in-Submit-clause-obeyed
