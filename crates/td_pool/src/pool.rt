@@ -134,7 +134,7 @@ impl<K: Crew, L: Law> Pool<K, L> {
 fn are_all<K: Crew, L: Law>(seats: &[Seat<K, L>], shards: u8) -> bool
     ensures { result ≡ (length seats.now == shards && list_all (λ s. is_empty s.hand) seats.now) }
 {
-    seats.len() == shards as usize && are_free(seats)
+    seats.len() <= shards as usize && are_free(seats)
 }
 
 /// Whether no seat holds anything.
