@@ -1,5 +1,5 @@
 -- Versions in order: the last of them, and those up to an epoch.
-use Rattle.std.proofs.Common.{◌≡◌, ℕ, ◌-◌, ◌<◌, ◌≤◌, Bool, true, false, cond, nat_le, nat_lt, List, [], ◌∷◌, length, get_or, position, fold, filter, take, drop, Some, None, arith, refl, ap, sym, ◌∙◌}
+use Rattle.std.proofs.Common.{◌≡◌, ℕ, ◌-◌, ◌<◌, ◌≤◌, Bool, true, false, cond, nat_le, nat_lt, List, [], ◌∷◌, length, get_or, position, fold, filter, drop, Some, None, arith, refl, ap, sym, ◌∙◌}
 use Rattle.std.specs.Bool.{then_some}
 use Rattle.std.specs.List.{position_or_len, slice_get}
 use Rattle.std.specs.List.Sorted.{IsPartitionedBy, IsPartitionPoint}
@@ -15,7 +15,7 @@ use Rattle.td_machine.specs.State.{state_cmp}
 use Rattle.td_shard.specs.declared.version.Version.{Version}
 use Rattle.td_shard.specs.Versions.{version_cmp, later, latest, up_to}
 use Rattle.td_shard.proofs.LeftOrders.{version_total, version_apart}
-use Rattle.td_shard.proofs.Rising.{IsPlace, first-pass, last-pass, rises-filter, rises-at, found-at, found-nowhere}
+use Rattle.td_shard.proofs.Rising.{IsPlace, last-pass, rises-filter, rises-at, found-at, found-nowhere}
 
 -- THE LAST of some versions in order is the latest
 later-one : (x y : Version) → is_gt (version_cmp x y) ≡ false → later (Some x) y ≡ Some y
@@ -76,9 +76,6 @@ epochs-in_order x y e = by (nat_cmp x.epoch y.epoch) (ranked x.epoch y.epoch (na
 
 pub epochs-parted : (vs : List Version) (epoch : ℕ) → Rises version_cmp vs → IsPartitionedBy (λ v. nat_le v.epoch epoch) vs
 epochs-parted vs epoch r = IsPartitionedBy-leb (λ v. v.epoch) vs epoch (λ i j d le h. epochs-in_order (get_or vs i d) (get_or vs j d) (rises-at version_cmp version_total vs r i j d le h))
-
-pub first-up_to : (vs : List Version) (epoch n : ℕ) → n ≤ length vs → IsPartitionPoint (λ v. nat_le v.epoch epoch ≡ true) (λ v. nat_le v.epoch epoch ≡ false) vs n → take n vs ≡ up_to epoch vs
-first-up_to vs epoch n l w = first-pass (λ v. nat_le v.epoch epoch) vs n l w
 
 pub others-after : (vs : List Version) (epoch n : ℕ) → n ≤ length vs → IsPartitionPoint (λ v. nat_le v.epoch epoch ≡ true) (λ v. nat_le v.epoch epoch ≡ false) vs n
     → drop n vs ≡ filter (λ v. nat_lt epoch v.epoch) vs
