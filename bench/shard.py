@@ -6,7 +6,7 @@
 It builds bench/shard.rattle in a copy of the repository's crates below it, which is proved on the way, and runs it: a line
 for each number of records. Nanoseconds for a record: `posted` in runs of 64, `taken` with pick 0, both also for records that
 are posted one by one, each on another edge; `seen first` for one that a distinct has not seen before, and `again` for one
-that it has. `left` is 0."""
+that it has; `states` for a state of a fold that is looked up and left anew, in epochs that are not let go. `left` is 0."""
 
 import pathlib
 import shutil
@@ -26,7 +26,7 @@ def build(folder):
     source.mkdir(parents=True)
     shutil.copy(ROOT / "bench/shard.rattle", source / "main.rt")
     lines = [line for line in (ROOT / "crates.txt").read_text().splitlines() if line.split(":")[0] in BELOW]
-    (folder / "crates.txt").write_text("\n".join([*lines, "shard: td_shard td_stamp", ""]))
+    (folder / "crates.txt").write_text("\n".join([*lines, "shard: td_shard td_machine td_stamp", ""]))
     shutil.copy(ROOT / "HANDLES", folder / "HANDLES")
     subprocess.run(["git", "init", "-q", folder], check=True)
     done = subprocess.run(["rt", "run"], cwd=source.parent, capture_output=True, text=True)

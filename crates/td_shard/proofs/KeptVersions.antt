@@ -1,5 +1,5 @@
 -- Versions as the map keeps them: what a change of it does to what was left.
-use Rattle.std.proofs.Common.{◌≡◌, ◌≢◌, ◌↔◌, ℕ, zero, suc, ◌+◌, not, Bool, true, false, cond, nat_lt, List, [], ◌∷◌, ◌++◌, map, filter, fold, length, position, Option, Some, None, ◌≤◌, arith, refl, ap, sym, ◌∙◌, subst}
+use Rattle.std.proofs.Common.{◌≡◌, ◌≢◌, ◌↔◌, ℕ, zero, suc, ◌+◌, not, Bool, true, false, cond, nat_lt, List, [], ◌∷◌, map, filter, length, position, Some, None, ◌≤◌, arith, refl, ap, sym, ◌∙◌, subst}
 use Rattle.std.specs.Option.{option_map}
 use Rattle.std.specs.List.{remove, position_or_len}
 use Rattle.std.specs.List.Sorted.{IsStrictlySortedBy}
@@ -17,33 +17,9 @@ use Rattle.td_stamp.specs.Bag.{bag_insert, bag_remove, join}
 use Rattle.td_stamp.specs.BagLaws.{BagLaws}
 use Rattle.td_machine.specs.State.{left_cmp}
 use Rattle.td_shard.specs.declared.version.Version.{Version}
-use Rattle.td_shard.specs.Versions.{VersionList, left_at, left_in, version_cmp, later, latest}
+use Rattle.td_shard.specs.Versions.{VersionList, left_at, left_in, version_cmp}
 use Rattle.td_shard.proofs.Viewed.{seen, lookup-seen, set-seen, insert-seen, remove-seen, keys-seen}
 use Rattle.td_shard.proofs.LeftBags.{left_in-more, left_in-first, left_in-filter, left_in-not, left_in-out, left_in-emptied}
-
--- THE LAST of some versions, and of one more
-filter-more : (p : Version → Bool) (vs : List Version) (v : Version) → filter p (vs ++ v ∷ []) ≡ filter p vs ++ cond (p v) (v ∷ []) []
-filter-more p [] v = refl
-filter-more p (w ∷ vs) v = by (p w) (filter-more p vs v)
-  where
-    by : (b : Bool) → filter p (vs ++ v ∷ []) ≡ filter p vs ++ cond (p v) (v ∷ []) [] → cond b (w ∷ filter p (vs ++ v ∷ [])) (filter p (vs ++ v ∷ [])) ≡ cond b (w ∷ filter p vs) (filter p vs) ++ cond (p v) (v ∷ []) []
-    by true e = ap (λ l. w ∷ l) e
-    by false e = e
-
-fold-more : (o : Option Version) (vs : List Version) (v : Version) → fold later o (vs ++ v ∷ []) ≡ later (fold later o vs) v
-fold-more o [] v = refl
-fold-more o (w ∷ vs) v = fold-more (later o w) vs v
-
-pub latest-more : (p : Version → Bool) (vs : List Version) (v : Version) (b : Bool) → p v ≡ b → latest (filter p (vs ++ v ∷ [])) ≡ cond b (later (latest (filter p vs)) v) (latest (filter p vs))
-latest-more p vs v b e = ap latest (filter-more p vs v) ∙ (ap (λ c. latest (filter p vs ++ cond c (v ∷ []) [])) e ∙ by b)
-  where
-    nothing : (xs : List Version) (o : Option Version) → fold later o (xs ++ []) ≡ fold later o xs
-    nothing [] o = refl
-    nothing (x ∷ xs) o = nothing xs (later o x)
-
-    by : (c : Bool) → latest (filter p vs ++ cond c (v ∷ []) []) ≡ cond c (later (latest (filter p vs)) v) (latest (filter p vs))
-    by true = fold-more None (filter p vs) v
-    by false = nothing (filter p vs) None
 
 -- ONE VERSION TAKEN OUT, by its place
 pub taken_at-place : (v : Version) (vs : List Version) → remove vs (position_or_len (λ k. is_eq (version_cmp v k)) vs) ≡ bag_remove version_cmp v vs
@@ -103,7 +79,7 @@ module _ {V : Type 0} (f : V → List Version) where
 
     module _ (laws : BagLaws left_cmp) (v : Version) where
       -- a place has one version more
-      pub one_more : (x y : V) → Some x ≡ lookup here es → es2 ≡ set_value here es y → f y ≡ f x ++ v ∷ [] → left_in (told es2) ≡ bag_insert left_cmp (left_at place v) (left_in (told es))
+      pub one_more : (x y : V) → Some x ≡ lookup here es → es2 ≡ set_value here es y → f y ≡ bag_insert version_cmp v (f x) → left_in (told es2) ≡ bag_insert left_cmp (left_at place v) (left_in (told es))
       one_more x y e g h = ap left_in (told-written y g ∙ ap (set_value here (told es)) h) ∙ left_in-more laws place v (f x) (told es) (found x e)
 
       -- or its first

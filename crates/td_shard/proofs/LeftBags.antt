@@ -1,5 +1,5 @@
 -- What was left, as the bag of the versions of each place.
-use Rattle.std.proofs.Common.{◌≡◌, ℕ, Bool, true, false, cond, ◌||◌, List, [], ◌∷◌, ◌++◌, map, filter, Some, None, refl, ap, sym, ◌∙◌}
+use Rattle.std.proofs.Common.{◌≡◌, ℕ, Bool, true, false, cond, ◌||◌, List, [], ◌∷◌, map, filter, Some, None, refl, ap, sym, ◌∙◌}
 use Rattle.std.specs.List.{AllByRecursion}
 use Rattle.std.specs.Map.{lookup, remove_entry, set_value, keys_of}
 use Rattle.std.specs.BTreeMap.{insert_entry, is_at}
@@ -22,10 +22,19 @@ tied Less e = cc
 tied Equal e = refl
 tied Greater e = cc
 
--- one more version of a place, at the end
-pub map_more : {X Y : Type 0} (f : X → Y) (xs : List X) (x : X) → map f (xs ++ x ∷ []) ≡ map f xs ++ f x ∷ []
-map_more f [] x = refl
-map_more f (y ∷ xs) x = ap (λ l. f y ∷ l) (map_more f xs x)
+-- one more version of a place, where it belongs
+put-part : (place : ℕ × ℕ) (v : Version) (vs : List Version) → map (left_at place) (bag_insert version_cmp v vs) ≡ bag_insert left_cmp (left_at place v) (map (left_at place) vs)
+put-part place v [] = refl
+put-part place v (w ∷ vs) = by (version_cmp v w) (put-part place v vs) ∙ ap chosen (sym (left_at-cmp place v w))
+  where
+    chosen : Ordering → List StateLeft
+    chosen o = elim o [ Greater ↦ left_at place w ∷ bag_insert left_cmp (left_at place v) (map (left_at place) vs) | _ ↦ left_at place v ∷ left_at place w ∷ map (left_at place) vs ]
+
+    by : (o : Ordering) → map (left_at place) (bag_insert version_cmp v vs) ≡ bag_insert left_cmp (left_at place v) (map (left_at place) vs)
+        → map (left_at place) (elim o [ Greater ↦ w ∷ bag_insert version_cmp v vs | _ ↦ v ∷ w ∷ vs ]) ≡ chosen o
+    by Less e = refl
+    by Equal e = refl
+    by Greater e = ap (λ l. left_at place w ∷ l) e
 
 -- those that pass a test, where a place is told with them
 pub filter-map : {X Y : Type 0} (p : Y → Bool) (f : X → Y) (xs : List X) → filter p (map f xs) ≡ map f (filter (λ x. p (f x)) xs)
@@ -44,21 +53,19 @@ module _ (laws : BagLaws left_cmp) where
   left_in-bag [] = refl
   left_in-bag (e ∷ es) = join-bag (map (left_at e.0) e.1) (left_in es) (left_in-bag es)
 
-  -- one more at the end of a part
+  -- one more in a part
   joined_more : (place : ℕ × ℕ) (vs : List Version) (v : Version) (rest : List StateLeft)
-      → join left_cmp (map (left_at place) (vs ++ v ∷ [])) rest ≡ bag_insert left_cmp (left_at place v) (join left_cmp (map (left_at place) vs) rest)
-  joined_more place vs v rest =
-      ap (λ l. join left_cmp l rest) (map_more (left_at place) vs v)
-      ∙ (laws.append (map (left_at place) vs) (left_at place v ∷ []) rest ∙ laws.swaps (map (left_at place) vs) (left_at place v ∷ []) rest)
+      → join left_cmp (map (left_at place) (bag_insert version_cmp v vs)) rest ≡ bag_insert left_cmp (left_at place v) (join left_cmp (map (left_at place) vs) rest)
+  joined_more place vs v rest = ap (λ l. join left_cmp l rest) (put-part place v vs) ∙ laws.associative (left_at place v ∷ []) (map (left_at place) vs) rest
 
   -- ONE MORE VERSION, of a place that has some
   pub left_in-more : (place : ℕ × ℕ) (v : Version) (vs : List Version) (es : VersionList) → lookup (is_at (state_key_cmp place)) es ≡ Some vs
-      → left_in (set_value (is_at (state_key_cmp place)) es (vs ++ v ∷ [])) ≡ bag_insert left_cmp (left_at place v) (left_in es)
+      → left_in (set_value (is_at (state_key_cmp place)) es (bag_insert version_cmp v vs)) ≡ bag_insert left_cmp (left_at place v) (left_in es)
   left_in-more place v vs [] h = cc
   left_in-more place v vs (e ∷ es) h = by (state_key_cmp place e.0) refl h (left_in-more place v vs es)
     where
       ws : List Version
-      ws = vs ++ v ∷ []
+      ws = bag_insert version_cmp v vs
 
       by : (o : Ordering) → state_key_cmp place e.0 ≡ o → cond (is_eq o) (Some e.1) (lookup (is_at (state_key_cmp place)) es) ≡ Some vs
           → (lookup (is_at (state_key_cmp place)) es ≡ Some vs → left_in (set_value (is_at (state_key_cmp place)) es ws) ≡ bag_insert left_cmp (left_at place v) (left_in es))

@@ -25,6 +25,12 @@ states_apart None (Some y) e = cc
 states_apart (Some x) None e = cc
 states_apart (Some x) (Some y) e = ap Some (state_apart x y e)
 
+pub version_total : IsTotalOrder version_cmp
+version_total = then_total (on_total (λ c. c.epoch) nat_cmp_total) (on_total (λ c. c.state) (options_total state_total))
+
+pub version_apart : IsAntisymmetric version_cmp
+version_apart x y e = let a = both_tie _ _ e in λ i. record { epoch = nat_cmp-IsAntisymmetric x.epoch y.epoch a.0 i; state = states_apart x.state y.state a.1 i }
+
 pub left_total : IsTotalOrder left_cmp
 left_total = then_total (on_total (λ c. c.epoch) nat_cmp_total) (then_total (on_total (λ c. c.vertex) nat_cmp_total) (then_total (on_total (λ c. c.key) nat_cmp_total) (on_total (λ c. c.state) (options_total state_total))))
 

@@ -10,8 +10,10 @@ pub mod KeptStates
 pub mod LeftStates
 pub mod KeptVersions
 pub mod Between
+pub mod Rising
+pub mod VersionOrder
 pub mod Fresh
 pub mod Orders
 pub mod Cut
 pub mod Parted
-pub mod NoneEmpty
+pub mod EachKept

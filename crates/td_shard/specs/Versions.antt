@@ -4,6 +4,7 @@ use Rattle.std.specs.declared.cmp.Ordering.{Ordering}
 use Rattle.std.specs.Ordering.{ordering_then, nat_cmp, is_gt}
 use Rattle.std.specs.Option.{option_cmp}
 use Rattle.td_stamp.specs.Bag.{bag_remove, join}
+use Rattle.td_stamp.specs.Rises.{Rises}
 use Rattle.td_stamp.specs.States.{StateList}
 use Rattle.td_batch.specs.Meaning.{with_kept}
 use Rattle.td_machine.specs.declared.records.StateLeft.{StateLeft}
@@ -13,11 +14,6 @@ use Rattle.td_shard.specs.declared.version.Version.{Version}
 -- vertices and keys in order, each with its versions
 abbrev pub VersionList : Type 0
 VersionList = List ((ℕ × ℕ) × List Version)
-
--- each of them has some
-abbrev pub HaveSome : VersionList → Type 0
-HaveSome [] = Unit {0}
-HaveSome (e ∷ es) = (e.1 ≢ []) × HaveSome es
 
 -- a version, as what was left for a vertex and key
 abbrev pub left_at : ℕ × ℕ → Version → StateLeft
@@ -31,6 +27,15 @@ left_in (e ∷ es) = join left_cmp (map (left_at e.0) e.1) (left_in es)
 -- the order of the versions of one vertex and key: that in which they were left
 abbrev pub version_cmp : Version → Version → Ordering
 version_cmp x y = ordering_then (nat_cmp x.epoch y.epoch) (option_cmp state_cmp x.state y.state)
+
+-- how the versions of a vertex and key are kept: there are some, and they stand in order
+abbrev pub IsKept : List Version → Type 0
+IsKept versions = (versions ≢ []) × Rises version_cmp versions
+
+-- so are those of each
+abbrev pub AreKept : VersionList → Type 0
+AreKept [] = Unit {0}
+AreKept (e ∷ es) = IsKept e.1 × AreKept es
 
 -- the later of two versions
 abbrev pub later : Option Version → Version → Option Version

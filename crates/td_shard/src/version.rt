@@ -1,11 +1,15 @@
-//! The versions of one vertex and key.
-ghost use Rattle.std.specs.Prelude.{◌≡◌, ◌≢◌, ◌↔◌, [], filter, position, nat_lt, IsTrue};
+//! The versions of one vertex and key: in order, so that each is found by halving.
+ghost use Rattle.std.specs.Prelude.{◌≡◌, ◌≢◌, ◌≤◌, ◌↔◌, [], false, filter, length, position, take, drop, nat_lt, IsTrue, OnOk, OnErr};
+ghost use Rattle.std.specs.List.Sorted.{IsPartitionPoint};
 ghost use Rattle.std.specs.Option.{option_cmp};
-ghost use Rattle.std.specs.Ordering.{is_eq};
-ghost use Rattle.td_stamp.specs.Bag.{bag_remove};
+ghost use Rattle.std.specs.Ordering.{is_eq, is_gt};
+ghost use Rattle.std.specs.declared.cmp.Ordering.TheVariants.{Greater};
+ghost use Rattle.td_stamp.specs.Bag.{bag_insert, bag_remove};
+ghost use Rattle.td_stamp.specs.Rises.{Rises};
 ghost use Rattle.td_machine.specs.State.{state_cmp};
-ghost use Rattle.td_shard.specs.Versions.{version_cmp, later, latest, up_to};
+ghost use Rattle.td_shard.specs.Versions.{version_cmp, latest, up_to};
 
+use crate::error::ShardError;
 use std::cmp::Ordering;
 use td_stamp::State;
 
@@ -38,31 +42,58 @@ fn compare_states(one: Option<State>, other: Option<State>) -> Ordering
     }
 }
 
-/// The later of two versions.
-fn later(earlier: Option<Version>, version: Version) -> Option<Version>
-    ensures { result ≡ later earlier version }
+/// How many of these versions are up to an epoch: the first of them. Costs O(log n).
+fn count_up_to(versions: &[Version], epoch: u64) -> usize
+    requires { Rises version_cmp versions.now }
+    ensures within { result ≤ length versions.now }
+    ensures before { take result versions.now ≡ up_to epoch versions.now }
+    ensures behind { drop result versions.now ≡ filter (λ k. nat_lt epoch k.epoch) versions.now }
 {
-    match earlier {
-        Some(earlier) if version.total_cmp(&earlier).is_le() => Some(earlier),
-        _ => Some(version),
-    }
+    versions.partition_point(|version| version.epoch <= epoch)
 }
 
-/// The last version up to an epoch.
+/// The last version up to an epoch. Costs O(log n).
 pub(crate) fn latest(versions: &[Version], epoch: u64) -> Option<Version>
+    requires { Rises version_cmp versions.now }
     ensures { result ≡ latest (up_to epoch versions.now) }
 {
-    let mut found = None;
-    for version in versions {
-        if version.epoch <= epoch {
-            found = later(found, *version);
-        }
-    }
-    found
+    let count = count_up_to(versions, epoch);
+    versions[..count].last().copied()
 }
 
-/// Takes a version out, and says whether none is left. Takes no memory.
+/// The place for a version among these: behind all that are below it. Costs O(log n).
+fn place_for(versions: &[Version], version: Version) -> usize
+    requires { Rises version_cmp versions.now }
+    ensures within { result ≤ length versions.now }
+    ensures place { IsPartitionPoint (λ k. version_cmp version k ≡ Greater) (λ k. is_gt (version_cmp version k) ≡ false) versions.now result }
+{
+    versions.partition_point(|kept| version.total_cmp(kept).is_gt())
+}
+
+/// Where a version stands. Costs O(log n).
+fn place_of(versions: &[Version], version: Version) -> Option<usize>
+    requires { Rises version_cmp versions.now }
+    ensures { result ≡ position (λ k. is_eq (version_cmp version k)) versions.now }
+{
+    let place = place_for(versions, version);
+    let kept = versions.get(place)?;
+    version.total_cmp(kept).is_eq().then_some(place)
+}
+
+/// Puts a version in at its place. Costs O(log n), and a move of those behind it. Refusal: `Memory`, with nothing changed.
+pub(crate) fn put_in(versions: &mut Vec<Version>, version: Version) -> Result<(), ShardError>
+    requires { Rises version_cmp versions.old.items }
+    ensures ok { OnOk result (versions.new.items ≡ bag_insert version_cmp version versions.old.items) }
+    ensures err { OnErr result (versions.new.items ≡ versions.old.items) }
+{
+    let place = place_for(versions.as_slice(), version);
+    versions.insert(place, version)?;
+    Ok(())
+}
+
+/// Takes a version out, and says whether none is left. Costs O(log n), and a move of those behind it. Takes no memory.
 pub(crate) fn take_out(versions: &mut Vec<Version>, version: Version) -> bool
+    requires { Rises version_cmp versions.old.items }
     ensures left { versions.new.items ≡ bag_remove version_cmp version versions.old.items }
     ensures none { IsTrue result ↔ (versions.new.items ≡ []) }
 {
@@ -72,20 +103,14 @@ pub(crate) fn take_out(versions: &mut Vec<Version>, version: Version) -> bool
     versions.is_empty()
 }
 
-/// Where a version stands.
-fn place_of(versions: &[Version], version: Version) -> Option<usize>
-    ensures { result ≡ position (λ k. is_eq (version_cmp version k)) versions.now }
-{
-    versions
-        .iter()
-        .position(|kept| version.total_cmp(kept).is_eq())
-}
-
-/// Lets versions go, up to an epoch, and says whether some are left. Takes no memory.
+/// Lets versions go, up to an epoch, and says whether some are left. Costs O(log n), and where some go a move of the others.
+/// Takes no memory.
 pub(crate) fn keep_after(versions: &mut Vec<Version>, epoch: u64) -> bool
+    requires { Rises version_cmp versions.old.items }
     ensures left { versions.new.items ≡ filter (λ k. nat_lt epoch k.epoch) versions.old.items }
     ensures some { IsTrue result ↔ (versions.new.items ≢ []) }
 {
-    versions.retain(|version| epoch < version.epoch);
+    let count = count_up_to(versions.as_slice(), epoch);
+    drop(versions.drain(..count));
     !versions.is_empty()
 }

@@ -8,7 +8,7 @@ ghost use Rattle.td_machine.specs.State.{left_cmp, with_left};
 ghost use Rattle.td_shard.specs.Versions.{taken_back};
 
 use crate::error::ShardError;
-use crate::version::{Version, keep_after, latest, take_out};
+use crate::version::{Version, keep_after, latest, put_in, take_out};
 use std::alloc::Global;
 use std::collections::BTreeMap;
 use std::marker::Model;
@@ -17,7 +17,8 @@ use td_stamp::{State, States};
 
 /// What folds left for their keys, above a base. Contracts see it as the core machine has it: in the order of epochs.
 ///
-/// It is kept by vertex and key, each with its few versions as they came: a look-up finds the last of them up to its epoch.
+/// It is kept by vertex and key, each with its versions in the order of epochs: a look-up finds the last of them up to its epoch
+/// by halving.
 #[derive(Drop)]
 pub struct Versions {
     versions: BTreeMap<(u8, u64), Vec<Version>>,
@@ -29,13 +30,13 @@ impl Model for Versions {
     ghost use Rattle.std.specs.BTreeMap.{IsOrdered};
     ghost use Rattle.td_stamp.specs.Orders.{state_key_cmp};
     ghost use Rattle.td_machine.specs.declared.records.StateLeft.{StateLeft};
-    ghost use Rattle.td_shard.specs.Versions.{left_in, HaveSome};
+    ghost use Rattle.td_shard.specs.Versions.{left_in, AreKept};
 
     ghost Value = { List StateLeft };
 
     ghost view = { λ v. left_in (map (λ e. (e.0, e.1.items)) v.versions.entries) };
 
-    ghost invariant = { λ v. IsOrdered state_key_cmp v.versions × HaveSome (map (λ e. (e.0, e.1.items)) v.versions.entries) };
+    ghost invariant = { λ v. IsOrdered state_key_cmp v.versions × AreKept (map (λ e. (e.0, e.1.items)) v.versions.entries) };
 }
 
 impl Versions {
@@ -49,8 +50,8 @@ impl Versions {
         }
     }
 
-    /// The state of a key after an epoch: what was left last up to it, or else that of the base. Costs O(log n), and a look at
-    /// each version of the key. Takes no memory.
+    /// The state of a key after an epoch: what was left last up to it, or else that of the base. Costs O(log n) with n keys, the
+    /// base's too, and O(log v) with v versions of this one. Takes no memory.
     pub fn state_at(&self, epoch: u64, vertex: u8, key: u64, base: &States) -> Option<State>
         ensures { result ≡ state_of (with_left base.now (filter (λ k. nat_le k.epoch epoch) self.now)) vertex key }
     {
@@ -66,7 +67,8 @@ impl Versions {
         }
     }
 
-    /// Keeps what folds left. Costs O(log n) for each. Refusal: `Memory`, with nothing changed.
+    /// Keeps what folds left. Each costs O(log n) with n keys, O(log v) with v versions of its own, and a move of those of later
+    /// epochs: of none, where a key's epochs come in order. Refusal: `Memory`, with nothing changed.
     pub fn leave(&mut self, left: &[StateLeft]) -> Result<(), ShardError>
         ensures ok { OnOk result (self.new ≡ join left_cmp left.now self.old) }
         ensures err { OnErr result (self.new ≡ self.old) }
@@ -81,8 +83,8 @@ impl Versions {
         Ok(())
     }
 
-    /// The states after an epoch, made of those of the base, with one change for each key. Costs a look at each version, and
-    /// O(log n) for each key. Refusal: `Memory`.
+    /// The states after an epoch, made of those of the base, with one change for each key. Each key costs O(log v) with its v
+    /// versions, and O(log n) with n states. Refusal: `Memory`.
     pub fn states_at(&self, epoch: u64, base: States) -> Result<States, ShardError>
         ensures { IfOk result (λ states. states ≡ with_left base (filter (λ k. nat_le k.epoch epoch) self.now)) }
     {
@@ -98,7 +100,8 @@ impl Versions {
         Ok(states)
     }
 
-    /// Lets go what was left up to an epoch, and each key that has nothing left. Costs a look at each version. Takes no memory.
+    /// Lets go what was left up to an epoch, and each key that has nothing left. Each key costs O(log v) with its v versions, and
+    /// where some of them go a move of the others. Takes no memory.
     pub fn let_go(&mut self, epoch: u64)
         ensures { self.new ≡ filter (λ k. nat_lt epoch k.epoch) self.old }
     {
@@ -107,7 +110,7 @@ impl Versions {
             .retain(|_, versions| keep_after(versions, epoch));
     }
 
-    /// Keeps one version. Refusal: `Memory`, with nothing changed.
+    /// Keeps one version, in order among those of its key. Refusal: `Memory`, with nothing changed.
     fn put(&mut self, left: &StateLeft) -> Result<(), ShardError>
         ensures ok { OnOk result (self.new ≡ bag_insert left_cmp left.now self.old) }
         ensures err { OnErr result (self.new ≡ self.old) }
@@ -115,10 +118,7 @@ impl Versions {
         version_laws();
         let (place, version) = placed(left);
         match self.versions.get_mut(&place) {
-            Some(versions) => {
-                versions.push(version)?;
-                Ok(())
-            }
+            Some(versions) => put_in(versions, version),
             None => {
                 let mut versions = Vec::new(self.alloc);
                 versions.push(version)?;
@@ -128,7 +128,7 @@ impl Versions {
         }
     }
 
-    /// Takes one version out, if it is there, and its key with the last. Takes no memory.
+    /// Takes one version out, if it is there, and its key with the last. Costs what it costs to keep one. Takes no memory.
     fn take_one_back(&mut self, left: &StateLeft)
         ensures { self.new ≡ bag_remove left_cmp left.now self.old }
     {

@@ -5,13 +5,15 @@ use Rattle.std.specs.BTreeMap.{is_at}
 use Rattle.std.specs.List.Sorted.{IsStrictlySortedBy}
 use Rattle.td_stamp.specs.Orders.{state_key_cmp}
 use Rattle.td_stamp.specs.BagLaws.{BagLaws}
+use Rattle.td_stamp.specs.Rises.{Rises}
 use Rattle.td_stamp.specs.States.{StateList, state_of, AreStates}
 use Rattle.td_machine.specs.declared.records.StateLeft.{StateLeft}
 use Rattle.td_machine.specs.State.{left_cmp, with_left}
 use Rattle.td_shard.specs.declared.version.Version.{Version}
-use Rattle.td_shard.specs.Versions.{left_in, latest, up_to}
+use Rattle.td_shard.specs.Versions.{left_in, version_cmp, latest, up_to}
 use Rattle.td_shard.proofs.Viewed.{seen, lookup-seen, keys-seen}
 use Rattle.td_shard.proofs.LeftStates.{state_there, version_or, latest_at}
+use Rattle.td_shard.proofs.EachKept.{kept-here}
 use Rattle.td_shard.proofs.versions.Versions.state_at.Goals as goal
 
 module _ {V : Type 0} (f : V → List Version) (es : List ((ℕ × ℕ) × V)) (base : StateList) (epoch v k : ℕ) (left : List StateLeft) (laws : BagLaws left_cmp) (sorted : IsStrictlySortedBy state_key_cmp (keys_of es)) (ordered : AreStates base) (is : left_in (map (seen f) es) ≡ left) where
@@ -21,6 +23,12 @@ module _ {V : Type 0} (f : V → List Version) (es : List ((ℕ × ℕ) × V)) (
       ap (λ l. state_of (with_left base (filter (λ x. nat_le x.epoch epoch) l)) v k) (sym is)
       ∙ (state_there laws epoch (v, k) (map (seen f) es) base (subst (IsStrictlySortedBy state_key_cmp) (sym (keys-seen f es)) sorted) ordered
       ∙ ap (λ p. version_or (latest_at epoch p) (state_of base v k)) (lookup-seen f (is_at (state_key_cmp (v, k))) es ∙ ap (option_map f) (sym e)))
+
+pub latest-requires : goal.latest-requires
+latest-requires c =
+    let es = c.self.inside.versions.entries in
+    subst (Rises version_cmp) (sym c.as_slice.ensures.value)
+    (kept-here (λ v. v.items) (c.args.vertex, c.args.key) es es c.self.invariant.1 c.in-Some.versions.now c.in-Some.ensures.value).1
 
 pub returns-in_default : goal.returns-in_default
 returns-in_default c =

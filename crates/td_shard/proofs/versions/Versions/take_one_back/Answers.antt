@@ -1,11 +1,17 @@
-use Rattle.std.proofs.Common.{◌≡◌, ◌∙◌, ap, sym, rules, true, false}
+use Rattle.std.proofs.Common.{◌≡◌, ◌∙◌, ap, sym, subst, rules, true, false}
 use Rattle.td_stamp.specs.Bag.{bag_remove}
 use Rattle.td_machine.specs.State.{left_cmp}
-use Rattle.td_shard.specs.Versions.{left_at}
+use Rattle.td_stamp.specs.Rises.{Rises}
+use Rattle.td_shard.specs.Versions.{left_at, version_cmp}
 use Rattle.td_shard.proofs.KeptVersions.{none_out, one_out, last_out}
-use Rattle.td_shard.proofs.NoneEmpty.{some-written, some-out}
+use Rattle.td_shard.proofs.EachKept.{kept-here, kept-written, kept-out}
+use Rattle.td_shard.proofs.Rising.{rises-removed}
 use Rattle.td_shard.proofs.versions.Versions.take_one_back.Goals as goal
 use Rattle.td_shard.proofs.versions.Versions.take_one_back.Goals.{in-Some-1, in-None-1}
+
+-- those of the place are kept in order
+pub take_out-requires : goal.take_out-requires
+take_out-requires c = (kept-here (λ v. v.items) c.placed.result.0 c.self.inside.versions.entries c.self.inside.versions.entries c.self.invariant.1 c.in-Some.versions.now c.in-Some.ensures.value).1
 
 pub returns-in_default : goal.returns-in_default
 returns-in_default c =
@@ -33,13 +39,18 @@ returns-else-take_out c =
 pub invariant_of-self-then-take_out : goal.invariant_of-self-then-take_out
 invariant_of-self-then-take_out c = (
   search rules,
-  some-out (λ v. v.items) c.placed.result.0 c.self.inside.versions.entries (c.get_mut.follows.lender c.take_out.new.versions).entries c.self.invariant.1 c.take_out.new.versions
+  kept-out (λ v. v.items) c.placed.result.0 c.self.inside.versions.entries (c.get_mut.follows.lender c.take_out.new.versions).entries c.self.invariant.1 c.take_out.new.versions
       c.remove.new.self.entries (c.get_mut.follows.holds c.take_out.new.versions).0 c.remove.ensures.entries,
 )
 
 pub invariant_of-self-else-take_out : goal.invariant_of-self-else-take_out
 invariant_of-self-else-take_out c = (
   search rules,
-  some-written (λ v. v.items) c.placed.result.0 c.self.inside.versions.entries (c.get_mut.follows.lender c.take_out.new.versions).entries c.self.invariant.1 c.take_out.new.versions
-      (c.get_mut.follows.holds c.take_out.new.versions).0 (λ e. let no : true ≡ false = sym (c.take_out.ensures.none.1 e) ∙ c.if-take_out.false in cc),
+  kept-written (λ v. v.items) c.placed.result.0 c.self.inside.versions.entries (c.get_mut.follows.lender c.take_out.new.versions).entries c.self.invariant.1 c.take_out.new.versions
+      (c.get_mut.follows.holds c.take_out.new.versions).0 (
+        λ e. let no : true ≡ false = sym (c.take_out.ensures.none.1 e) ∙ c.if-take_out.false in cc,
+        subst (Rises version_cmp) (sym c.take_out.ensures.left)
+            (rises-removed version_cmp c.placed.result.1 c.in-Some.versions.now.items
+            (kept-here (λ v. v.items) c.placed.result.0 c.self.inside.versions.entries c.self.inside.versions.entries c.self.invariant.1 c.in-Some.versions.now c.in-Some.ensures.value).1),
+      ),
 )

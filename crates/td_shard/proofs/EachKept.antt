@@ -1,0 +1,111 @@
+-- The versions of each place are kept as they are to be: there are some, in order.
+use Rattle.std.proofs.Common.{◌≡◌, ◌≢◌, ◌↔◌, ℕ, Bool, true, false, cond, List, [], ◌∷◌, ◌++◌, filter, Some, refl, ap, sym, ◌∙◌, subst}
+use Rattle.std.specs.Option.{option_map}
+use Rattle.std.specs.Map.{lookup, set_value, remove_entry}
+use Rattle.std.specs.Map.Calls.{RetainsPairs}
+use Rattle.std.specs.BTreeMap.{is_at, insert_entry}
+use Rattle.std.specs.declared.cmp.Ordering.{Ordering}
+use Rattle.std.specs.declared.cmp.Ordering.TheVariants.{Less, Equal, Greater}
+use Rattle.std.specs.Ordering.{match_ordering}
+use Rattle.td_stamp.specs.Orders.{state_key_cmp}
+use Rattle.td_stamp.specs.Bag.{bag_insert}
+use Rattle.td_stamp.specs.Rises.{Rises}
+use Rattle.td_shard.specs.declared.version.Version.{Version}
+use Rattle.td_shard.specs.Versions.{VersionList, IsKept, AreKept, version_cmp}
+use Rattle.td_shard.proofs.LeftOrders.{version_total}
+use Rattle.td_shard.proofs.Rising.{rises-filter, rises-inserted}
+use Rattle.td_shard.proofs.Viewed.{insert-seen, lookup-seen, remove-seen}
+use Rattle.td_shard.proofs.KeptVersions.{told, told-as_before, told-written}
+
+-- they are with one more
+some-inserted : (v : Version) (vs : List Version) → bag_insert version_cmp v vs ≢ []
+some-inserted v [] e = cc
+some-inserted v (w ∷ vs) e = by (version_cmp v w) e
+  where
+    by : (o : Ordering) → ◌≡◌ {A = List Version} (elim o [ Greater ↦ w ∷ bag_insert version_cmp v vs | _ ↦ v ∷ w ∷ vs ]) [] → ⊥
+    by Less f = cc
+    by Equal f = cc
+    by Greater f = cc
+
+pub kept-more : (v : Version) (vs : List Version) → IsKept vs → IsKept (bag_insert version_cmp v vs)
+kept-more v vs h = (some-inserted v vs, rises-inserted version_cmp version_total v vs h.1)
+
+-- those that are found
+kept-found : (test : ℕ × ℕ → Bool) (es : VersionList) (w : List Version) → AreKept es → lookup test es ≡ Some w → IsKept w
+kept-found test [] w h e = cc
+kept-found test (d ∷ es) w h e = by (test d.0) e (kept-found test es w h.1)
+  where
+    by : (b : Bool) → cond b (Some d.1) (lookup test es) ≡ Some w → (lookup test es ≡ Some w → IsKept w) → IsKept w
+    by true f rest = let same : d.1 ≡ w = cc in subst IsKept same h.0
+    by false f rest = rest f
+
+kept-set : (test : ℕ × ℕ → Bool) (es : VersionList) (w : List Version) → IsKept w → AreKept es → AreKept (set_value test es w)
+kept-set test [] w n h = tt
+kept-set test (e ∷ es) w n h = by (test e.0) (kept-set test es w n h.1)
+  where
+    by : (b : Bool) → AreKept (set_value test es w) → AreKept (cond b ((e.0, w) ∷ es) (e ∷ set_value test es w))
+    by true r = (n, h.1)
+    by false r = (h.0, r)
+
+kept-insert : (k : ℕ × ℕ) (es : VersionList) (w : List Version) → IsKept w → AreKept es → AreKept (insert_entry state_key_cmp es k w)
+kept-insert k [] w n h = (n, tt)
+kept-insert k (e ∷ es) w n h = by (state_key_cmp k e.0) (kept-insert k es w n h.1)
+  where
+    by : (o : Ordering) → AreKept (insert_entry state_key_cmp es k w) → AreKept (match_ordering o ((k, w) ∷ e ∷ es) ((e.0, w) ∷ es) (e ∷ insert_entry state_key_cmp es k w))
+    by Less r = (n, h)
+    by Equal r = (n, h.1)
+    by Greater r = (h.0, r)
+
+kept-removed : (test : ℕ × ℕ → Bool) (es : VersionList) (w : List Version) → AreKept es → AreKept (remove_entry test (set_value test es w))
+kept-removed test [] w h = tt
+kept-removed test (e ∷ es) w h = by (test e.0) refl (kept-removed test es w h.1)
+  where
+    by : (b : Bool) → test e.0 ≡ b → AreKept (remove_entry test (set_value test es w)) → AreKept (remove_entry test (cond b ((e.0, w) ∷ es) (e ∷ set_value test es w)))
+    by true f r = subst (λ b. AreKept (cond b es ((e.0, w) ∷ remove_entry test es))) (sym f) h.1
+    by false f r = subst (λ b. AreKept (cond b (set_value test es w) (e ∷ remove_entry test (set_value test es w)))) (sym f) (h.0, r)
+
+-- those of one entry among all
+pub kept-among : {V : Type 0} (f : V → List Version) (es before after : List ((ℕ × ℕ) × V)) (k : ℕ × ℕ) (v : V) → AreKept (told f es) → es ≡ before ++ (k, v) ∷ after → IsKept (f v)
+kept-among {V} f es before after k v h e = in-middle before (subst (λ l. AreKept (told f l)) e h)
+  where
+    in-middle : (ds : List ((ℕ × ℕ) × V)) → AreKept (told f (ds ++ (k, v) ∷ after)) → IsKept (f v)
+    in-middle [] g = g.0
+    in-middle (d ∷ ds) g = in-middle ds g.1
+
+module _ {V : Type 0} (f : V → List Version) (place : ℕ × ℕ) (es es2 : List ((ℕ × ℕ) × V)) (had : AreKept (told f es)) where
+  -- those of a place
+  pub kept-here : (x : V) → Some x ≡ lookup (is_at (state_key_cmp place)) es → IsKept (f x)
+  kept-here x e = kept-found (is_at (state_key_cmp place)) (told f es) (f x) had (lookup-seen f (is_at (state_key_cmp place)) es ∙ ap (option_map f) (sym e))
+
+  -- the same versions are written back
+  pub kept-before : (x y : V) → Some x ≡ lookup (is_at (state_key_cmp place)) es → es2 ≡ set_value (is_at (state_key_cmp place)) es y → f y ≡ f x → AreKept (told f es2)
+  kept-before x y e g h = subst AreKept (sym (told-as_before f place es es2 x y e g h)) had
+
+  -- some are written back
+  pub kept-written : (y : V) → es2 ≡ set_value (is_at (state_key_cmp place)) es y → IsKept (f y) → AreKept (told f es2)
+  kept-written y g n = subst AreKept (sym (told-written f place es es2 y g)) (kept-set (is_at (state_key_cmp place)) (told f es) (f y) n had)
+
+  -- a place is put in with some
+  pub kept-put : (y : V) → es2 ≡ insert_entry state_key_cmp es place y → IsKept (f y) → AreKept (told f es2)
+  kept-put y g n = subst AreKept (sym (ap (told f) g ∙ sym (insert-seen f state_key_cmp es place y))) (kept-insert place (told f es) (f y) n had)
+
+  -- a place without any is taken out
+  pub kept-out : (y : V) (es3 : List ((ℕ × ℕ) × V)) → es2 ≡ set_value (is_at (state_key_cmp place)) es y → es3 ≡ remove_entry (is_at (state_key_cmp place)) es2 → AreKept (told f es3)
+  kept-out y es3 g r =
+      subst AreKept (sym (ap (told f) r ∙ (sym (remove-seen f (is_at (state_key_cmp place)) es2) ∙ ap (remove_entry (is_at (state_key_cmp place))) (told-written f place es es2 y g))))
+      (kept-removed (is_at (state_key_cmp place)) (told f es) (f y) had)
+
+module _ {V F : Type 0} (f : V → List Version) (T : F → (ℕ × ℕ) → V → Bool → V → F → Type 0) (call : F) (p : Version → Bool)
+    (calls : (k : ℕ × ℕ) (v : V) (b : Bool) (w : V) (after : F) → T call k v b w after → (f w ≡ filter p (f v)) × ((b ≡ true) ↔ (f w ≢ [])) × (after ≡ call)) where
+  -- what passes a test stays, and only places with some
+  pub kept-let_go : (es kept : List ((ℕ × ℕ) × V)) → AreKept (told f es) → RetainsPairs T call es kept → AreKept (told f kept)
+  kept-let_go [] kept had r = subst (λ l. AreKept (told f l)) (sym r) tt
+  kept-let_go (e ∷ es) kept had (b, w, after, rest, t, more, is) =
+      let c = calls e.0 e.1 b w after t in
+      let later = kept-let_go es rest had.1 (subst (λ g. RetainsPairs T g es rest) c.2 more) in
+      let rises : Rises version_cmp (f w) = subst (Rises version_cmp) (sym c.0) (rises-filter version_cmp p (f e.1) had.0.1) in
+      subst (λ l. AreKept (told f l)) (sym is) (by rises b refl c.1 later)
+    where
+      by : Rises version_cmp (f w) → (a : Bool) → b ≡ a → (b ≡ true) ↔ (f w ≢ []) → AreKept (told f rest) → AreKept (told f (cond a ((e.0, w) ∷ rest) rest))
+      by rises true g some later = ((some.0 g, rises), later)
+      by rises false g some later = later

@@ -1,0 +1,92 @@
+-- Versions in order: the last of them, and those up to an epoch.
+use Rattle.std.proofs.Common.{◌≡◌, ℕ, ◌-◌, ◌<◌, ◌≤◌, Bool, true, false, cond, nat_le, nat_lt, List, [], ◌∷◌, length, get_or, position, fold, filter, drop, Some, None, arith, refl, ap, sym, ◌∙◌}
+use Rattle.std.specs.Bool.{then_some}
+use Rattle.std.specs.List.{position_or_len, slice_get}
+use Rattle.std.specs.List.Sorted.{IsPartitionedBy, IsPartitionPoint}
+use Rattle.std.specs.declared.cmp.Ordering.{Ordering}
+use Rattle.std.specs.declared.cmp.Ordering.TheVariants.{Less, Equal, Greater}
+use Rattle.std.specs.Ordering.{MatchOrdering, is_eq, is_gt, nat_cmp, ordering_reverse, ordering_then}
+use Rattle.std.specs.Option.{option_cmp}
+use Rattle.std.proofs.lemmas.Bool.{lt-ltb, le-ltb}
+use Rattle.std.proofs.lemmas.Cmp.{ranked}
+use Rattle.std.proofs.lemmas.List.Sorted.{IsPartitionedBy-leb}
+use Rattle.td_stamp.specs.Rises.{Rises}
+use Rattle.td_machine.specs.State.{state_cmp}
+use Rattle.td_shard.specs.declared.version.Version.{Version}
+use Rattle.td_shard.specs.Versions.{version_cmp, later, latest, up_to}
+use Rattle.td_shard.proofs.LeftOrders.{version_total, version_apart}
+use Rattle.td_shard.proofs.Rising.{IsPlace, last-pass, rises-filter, rises-at, found-at, found-nowhere}
+
+-- THE LAST of some versions in order is the latest
+later-one : (x y : Version) → is_gt (version_cmp x y) ≡ false → later (Some x) y ≡ Some y
+later-one x y e = by (version_cmp y x) refl
+  where
+    by : (o : Ordering) → version_cmp y x ≡ o → Some (cond (is_gt o) y x) ≡ Some y
+    by Greater f = refl
+    by Equal f = ap Some (sym (version_apart y x f))
+    by Less f = let no : true ≡ false = sym (ap is_gt (version_total.antisymm x y ∙ ap ordering_reverse f)) ∙ e in cc
+
+latest-from : (x : Version) (vs : List Version) → Rises version_cmp (x ∷ vs) → fold later (Some x) vs ≡ slice_get (x ∷ vs) (length vs)
+latest-from x [] r = refl
+latest-from x (y ∷ vs) r = ap (λ o. fold later o vs) (later-one x y r.0.0) ∙ latest-from y vs r.1
+
+pub latest-last : (vs : List Version) → Rises version_cmp vs → latest vs ≡ slice_get vs (length vs - 1)
+latest-last [] r = refl
+latest-last (x ∷ vs) r = let n : length vs ≡ length (x ∷ vs) - 1 = omega arith in latest-from x vs r ∙ ap (slice_get (x ∷ vs)) n
+
+pub latest-up_to : (vs some : List Version) (epoch : ℕ) → Rises version_cmp vs → some ≡ up_to epoch vs → slice_get some (length some - 1) ≡ latest (up_to epoch vs)
+latest-up_to vs some epoch r e =
+    ap (λ l. slice_get l (length l - 1)) e ∙ sym (latest-last (up_to epoch vs) (rises-filter version_cmp (λ v. nat_le v.epoch epoch) vs r))
+
+-- WHERE A VERSION STANDS, by the place for it
+one-position : {X : Type 0} (p : X → Bool) (xs : List X) (n : ℕ) → n < length xs → position_or_len p xs ≡ n → position p xs ≡ Some n
+one-position p xs n h e = λ i. cond ((ap (λ k. nat_lt k (length xs)) e ∙ lt-ltb n (length xs) h) i) (Some (e i)) None
+
+no-position : {X : Type 0} (p : X → Bool) (xs : List X) → position_or_len p xs ≡ length xs → position p xs ≡ None
+no-position p xs e = ap (λ b. cond b (Some (position_or_len p xs)) None) (ap (λ k. nat_lt k (length xs)) e ∙ le-ltb (length xs) (length xs) (omega arith))
+
+pub stands-nowhere : (v : Version) (vs : List Version) (n : ℕ) → Rises version_cmp vs → IsPlace version_cmp version_total v vs n → length vs ≤ n
+    → position (λ k. is_eq (version_cmp v k)) vs ≡ None
+stands-nowhere v vs n r w l =
+    no-position (λ k. is_eq (version_cmp v k)) vs (found-nowhere version_cmp version_total version_apart v vs n v r w (λ h. absurd (omega (arith, h, l))))
+
+pub stands-there : (v kept : Version) (vs : List Version) (n : ℕ) → Rises version_cmp vs → IsPlace version_cmp version_total v vs n → n < length vs → kept ≡ get_or vs n kept
+    → then_some (is_eq (version_cmp v kept)) n ≡ position (λ k. is_eq (version_cmp v k)) vs
+stands-there v kept vs n r w h is = by (version_cmp v kept) refl
+  where
+    nowhere : is_eq (version_cmp v kept) ≡ false → None ≡ position (λ k. is_eq (version_cmp v k)) vs
+    nowhere e =
+        sym (no-position (λ k. is_eq (version_cmp v k)) vs
+        (found-nowhere version_cmp version_total version_apart v vs n kept r w (λ b. ap (λ k. is_eq (version_cmp v k)) (sym is) ∙ e)))
+
+    by : (o : Ordering) → version_cmp v kept ≡ o → then_some (is_eq o) n ≡ position (λ k. is_eq (version_cmp v k)) vs
+    by Less e = nowhere (ap is_eq e)
+    by Greater e = nowhere (ap is_eq e)
+    by Equal e =
+        sym (one-position (λ k. is_eq (version_cmp v k)) vs n h (found-at version_cmp version_total v vs n kept h w (ap (version_cmp v) (sym is) ∙ e)))
+
+-- THE EPOCHS of versions in order do not fall
+epochs-in_order : (x y : Version) → is_gt (version_cmp x y) ≡ false → x.epoch ≤ y.epoch
+epochs-in_order x y e = by (nat_cmp x.epoch y.epoch) (ranked x.epoch y.epoch (nat_cmp x.epoch y.epoch) refl) e
+  where
+    by : (o : Ordering) → MatchOrdering o (x.epoch < y.epoch) (x.epoch ≡ y.epoch) (y.epoch < x.epoch) → is_gt (ordering_then o (option_cmp state_cmp x.state y.state)) ≡ false → x.epoch ≤ y.epoch
+    by Less h f = omega (arith, h)
+    by Equal h f = omega (arith, h)
+    by Greater h f = cc
+
+pub epochs-parted : (vs : List Version) (epoch : ℕ) → Rises version_cmp vs → IsPartitionedBy (λ v. nat_le v.epoch epoch) vs
+epochs-parted vs epoch r = IsPartitionedBy-leb (λ v. v.epoch) vs epoch (λ i j d le h. epochs-in_order (get_or vs i d) (get_or vs j d) (rises-at version_cmp version_total vs r i j d le h))
+
+pub others-after : (vs : List Version) (epoch n : ℕ) → n ≤ length vs → IsPartitionPoint (λ v. nat_le v.epoch epoch ≡ true) (λ v. nat_le v.epoch epoch ≡ false) vs n
+    → drop n vs ≡ filter (λ v. nat_lt epoch v.epoch) vs
+others-after vs epoch n l w =
+    last-pass (λ v. nat_lt epoch v.epoch) vs n l (
+      λ k d a b. not-lt _ epoch (w.0 k d a b),
+      λ k d a b. lt _ epoch (w.1 k d a b),
+    )
+  where
+    not-lt : (e epoch : ℕ) → nat_le e epoch ≡ true → nat_lt epoch e ≡ false
+    not-lt e epoch h = grind arith
+
+    lt : (e epoch : ℕ) → nat_le e epoch ≡ false → nat_lt epoch e ≡ true
+    lt e epoch h = grind arith
