@@ -86,7 +86,7 @@ impl<K: Crew, L: Law> Pool<K, L> {
     {
         let mut held = self.held.lock(rt);
         for _turn in rt.forever() {
-            if held.is_stopped() || held.hall().unpassed().is_none() {
+            if held.is_stopped() || held.hall().unpassed() != Some(1) {
                 return held;
             }
             held = self.has_rest.wait(rt, held);
@@ -134,7 +134,7 @@ impl<K: Crew, L: Law> Pool<K, L> {
 fn are_all<K: Crew, L: Law>(seats: &[Seat<K, L>], shards: u8) -> bool
     ensures { result ≡ (length seats.now == shards && list_all (λ s. is_empty s.hand) seats.now) }
 {
-    seats.len() <= shards as usize && are_free(seats)
+    seats.len() == shards as usize && are_free(seats)
 }
 
 /// Whether no seat holds anything.

@@ -19,8 +19,6 @@ mod keeper;
 #[cfg(test)]
 mod plan;
 #[cfg(test)]
-mod pool;
-#[cfg(test)]
 mod progress;
 #[cfg(test)]
 mod reach;

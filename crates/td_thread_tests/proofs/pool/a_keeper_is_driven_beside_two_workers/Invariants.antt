@@ -1,4 +1,4 @@
-use Rattle.td_tests.proofs.pool.a_keeper_is_driven_beside_two_workers.Given as goal
+use Rattle.td_thread_tests.proofs.pool.a_keeper_is_driven_beside_two_workers.Given as goal
 
 -- the pool that this call makes
 abbrev pub ghosts-driven-K-Ledger : goal.ghosts-driven-K-Ledger

@@ -1,4 +1,4 @@
-use Rattle.td_tests.proofs.pool.two_tasks_are_at_work_at_once.Given as goal
+use Rattle.td_thread_tests.proofs.pool.two_tasks_are_at_work_at_once.Given as goal
 
 -- the pool that this call makes
 abbrev pub ghosts-driven-K-Ledger : goal.ghosts-driven-K-Ledger
