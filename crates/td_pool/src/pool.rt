@@ -86,7 +86,7 @@ impl<K: Crew, L: Law> Pool<K, L> {
     {
         let mut held = self.held.lock(rt);
         for _turn in rt.forever() {
-            if held.is_stopped() || held.hall().unpassed() != Some(1) {
+            if held.is_stopped() || held.hall().unpassed().is_none() {
                 return held;
             }
             held = self.has_rest.wait(rt, held);
