@@ -11,6 +11,7 @@ use crate::watch::{publish, words_at};
 use std::collections::VecDeque;
 use td_batch::laws::run_joins;
 use td_calls::Law;
+use td_core::Hall;
 use td_disk::Disk;
 use td_pool::AnyHall;
 use td_pool::laws::each_is_sound;
@@ -23,7 +24,20 @@ impl<D: Disk, L: Law> Keeper<D, L> {
     /// writer that is attached publishes how far they come.
     ///
     /// Refusals, with nothing changed: `Foreign`, where the hall is none of this keeper's, and `Memory`.
-    pub fn collect<H: AnyHall<L>>(&mut self, hall: &mut H) -> Result<u64, KeeperError>
+    pub fn collect(&mut self, hall: &mut Hall<L>) -> Result<u64, KeeperError>
+        ensures own { IfOk result (λ _. IsOwn self.old hall.old) }
+        ensures collected { IfOk result (λ n. (self.new ≡ with_collected self.old hall.old) × (hall.new ≡ collected_hall hall.old)
+            × (n ≡ length (outs_by (collect_step hall.old).0))) }
+        ensures meaning { IfOk result (λ n. outs_by (collect_step hall.old).0 ≡ meant_outs self.old L.answers self.old.collected (self.old.collected + n)) }
+        ensures foreign { IfErr result (λ e. e ≡ Foreign → IsOwn self.old hall.old → ⊥) }
+        ensures refused { IfErr result (λ e. (e ≡ Foreign) ⊎ ((e ≡ Memory) × IsOwn self.old hall.old)) }
+        ensures unchanged { OnErr result ((self.new ≡ self.old) × (hall.new ≡ hall.old)) }
+    {
+        self.collect_lent(hall)
+    }
+
+    /// As `collect`, of a hall that is lent.
+    pub(crate) fn collect_lent<H: AnyHall<L>>(&mut self, hall: &mut H) -> Result<u64, KeeperError>
         ensures own { IfOk result (λ _. IsOwn self.old (H.state hall.old)) }
         ensures collected { IfOk result (λ n. (self.new ≡ with_collected self.old (H.state hall.old)) × (H.state hall.new ≡ collected_hall (H.state hall.old))
             × (n ≡ length (outs_by (collect_step (H.state hall.old)).0))) }

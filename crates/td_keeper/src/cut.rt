@@ -12,7 +12,7 @@ ghost use Rattle.td_standing.specs.declared.error.KeeperError.TheVariants.{Forei
 use crate::keeper::{Keeper, Taken};
 use td_batch::laws::run_joins;
 use td_calls::Law;
-use td_core::Cut;
+use td_core::{Cut, Hall};
 use td_disk::Disk;
 use td_machine::laws::base_has_passed;
 use td_pool::AnyHall;
@@ -28,7 +28,25 @@ impl<D: Disk, L: Law> Keeper<D, L> {
     /// Refusals, the first that holds: `Foreign`, where the hall is none of this keeper's, with nothing changed; `NotPassed` of
     /// the first epoch after the base, where that was released and has not passed; `CutWaiting`, where an earlier cut waits to
     /// be written; and `Memory`. What was collected stays.
-    pub fn cut<H: AnyHall<L>>(&mut self, hall: &mut H) -> Result<u64, KeeperError>
+    pub fn cut(&mut self, hall: &mut Hall<L>) -> Result<u64, KeeperError>
+        ensures own { IfOk result (λ _. IsOwn self.old hall.old × (cut_refusal self.old hall.old ≡ None)) }
+        ensures cut { IfOk result (λ epoch. (epoch ≡ last_passed hall.old) × (hall.new ≡ cut_hall (collected_hall hall.old))
+            × (self.new ≡ with_cut (with_collected self.old hall.old) hall.new)) }
+        ensures meaning { IfOk result (λ epoch. self.new.base_states ≡ states_after L.answers (tree_of self.old.plan) self.old.standing.states (batches_of self.old.standing.submitted) (epoch - self.old.standing.epoch)) }
+        ensures foreign { IfErr result (λ e. e ≡ Foreign → (IsOwn self.old hall.old → ⊥) × (self.new ≡ self.old) × (hall.new ≡ hall.old)) }
+        ensures refused { IfErr result (λ e. (e ≡ Foreign)
+            ⊎ (IsOwn self.old hall.old × ((cut_refusal self.old hall.old ≡ Some e) ⊎ (e ≡ Memory)))) }
+        ensures collected { IfErr result (λ e. ((e ≡ Foreign) ⊎ (e ≡ Memory) × (self.new ≡ self.old) × (hall.new ≡ hall.old))
+            ⊎ ((self.new ≡ with_collected self.old hall.old) × (hall.new ≡ collected_hall hall.old))) }
+
+        // What is brought into the queue before is the batch meaning's.
+        ensures outs { IsOwn self.old hall.old → outs_by (collect_step hall.old).0 ≡ meant_outs self.old L.answers self.old.collected (collect_step hall.old).1.collected }
+    {
+        self.cut_lent(hall)
+    }
+
+    /// As `cut`, of a hall that is lent.
+    pub(crate) fn cut_lent<H: AnyHall<L>>(&mut self, hall: &mut H) -> Result<u64, KeeperError>
         ensures own { IfOk result (λ _. IsOwn self.old (H.state hall.old) × (cut_refusal self.old (H.state hall.old) ≡ None)) }
         ensures cut { IfOk result (λ epoch. (epoch ≡ last_passed (H.state hall.old)) × (H.state hall.new ≡ cut_hall (collected_hall (H.state hall.old)))
             × (self.new ≡ with_cut (with_collected self.old (H.state hall.old)) (H.state hall.new))) }

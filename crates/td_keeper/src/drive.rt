@@ -55,7 +55,7 @@ impl<D: Disk, L: Law> Keeper<D, L> {
             },
             Command::Release => {
                 let mut held = pool.hall(rt);
-                let released = self.release(&mut *held);
+                let released = self.release_lent(&mut *held);
                 drop(held);
                 pool.wake();
                 match released {
@@ -67,12 +67,12 @@ impl<D: Disk, L: Law> Keeper<D, L> {
                 None => Reply::Settled,
                 Some(epoch) => refused(KeeperError::NotPassed(epoch), None),
             },
-            Command::Collect => match self.collect(&mut *pool.hall(rt)) {
+            Command::Collect => match self.collect_lent(&mut *pool.hall(rt)) {
                 Ok(count) => Reply::Collected(count),
                 Err(error) => refused(error, None),
             },
             Command::NextOut => Reply::Out(self.next_out()),
-            Command::Cut => match self.cut(&mut *pool.hall(rt)) {
+            Command::Cut => match self.cut_lent(&mut *pool.hall(rt)) {
                 Ok(epoch) => Reply::CutTaken(epoch),
                 Err(error) => refused(error, None),
             },

@@ -10,6 +10,7 @@ ghost use Rattle.td_standing.specs.declared.error.KeeperError.TheVariants.{Forei
 use crate::keeper::Keeper;
 use std::collections::VecDeque;
 use td_calls::Law;
+use td_core::Hall;
 use td_disk::Disk;
 use td_journal::Submitted;
 use td_machine::laws::reached_in_order;
@@ -24,7 +25,20 @@ impl<D: Disk, L: Law> Keeper<D, L> {
     ///
     /// Refusals: `Foreign`, with nothing changed, where the hall is none of this keeper's, or is closed; and `Memory`, after
     /// which some of them were released, and the next call goes on.
-    pub fn release<H: AnyHall<L>>(&self, hall: &mut H) -> Result<u64, KeeperError>
+    pub fn release(&self, hall: &mut Hall<L>) -> Result<u64, KeeperError>
+        ensures own { IfOk result (λ _. IsOwn self.now hall.old × (hall.old.closed ≡ false)) }
+        ensures released { IfOk result (λ n. (n ≡ length (lacking self.now hall.old)) × (hall.new ≡ with_released hall.old (lacking self.now hall.old))) }
+        ensures all { IfOk result (λ _. hall.new.batches ≡ since_base self.now) }
+        ensures foreign { IfErr result (λ e. e ≡ Foreign → (IsOwn self.now hall.old → hall.old.closed ≡ false → ⊥) × (hall.new ≡ hall.old)) }
+        ensures refused { IfErr result (λ e. (e ≡ Foreign)
+            ⊎ ((e ≡ Memory) × (IsOwn self.now hall.old × (hall.old.closed ≡ false)))) }
+        ensures some { IfErr result (λ e. (n : ℕ) × (hall.new ≡ with_released hall.old (take n (lacking self.now hall.old)))) }
+    {
+        self.release_lent(hall)
+    }
+
+    /// As `release`, of a hall that is lent.
+    pub(crate) fn release_lent<H: AnyHall<L>>(&self, hall: &mut H) -> Result<u64, KeeperError>
         ensures own { IfOk result (λ _. IsOwn self.now (H.state hall.old) × ((H.state hall.old).closed ≡ false)) }
         ensures released { IfOk result (λ n. (n ≡ length (lacking self.now (H.state hall.old))) × (H.state hall.new ≡ with_released (H.state hall.old) (lacking self.now (H.state hall.old)))) }
         ensures all { IfOk result (λ _. (H.state hall.new).batches ≡ since_base self.now) }

@@ -5,7 +5,7 @@ use Rattle.td_standing.specs.Standing.{batches_of}
 use Rattle.td_keeper.specs.Keeping.{Keeping, IsKeeping}
 use Rattle.td_keeper.specs.Halls.{with_released, lacking}
 use Rattle.td_keeper.proofs.Batches.{lacks, has_few, has_numbers, all_then}
-use Rattle.td_keeper.proofs.keeper.Keeper.release.Goals as goal
+use Rattle.td_keeper.proofs.keeper.Keeper.release_lent.Goals as goal
 
 if_ok : {A E : Type 0} {P Q : A → Type 0} (r : Result A E) → ((a : A) → P a → Q a) → IfOk r P → IfOk r Q
 if_ok (Ok a) f h = f a h

@@ -9,7 +9,7 @@ use Rattle.td_keeper.specs.Keeping.{Keeping, IsKeeping, keeping_of}
 use Rattle.td_keeper.specs.Refused.{cut_refusal}
 use Rattle.td_keeper.specs.Halls.{IsOwn, with_collected, cut_hall, last_passed}
 use Rattle.td_keeper.proofs.Collecting.{own_after, cut_is, is_last, last_has_passed, cut_right, cut_meaning}
-use Rattle.td_keeper.proofs.keeper.Keeper.cut.Goals as goal
+use Rattle.td_keeper.proofs.keeper.Keeper.cut_lent.Goals as goal
 
 pub returns-in-Err-clause-refused : goal.returns-in-Err-clause-refused
 returns-in-Err-clause-refused g c =
