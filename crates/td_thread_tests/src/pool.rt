@@ -22,6 +22,7 @@ use td_stamp::{Bag, Batch, Entry, Item, Rec, State, States};
 type KeeperInMemory = Keeper<MemoryDisk, Stock>;
 
 /// A gate that sleeps in each call.
+#[derive(Drop)]
 struct Sleepy;
 
 impl<R: Clock> Gate<R> for Sleepy {
@@ -31,6 +32,7 @@ impl<R: Clock> Gate<R> for Sleepy {
 }
 
 /// A gate that holds the first task until another has come, for at most 10,000 turns of a millisecond.
+#[derive(Drop)]
 struct Meeting {
     has_come: AtomicBool,
     has_met: AtomicBool,
@@ -53,6 +55,7 @@ impl<R: Clock> Gate<R> for Meeting {
 }
 
 /// A worker's seat, and how its work ended.
+#[derive(Drop)]
 struct Served<K: Crew> {
     seat: Seat<K, Stock>,
     ended: Result<(), PoolError>,
@@ -212,7 +215,13 @@ fn a_keeper_is_driven_beside_two_workers(rt: HostRuntime) -> Result<(), Fail> {
         &Sleepy,
         commands,
     )?;
-    println!(rt; "{replies}")?;
+    assert_eq!(rt;
+        replies.as_str(),
+        "[Refused { error: NoSuchInput, batch: Some(Bag { in_order: [Entry { input: 5, rec: Rec { key: 7, val: 5 } }], counts: {}, len: 1, alloc: Global }) }, \
+         Submitted(1), Released(1), Settled, Collected(1), \
+         Out(Some(EpochOut { epoch: 1, recs: Bag { in_order: [Output { vertex: 2, rec: Rec { key: 7, val: 5 } }], counts: {}, len: 1, alloc: Global } })), \
+         CutTaken(1), Written(Some(1)), Out(None)]"
+    );
     assert_eq!(rt; (hall.given(), hall.collected(), gives), (3, 1, 3));
     let (epoch, states) = hall.base();
     assert_eq!(rt; (epoch, states.get(1, 7)), (1, Some(State { a: 5, b: 1 })));
