@@ -11,7 +11,8 @@ Without files it also runs `engine_steps` on its rows (rows/steps.txt, and those
 fail), where a call that was refused is made once more. Each run must then answer as the row says, but for a line
 `refused: memory`; or, where the program itself lacked memory before the first call, end with status 1 and no answer. Where a
 feed was refused, which is not made once more, or the disk in memory could not grow its record of calls and failed, the run is
-made again up to there, and a recovery must then tell at least what was acknowledged."""
+made again up to there, and a recovery must then tell at least what was acknowledged. A feed has workers in threads, so that no two
+runs make their allocations in one order: in rows with feeds each feed is followed by a recovery, in the same run."""
 
 import concurrent.futures
 import importlib.machinery
@@ -39,6 +40,8 @@ FAILED = b"refused: device"
 LEFT_OUT = re.compile(rb"(?m)^(stop|fail|crash) ")
 # Commands after which another disk is there, or other bytes on it.
 OTHER_DISK = (b"format", b"blank", b"byte", b"size")
+# Those that have workers in threads.
+FEEDS = (b"feed ", b"meet ")
 # The allocations of reading the input hang on its length, so each is filled up to so many bytes more.
 ROOM = 64
 # So many runs in a row that meet no refusal end the count.
@@ -111,9 +114,15 @@ class Played:
         self.library = library
         self.title, command = row
         self.text = command.text["<"]
+        self.plan, self.steps = steps_in(self.text)
+        self.has_feeds = any(step.startswith(FEEDS) for step in self.steps)
+        if self.has_feeds:
+            self.steps = [made for step in self.steps for made in ([step, b"recover\n"] if step.startswith(FEEDS) else [step])]
+            self.text = self.plan + b"".join(self.steps)
         self.length = len(self.text) + ROOM
         self.want = command.status, command.text[">"].splitlines(), command.text["!"]
-        self.plan, self.steps = steps_in(self.text)
+        if self.has_feeds:
+            self.want = self.run(self.text)
 
     def run(self, text, **refused):
         status, output, errors = answer(self.library, [], filled(text, self.length), STEPS, **refused)
@@ -134,6 +143,8 @@ class Played:
     def is_told(self, lines, number):
         """Whether a run whose disk failed, or a feed of which was refused, tells what was acknowledged until then."""
         at = next(index for index, line in enumerate(lines) if line.startswith(FAILED) or line == AGAIN)
+        if self.has_feeds:
+            return self.is_told_then(lines, at)
         done = self.steps[:self.steps_until(at, REFUSED=str(number))]
         status, lines, errors = self.run(self.plan + b"".join(done) + b"recover\n", REFUSED=str(number))
         if (status, errors) != (0, b"") or lines[:at] != self.want[1][:at]:
@@ -145,6 +156,24 @@ class Played:
         told = [int(line.split(b":")[0].split()[1]) for line in lines[at + 1:] if line.startswith((b"kept ", b"epoch "))]
         # A disk that tells no epochs is refused as the row says.
         return told[-1] >= acknowledged if told else acknowledged == 0 and lines[at + 1:] == self.want[1][at:at + 1]
+
+    def is_told_then(self, lines, at):
+        """Whether the first recovery after a line of such a run tells what was acknowledged until then."""
+        if lines[:at] != self.want[1][:at]:
+            return False
+        done = next((count for count in range(len(self.steps)) if self.lines_after(count) > at), len(self.steps))
+        begin = max(index for index, step in enumerate(self.steps[:done]) if step.startswith(OTHER_DISK))
+        if begin == done - 1:
+            return True
+        acknowledged = max([int(line[4:]) for line in lines[self.lines_after(begin):at] if line.startswith(b"ack ")], default=0)
+        told = [int(line.split(b":")[0].split()[1]) for line in self.first_recovery(lines[at + 1:])]
+        return told[-1] >= acknowledged if told else acknowledged == 0
+
+    def first_recovery(self, lines):
+        """The lines of what is recovered first: `kept ..` and `epoch ..`."""
+        first = next((index for index, line in enumerate(lines) if line.startswith(b"kept ")), len(lines))
+        after = next((index for index in range(first + 1, len(lines)) if not re.match(rb"epoch \d+:( \(\d+ \d+ -?\d+\))*$", lines[index])), len(lines))
+        return lines[first:after]
 
     def refuse_each(self):
         """Counts the allocations, the calls that were made again and the disks that failed; the script ends at another answer."""

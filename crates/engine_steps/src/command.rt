@@ -1,7 +1,9 @@
 //! Commands.
 use crate::disk_command::{DiskCall, disk_call_of};
+use crate::gate::Passage;
 use crate::hall_command::{HallCall, hall_call_of};
 use crate::keeper_command::{KeeperCall, keeper_call_of};
+use crate::pool_command::passage_of;
 use td_stamp::{Entry, Rec, State};
 
 /// What a line asks for.
@@ -21,6 +23,10 @@ pub(crate) enum Command<'a> {
     Keeper(KeeperCall<'a>),
     /// `feed WORKERS`, with the lines that follow up to a line `end`.
     Feed(u8, &'a str),
+    /// `meet WORKERS`, with the lines that follow up to a line `end`.
+    Meet(u8, &'a str),
+    /// `drive GATE`, with the lines that follow up to a line `end`.
+    Drive(Passage, &'a str),
     /// A call of the hall.
     Hall(HallCall<'a>),
 }
@@ -28,11 +34,20 @@ pub(crate) enum Command<'a> {
 /// The command of a line, and the lines after those that are its own.
 pub(crate) fn next_command<'a>(line: &'a str, rest: &'a str) -> Option<(Command<'a>, &'a str)> {
     let (name, words) = line.split_once(' ').unwrap_or((line, ""));
-    if name != "feed" {
+    if name != "feed" && name != "meet" && name != "drive" {
         return Some((command_of(name, words)?, rest));
     }
-    let (input, rest) = until_end(rest)?;
-    Some((Command::Feed(words.parse().ok()?, input), rest))
+    let (lines, rest) = until_end(rest)?;
+    Some((command_with(name, words, lines)?, rest))
+}
+
+/// The command of this name, with lines of its own.
+fn command_with<'a>(name: &str, words: &str, lines: &'a str) -> Option<Command<'a>> {
+    match name {
+        "feed" => Some(Command::Feed(words.parse().ok()?, lines)),
+        "meet" => Some(Command::Meet(words.parse().ok()?, lines)),
+        _ => Some(Command::Drive(passage_of(words)?, lines)),
+    }
 }
 
 /// The command of this name.

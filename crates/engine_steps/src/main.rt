@@ -7,22 +7,32 @@ mod catalogue;
 mod command;
 mod device;
 mod disk_command;
+mod drive;
 mod error;
+mod gate;
 mod hall_command;
 mod hands;
+mod keeper_calls;
 mod keeper_command;
 mod keeper_lines;
 mod lines;
+mod meeting;
+mod pool_command;
 mod release;
+mod replies;
 mod stage;
 mod store;
 mod watch;
+mod worker;
 
 use crate::command::{Command, next_command};
 use crate::error::StepError;
 use crate::stage::Stage;
 use std::alloc::Global;
 use std::io;
+use std::sync::Wait;
+use std::thread::Threads;
+use std::time::Clock;
 use td_plan::{Plan, PlanError};
 
 fn main(rt: HostRuntime) -> Result<(), StepError> {
@@ -45,7 +55,11 @@ fn plan_of(alloc: Global, text: &str) -> Result<Plan, StepError> {
 }
 
 /// Does the commands of the lines of a text, one after another. A line that is empty or begins with `#` is passed over.
-fn play(rt: &impl Print, stage: &mut Stage, commands: &str) -> Result<(), StepError> {
+fn play<R: Print + Threads + Wait + Clock + Sync>(
+    rt: &R,
+    stage: &mut Stage,
+    commands: &str,
+) -> Result<(), StepError> {
     let mut rest = commands;
     for _line in 0..commands.len() {
         if rest.is_empty() {
@@ -63,7 +77,11 @@ fn play(rt: &impl Print, stage: &mut Stage, commands: &str) -> Result<(), StepEr
 }
 
 /// Does a command, a second time where memory was refused.
-fn step(rt: &impl Print, stage: &mut Stage, command: Command<'_>) -> Result<(), StepError> {
+fn step<R: Print + Threads + Wait + Clock + Sync>(
+    rt: &R,
+    stage: &mut Stage,
+    command: Command<'_>,
+) -> Result<(), StepError> {
     match stage.step(rt, command) {
         Err(StepError::Memory) => {
             println!(rt; "refused: memory")?;

@@ -1,19 +1,27 @@
 //! What commands are done on.
 use crate::catalogue::Catalogue;
 use crate::command::Command;
+use crate::drive::drive;
 use crate::error::StepError;
+use crate::gate::Passage;
 use crate::hall_command::HallCall;
 use crate::hands::Hands;
+use crate::keeper_calls::{checkpoint, collect_by, cut_by, release_by, submit, write_cut};
 use crate::keeper_command::KeeperCall;
-use crate::keeper_lines::{print_next_out, print_number, print_submitted, print_written};
+use crate::keeper_lines::print_next_out;
 use crate::lines::{
     print_cut, print_epochs, print_given, print_hall, print_refusal, print_run, print_taken,
     print_unpassed,
 };
-use crate::release::{batch_of, release};
+use crate::meeting::Meeting;
+use crate::pool_command::commands_of;
+use crate::release::release;
 use crate::store::{Store, print_fault};
 use crate::watch::{attach, detach, read};
 use std::alloc::Global;
+use std::sync::Wait;
+use std::thread::Threads;
+use std::time::Clock;
 use std::{io, mem};
 use td_calls::{Closures, Stock};
 use td_console::StdWriter;
@@ -57,7 +65,11 @@ impl Stage {
     }
 
     /// Does a command, and prints its answer. After `Memory` the command may be done again.
-    pub(crate) fn step(&mut self, rt: &impl Print, command: Command<'_>) -> Result<(), StepError> {
+    pub(crate) fn step<R: Print + Threads + Wait + Clock + Sync>(
+        &mut self,
+        rt: &R,
+        command: Command<'_>,
+    ) -> Result<(), StepError> {
         match command {
             Command::State(vertex, key, state) => Ok(self.states.set(vertex, key, state)?),
             Command::Open(workers, first) => {
@@ -72,6 +84,8 @@ impl Stage {
             Command::Disk(call) => self.store.call(rt, self.alloc, &self.plan, call),
             Command::Keeper(call) => self.keeper_call(rt, call),
             Command::Feed(workers, input) => self.feed(rt, workers, input),
+            Command::Meet(workers, input) => self.meet(rt, workers, input),
+            Command::Drive(passage, lines) => self.drive(rt, passage, lines),
             Command::Hall(call) => self.hall_call(rt, call),
         }
     }
@@ -88,51 +102,97 @@ impl Stage {
 
     /// A call of the keeper.
     fn keeper_call(&mut self, rt: &impl Print, call: KeeperCall<'_>) -> Result<(), StepError> {
-        let Store::Kept(keeper) = &mut self.store else {
-            return Err(StepError::NoKeeper);
-        };
+        let keeper = self.store.keeper()?;
         match call {
-            KeeperCall::Opening(workers) => {
-                let (epoch, states, _batches) = keeper.opening()?;
-                self.open(workers, epoch.saturating_add(1), states)
-            }
-            KeeperCall::Submit(entries) => {
-                print_submitted(rt, keeper.submit(batch_of(self.alloc, entries)?))
-            }
-            KeeperCall::Release => {
-                print_number(rt, "released", keeper.release(hall_of(&mut self.hall)?))
-            }
-            KeeperCall::Collect => {
-                print_number(rt, "collected", keeper.collect(hall_of(&mut self.hall)?))
-            }
+            KeeperCall::Opening(workers) => self.open_at_checkpoint(workers),
+            KeeperCall::Submit(entries) => submit(rt, self.alloc, keeper, entries),
+            KeeperCall::Release => release_by(rt, keeper, hall_of(&mut self.hall)?),
+            KeeperCall::Collect => collect_by(rt, keeper, hall_of(&mut self.hall)?),
             KeeperCall::NextOut => print_next_out(rt, keeper.next_out()),
-            KeeperCall::Cut => print_number(rt, "cut", keeper.cut(hall_of(&mut self.hall)?)),
-            KeeperCall::WriteCut => print_written(rt, keeper.write_cut()),
-            KeeperCall::Attach => {
-                self.reader = attach(rt, self.alloc, keeper)?;
-                Ok(())
-            }
+            KeeperCall::Cut => cut_by(rt, keeper, hall_of(&mut self.hall)?),
+            KeeperCall::WriteCut => write_cut(rt, keeper),
+            KeeperCall::Attach => self.attach(rt),
             KeeperCall::Read => read(rt, &mut self.reader),
             KeeperCall::Detach => detach(rt, keeper),
         }
     }
 
+    /// Opens a hall at the keeper's checkpoint.
+    fn open_at_checkpoint(&mut self, workers: u8) -> Result<(), StepError> {
+        let (epoch, states) = checkpoint(self.store.keeper()?)?;
+        self.open(workers, epoch.saturating_add(1), states)
+    }
+
+    /// Attaches the writer of a fresh watch to the keeper.
+    fn attach(&mut self, rt: &impl Print) -> Result<(), StepError> {
+        self.reader = attach(rt, self.alloc, self.store.keeper()?)?;
+        Ok(())
+    }
+
+    /// Feeds the disk by the catalogue.
+    fn feed<R: Print + Threads + Wait + Sync>(
+        &mut self,
+        rt: &R,
+        workers: u8,
+        input: &str,
+    ) -> Result<(), StepError> {
+        let calls = self.calls;
+        self.feed_by(rt, workers, input, &calls)
+    }
+
+    /// Feeds the disk by a map whose calls look for one another, and prints whether they met.
+    fn meet<R: Print + Threads + Wait + Sync>(
+        &mut self,
+        rt: &R,
+        workers: u8,
+        input: &str,
+    ) -> Result<(), StepError> {
+        let meeting = Meeting::new();
+        self.feed_by(rt, workers, input, &meeting)?;
+        if meeting.has_met() {
+            println!(rt; "met")?;
+        }
+        Ok(())
+    }
+
     /// Feeds the disk. After `Memory` it is not done again: some of it may be done.
-    fn feed(&mut self, rt: &impl Print, workers: u8, input: &str) -> Result<(), StepError> {
+    fn feed_by<C: Closures<Stock> + Sync, R: Print + Threads + Wait + Sync>(
+        &mut self,
+        rt: &R,
+        workers: u8,
+        input: &str,
+        calls: &C,
+    ) -> Result<(), StepError> {
         if !(1..=16).contains(&workers) {
             return Err(StepError::Syntax);
         }
-        let (device, ended) = td_feed::feed::<_, _, _, Stock, Catalogue>(
+        let (device, ended) = td_feed::feed::<_, _, _, Stock, C, _>(
+            rt,
             self.alloc,
             self.store.take()?,
             &self.plan,
             workers,
             &mut input.as_bytes(),
             &mut StdWriter(io::writer(rt)),
-            &self.calls,
+            calls,
         );
         self.store = Store::Disk(device);
         print_fault(rt, ended)
+    }
+
+    /// Drives the keeper beside a pool of the hall, which is there again if it was gathered. Once the pool is there, want of memory
+    /// is an answer: some of it may be done.
+    fn drive<R: Print + Threads + Wait + Clock + Sync>(
+        &mut self,
+        rt: &R,
+        passage: Passage,
+        lines: &str,
+    ) -> Result<(), StepError> {
+        let commands = commands_of(self.alloc, lines)?;
+        let keeper = self.store.keeper()?;
+        let hall = self.hall.take().ok_or(StepError::NoHall)?;
+        self.hall = drive(rt, self.alloc, keeper, hall, &self.calls, passage, commands)?;
+        Ok(())
     }
 
     /// A call of the hall.
@@ -144,13 +204,10 @@ impl Stage {
             HallCall::Take(shard, pick) => print_taken(rt, hands.take(hall, shard, pick), hands),
             HallCall::Run => print_run(rt, hands.run(&self.calls), hands),
             HallCall::Give(end) => print_given(rt, hands.give(hall, end)),
-            HallCall::Rounds => {
-                hands.rounds(hall, &self.calls)?;
-                Ok(println!(rt; "nothing left")?)
-            }
+            HallCall::Rounds => rounds(rt, hall, hands, &self.calls),
             HallCall::Drain => drain(rt, hall, &self.calls),
-            HallCall::Collect => print_epochs(rt, hall.collect()?.as_slice()),
-            HallCall::Cut => print_cut(rt, hall.cut()),
+            HallCall::Collect => collect(rt, hall),
+            HallCall::Cut => cut(rt, hall),
             HallCall::CutAt(epoch) => cut_at(rt, hall, epoch),
             HallCall::Close => Ok(hall.close()),
             HallCall::Unpassed => print_unpassed(rt, hall.unpassed()),
@@ -181,6 +238,25 @@ fn drain(rt: &impl Print, hall: &mut Hall<Stock>, calls: &Catalogue) -> Result<(
         }
         Err(error) => print_refusal(rt, error),
     }
+}
+
+/// Does rounds, while there are tasks.
+fn rounds(
+    rt: &impl Print,
+    hall: &mut Hall<Stock>,
+    hands: &mut Hands,
+    calls: &Catalogue,
+) -> Result<(), StepError> {
+    hands.rounds(hall, calls)?;
+    Ok(println!(rt; "nothing left")?)
+}
+
+fn collect(rt: &impl Print, hall: &mut Hall<Stock>) -> Result<(), StepError> {
+    print_epochs(rt, hall.collect()?.as_slice())
+}
+
+fn cut(rt: &impl Print, hall: &mut Hall<Stock>) -> Result<(), StepError> {
+    print_cut(rt, hall.cut())
 }
 
 /// Cuts at an epoch, if it is one after which a hall may be cut.

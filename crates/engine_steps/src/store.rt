@@ -11,6 +11,7 @@ use td_disk::{Disk, Fill, MemoryDisk};
 use td_head::Shape;
 use td_keeper::Keeper;
 use td_plan::Plan;
+use td_standing::KeeperError;
 
 /// A disk, or a keeper that has one, or none yet.
 #[derive(Drop)]
@@ -30,26 +31,25 @@ impl Store {
         call: DiskCall,
     ) -> Result<(), StepError> {
         match call {
-            DiskCall::Format(m, n, k) => match Shape::new(m, n, k) {
-                Some(shape) => return self.format(rt, alloc, plan, shape),
-                None => println!(rt; "refused: shape")?,
-            },
-            DiskCall::Blank(bytes) => *self = Store::Disk(sound(MemoryDisk::new(alloc, bytes)?)),
-            DiskCall::Recover => return self.recover(rt, alloc, plan),
-            DiskCall::IntoDisk => *self = Store::Disk(self.take()?),
-            DiskCall::Stop(k) => *self = Store::Disk(stopping(memory_of(self.take()?), k)),
-            DiskCall::Fail(k) => *self = Store::Disk(failing(memory_of(self.take()?), k)),
-            DiskCall::Crash(fill) => return self.crash(fill),
-            DiskCall::Byte(at, byte) => {
-                let mut memory = memory_of(self.take()?);
-                let set = set_byte(&mut memory, at, byte);
-                *self = Store::Disk(sound(memory));
-                return set;
-            }
-            DiskCall::Size(bytes) => return self.resize(alloc, bytes),
-            DiskCall::Show => return self.show(rt, alloc, plan),
+            DiskCall::Format(m, n, k) => self.format(rt, alloc, plan, Shape::new(m, n, k)),
+            DiskCall::Blank(bytes) => self.blank(alloc, bytes),
+            DiskCall::Recover => self.recover(rt, alloc, plan),
+            DiskCall::IntoDisk => self.into_disk(),
+            DiskCall::Stop(k) => self.stop(k),
+            DiskCall::Fail(k) => self.fail(k),
+            DiskCall::Crash(fill) => self.crash(fill),
+            DiskCall::Byte(at, byte) => self.set_byte(at, byte),
+            DiskCall::Size(bytes) => self.resize(alloc, bytes),
+            DiskCall::Show => self.show(rt, alloc, plan),
         }
-        Ok(())
+    }
+
+    /// The keeper.
+    pub(crate) fn keeper(&mut self) -> Result<&mut Keeper<Device, Stock>, StepError> {
+        match self {
+            Store::Kept(keeper) => Ok(keeper),
+            Store::Disk(_) | Store::Empty => Err(StepError::NoKeeper),
+        }
     }
 
     /// The disk. No keeper has it any more.
@@ -61,43 +61,65 @@ impl Store {
         }
     }
 
-    /// Formats a fresh disk.
+    /// Makes a disk of a shape, if there is such a shape, and formats it.
     fn format(
         &mut self,
         rt: &impl Print,
         alloc: Global,
         plan: &Plan,
-        shape: Shape,
+        shape: Option<Shape>,
     ) -> Result<(), StepError> {
-        let device = sound(MemoryDisk::new(alloc, shape.bytes())?);
-        if device.size() < shape.bytes() {
-            return Err(StepError::Refused);
-        }
-        match Keeper::format(alloc, device, plan, shape) {
-            Ok(keeper) => {
-                *self = Store::Kept(keeper);
-                Ok(())
-            }
-            Err((refusal, device)) => {
-                *self = Store::Disk(device);
-                print_keeper_refusal(rt, refusal)
-            }
+        let Some(shape) = shape else {
+            return Ok(println!(rt; "refused: shape")?);
+        };
+        let (store, formatted) = formatted(alloc, plan, shape)?;
+        *self = store;
+        match formatted {
+            Ok(()) => Ok(()),
+            Err(refusal) => print_keeper_refusal(rt, refusal),
         }
     }
 
     /// Recovers the disk, and prints what it tells.
     fn recover(&mut self, rt: &impl Print, alloc: Global, plan: &Plan) -> Result<(), StepError> {
-        match Keeper::recover(alloc, self.take()?, plan) {
-            Ok(keeper) => {
-                let opening = keeper.opening();
-                *self = Store::Kept(keeper);
-                print_opening(rt, opening)
-            }
-            Err((refusal, device)) => {
-                *self = Store::Disk(device);
-                print_keeper_refusal(rt, refusal)
-            }
+        let (store, recovered) = kept(Keeper::recover(alloc, self.take()?, plan));
+        *self = store;
+        match recovered {
+            Ok(()) => self.print_opening(rt),
+            Err(refusal) => print_keeper_refusal(rt, refusal),
         }
+    }
+
+    fn print_opening(&mut self, rt: &impl Print) -> Result<(), StepError> {
+        print_opening(rt, self.keeper()?.opening())
+    }
+
+    /// Makes a disk of zeros.
+    fn blank(&mut self, alloc: Global, bytes: u64) -> Result<(), StepError> {
+        *self = Store::Disk(sound(MemoryDisk::new(alloc, bytes)?));
+        Ok(())
+    }
+
+    fn into_disk(&mut self) -> Result<(), StepError> {
+        *self = Store::Disk(self.take()?);
+        Ok(())
+    }
+
+    fn stop(&mut self, k: u64) -> Result<(), StepError> {
+        *self = Store::Disk(stopping(memory_of(self.take()?), k));
+        Ok(())
+    }
+
+    fn fail(&mut self, k: u64) -> Result<(), StepError> {
+        *self = Store::Disk(failing(memory_of(self.take()?), k));
+        Ok(())
+    }
+
+    fn set_byte(&mut self, at: u64, byte: u8) -> Result<(), StepError> {
+        let mut memory = memory_of(self.take()?);
+        let set = set_byte(&mut memory, at, byte);
+        *self = Store::Disk(sound(memory));
+        set
     }
 
     fn crash(&mut self, fill: Fill) -> Result<(), StepError> {
@@ -137,6 +159,29 @@ impl Store {
             Err(Fault::Memory) => Err(StepError::Memory),
             shown => print_fault(rt, shown),
         }
+    }
+}
+
+/// A fresh disk of a shape, formatted for a plan; or why it was not.
+fn formatted(
+    alloc: Global,
+    plan: &Plan,
+    shape: Shape,
+) -> Result<(Store, Result<(), KeeperError>), StepError> {
+    let device = sound(MemoryDisk::new(alloc, shape.bytes())?);
+    if device.size() < shape.bytes() {
+        return Err(StepError::Refused);
+    }
+    Ok(kept(Keeper::format(alloc, device, plan, shape)))
+}
+
+/// The keeper that was made; or the disk, and why there is none.
+fn kept(
+    made: Result<Keeper<Device, Stock>, (KeeperError, Device)>,
+) -> (Store, Result<(), KeeperError>) {
+    match made {
+        Ok(keeper) => (Store::Kept(keeper), Ok(())),
+        Err((refusal, device)) => (Store::Disk(device), Err(refusal)),
     }
 }
 

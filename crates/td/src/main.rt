@@ -14,6 +14,8 @@ use crate::store::{store_fold, store_group, store_map};
 use std::fs::File;
 use std::process::ExitCode;
 use std::rt::{Env, Files};
+use std::sync::Wait;
+use std::thread::Threads;
 use std::{env, io};
 use td_calls::{Calls, FoldBox, GroupBox, MapBox, Stock, StockCalls, stock};
 use td_console::{Fault, StdReader, StdWriter, batch, fault_line, read_picks, run, sim};
@@ -33,7 +35,7 @@ fn main(rt: HostRuntime) -> ExitCode {
 }
 
 /// Does what is asked for.
-fn done<R: Files<File = File> + Input + Print + AllocGlobal>(
+fn done<R: Files<File = File> + Input + Print + AllocGlobal + Threads + Wait + Sync>(
     rt: &R,
     job: Job<'_>,
 ) -> Result<(), Fault>
@@ -103,7 +105,10 @@ fn ended<R: Eprint + AllocGlobal>(rt: &R, answer: Result<(), Fault>) -> ExitCode
 
 /// Answers standard input with the closures of the catalogue. The closures are made here, since a function may not hand
 /// out one that it makes.
-fn run_engine<R: Input + Print + AllocGlobal>(rt: &R, engine: Engine) -> Result<(), Fault>
+fn run_engine<R: Input + Print + AllocGlobal + Threads + Wait + Sync>(
+    rt: &R,
+    engine: Engine,
+) -> Result<(), Fault>
     requires lawful { IsLawfulEngine engine }
 {
     let alloc = rt.alloc();
@@ -156,7 +161,7 @@ fn run_engine<R: Input + Print + AllocGlobal>(rt: &R, engine: Engine) -> Result<
 }
 
 /// Answers standard input with the whole catalogue.
-fn answer<R: Input + Print + AllocGlobal>(
+fn answer<R: Input + Print + AllocGlobal + Threads + Wait + Sync>(
     rt: &R,
     calls: &StockCalls,
     engine: Engine,
@@ -193,7 +198,8 @@ fn answer<R: Input + Print + AllocGlobal>(
             )
         }
         Engine::Feed(disk, plan, workers) => {
-            feed::<_, _, _, Stock, StockCalls>(
+            feed::<_, _, _, Stock, StockCalls, _>(
+                rt,
                 rt.alloc(),
                 disk,
                 &plan,

@@ -20,6 +20,7 @@ use Rattle.td_standing.specs.declared.error.KeeperError.{KeeperError}
 use Rattle.td_standing.specs.Told.{Told}
 use Rattle.td_standing.specs.Tells.{Tells, Keeps}
 use Rattle.td_standing.specs.Advanced.{TellsAdvance, SinceAdvance, HeldWhere, states_by}
+use Rattle.td_keeper.specs.declared.command.Reply.{Reply}
 use Rattle.td_keeper.specs.Keeping.{Keeping, IsKeeping, with_batch, with_checkpoint}
 use Rattle.td_feed.specs.Fed.{TellsHistory, EachTellsHistory, EachTellsSome}
 use Rattle.td_feed.specs.Carried.{StandsFor, Carries, TellsSome, Stopped, Leaves}
@@ -50,6 +51,15 @@ pub either_way : {T E A : Type 0} {P Q : A → Type 0} (r : Result T E) (o : Opt
 either_way (Ok x) (Some a) f p q = f a p
 either_way (Ok x) None f p q = tt
 either_way (Err e) o f p q = q
+
+-- how a feed ended, and how it obeyed
+pub ended_ok : {T E : Type 0} (P : Type 0) (x : T) (obeyed result : Result T E) → OnOk result (obeyed ≡ Ok x) → OnOk obeyed P → OnOk result P
+ended_ok P x obeyed (Ok y) is p = subst (λ r. OnOk r P) is p
+ended_ok P x obeyed (Err e) is p = tt
+
+pub ended_err : {T E : Type 0} (P Q : Type 0) (obeyed result : Result T E) → (P → Q) → OnOk obeyed P → OnErr obeyed Q → OnErr result Q
+ended_err P Q (Ok x) result f p q = at_err result (f p)
+ended_err P Q (Err e) result f p q = at_err result q
 
 pub in_some : {A : Type 0} {P : A → Type 0} (o : Option A) → ((a : A) → P a) → IfSome o P
 in_some (Some a) f = f a
@@ -102,6 +112,10 @@ module _ {D : Type 0} (answers : Answers) where
     stands = λ history is.
         subst (λ (h : List Submitted). StandsFor answers c h) (append_assoc history x y) (second.stands (history ++ x) (first.stands history is));
   }
+
+  -- by a reply that is known
+  pub carried_by : (old new : Keeping D) (x : Reply → List Submitted) → {r t : Reply} → r ≡ t → Carries answers old new (x r) → Carries answers old new (x t)
+  carried_by old new x is carries = subst (λ (r : Reply). Carries answers old new (x r)) is carries
 
   -- a batch that was submitted
   pub submitted : (old new : Keeping D) (device : D) (batch : List Entry) → old.broken ≡ false → new ≡ with_batch old device 0 batch → Carries answers old new (submission 0 batch ∷ [])
@@ -210,6 +224,20 @@ module _ {D : Type 0} (is_lawful : D → Type 0) (state : D → DiskState) (answ
       tells history i n le t =
           subst (λ (p : List Line). TellsHistory answers p (history ++ take (length x + n) all) i) first.plan
           (subst (λ (l : List Submitted). TellsHistory answers b.plan l i) (append_assoc history x (take n y) ∙ ap (λ (l : List Submitted). history ++ l) (sym (part n le))) t)
+
+module _ {D : Type 0} (is_lawful : D → Type 0) (state : D → DiskState) (answers : Answers) (a b c : Keeping D) where
+  -- one after the other, where one of them submits nothing
+  pub carries_after : (y : List Submitted) → Carries answers a b [] → Carries answers b c y → Carries answers a c y
+  carries_after y first rest = then_carries answers a b c [] y first rest
+
+  pub carries_then : (x : List Submitted) → Carries answers a b x → Carries answers b c [] → Carries answers a c x
+  carries_then x first rest = subst (λ (l : List Submitted). Carries answers a c l) (append-nil x) (then_carries answers a b c x [] first rest)
+
+  pub leaves_after : (y : List Submitted) → Carries answers a b [] → Leaves is_lawful state answers b c y → Leaves is_lawful state answers a c y
+  leaves_after y first rest = then_leaves is_lawful state answers a b c [] y [] y (sym (append-nil y)) first rest
+
+  pub leaves_then : (x : List Submitted) → Carries answers a b x → Leaves is_lawful state answers b c [] → Leaves is_lawful state answers a c x
+  leaves_then x first rest = then_leaves is_lawful state answers a b c x [] [] x (sym (append-nil x)) first rest
 
 -- the law: what is told in parts is told
 abbrev pub Together : Type 0

@@ -1,12 +1,17 @@
 -- What the calls of a feed leave of a keeper, seen from the keeper before them.
-use Rattle.std.specs.Prelude.{◌≡◌, ◌⊎◌, ℕ, suc, ◌≤◌, false, List, ◌++◌, length, take}
+use Rattle.std.specs.Prelude.{◌≡◌, ◌⊎◌, ℕ, suc, ◌≤◌, Bool, true, false, List, [], ◌∷◌, ◌++◌, length, take}
 use Rattle.td_plan.specs.Lines.{Line}
 use Rattle.td_calls.specs.Answers.{Answers}
 use Rattle.td_disk.specs.Disk.{DiskState}
 use Rattle.td_journal.specs.declared.submitted.Submitted.{Submitted}
+use Rattle.td_standing.specs.Standing.{submission}
 use Rattle.td_standing.specs.Stops.{Stands}
 use Rattle.td_standing.specs.Advanced.{states_by}
 use Rattle.td_keeper.specs.Keeping.{Keeping}
+use Rattle.td_keeper.specs.declared.command.Command.{Command}
+use Rattle.td_keeper.specs.declared.command.Command.TheVariants.{Submit, WriteCut}
+use Rattle.td_keeper.specs.declared.command.Reply.{Reply}
+use Rattle.td_keeper.specs.declared.command.Reply.TheVariants.{Refused}
 use Rattle.td_feed.specs.Fed.{TellsHistory}
 
 -- a keeper's standing stands for a history
@@ -33,3 +38,19 @@ pub record Leaves {D : Type 0} (is_lawful : D → Type 0) (state : D → DiskSta
   pub count : ℕ
   pub few : count ≤ length more
   pub left : Carries answers old new (take count more) ⊎ Stopped is_lawful state answers old new more count
+
+-- what a command would submit
+abbrev pub batch_in : Command → List Submitted
+batch_in (Submit batch) = submission 0 batch ∷ []
+batch_in _ = []
+
+-- whether a reply is a refusal
+abbrev pub is_refused : Reply → Bool
+is_refused (Refused error batch) = true
+is_refused _ = false
+
+-- whether a command writes nothing to the disk
+abbrev pub is_resting : Command → Bool
+is_resting (Submit batch) = false
+is_resting WriteCut = false
+is_resting _ = true

@@ -4,6 +4,8 @@ use Rattle.td_plan.specs.Lines.{Line}
 use Rattle.td_calls.specs.Answers.{Answers}
 use Rattle.td_core.specs.declared.error.HallError.{HallError}
 use Rattle.td_core.specs.declared.error.HallError.TheVariants as hall
+use Rattle.td_pool.specs.declared.error.PoolError.{PoolError}
+use Rattle.td_pool.specs.declared.error.PoolError.TheVariants as pool
 use Rattle.td_disk.specs.Disk.{DiskState}
 use Rattle.td_journal.specs.declared.submitted.Submitted.{Submitted}
 use Rattle.td_standing.specs.declared.error.KeeperError.TheVariants as keeper
@@ -12,7 +14,7 @@ use Rattle.td_standing.specs.Stops.{Stands}
 use Rattle.td_standing.specs.Told.{Told}
 use Rattle.td_standing.specs.Advanced.{states_by}
 use Rattle.td_console.specs.declared.faults.Fault.{Fault}
-use Rattle.td_console.specs.declared.faults.Fault.TheVariants.{Memory, Spent, Keeper}
+use Rattle.td_console.specs.declared.faults.Fault.TheVariants.{NoCall, Memory, Spent, Keeper}
 
 -- AN IMAGE TELLS A HISTORY, all batches since the format: its checkpoint is what the first of them come to, and the others
 -- stand after it
@@ -39,3 +41,11 @@ hall_fault (hall.NotPassed e) = Keeper (keeper.NotPassed e)
 hall_fault hall.Stranger = Keeper keeper.Foreign
 hall_fault hall.Busy = Keeper keeper.Foreign
 hall_fault hall.Closed = Keeper keeper.Foreign
+
+-- the fault for a worker's refusal
+abbrev pub pool_fault : PoolError → Fault
+pool_fault (pool.NoCall vertex code) = NoCall vertex code
+pool_fault pool.Memory = Memory
+pool_fault (pool.Hall hall.Memory) = Memory
+pool_fault (pool.Hall hall.Spent) = Spent
+pool_fault _ = Keeper keeper.Foreign

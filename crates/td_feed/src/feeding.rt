@@ -1,5 +1,5 @@
 //! Feeding epochs to a disk.
-ghost use Rattle.std.specs.Prelude.{◌≡◌, ◌↔◌, ◌++◌, ◌≤◌, List, false, None, OnOk, OnErr, IfErr, IfSome, IsErr, Err};
+ghost use Rattle.std.specs.Prelude.{◌≡◌, ◌↔◌, ◌++◌, ◌≤◌, List, false, None, OnOk, OnErr, IfOk, IfErr, IfSome, IsErr, Ok, Err};
 ghost use Rattle.td_plan.specs.Blocks.{vertices};
 ghost use Rattle.td_calls.specs.Fits.{first_lack};
 ghost use Rattle.td_journal.specs.declared.submitted.Submitted.{Submitted as AnySubmitted};
@@ -9,28 +9,44 @@ ghost use Rattle.td_feed.specs.Fed.{EachTellsHistory, EachTellsSome};
 ghost use Rattle.td_feed.specs.Carried.{Carries, Leaves};
 
 use crate::order::{Order, read_orders};
-use crate::under_way::Feeding;
+use crate::under_way::{Feeding, open};
+use crate::workers::obey_by_workers;
 use std::alloc::Global;
+use std::marker::Brand;
+use std::sync::Wait;
+use std::sync::ledger::Blank;
+use std::thread::Threads;
 use td_calls::{Closures, Law};
 use td_console::{Fault, Sink, Source, lack_fault, read_all};
+use td_core::Hall;
 use td_disk::Disk;
 use td_keeper::Keeper;
 use td_plan::Plan;
 use td_standing::laws;
 
 /// Recovers a disk, and does what the input asks for, line by line: each epoch is put on the disk, `ack E` is written, and it
-/// is released into a hall of so many shards. A line `cut`, and the end of the input, settle and write the output lines of the
-/// epochs after the disk's checkpoint that were not written before; a `cut` then cuts, writes the cut to the disk, and prints
-/// `cut E`. What was written before a refusal stays written, and nothing more is written after it. The disk comes back.
+/// is released into a hall of so many shards, each with a worker in a thread of its own. A line `cut`, and the end of the input,
+/// settle and write the output lines of the epochs after the disk's checkpoint that were not written before; a `cut` then cuts,
+/// writes the cut to the disk, and prints `cut E`. What was written before a refusal stays written, and nothing more is written
+/// after it. The workers have ended when the disk comes back.
 ///
 /// Refusals: a missing closure, before anything else; what the disk refuses as it is recovered; with the whole input read, its
-/// first fault; and then what the keeper, the hall or the writer refuse, line by line.
-pub fn feed<D: Disk, R: Source, W: Sink, L: Law, C: Closures<L>>(
+/// first fault; and then what the keeper or the writer refuse, line by line. Where a worker refused, the others stop, and what it
+/// refused is answered in place of epochs that then do not pass. `Memory` also where a thread could not be made.
+pub fn feed<
+    D: Disk + Drop,
+    I: Source,
+    W: Sink,
+    L: Law + Send + Sync,
+    C: Closures<L> + Sync,
+    R: Threads + Wait + Sync,
+>(
+    rt: &R,
     alloc: Global,
     disk: D,
     plan: &Plan,
     workers: u8,
-    reader: &mut R,
+    reader: &mut I,
     writer: &mut W,
     calls: &C,
 ) -> (D, Result<(), Fault>)
@@ -45,17 +61,17 @@ pub fn feed<D: Disk, R: Source, W: Sink, L: Law, C: Closures<L>>(
     ensures fits { OnOk result.1 (first_lack (C.has_map calls.now) (C.has_group calls.now) (C.has_fold calls.now) (vertices plan.now) ≡ None) }
 
     // An input with a fault answers an error, with nothing written to the writer.
-    ensures fault { IfSome (R.remaining reader.old) (λ input. IfErr (orders_of plan.now input) (λ _. IsErr result.1 × (writer.new ≡ writer.old))) }
+    ensures fault { IfSome (I.remaining reader.old) (λ input. IfErr (orders_of plan.now input) (λ _. IsErr result.1 × (writer.new ≡ writer.old))) }
 
     // A DISK THAT STOOD FOR A HISTORY, whatever a crash had left of it, stands for that and each epoch of the input after it,
     // where the answer is Ok.
-    ensures fed { OnOk result.1 (IfSome (R.remaining reader.old) (λ input. D.is_lawful disk → (history : List AnySubmitted)
+    ensures fed { OnOk result.1 (IfSome (I.remaining reader.old) (λ input. D.is_lawful disk → (history : List AnySubmitted)
         → EachTellsHistory L.answers plan.now history (D.state disk)
         → EachTellsHistory L.answers plan.now (history ++ submitted_by (orders_of plan.now input)) (D.state result.0))) }
 
     // At any answer it stands for that and a beginning of the input's epochs: whatever a crash leaves, some number of them,
     // or one more.
-    ensures safe { IfSome (R.remaining reader.old) (λ input. D.is_lawful disk → (history : List AnySubmitted)
+    ensures safe { IfSome (I.remaining reader.old) (λ input. D.is_lawful disk → (history : List AnySubmitted)
         → EachTellsHistory L.answers plan.now history (D.state disk)
         → EachTellsSome L.answers plan.now history (submitted_by (orders_of plan.now input)) (D.state result.0)) }
 {
@@ -63,65 +79,72 @@ pub fn feed<D: Disk, R: Source, W: Sink, L: Law, C: Closures<L>>(
     if let Err(lack) = calls.fits(plan) {
         return (disk, Err(lack_fault(lack)));
     }
-    let mut keeper = match Keeper::<D, L>::recover(alloc, disk, plan) {
+    let keeper = match Keeper::<D, L>::recover(alloc, disk, plan) {
         Ok(keeper) => keeper,
         Err((refusal, disk)) => return (disk, Err(Fault::from(refusal))),
     };
-    let ended = obey(alloc, &mut keeper, plan, workers, reader, writer, calls);
+    let (keeper, ended) = obey(rt, alloc, keeper, plan, workers, reader, writer, calls);
     (keeper.into_disk(), ended)
 }
 
-/// Does what an input asks for, by a keeper of a plan. Refusals: those of the reader, with nothing written; the input's first
-/// fault, with nothing written; and those of the keeper, of the hall and of the writer.
-fn obey<D: Disk, R: Source, W: Sink, L: Law, C: Closures<L>>(
+/// Does what an input asks for, by a keeper of a plan, which comes back. Refusals: those of the reader, with nothing written; the
+/// input's first fault, with nothing written; and those of the keeper, of the workers and of the writer.
+fn obey<
+    D: Disk + Drop,
+    I: Source,
+    W: Sink,
+    L: Law + Send + Sync,
+    C: Closures<L> + Sync,
+    R: Threads + Wait + Sync,
+>(
+    rt: &R,
     alloc: Global,
-    keeper: &mut Keeper<D, L>,
+    keeper: Keeper<D, L>,
     plan: &Plan,
     workers: u8,
-    reader: &mut R,
+    reader: &mut I,
     writer: &mut W,
     calls: &C,
-) -> Result<(), Fault>
+) -> (Keeper<D, L>, Result<(), Fault>)
     requires some { 1 ≤ workers }
     requires most { workers ≤ 16 }
-    requires fits { first_lack (C.has_map calls.now) (C.has_group calls.now) (C.has_fold calls.now) (vertices plan.now) ≡ None }
-    requires whole { keeper.old.broken ≡ false }
-    ensures size { D.capacity keeper.new.device ≡ D.capacity keeper.old.device }
-    ensures lawful { D.is_lawful keeper.old.device ↔ D.is_lawful keeper.new.device }
-    ensures fault { IfSome (R.remaining reader.old) (λ input. IfErr (orders_of plan.now input) (λ _. IsErr result × (writer.new ≡ writer.old))) }
-    ensures fed { OnOk result (IfSome (R.remaining reader.old) (λ input.
-        Carries L.answers keeper.old keeper.new (submitted_by (orders_of plan.now input)))) }
-    ensures left { OnErr result (IfSome (R.remaining reader.old) (λ input.
-        Leaves D.is_lawful D.state L.answers keeper.old keeper.new (submitted_by (orders_of plan.now input)))) }
+    requires whole { keeper.broken ≡ false }
+    ensures size { D.capacity result.0.device ≡ D.capacity keeper.device }
+    ensures lawful { D.is_lawful keeper.device ↔ D.is_lawful result.0.device }
+    ensures fault { IfSome (I.remaining reader.old) (λ input. IfErr (orders_of plan.now input) (λ _. IsErr result.1 × (writer.new ≡ writer.old))) }
+    ensures fed { OnOk result.1 (IfSome (I.remaining reader.old) (λ input.
+        Carries L.answers keeper result.0 (submitted_by (orders_of plan.now input)))) }
+    ensures left { OnErr result.1 (IfSome (I.remaining reader.old) (λ input.
+        Leaves D.is_lawful D.state L.answers keeper result.0 (submitted_by (orders_of plan.now input)))) }
+{
+    match prepared(alloc, &keeper, plan, workers, reader) {
+        Ok((orders, hall, feeding)) => {
+            let blank = Blank::new(u64::from(hall.workers()));
+            obey_by_workers::<_, _, _, _, Brand, _>(
+                rt, alloc, keeper, hall, blank, feeding, orders, writer, calls,
+            )
+        }
+        Err(fault) => (keeper, Err(fault)),
+    }
+}
+
+/// What an input asks for, and a hall at the keeper's checkpoint. Refusals: those of the reader; the input's first fault; and those
+/// of the hall.
+fn prepared<D: Disk, I: Source, L: Law>(
+    alloc: Global,
+    keeper: &Keeper<D, L>,
+    plan: &Plan,
+    workers: u8,
+    reader: &mut I,
+) -> Result<(Vec<Order>, Hall<L>, Feeding), Fault>
+    requires some { 1 ≤ workers }
+    requires most { workers ≤ 16 }
+    ensures orders { IfOk result (λ made. IfSome (I.remaining reader.old) (λ input. orders_of plan.now input ≡ Ok made.0.items)) }
+    ensures fault { IfSome (I.remaining reader.old) (λ input. IfErr (orders_of plan.now input) (λ _. IsErr result)) }
 {
     let input = read_all(alloc, reader)?;
     let orders = read_orders(alloc, plan, &input)?;
     drop(input);
-    obey_each(alloc, keeper, plan, workers, orders, writer, calls)
-}
-
-/// Obeys each order in turn, and settles. Refusals: those of the keeper, of the hall and of the writer.
-fn obey_each<D: Disk, W: Sink, L: Law, C: Closures<L>>(
-    alloc: Global,
-    keeper: &mut Keeper<D, L>,
-    plan: &Plan,
-    workers: u8,
-    orders: Vec<Order>,
-    writer: &mut W,
-    calls: &C,
-) -> Result<(), Fault>
-    requires some { 1 ≤ workers }
-    requires most { workers ≤ 16 }
-    requires fits { first_lack (C.has_map calls.now) (C.has_group calls.now) (C.has_fold calls.now) (vertices plan.now) ≡ None }
-    requires whole { keeper.old.broken ≡ false }
-    ensures size { D.capacity keeper.new.device ≡ D.capacity keeper.old.device }
-    ensures lawful { D.is_lawful keeper.old.device ↔ D.is_lawful keeper.new.device }
-    ensures fed { OnOk result (Carries L.answers keeper.old keeper.new (submissions orders.items)) }
-    ensures left { OnErr result (Leaves D.is_lawful D.state L.answers keeper.old keeper.new (submissions orders.items)) }
-{
-    let mut feeding = Feeding::open(alloc, keeper, plan, workers)?;
-    for order in orders {
-        feeding.obey(alloc, keeper, order, writer, calls)?;
-    }
-    feeding.settle(alloc, keeper, writer, calls)
+    let (hall, feeding) = open(alloc, keeper, plan, workers)?;
+    Ok((orders, hall, feeding))
 }

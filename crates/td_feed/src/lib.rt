@@ -8,7 +8,9 @@ mod formatting;
 mod order;
 mod plan_text;
 mod showing;
+mod telling;
 mod under_way;
+mod workers;
 
 pub use feeding::feed;
 pub use formatting::{format, shape_of};

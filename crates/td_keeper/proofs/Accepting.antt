@@ -5,7 +5,7 @@ use Rattle.std.proofs.lemmas.Bool.{ltb-false, leb-false}
 use Rattle.td_stamp.specs.declared.values.Entry.{Entry}
 use Rattle.td_machine.specs.Steps.{accepts}
 use Rattle.td_standing.specs.declared.error.KeeperError.{KeeperError}
-use Rattle.td_standing.specs.declared.error.KeeperError.TheVariants.{Broken, NoSuchInput, TooManyRecords, Epochs, Full}
+use Rattle.td_standing.specs.declared.error.KeeperError.TheVariants.{Broken, NoSuchInput, TooManyRecords, Epochs, Full, Device}
 use Rattle.td_standing.specs.Standing.{last_epoch}
 use Rattle.td_keeper.specs.Keeping.{Keeping}
 use Rattle.td_keeper.specs.Refused.{submit_refusal}
@@ -43,3 +43,15 @@ accepted k batch is =
       small = omega (arith, leb-false (2 ^ 63) (last_epoch k.standing + 1) n.3);
       room = omega (arith, leb-false k.head.shape.n (length k.standing.submitted) n.4);
     }
+
+-- the device is none of them
+none_is_device : (a b c d e : Bool) → first a b c d e ≡ Some Device → ⊥
+none_is_device true b c d e is = absurd cc
+none_is_device false true c d e is = absurd cc
+none_is_device false false true d e is = absurd cc
+none_is_device false false false true e is = absurd cc
+none_is_device false false false false true is = absurd cc
+none_is_device false false false false false is = absurd cc
+
+pub never_device : {D : Type 0} (k : Keeping D) (batch : List Entry) → submit_refusal k batch ≡ Some Device → ⊥
+never_device k batch is = none_is_device k.broken (not (accepts k.plan batch)) (nat_lt k.head.shape.m (length batch)) (nat_le (2 ^ 63) (last_epoch k.standing + 1)) (nat_le k.head.shape.n (length k.standing.submitted)) is

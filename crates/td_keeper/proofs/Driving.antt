@@ -1,19 +1,407 @@
--- Commands, one after another.
-use Rattle.std.proofs.Common.{List, [], ◌∷◌, ◌++◌, subst, refl}
+-- Commands, one after another: the replies so far, and what the images since the first of them tell.
+use Rattle.std.proofs.Common.{◌≡◌, ◌⊎◌, inl, inr, ⊎_elim, ℕ, ◌+◌, ◌-◌, ◌≤◌, Bool, true, false, List, [], ◌∷◌, ◌++◌, length, take, refl, sym, ap, ◌∙◌, subst, arith}
+use Rattle.std.specs.Prelude.{Option, Some, None, if◌then◌else◌}
+use Rattle.std.proofs.lemmas.List.{append-nil, length-append, take-map}
+use Rattle.td_stamp.specs.declared.values.Entry.{Entry}
+use Rattle.td_stamp.specs.States.{StateList}
+use Rattle.td_plan.specs.Tree.{Nodes, tree_of}
 use Rattle.td_calls.specs.Answers.{Answers}
+use Rattle.td_batch.specs.Meaning.{run}
 use Rattle.td_disk.specs.Disk.{DiskState}
+use Rattle.td_journal.specs.declared.submitted.Submitted.{Submitted as AnySubmitted}
+use Rattle.td_standing.specs.Standing.{Standing, last_epoch, submission, batches_of, with_more, cut_at}
+use Rattle.td_standing.specs.Stops.{Advance}
+use Rattle.td_standing.specs.Advanced.{TellsAdvance, AdvancesSince, states_by}
+use Rattle.td_standing.specs.declared.error.KeeperError.{KeeperError}
+use Rattle.td_standing.specs.declared.error.KeeperError.TheVariants as error
 use Rattle.td_keeper.specs.declared.command.Command.{Command}
+use Rattle.td_keeper.specs.declared.command.Command.TheVariants.{Submit, Release, Settle, Collect, NextOut, Cut, WriteCut}
 use Rattle.td_keeper.specs.declared.command.Reply.{Reply}
-use Rattle.td_keeper.specs.Keeping.{Keeping}
-use Rattle.td_keeper.specs.Driven.{Obeys, Driven}
+use Rattle.td_keeper.specs.declared.command.Reply.TheVariants.{Submitted, Released, Settled, Collected, Out, CutTaken, Written, Refused}
+use Rattle.td_keeper.specs.Keeping.{Keeping, IsKeeping, with_checkpoint}
+use Rattle.td_keeper.specs.Refused.{submit_refusal, write_refusal}
+use Rattle.td_keeper.specs.Halls.{with_collected, with_cut}
+use Rattle.td_keeper.specs.Driven.{is_device, submitted_in, submitted_by, Advances, Submits, Releases, Settles, Collects, HandsOut, Cuts, Writes, Obeys, Driven}
+
+-- whether the device failed, both ways
+pub is_device_is : (e : KeeperError) → is_device e ≡ true → e ≡ error.Device
+is_device_is error.Device is = refl
+is_device_is error.NotFormatted is = absurd (cc)
+is_device_is error.WrongPlan is = absurd (cc)
+is_device_is (error.Damaged part) is = absurd (cc)
+is_device_is error.Full is = absurd (cc)
+is_device_is error.TooManyRecords is = absurd (cc)
+is_device_is error.NoSuchInput is = absurd (cc)
+is_device_is error.Foreign is = absurd (cc)
+is_device_is (error.NotPassed epoch) is = absurd (cc)
+is_device_is error.CutWaiting is = absurd (cc)
+is_device_is error.TooManyKeys is = absurd (cc)
+is_device_is error.Broken is = absurd (cc)
+is_device_is error.Memory is = absurd (cc)
+is_device_is error.Epochs is = absurd (cc)
+
+device_is : (e : KeeperError) → e ≡ error.Device → is_device e ≡ true
+device_is e is = ap is_device is
+
+-- of a submit that was refused: what holds with its batch where the device failed, and without it else
+pub refused_in : (P : List AnySubmitted → Type 0) (batch : List Entry) (e : KeeperError) (back : Option (List Entry)) → P (submission 0 batch ∷ []) → (e ≡ error.Device) ⊎ P []
+    → P (submitted_in (Submit batch) (Refused e back))
+refused_in P batch e back with_it other = by (is_device e) refl
+  where
+    by : (b : Bool) → is_device e ≡ b → P (if b then submission 0 batch ∷ [] else [])
+    by true is = with_it
+    by false is = ⊎_elim (λ device. absurd (let no : true ≡ false = sym (device_is e device) ∙ is in cc)) (λ p. p) other
+
+-- a keeper that is broken refuses as that
+submit_broken : {D : Type 0} (k : Keeping D) (batch : List Entry) → k.broken ≡ true → submit_refusal k batch ≡ Some error.Broken
+submit_broken k batch is = ap (λ (b : Bool). submit_refusal (record k { broken = b }) batch) is
+
+write_broken : {D : Type 0} (k : Keeping D) → k.broken ≡ true → write_refusal k ≡ Some error.Broken
+write_broken k is = ap (λ (b : Bool). write_refusal (record k { broken = b })) is
+
+-- the refusal of one that is broken
+is_broken : (o : Option KeeperError) (e : KeeperError) (P : Type 0) → o ≡ Some error.Broken → (o ≡ Some e) ⊎ ((o ≡ None) × P) → e ≡ error.Broken
+is_broken o e P broken said =
+    ⊎_elim
+    (λ is. let same : Some e ≡ Some error.Broken = sym is ∙ broken in cc)
+    (λ none. absurd (let no : None ≡ Some error.Broken = sym none.0 ∙ broken in cc))
+    said
+
+none_is_broken : (o : Option KeeperError) → o ≡ Some error.Broken → o ≡ None → ⊥
+none_is_broken o broken none = let no : None ≡ Some error.Broken = sym none ∙ broken in absurd (cc)
+
+-- the laws, as they are handed in
+abbrev pub Submit-on : Answers → Type 0
+Submit-on answers = (nodes : Nodes) (s u : Standing) (x y : List AnySubmitted)
+    → Advance (λ b z. (run answers nodes b z).states) (with_more (with_more s x) y) u
+    → Advance (λ b z. (run answers nodes b z).states) (with_more s (x ++ y)) u
+
+abbrev pub Cut-on : Answers → Type 0
+Cut-on answers = (nodes : Nodes) (s u : Standing) (k : ℕ) (states : StateList) (y : List AnySubmitted) → k ≤ length s.submitted
+    → states ≡ (run answers nodes s.states (batches_of (take k s.submitted))).states
+    → Advance (λ b z. (run answers nodes b z).states) (with_more (cut_at s k states) y) u
+    → Advance (λ b z. (run answers nodes b z).states) (with_more s y) u
+
+abbrev pub Later : Answers → Type 0
+Later answers = (nodes : Nodes) (s u : Standing) (y : List AnySubmitted)
+    → Advance (λ b z. (run answers nodes b z).states) s u
+    → Advance (λ b z. (run answers nodes b z).states) (with_more s y) u
+
+abbrev pub Last : Type 0
+Last = (s : Standing) (k : ℕ) (states : StateList) → k ≤ length s.submitted → last_epoch (cut_at s k states) ≡ last_epoch s
 
 module _ {D : Type 0} (is_lawful : D → Type 0) (state : D → DiskState) (answers : Answers) where
   -- with one command more
   pub driven_more : (commands : List Command) (replies : List Reply) (command : Command) (reply : Reply) (old mid new : Keeping D)
-      → Driven is_lawful state answers commands replies old mid → Obeys is_lawful state answers command reply mid new
+      → Driven is_lawful state answers commands replies old mid → Obeys is_lawful state answers command reply mid new → IsKeeping new answers
       → Driven is_lawful state answers (commands ++ command ∷ []) (replies ++ reply ∷ []) old new
-  driven_more [] [] command reply old mid new e obeys = (new, subst (λ k. Obeys is_lawful state answers command reply k new) e obeys, refl)
-  driven_more [] (r ∷ rs) command reply old mid new none obeys = absurd none
-  driven_more (c ∷ cs) [] command reply old mid new none obeys = absurd none
-  driven_more (c ∷ cs) (r ∷ rs) command reply old mid new driven obeys =
-      (driven.0, driven.1, driven_more cs rs command reply driven.0 mid new driven.2 obeys)
+  driven_more [] [] command reply old mid new e obeys kept = (new, kept, subst (λ k. Obeys is_lawful state answers command reply k new) e obeys, refl)
+  driven_more [] (r ∷ rs) command reply old mid new none obeys kept = absurd none
+  driven_more (c ∷ cs) [] command reply old mid new none obeys kept = absurd none
+  driven_more (c ∷ cs) (r ∷ rs) command reply old mid new driven obeys kept =
+      (driven.0, driven.1, driven.2, driven_more cs rs command reply driven.0 mid new driven.3 obeys kept)
+
+-- what a command leaves as it was, where it writes nothing
+pub record Rests {D : Type 0} (old new : Keeping D) : Type 0 where
+  pub device : new.device ≡ old.device
+  pub plan : new.plan ≡ old.plan
+  pub standing : new.standing ≡ old.standing
+  pub broken : new.broken ≡ old.broken
+
+module _ {D : Type 0} where
+  pub same : (old : Keeping D) → Rests old old
+  same old = record { device = refl; plan = refl; standing = refl; broken = refl }
+
+  pub by : (old other new : Keeping D) → new ≡ other → Rests old other → Rests old new
+  by old other new is rests = subst (λ (k : Keeping D). Rests old k) (sym is) rests
+
+module _ {D : Type 0} (is_lawful : D → Type 0) (state : D → DiskState) (answers : Answers) where
+  pub releases : (reply : Reply) (old new : Keeping D) → Releases is_lawful state answers reply old new → Rests old new
+  releases (Released n) old new r = by old old new r.0 (same old)
+  releases (Refused e b) old new r = by old old new r.1 (same old)
+  releases (Submitted n) old new r = absurd r
+  releases Settled old new r = absurd r
+  releases (Collected n) old new r = absurd r
+  releases (Out o) old new r = absurd r
+  releases (CutTaken n) old new r = absurd r
+  releases (Written n) old new r = absurd r
+
+  pub settles : (reply : Reply) (old new : Keeping D) → Settles is_lawful state answers reply old new → Rests old new
+  settles Settled old new r = by old old new r (same old)
+  settles (Refused e b) old new r = by old old new r.1 (same old)
+  settles (Submitted n) old new r = absurd r
+  settles (Released n) old new r = absurd r
+  settles (Collected n) old new r = absurd r
+  settles (Out o) old new r = absurd r
+  settles (CutTaken n) old new r = absurd r
+  settles (Written n) old new r = absurd r
+
+  pub collects : (reply : Reply) (old new : Keeping D) → Collects is_lawful state answers reply old new → Rests old new
+  collects (Collected n) old new r = by old (with_collected old r.0) new r.2 (record { device = refl; plan = refl; standing = refl; broken = refl })
+  collects (Refused e b) old new r = by old old new r.1 (same old)
+  collects (Submitted n) old new r = absurd r
+  collects (Released n) old new r = absurd r
+  collects Settled old new r = absurd r
+  collects (Out o) old new r = absurd r
+  collects (CutTaken n) old new r = absurd r
+  collects (Written n) old new r = absurd r
+
+  pub hands_out : (reply : Reply) (old new : Keeping D) → HandsOut is_lawful state answers reply old new → Rests old new
+  hands_out (Out o) old new r =
+      ⊎_elim
+      (λ none. by old old new none.2 (same old))
+      (λ one. by old (record old { queue = new.queue }) new one.3 (record { device = refl; plan = refl; standing = refl; broken = refl }))
+      r
+  hands_out (Refused e b) old new r = absurd r
+  hands_out (Submitted n) old new r = absurd r
+  hands_out (Released n) old new r = absurd r
+  hands_out Settled old new r = absurd r
+  hands_out (Collected n) old new r = absurd r
+  hands_out (CutTaken n) old new r = absurd r
+  hands_out (Written n) old new r = absurd r
+
+  pub cuts : (reply : Reply) (old new : Keeping D) → Cuts is_lawful state answers reply old new → Rests old new
+  cuts (CutTaken n) old new r = by old (with_cut (with_collected old r.0) r.1) new r.5 (record { device = refl; plan = refl; standing = refl; broken = refl })
+  cuts (Refused e b) old new r =
+      ⊎_elim
+      (λ none. by old old new none.0 (same old))
+      (λ some. by old (with_collected old some.0) new some.3 (record { device = refl; plan = refl; standing = refl; broken = refl }))
+      r.1
+  cuts (Submitted n) old new r = absurd r
+  cuts (Released n) old new r = absurd r
+  cuts Settled old new r = absurd r
+  cuts (Collected n) old new r = absurd r
+  cuts (Out o) old new r = absurd r
+  cuts (Written n) old new r = absurd r
+
+-- WHAT ONE COMMAND DOES to a whole keeper of a lawful disk, with what it submitted
+record Goes {D : Type 0} (is_lawful : D → Type 0) (state : D → DiskState) (answers : Answers) (old new : Keeping D) (x : List AnySubmitted) : Type 0 where
+  plan : new.plan ≡ old.plan
+  advances : Advances is_lawful state answers old new x
+  far : last_epoch old.standing ≤ last_epoch new.standing
+  on : new.broken ≡ false → (u : Standing) (y : List AnySubmitted) → Advance (states_by answers old.plan) (with_more new.standing y) u → Advance (states_by answers old.plan) (with_more old.standing (x ++ y)) u
+
+module _ {D : Type 0} (is_lawful : D → Type 0) (state : D → DiskState) (answers : Answers) (submit_on : Submit-on answers) (cut_on : Cut-on answers) (last : Last) where
+  -- where it writes nothing
+  goes_rests : (old new : Keeping D) → Rests old new → is_lawful old.device → Goes is_lawful state answers old new []
+  goes_rests old new rests lawful = record {
+    plan = rests.plan;
+    advances = record {
+      lawful = subst is_lawful (sym rests.device) lawful;
+      later = subst (λ (d : D). (state old.device).moment ≤ (state d).moment) (sym rests.device) (omega arith);
+      since = λ whole t c le left. inl (subst (λ (d : D). (state d).since t c) rests.device left);
+    };
+    far = subst (λ (s : Standing). last_epoch old.standing ≤ last_epoch s) (sym rests.standing) (omega arith);
+    on = λ whole u y step. subst (λ (s : Standing). Advance (states_by answers old.plan) (with_more s y) u) rests.standing step;
+  }
+
+  -- where its plan and standing stay, with nothing submitted, or with the device broken
+  goes_same : (old new : Keeping D) (x : List AnySubmitted) → new.plan ≡ old.plan → new.standing ≡ old.standing → (new.broken ≡ false → x ≡ []) → Advances is_lawful state answers old new x → Goes is_lawful state answers old new x
+  goes_same old new x plan standing none advances = record {
+    plan = plan;
+    advances = advances;
+    far = subst (λ (s : Standing). last_epoch old.standing ≤ last_epoch s) (sym standing) (omega arith);
+    on = λ whole u y step.
+        subst (λ (l : List AnySubmitted). Advance (states_by answers old.plan) (with_more old.standing (l ++ y)) u) (sym (none whole))
+        (subst (λ (s : Standing). Advance (states_by answers old.plan) (with_more s y) u) standing step);
+  }
+
+  -- what a submit leaves where it is refused: the plan and the standing
+  kept_plan : (old new : Keeping D) (E : Type 0) (F : Type 0)
+      → (new ≡ old) ⊎ (E × (new ≡ record old { device = new.device })) ⊎ (F × (new ≡ record old { device = new.device; broken = true }))
+      → (new.plan ≡ old.plan) × (new.standing ≡ old.standing)
+  kept_plan old new E F left =
+      ⊎_elim (λ is. (ap (λ k. k.plan) is, ap (λ k. k.standing) is))
+      (λ other. ⊎_elim (λ is. (ap (λ k. k.plan) is.1, ap (λ k. k.standing) is.1)) (λ is. (ap (λ k. k.plan) is.1, ap (λ k. k.standing) is.1)) other) left
+
+  submits : (batch : List Entry) (reply : Reply) (old new : Keeping D) → Submits is_lawful state answers batch reply old new
+      → Advances is_lawful state answers old new (submitted_in (Submit batch) reply) → Goes is_lawful state answers old new (submitted_in (Submit batch) reply)
+  submits batch (Submitted n) old new r advances =
+      let standing : new.standing ≡ with_more old.standing (submission 0 batch ∷ []) = ap (λ k. k.standing) r.1 in
+      let count = length-append old.standing.submitted (submission 0 batch ∷ []) in record {
+        plan = ap (λ k. k.plan) r.1;
+        advances = advances;
+        far = subst (λ (s : Standing). last_epoch old.standing ≤ last_epoch s) (sym standing) (omega (arith, count));
+        on = λ whole u y step.
+            submit_on (tree_of old.plan) old.standing u (submission 0 batch ∷ []) y
+            (subst (λ (s : Standing). Advance (states_by answers old.plan) (with_more s y) u) standing step);
+      }
+  submits batch (Refused e back) old new r advances =
+      let stays = kept_plan old new (e ≡ error.Memory) (e ≡ error.Device) r.3 in
+      goes_same old new (submitted_in (Submit batch) (Refused e back)) stays.0 stays.1 (λ whole. none (is_device e) refl whole) advances
+    where
+      none : (b : Bool) → is_device e ≡ b → new.broken ≡ false → (if b then submission 0 batch ∷ [] else []) ≡ []
+      none true is whole = absurd (let no : true ≡ false = sym (r.1 (is_device_is e is)) ∙ whole in cc)
+      none false is whole = refl
+  submits batch (Released n) old new r advances = absurd r
+  submits batch Settled old new r advances = absurd r
+  submits batch (Collected n) old new r advances = absurd r
+  submits batch (Out o) old new r advances = absurd r
+  submits batch (CutTaken n) old new r advances = absurd r
+  submits batch (Written n) old new r advances = absurd r
+
+  writes : (reply : Reply) (old new : Keeping D) → IsKeeping old answers → Writes is_lawful state answers reply old new
+      → Advances is_lawful state answers old new [] → Goes is_lawful state answers old new []
+  writes (Written w) old new kept r advances =
+      ⊎_elim (λ none. goes_same old new [] (ap (λ k. k.plan) none.2) (ap (λ k. k.standing) none.2) (λ whole. refl) advances) (λ some. by_cut some.1) r.1
+    where
+      by_cut : new ≡ with_checkpoint old new.device → Goes is_lawful state answers old new []
+      by_cut is =
+          let s = old.standing in
+          let n = old.base - s.epoch in
+          let most : n ≤ length s.submitted = omega (arith, kept.released, kept.from_checkpoint) in
+          let states : old.base_states ≡ (run answers (tree_of old.plan) s.states (batches_of (take n s.submitted))).states =
+          kept.base_states ∙ ap (λ (l : List (List Entry)). (run answers (tree_of old.plan) s.states l).states) (take-map (λ s. s.batch) n s.submitted) in
+          let standing : new.standing ≡ cut_at s n old.base_states = ap (λ k. k.standing) is in
+          let far : last_epoch (cut_at s n old.base_states) ≡ last_epoch s = last s n old.base_states most in record {
+            plan = ap (λ k. k.plan) is;
+            advances = advances;
+            far = subst (λ (t : Standing). last_epoch s ≤ last_epoch t) (sym standing) (omega (arith, far));
+            on = λ whole u y step.
+                cut_on (tree_of old.plan) s u n old.base_states y most states
+                (subst (λ (t : Standing). Advance (states_by answers old.plan) (with_more t y) u) standing step);
+          }
+  writes (Refused e back) old new kept r advances =
+      ⊎_elim (λ many. goes_same old new [] (ap (λ k. k.plan) many.1) (ap (λ k. k.standing) many.1) (λ whole. refl) advances)
+      (λ other. ⊎_elim (λ failed. goes_same old new [] (ap (λ k. k.plan) failed.1) (ap (λ k. k.standing) failed.1) (λ whole. refl) advances)
+      (λ is. goes_same old new [] (ap (λ k. k.plan) is) (ap (λ k. k.standing) is) (λ whole. refl) advances) other) r.2
+  writes (Submitted n) old new kept r advances = absurd r
+  writes (Released n) old new kept r advances = absurd r
+  writes Settled old new kept r advances = absurd r
+  writes (Collected n) old new kept r advances = absurd r
+  writes (Out o) old new kept r advances = absurd r
+  writes (CutTaken n) old new kept r advances = absurd r
+
+  one : (command : Command) (reply : Reply) (old new : Keeping D) → IsKeeping old answers → Obeys is_lawful state answers command reply old new
+      → is_lawful old.device → Goes is_lawful state answers old new (submitted_in command reply)
+  one (Submit batch) reply old new kept obeys lawful = submits batch reply old new obeys.0 (obeys.1 lawful)
+  one Release reply old new kept obeys lawful = goes_rests old new (releases is_lawful state answers reply old new obeys) lawful
+  one Settle reply old new kept obeys lawful = goes_rests old new (settles is_lawful state answers reply old new obeys) lawful
+  one Collect reply old new kept obeys lawful = goes_rests old new (collects is_lawful state answers reply old new obeys) lawful
+  one NextOut reply old new kept obeys lawful = goes_rests old new (hands_out is_lawful state answers reply old new obeys) lawful
+  one Cut reply old new kept obeys lawful = goes_rests old new (cuts is_lawful state answers reply old new obeys) lawful
+  one WriteCut reply old new kept obeys lawful = writes reply old new kept obeys.0 (obeys.1 lawful)
+
+module _ {D : Type 0} (is_lawful : D → Type 0) (state : D → DiskState) (answers : Answers) where
+  -- a broken keeper writes nothing, and stays broken
+  record StaysBroken (old new : Keeping D) : Type 0 where
+    device : new.device ≡ old.device
+    broken : new.broken ≡ true
+
+  rests_broken : (old new : Keeping D) → Rests old new → old.broken ≡ true → StaysBroken old new
+  rests_broken old new rests is = record { device = rests.device; broken = rests.broken ∙ is }
+
+  broken_submits : (batch : List Entry) (reply : Reply) (old new : Keeping D) → Submits is_lawful state answers batch reply old new → old.broken ≡ true
+      → StaysBroken old new × (submitted_in (Submit batch) reply ≡ [])
+  broken_submits batch (Submitted n) old new r is = absurd (none_is_broken (submit_refusal old batch) (submit_broken old batch is) r.0)
+  broken_submits batch (Refused e back) old new r is =
+      let named : e ≡ error.Broken = is_broken (submit_refusal old batch) e ((e ≡ error.Memory) ⊎ (e ≡ error.Device)) (submit_broken old batch is) r.2 in
+      let none : (if is_device e then submission 0 batch ∷ [] else []) ≡ [] = ap (λ (f : KeeperError). if is_device f then submission 0 batch ∷ [] else []) named in (
+        ⊎_elim (λ old_is. rests_broken old new (by old old new old_is (same old)) is)
+            (λ other. ⊎_elim (λ memory. absurd (let no : error.Broken ≡ error.Memory = sym named ∙ memory.0 in cc)) (λ device. absurd (let no : error.Broken ≡ error.Device = sym named ∙ device.0 in cc)) other) r.3,
+        none,
+      )
+  broken_submits batch (Released n) old new r is = absurd r
+  broken_submits batch Settled old new r is = absurd r
+  broken_submits batch (Collected n) old new r is = absurd r
+  broken_submits batch (Out o) old new r is = absurd r
+  broken_submits batch (CutTaken n) old new r is = absurd r
+  broken_submits batch (Written n) old new r is = absurd r
+
+  broken_writes : (reply : Reply) (old new : Keeping D) → Writes is_lawful state answers reply old new → old.broken ≡ true → StaysBroken old new
+  broken_writes (Written w) old new r is = absurd (none_is_broken (write_refusal old) (write_broken old is) r.0)
+  broken_writes (Refused e back) old new r is =
+      let named : e ≡ error.Broken = is_broken (write_refusal old) e ((e ≡ error.Memory) ⊎ (e ≡ error.Device)) (write_broken old is) r.1 in
+      ⊎_elim (λ many. absurd (let no : error.Broken ≡ error.TooManyKeys = sym named ∙ many.0 in cc))
+      (λ other. ⊎_elim (λ failed. absurd (let no : error.Broken ≡ error.Device = sym named ∙ failed.0 in cc)) (λ old_is. rests_broken old new (by old old new old_is (same old)) is) other) r.2
+  broken_writes (Submitted n) old new r is = absurd r
+  broken_writes (Released n) old new r is = absurd r
+  broken_writes Settled old new r is = absurd r
+  broken_writes (Collected n) old new r is = absurd r
+  broken_writes (Out o) old new r is = absurd r
+  broken_writes (CutTaken n) old new r is = absurd r
+
+  broken_one : (command : Command) (reply : Reply) (old new : Keeping D) → Obeys is_lawful state answers command reply old new → old.broken ≡ true
+      → StaysBroken old new × (submitted_in command reply ≡ [])
+  broken_one (Submit batch) reply old new obeys is = broken_submits batch reply old new obeys.0 is
+  broken_one Release reply old new obeys is = (rests_broken old new (releases is_lawful state answers reply old new obeys) is, refl)
+  broken_one Settle reply old new obeys is = (rests_broken old new (settles is_lawful state answers reply old new obeys) is, refl)
+  broken_one Collect reply old new obeys is = (rests_broken old new (collects is_lawful state answers reply old new obeys) is, refl)
+  broken_one NextOut reply old new obeys is = (rests_broken old new (hands_out is_lawful state answers reply old new obeys) is, refl)
+  broken_one Cut reply old new obeys is = (rests_broken old new (cuts is_lawful state answers reply old new obeys) is, refl)
+  broken_one WriteCut reply old new obeys is = (broken_writes reply old new obeys.0 is, refl)
+
+  -- A BROKEN KEEPER WRITES NOTHING, whatever it is told
+  pub driven_broken : (commands : List Command) (replies : List Reply) (old new : Keeping D) → Driven is_lawful state answers commands replies old new → old.broken ≡ true
+      → (new.device ≡ old.device) × (submitted_by commands replies ≡ [])
+  driven_broken [] [] old new e is = (ap (λ k. k.device) e, refl)
+  driven_broken [] (r ∷ rs) old new none is = absurd none
+  driven_broken (c ∷ cs) [] old new none is = absurd none
+  driven_broken (c ∷ cs) (r ∷ rs) old new driven is =
+      let first = broken_one c r old driven.0 driven.2 is in
+      let rest = driven_broken cs rs driven.0 new driven.3 first.0.broken in
+      (rest.0 ∙ first.0.device, ap (λ (l : List AnySubmitted). l ++ submitted_by cs rs) first.1 ∙ rest.1)
+
+module _ {D : Type 0} (is_lawful : D → Type 0) (state : D → DiskState) (answers : Answers) (submit_on : Submit-on answers) (cut_on : Cut-on answers) (later : Later answers) (last : Last) where
+  -- one command, and then others of a whole keeper
+  then_goes : (old mid new : Keeping D) (x y : List AnySubmitted) → Goes is_lawful state answers old mid x → old.broken ≡ false → mid.broken ≡ false
+      → Advances is_lawful state answers mid new y → Advances is_lawful state answers old new (x ++ y)
+  then_goes old mid new x y first whole goes_on rest = record {
+    lawful = rest.lawful;
+    later = omega (arith, first.advances.later, rest.later);
+    since = λ w t c le left.
+        ⊎_elim
+        (λ was. ⊎_elim (λ before. inl before) (λ told. inr (more told)) (first.advances.since whole t c le was))
+        (λ told. inr (joined c told))
+        (rest.since goes_on t c (omega (arith, le, first.advances.later)) left);
+  }
+    where
+      more : {c : List ℕ} → TellsAdvance answers old.plan old.standing x (last_epoch old.standing) c → TellsAdvance answers old.plan old.standing (x ++ y) (last_epoch old.standing) c
+      more told = record {
+        standing = told.standing;
+        told = told.told;
+        advance = submit_on (tree_of old.plan) old.standing told.standing x y (later (tree_of old.plan) (with_more old.standing x) told.standing y told.advance);
+        holds = told.holds;
+      }
+
+      of_old : (c : List ℕ) → TellsAdvance answers old.plan mid.standing y (last_epoch mid.standing) c → TellsAdvance answers old.plan old.standing (x ++ y) (last_epoch old.standing) c
+      of_old c told = record {
+        standing = told.standing;
+        told = told.told;
+        advance = first.on goes_on told.standing y told.advance;
+        holds = omega (arith, first.far, told.holds);
+      }
+
+      joined : (c : List ℕ) → TellsAdvance answers mid.plan mid.standing y (last_epoch mid.standing) c → TellsAdvance answers old.plan old.standing (x ++ y) (last_epoch old.standing) c
+      joined c told = of_old c (subst (λ p. TellsAdvance answers p mid.standing y (last_epoch mid.standing) c) first.plan told)
+
+  -- or, where it broke, nothing more
+  then_broken : (old mid new : Keeping D) (x : List AnySubmitted) → Advances is_lawful state answers old mid x → new.device ≡ mid.device → Advances is_lawful state answers old new x
+  then_broken old mid new x first device = record {
+    lawful = subst is_lawful (sym device) first.lawful;
+    later = subst (λ (d : D). (state old.device).moment ≤ (state d).moment) (sym device) first.later;
+    since = λ whole t c le left. first.since whole t c le (subst (λ (d : D). (state d).since t c) device left);
+  }
+
+  -- WHAT THE IMAGES TELL since an earlier moment: an advance of the standing with all that the commands submitted
+  pub driven_advances : (commands : List Command) (replies : List Reply) (old new : Keeping D) → IsKeeping old answers → Driven is_lawful state answers commands replies old new
+      → is_lawful old.device → old.broken ≡ false → Advances is_lawful state answers old new (submitted_by commands replies)
+  driven_advances [] [] old new kept e lawful whole = (goes_rests is_lawful state answers submit_on cut_on last old new (by old old new e (same old)) lawful).advances
+  driven_advances [] (r ∷ rs) old new kept none lawful whole = absurd none
+  driven_advances (c ∷ cs) [] old new kept none lawful whole = absurd none
+  driven_advances (c ∷ cs) (r ∷ rs) old new kept driven lawful whole =
+      next mid.broken refl (λ goes_on. driven_advances cs rs driven.0 new driven.1 driven.3 first.advances.lawful goes_on)
+    where
+      mid : Keeping D
+      mid = driven.0
+
+      first : Goes is_lawful state answers old mid (submitted_in c r)
+      first = one is_lawful state answers submit_on cut_on last c r old mid kept driven.2 lawful
+
+      next : (b : Bool) → mid.broken ≡ b → (mid.broken ≡ false → Advances is_lawful state answers mid new (submitted_by cs rs)) → Advances is_lawful state answers old new (submitted_in c r ++ submitted_by cs rs)
+      next false goes_on rest = then_goes old mid new (submitted_in c r) (submitted_by cs rs) first whole goes_on (rest goes_on)
+      next true broke rest =
+          let last = driven_broken is_lawful state answers cs rs mid new driven.3 broke in
+          subst (λ (l : List AnySubmitted). Advances is_lawful state answers old new (submitted_in c r ++ l)) (sym last.1)
+          (subst (λ (l : List AnySubmitted). Advances is_lawful state answers old new l) (sym (append-nil (submitted_in c r)))
+          (then_broken old mid new (submitted_in c r) first.advances last.0))

@@ -11,3 +11,4 @@ mod Runs
 mod Since
 mod Submitting
 pub mod Driving
+mod Handing

@@ -1,11 +1,12 @@
 -- What the images since the start of a call tell, and those since an earlier moment, as advances of the standing.
-use Rattle.std.proofs.Common.{◌≡◌, inl, inr, ⊎_elim, ℕ, true, false, List, sym, subst, arith}
+use Rattle.std.proofs.Common.{◌≡◌, inl, inr, ⊎_elim, ℕ, true, false, List, sym, ◌∙◌, subst, arith}
 use Rattle.std.specs.Prelude.{Ok}
 use Rattle.td_plan.specs.Lines.{Line}
 use Rattle.td_plan.specs.Tree.{Nodes, tree_of}
 use Rattle.td_calls.specs.Answers.{Answers}
 use Rattle.td_batch.specs.Meaning.{run}
 use Rattle.td_disk.specs.Disk.{DiskState}
+use Rattle.td_gate.specs.CrashSafe.{CrashSafe, Unchanged}
 use Rattle.td_head.specs.declared.head.Head.{Head}
 use Rattle.td_journal.specs.declared.submitted.Submitted.{Submitted}
 use Rattle.td_standing.specs.Standing.{Standing, last_epoch, with_more}
@@ -38,6 +39,14 @@ module _ (answers : Answers) (plan : List Line) (together : Together) (head : He
   untouched : (state : DiskState) → ((c : List ℕ) → state.since state.moment c → state.images c) → Advance (states_by answers plan) (with_more s x) s
       → Keeps plan head side s state → SinceAdvance answers plan s x (last_epoch s) state.moment state
   untouched state only advance keeps c left = itself c advance (subst (Tells plan head side s) (sym (keeps.durable c (only c left))) keeps.tells)
+
+  -- nothing was written since an earlier moment
+  pub unwritten : (old new : DiskState) → CrashSafe Unchanged old new → Advance (states_by answers plan) (with_more s x) s
+      → Keeps plan head side s old → AdvancesSince answers plan s x (last_epoch s) old new
+  unwritten old new safe advance keeps moment c le left = ⊎_elim
+      (λ was. inl was)
+      (λ image. inr (itself c advance (subst (Tells plan head side s) (sym (image.2 ∙ keeps.durable image.0 image.1)) keeps.tells)))
+      (safe.before moment c le left)
 
   -- it, or another that holds its epochs
   pub either : (old new : DiskState) (other : ℕ) (t : Standing) → Advance (states_by answers plan) (with_more s x) s → Advance (states_by answers plan) (with_more s x) t

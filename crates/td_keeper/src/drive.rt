@@ -1,17 +1,21 @@
 //! A keeper beside the workers of a pool.
-ghost use Rattle.std.specs.Prelude.{◌≡◌, ◌↔◌, IfOk, IfErr};
-ghost use Rattle.td_keeper.specs.Driven.{Obeys, Driven};
+ghost use Rattle.std.specs.Prelude.{◌≡◌, ◌↔◌, true, false, IfOk, IfErr};
+ghost use Rattle.td_standing.specs.Standing.{last_epoch};
+ghost use Rattle.td_standing.specs.Advanced.{SinceAdvance};
+ghost use Rattle.td_keeper.specs.Keeping.{IsKeeping};
+ghost use Rattle.td_keeper.specs.Driven.{submitted_by, handed_out, HandsOn, Advances, Obeys, Driven};
 ghost use Rattle.td_standing.specs.declared.error.KeeperError.TheVariants.{Memory};
 
 use crate::command::{Command, Reply};
 use crate::keeper::Keeper;
+use crate::laws::{each_disk_holds, each_is_kept};
 use std::alloc::Global;
 use std::sync::Wait;
 use td_calls::Law;
 use td_disk::Disk;
 use td_pool::{Crew, Pool};
 use td_stamp::Batch;
-use td_standing::KeeperError;
+use td_standing::{KeeperError, laws};
 
 impl<D: Disk, L: Law> Keeper<D, L> {
     /// Obeys commands, one after another, beside workers of a pool, and replies to each. What is done with the pool's hall is done
@@ -32,12 +36,35 @@ impl<D: Disk, L: Law> Keeper<D, L> {
         ensures refused { IfErr result (λ e. (e.0 ≡ Memory) × (e.1 ≡ commands) × (self.new ≡ self.old)) }
         ensures size { D.capacity self.new.device ≡ D.capacity self.old.device }
         ensures lawful { D.is_lawful self.old.device ↔ D.is_lawful self.new.device }
+
+        // A keeper that is broken writes nothing, whatever it is told.
+        ensures broken { self.old.broken ≡ true → self.new.device ≡ self.old.device }
+
+        // The outputs handed out, followed by the queue left, are the queue found, followed by those that the batch meaning has of
+        // the epochs collected since, each once.
+        ensures outputs { IfOk result (λ replies. HandsOn L.answers self.old self.new (submitted_by commands.items replies.items) (handed_out replies.items)) }
+
+        // In each image since the start of the call the disk tells an advance of the standing with all that was submitted, which
+        // holds every epoch of the standing.
+        ensures images { IfOk result (λ replies. D.is_lawful self.old.device → self.old.broken ≡ false
+            → SinceAdvance L.answers self.old.plan self.old.standing (submitted_by commands.items replies.items) (last_epoch self.old.standing) (D.state self.old.device).moment (D.state self.new.device)) }
+
+        // Each image since an earlier moment was one by the start of the call, or the disk tells such an advance in it.
+        ensures further { IfOk result (λ replies. D.is_lawful self.old.device → self.old.broken ≡ false
+            → Advances D.is_lawful D.state L.answers self.old self.new (submitted_by commands.items replies.items)) }
     {
+        laws::told_in_parts();
+        laws::standings_advance::<L>();
+        laws::advances_join::<L>();
+        td_batch::laws::run_joins::<L>();
+        each_is_kept(self);
+        each_disk_holds(self);
         let Ok(mut replies) = Vec::with_capacity(alloc, commands.len()) else {
             return Err((KeeperError::Memory, commands));
         };
         for command in commands {
             replies.push_reserved(self.obey(rt, pool, command));
+            each_is_kept(self);
         }
         Ok(replies)
     }

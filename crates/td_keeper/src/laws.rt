@@ -1,4 +1,5 @@
-//! A law of keepers.
+//! Laws of keepers. Each is the contract of a function that does nothing.
+ghost use Rattle.td_standing.specs.Advanced.{HeldWhere};
 ghost use Rattle.td_keeper.specs.Keeping.{IsKeeping};
 
 use crate::keeper::Keeper;
@@ -9,6 +10,15 @@ use td_disk::Disk;
 /// its epochs, with the batch meaning's states.
 pub fn each_is_kept<D: Disk, L: Law>(keeper: &Keeper<D, L>)
     ensures { IsKeeping keeper.now L.answers }
+{
+    let _collected = keeper.collected;
+}
+
+/// And a lawful disk of each keeper holds what it stands for, image by image; after a fault of the device in a call that writes,
+/// an advance of it that holds all of its epochs.
+pub fn each_disk_holds<D: Disk, L: Law>(keeper: &Keeper<D, L>)
+    ensures { D.is_lawful keeper.now.device
+        → HeldWhere keeper.now.broken L.answers keeper.now.plan keeper.now.head keeper.now.side keeper.now.standing (D.state keeper.now.device) }
 {
     let _collected = keeper.collected;
 }

@@ -39,6 +39,7 @@ impl<D: Disk, L: Law> Keeper<D, L> {
         ensures unchanged { IfErr result (λ e. (self.new ≡ self.old) ⊎ ((e.0 ≡ Memory) × (self.new ≡ record self.old { device = self.new.device }))
             ⊎ ((e.0 ≡ Device) × (self.new ≡ record self.old { device = self.new.device; broken = true }))) }
         ensures device { IfErr result (λ e. e.0 ≡ Device → Rises (D.failures self.old.device) (D.failures self.new.device)) }
+        ensures broken { IfErr result (λ e. e.0 ≡ Device → self.new.broken ≡ true) }
         ensures size { D.capacity self.new.device ≡ D.capacity self.old.device }
         ensures lawful { D.is_lawful self.old.device ↔ D.is_lawful self.new.device }
         ensures unwritten { IfErr result (λ e. e.0 ≡ Memory → D.is_lawful self.old.device
@@ -55,6 +56,10 @@ impl<D: Disk, L: Law> Keeper<D, L> {
         // Each image since an earlier moment was one by the start of the call, or the disk tells such an advance in it.
         ensures further { D.is_lawful self.old.device → self.old.broken ≡ false
             → AdvancesSince L.answers self.old.plan self.old.standing (submission 0 batch ∷ []) (last_epoch self.old.standing) (D.state self.old.device) (D.state self.new.device) }
+
+        // After any refusal but `Device` it tells an advance without the batch.
+        ensures nothing { IfErr result (λ e. (e.0 ≡ Device) ⊎ (D.is_lawful self.old.device → self.old.broken ≡ false
+            → AdvancesSince L.answers self.old.plan self.old.standing [] (last_epoch self.old.standing) (D.state self.old.device) (D.state self.new.device))) }
     {
         laws::told_in_parts();
         laws::standings_advance::<L>();

@@ -30,3 +30,5 @@ mod slots;
 mod stamp;
 #[cfg(test)]
 mod task;
+#[cfg(test)]
+mod watch_beside;

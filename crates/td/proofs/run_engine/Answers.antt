@@ -3,7 +3,7 @@ use Rattle.std.proofs.Common.{[], ◌∷◌}
 use Rattle.td.proofs.run_engine.Goals as goal
 
 pub answer-requires-clause-maps : goal.answer-requires-clause-maps
-answer-requires-clause-maps g c =
+answer-requires-clause-maps g c κs lives =
     let map_1 = c.in_ok-store_map.ensures.stored [] tt in
     let map_2 = c.in_ok-store_map-2.ensures.stored (1 ∷ []) map_1 in
     let map_3 = c.in_ok-store_map-3.ensures.stored (1 ∷ 2 ∷ []) map_2 in
@@ -16,7 +16,7 @@ answer-requires-clause-maps g c =
     rw (c.in_ok-store_fold-2.ensures.maps, c.in_ok-store_fold.ensures.maps, c.in_ok-store_group-5.ensures.maps, c.in_ok-store_group-4.ensures.maps, c.in_ok-store_group-3.ensures.maps, c.in_ok-store_group-2.ensures.maps, c.in_ok-store_group.ensures.maps) map_9
 
 pub answer-requires-clause-groups : goal.answer-requires-clause-groups
-answer-requires-clause-groups g c =
+answer-requires-clause-groups g c κs lives =
     let group_20 = c.in_ok-store_group.ensures.stored [] tt in
     let group_21 = c.in_ok-store_group-2.ensures.stored (20 ∷ []) group_20 in
     let group_22 = c.in_ok-store_group-3.ensures.stored (20 ∷ 21 ∷ []) group_21 in
@@ -25,7 +25,7 @@ answer-requires-clause-groups g c =
     rw (c.in_ok-store_fold-2.ensures.groups, c.in_ok-store_fold.ensures.groups) group_24
 
 pub answer-requires-clause-folds : goal.answer-requires-clause-folds
-answer-requires-clause-folds g c =
+answer-requires-clause-folds g c κs lives =
     let fold_40 = c.in_ok-store_fold.ensures.stored [] tt in
     let fold_41 = c.in_ok-store_fold-2.ensures.stored (40 ∷ []) fold_40 in
     fold_41

@@ -15,12 +15,12 @@ use Rattle.td_feed.proofs.feeding.feed.Goals as goal
 
 pub returns-in-Err-clause-safe : goal.returns-in-Err-clause-safe
 returns-in-Err-clause-safe g c =
-    in_some (g.R.Source.remaining c.args.reader.now) (λ input lawful history told.
+    in_some (g.I.Source.remaining c.args.reader.now) (λ input lawful history told.
     none_more g.L.Law.answers c.args.plan.now history (submitted_by (orders_of c.args.plan.now input)) (g.D.Disk.state c.args.disk) told)
 
 pub returns-in-Err-recover-clause-safe : goal.returns-in-Err-recover-clause-safe
 returns-in-Err-recover-clause-safe g c =
-    in_some (g.R.Source.remaining c.args.reader.now) (λ input lawful history told.
+    in_some (g.I.Source.remaining c.args.reader.now) (λ input lawful history told.
     let state = g.D.Disk.state in
     let answers = g.L.Law.answers in
     let old = c.args.disk in
@@ -33,13 +33,13 @@ returns-in-Err-recover-clause-safe g c =
 
 pub returns-clause-fed : goal.returns-clause-fed
 returns-clause-fed g c =
-    on_ok_weaker c.obey-ended.result
-    (λ known. IfSome_then (g.R.Source.remaining c.args.reader.now) known (λ input carries lawful history told.
+    on_ok_weaker c.obey-keeper.result.1
+    (λ known. IfSome_then (g.I.Source.remaining c.args.reader.now) known (λ input carries lawful history told.
     let state = g.D.Disk.state in
     let answers = g.L.Law.answers in
     let old = c.args.disk in
     let keeper = c.in-Ok.keeper in
-    let new = c.obey-ended.new.keeper in
+    let new = c.obey-keeper.result.0 in
     let plan = c.args.plan.now in
     let now = c.in-Ok.ensures.lawful.0 lawful in
     let safe : CrashSafe Unchanged (state old) (state keeper.device) = c.in-Ok.ensures.crash_safe lawful in
@@ -50,22 +50,22 @@ returns-clause-fed g c =
     let by_keeper : StandsFor answers keeper history = subst (λ (p : List Line). Stands (states_by answers p) keeper.standing history) (sym c.in-Ok.ensures.plan) stands in
     let more : List Submitted = submitted_by (orders_of plan input) in
     let ended : EachTellsHistory answers keeper.plan (history ++ more) (state new.device) =
-    ended_all g.D.Disk.is_lawful state answers c.told_in_parts.ensures.together keeper new history more by_keeper carries c.into_disk.ensures.held (c.obey-ended.ensures.lawful.0 now) in
+    ended_all g.D.Disk.is_lawful state answers c.told_in_parts.ensures.together keeper new history more by_keeper carries c.into_disk.ensures.held (c.obey-keeper.ensures.lawful.0 now) in
     subst (λ (d : g.row.D.Denot). EachTellsHistory answers plan (history ++ more) (state d)) (sym c.into_disk.ensures.disk)
     (subst (λ (p : List Line). EachTellsHistory answers p (history ++ more) (state new.device)) c.in-Ok.ensures.plan ended)))
-    c.obey-ended.ensures.fed
+    c.obey-keeper.ensures.fed
 
 pub returns-clause-safe : goal.returns-clause-safe
 returns-clause-safe g c =
     let answers = g.L.Law.answers in
     let plan = c.args.plan.now in
     let keeper = c.in-Ok.keeper in
-    let new = c.obey-ended.new.keeper in
+    let new = c.obey-keeper.result.0 in
     let state = g.D.Disk.state in
-    IfSome_then (g.R.Source.remaining c.args.reader.now)
-    (either_way c.obey-ended.result (g.R.Source.remaining c.args.reader.now)
+    IfSome_then (g.I.Source.remaining c.args.reader.now)
+    (either_way c.obey-keeper.result.1 (g.I.Source.remaining c.args.reader.now)
     (λ input carries. leaves_all g.D.Disk.is_lawful state answers keeper new (submitted_by (orders_of plan input)) carries)
-    c.obey-ended.ensures.fed c.obey-ended.ensures.left)
+    c.obey-keeper.ensures.fed c.obey-keeper.ensures.left)
     (λ input leaves lawful history told.
     let old = c.args.disk in
     let now = c.in-Ok.ensures.lawful.0 lawful in
@@ -77,6 +77,6 @@ returns-clause-safe g c =
     let by_keeper : StandsFor answers keeper history = subst (λ (p : List Line). Stands (states_by answers p) keeper.standing history) (sym c.in-Ok.ensures.plan) stands in
     let more : List Submitted = submitted_by (orders_of plan input) in
     let ended : EachTellsSome answers keeper.plan history more (state new.device) =
-    ended_some g.D.Disk.is_lawful state answers c.told_in_parts.ensures.together keeper new history more by_keeper leaves c.into_disk.ensures.held (c.obey-ended.ensures.lawful.0 now) in
+    ended_some g.D.Disk.is_lawful state answers c.told_in_parts.ensures.together keeper new history more by_keeper leaves c.into_disk.ensures.held (c.obey-keeper.ensures.lawful.0 now) in
     subst (λ (d : g.row.D.Denot). EachTellsSome answers plan history more (state d)) (sym c.into_disk.ensures.disk)
     (subst (λ (p : List Line). EachTellsSome answers p history more (state new.device)) c.in-Ok.ensures.plan ended))

@@ -1,5 +1,5 @@
-use Rattle.std.proofs.Common.{◌≡◌, inl, ⊎_elim, Result, Err, ℕ, ◌+◌, ◌≤◌, true, false, List, [], ◌∷◌, ◌++◌, sym, ap, ◌∙◌, subst, arith}
-use Rattle.std.specs.Prelude.{Option, None, length}
+use Rattle.std.proofs.Common.{◌≡◌, inl, inr, ⊎_elim, Result, Err, ℕ, ◌+◌, ◌≤◌, true, false, List, [], ◌∷◌, ◌++◌, sym, ap, ◌∙◌, subst, arith}
+use Rattle.std.specs.Prelude.{Option, Some, None, length}
 use Rattle.std.proofs.lemmas.List.{length-append}
 use Rattle.td_watch.specs.View.{View}
 use Rattle.td_plan.specs.Tree.{tree_of}
@@ -16,9 +16,9 @@ use Rattle.td_standing.specs.Tells.{HasRoom}
 use Rattle.td_standing.specs.Advanced.{AdvancesSince, HeldWhere, states_by}
 use Rattle.td_keeper.specs.Keeping.{Keeping, IsKeeping, keeping_of, words_at, published}
 use Rattle.td_keeper.specs.Refused.{submit_refusal}
-use Rattle.td_keeper.proofs.Accepting.{IsAccepted, accepted}
+use Rattle.td_keeper.proofs.Accepting.{IsAccepted, accepted, never_device}
 use Rattle.td_keeper.proofs.Kept.{submitted, elsewhere}
-use Rattle.td_keeper.proofs.Since.{either, from_start, held, by_further}
+use Rattle.td_keeper.proofs.Since.{either, from_start, held, by_further, unwritten}
 use Rattle.td_keeper.proofs.Submitting.{keeps_of, held_of, no_request, lawful_batch, has_room, is_none}
 use Rattle.td_keeper.proofs.keeper.Keeper.submit.Goals as goal
 
@@ -283,3 +283,34 @@ returns-in-Device-clause-later g c =
     let none : submit_refusal k batch ≡ None = ap (λ (z : Keeping g.row.D.Denot). submit_refusal z batch) c.self.view_is ∙ (sym c.refusal_of.ensures ∙ is_none c.refusal_of.result c.in_default.not-Some) in
     subst (λ (z : Keeping g.row.D.Denot). g.D.Disk.is_lawful z.device → (state z.device).moment ≤ (state c.submit_batch.new.device).moment) c.self.view_is
     (λ old. c.in-Err.ensures.later old (keeps_of c.self.inside.broken answers plan head side s (state device) (accepted k batch none).whole (c.self.invariant.2 old)).durable)
+
+pub returns-in-Some-clause-broken : goal.returns-in-Some-clause-broken
+returns-in-Some-clause-broken g c is =
+    absurd (never_device c.args.self.now c.args.batch (sym c.refusal_of.ensures ∙ (c.in-Some.is ∙ ap Some is)))
+
+pub returns-in-Some-clause-nothing : goal.returns-in-Some-clause-nothing
+returns-in-Some-clause-nothing g c = inr (λ old whole t f le left. inl left)
+
+pub returns-then-is_err-clause-nothing : goal.returns-then-is_err-clause-nothing
+returns-then-is_err-clause-nothing g c =
+    let state = g.D.Disk.state in
+    let answers = g.L.Law.answers in
+    let device = c.self.inside.device in
+    inr (subst (λ (z : Keeping g.row.D.Denot). g.D.Disk.is_lawful z.device → z.broken ≡ false → AdvancesSince answers z.plan z.standing [] (last_epoch z.standing) (state z.device) (state device)) c.self.view_is
+    (λ old whole t f le left. inl left))
+
+pub returns-in_default-refusal-clause-nothing : goal.returns-in_default-refusal-clause-nothing
+returns-in_default-refusal-clause-nothing g c =
+    let state = g.D.Disk.state in
+    let answers = g.L.Law.answers in
+    let device = c.self.inside.device in
+    let plan = c.self.inside.plan in
+    let head = c.self.inside.head in
+    let s = standing_from c.self.inside.checkpoint c.self.inside.submitted.items in
+    let side = c.self.inside.checkpoint.slot in
+    let memory : c.in-Err.refusal ≡ JournalError.Memory = ⊎_elim (λ m. m) (λ d. absurd (c.in_default-refusal.not-Device d)) c.in-Err.ensures.refusals in
+    let still : Advance (states_by answers plan) (with_more s []) s = c.standings_advance.ensures.not_yet (tree_of plan) s [] in
+    inr (subst (λ (z : Keeping g.row.D.Denot). g.D.Disk.is_lawful z.device → z.broken ≡ false → AdvancesSince answers z.plan z.standing [] (last_epoch z.standing) (state z.device) (state c.submit_batch.new.device)) c.self.view_is
+    (λ old whole.
+    let keeps = keeps_of c.self.inside.broken answers plan head side s (state device) whole (c.self.invariant.2 old) in
+    unwritten answers plan c.told_in_parts.ensures.together head side s [] (state device) (state c.submit_batch.new.device) (c.in-Err.ensures.unwritten (ap as_err memory) old) still keeps))

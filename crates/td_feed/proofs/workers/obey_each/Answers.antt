@@ -7,9 +7,9 @@ use Rattle.td_keeper.specs.Keeping.{Keeping}
 use Rattle.td_feed.specs.declared.order.Order.{Order}
 use Rattle.td_feed.specs.Orders.{submissions}
 use Rattle.td_feed.specs.Carried.{Carries, Leaves}
-use Rattle.td_feed.proofs.Carrying.{at_err, moved, then_carries, then_leaves, leaves_all}
+use Rattle.td_feed.proofs.Carrying.{at_err, unmoved, then_carries, carries_then, then_leaves, leaves_all, leaves_none}
 use Rattle.td_feed.proofs.Released.{submissions-append, at_place}
-use Rattle.td_feed.proofs.feeding.obey_each.Goals as goal
+use Rattle.td_feed.proofs.workers.obey_each.Goals as goal
 
 pub loop-order-preserved : goal.loop-order-preserved
 loop-order-preserved g c =
@@ -23,7 +23,6 @@ loop-order-preserved g c =
           (then_carries answers old c.loop-order.keeper new (submissions c.loop-order.yielded) (submissions (c.in-Some.order ∷ [])) so_far.carried here.carried);
       size = here.size ∙ so_far.size;
       lawful = (λ l. here.lawful.0 (so_far.lawful.0 l), λ l. so_far.lawful.1 (here.lawful.1 l));
-      plan = here.plan ∙ so_far.plan;
     }
 
 pub returns-in_err-obey-clause-left : goal.returns-in_err-obey-clause-left
@@ -59,7 +58,12 @@ returns-clause-left g c =
     let end = YieldsList-end source yielded c.loop-order.order-iterator c.loop-order.yielded_by c.next.result c.next.new.self c.in-None.is c.next.ensures.steps in
     let same : yielded ≡ all = sym (map-id yielded) ∙ end.0 in
     let so_far = c.loop-order.invariant.carried in
-    let last : Carries answers there new [] = moved answers there new (record there { collected = new.collected; queue = new.queue; watch = new.watch }) c.settle.ensures.same refl refl so_far.whole in
     at_err c.settle.result
     (leaves_all g.D.Disk.is_lawful g.D.Disk.state answers old new (submissions all)
-    (subst (λ (x : List Submitted). Carries answers old new x) (append-nil (submissions yielded) ∙ ap submissions same) (then_carries answers old there new (submissions yielded) [] so_far last)))
+    (subst (λ (x : List Submitted). Carries answers old new x) (ap submissions same)
+    (carries_then g.D.Disk.is_lawful g.D.Disk.state answers old there new (submissions yielded) so_far c.settle.ensures.carried)))
+
+pub returns-in_err-started-clause-left : goal.returns-in_err-started-clause-left
+returns-in_err-started-clause-left g c =
+    let old = c.args.keeper.now in
+    at_err c.from_residual.result (leaves_none g.D.Disk.is_lawful g.D.Disk.state g.L.Law.answers old old (submissions c.args.orders.items) (unmoved g.L.Law.answers old old refl refl c.requires.whole))

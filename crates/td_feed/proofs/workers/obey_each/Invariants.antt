@@ -2,7 +2,7 @@ use Rattle.std.proofs.Common.{◌≡◌}
 use Rattle.std.specs.Prelude.{◌↔◌}
 use Rattle.td_feed.specs.Orders.{submissions}
 use Rattle.td_feed.specs.Carried.{Carries}
-use Rattle.td_feed.proofs.feeding.obey_each.Given as goal
+use Rattle.td_feed.proofs.workers.obey_each.Given as goal
 
 -- the keeper has gone on with what the orders so far submit
 abbrev pub invariant-loop-order : goal.invariant-loop-order
@@ -10,5 +10,4 @@ invariant-loop-order g l = record {
   carried : Carries g.L.Law.answers l.fn.keeper l.keeper (submissions l.yielded);
   size : g.D.Disk.capacity l.keeper.device ≡ g.D.Disk.capacity l.fn.keeper.device;
   lawful : g.D.Disk.is_lawful l.fn.keeper.device ↔ g.D.Disk.is_lawful l.keeper.device;
-  plan : l.feeding.hall.plan ≡ l.plan;
 }

@@ -1,0 +1,60 @@
+//! Calls of a keeper, each with its answer.
+use crate::error::StepError;
+use crate::keeper_lines::{print_number, print_submitted, print_written};
+use crate::release::batch_of;
+use std::alloc::Global;
+use td_calls::Law;
+use td_core::Hall;
+use td_disk::Disk;
+use td_keeper::Keeper;
+use td_stamp::States;
+
+/// The epoch and the states of the checkpoint.
+pub(crate) fn checkpoint<D: Disk, L: Law>(
+    keeper: &Keeper<D, L>,
+) -> Result<(u64, States), StepError> {
+    let (epoch, states, _batches) = keeper.opening()?;
+    Ok((epoch, states))
+}
+
+/// Submits the batch of entries that a text writes.
+pub(crate) fn submit<D: Disk, L: Law>(
+    rt: &impl Print,
+    alloc: Global,
+    keeper: &mut Keeper<D, L>,
+    text: &str,
+) -> Result<(), StepError> {
+    print_submitted(rt, keeper.submit(batch_of(alloc, text)?))
+}
+
+pub(crate) fn release_by<D: Disk, L: Law>(
+    rt: &impl Print,
+    keeper: &mut Keeper<D, L>,
+    hall: &mut Hall<L>,
+) -> Result<(), StepError> {
+    print_number(rt, "released", keeper.release(hall))
+}
+
+pub(crate) fn collect_by<D: Disk, L: Law>(
+    rt: &impl Print,
+    keeper: &mut Keeper<D, L>,
+    hall: &mut Hall<L>,
+) -> Result<(), StepError> {
+    print_number(rt, "collected", keeper.collect(hall))
+}
+
+pub(crate) fn cut_by<D: Disk, L: Law>(
+    rt: &impl Print,
+    keeper: &mut Keeper<D, L>,
+    hall: &mut Hall<L>,
+) -> Result<(), StepError> {
+    print_number(rt, "cut", keeper.cut(hall))
+}
+
+/// Writes the cut that waits.
+pub(crate) fn write_cut<D: Disk, L: Law>(
+    rt: &impl Print,
+    keeper: &mut Keeper<D, L>,
+) -> Result<(), StepError> {
+    print_written(rt, keeper.write_cut())
+}

@@ -1,0 +1,42 @@
+//! Commands of a keeper beside the workers of a pool.
+use crate::error::StepError;
+use crate::gate::Passage;
+use crate::release::batch_of;
+use std::alloc::Global;
+use td_keeper::Command;
+
+/// The passage of the words `open`, `sleep MILLISECONDS` or `meet`.
+pub(crate) fn passage_of(text: &str) -> Option<Passage> {
+    match text.split_once(' ').unwrap_or((text, "")) {
+        ("open", "") => Some(Passage::Open),
+        ("sleep", milliseconds) => Some(Passage::Sleep(milliseconds.parse().ok()?)),
+        ("meet", "") => Some(Passage::Meet),
+        _ => None,
+    }
+}
+
+/// The commands of the lines of a text. A line that is empty or begins with `#` is passed over. Refusals: `Syntax`, where another
+/// is no command, and `Memory`.
+pub(crate) fn commands_of(alloc: Global, text: &str) -> Result<Vec<Command>, StepError> {
+    let mut commands = Vec::new(alloc);
+    for line in text.lines() {
+        if !line.is_empty() && !line.starts_with('#') {
+            commands.push(command_of(alloc, line)?)?;
+        }
+    }
+    Ok(commands)
+}
+
+/// The command of a line.
+fn command_of(alloc: Global, line: &str) -> Result<Command, StepError> {
+    match line.split_once(' ').unwrap_or((line, "")) {
+        ("submit", entries) => Ok(Command::Submit(batch_of(alloc, entries)?)),
+        ("release", "") => Ok(Command::Release),
+        ("settle", "") => Ok(Command::Settle),
+        ("collect", "") => Ok(Command::Collect),
+        ("next_out", "") => Ok(Command::NextOut),
+        ("cut", "") => Ok(Command::Cut),
+        ("write_cut", "") => Ok(Command::WriteCut),
+        _ => Err(StepError::Syntax),
+    }
+}

@@ -1,0 +1,62 @@
+//! The replies of a keeper that is driven, and how its workers ended.
+use crate::error::StepError;
+use crate::keeper_lines::{print_next_out, print_number, print_written};
+use crate::lines::print_entries;
+use crate::worker::Replies;
+use td_keeper::Reply;
+use td_pool::PoolError;
+use td_stamp::Batch;
+use td_standing::KeeperError;
+
+/// A line for each reply, as for a call of the keeper; or why it did not begin.
+pub(crate) fn print_replies(rt: &impl Print, replies: Replies) -> Result<(), StepError> {
+    match replies {
+        Ok(replies) => {
+            for reply in replies {
+                print_reply(rt, reply)?;
+            }
+            Ok(())
+        }
+        Err((refusal, _commands)) => print_refused(rt, refusal, None),
+    }
+}
+
+fn print_reply(rt: &impl Print, reply: Reply) -> Result<(), StepError> {
+    match reply {
+        Reply::Submitted(epoch) => print_number(rt, "ack", Ok(epoch)),
+        Reply::Released(count) => print_number(rt, "released", Ok(count)),
+        Reply::Settled => Ok(println!(rt; "settled")?),
+        Reply::Collected(count) => print_number(rt, "collected", Ok(count)),
+        Reply::Out(out) => print_next_out(rt, out),
+        Reply::CutTaken(epoch) => print_number(rt, "cut", Ok(epoch)),
+        Reply::Written(epoch) => print_written(rt, Ok(epoch)),
+        Reply::Refused { error, batch } => print_refused(rt, error, batch),
+    }
+}
+
+/// Why a command was refused, for want of memory too, and the entries that come back.
+fn print_refused(
+    rt: &impl Print,
+    refusal: KeeperError,
+    batch: Option<Batch>,
+) -> Result<(), StepError> {
+    match batch {
+        Some(batch) => {
+            print!(rt; "refused: {refusal}, back came")?;
+            print_entries(rt, &batch)
+        }
+        None => Ok(println!(rt; "refused: {refusal}")?),
+    }
+}
+
+/// `worker SHARD refused: ..`, where its work ended by a refusal.
+pub(crate) fn print_ended(
+    rt: &impl Print,
+    shard: u8,
+    ended: Result<(), PoolError>,
+) -> Result<(), StepError> {
+    match ended {
+        Ok(()) => Ok(()),
+        Err(refusal) => Ok(println!(rt; "worker {shard} refused: {refusal}")?),
+    }
+}

@@ -1,0 +1,154 @@
+-- What one command leaves of a keeper.
+use Rattle.std.proofs.Common.{◌≡◌, ◌⊎◌, ⊎_elim, inl, inr, ℕ, ◌≤◌, Bool, true, false, List, [], ◌∷◌, ◌++◌, refl, sym, ap, ◌∙◌, subst, arith}
+use Rattle.std.specs.Prelude.{Option, Some, None, Result, Ok, Err, IfOk, IfErr, OnErr, if◌then◌else◌}
+use Rattle.std.proofs.lemmas.List.{append-nil}
+use Rattle.td_stamp.specs.declared.values.Entry.{Entry}
+use Rattle.td_calls.specs.Answers.{Answers}
+use Rattle.td_disk.specs.Disk.{DiskState}
+use Rattle.td_journal.specs.declared.submitted.Submitted.{Submitted as AnySubmitted}
+use Rattle.td_standing.specs.Standing.{last_epoch, submission}
+use Rattle.td_standing.specs.Advanced.{SinceAdvance}
+use Rattle.td_standing.specs.declared.error.KeeperError.{KeeperError}
+use Rattle.td_standing.specs.declared.error.KeeperError.TheVariants as error
+use Rattle.td_keeper.specs.declared.command.Command.{Command}
+use Rattle.td_keeper.specs.declared.command.Command.TheVariants.{Submit, Release, Settle, Collect, NextOut, Cut, WriteCut}
+use Rattle.td_keeper.specs.declared.command.Reply.{Reply}
+use Rattle.td_keeper.specs.declared.command.Reply.TheVariants.{Submitted, Released, Settled, Collected, Out, CutTaken, Written, Refused}
+use Rattle.td_keeper.specs.Keeping.{Keeping, IsKeeping}
+use Rattle.td_keeper.specs.Driven.{submitted_in, submitted_by, is_device, Obeys, Driven}
+use Rattle.td_keeper.proofs.Driving.{Rests, releases, settles, collects, hands_out, cuts}
+use Rattle.td_feed.specs.Carried.{Carries, Stopped, Leaves, batch_in, is_refused, is_resting}
+use Rattle.td_feed.proofs.Carrying.{Stands-on, Cuts-on, unmoved, submitted, checkpointed, leaves_none, stopped_one, stopped_none}
+
+-- which refusal a reply is
+pub which : (r : Reply) → is_refused r ≡ true → (e : KeeperError) × (b : Option (List Entry)) × (r ≡ Refused e b)
+which (Refused e b) is = (e, b, refl)
+which (Submitted n) is = absurd (let no : false ≡ true = is in cc)
+which (Released n) is = absurd (let no : false ≡ true = is in cc)
+which Settled is = absurd (let no : false ≡ true = is in cc)
+which (Collected n) is = absurd (let no : false ≡ true = is in cc)
+which (Out o) is = absurd (let no : false ≡ true = is in cc)
+which (CutTaken n) is = absurd (let no : false ≡ true = is in cc)
+which (Written w) is = absurd (let no : false ≡ true = is in cc)
+
+-- a reply that is none
+pub none_refused : (r : Reply) → ((e : KeeperError) (b : Option (List Entry)) → r ≡ Refused e b → ⊥) → is_refused r ≡ false
+none_refused (Refused e b) none = absurd (none e b refl)
+none_refused (Submitted n) none = refl
+none_refused (Released n) none = refl
+none_refused Settled none = refl
+none_refused (Collected n) none = refl
+none_refused (Out o) none = refl
+none_refused (CutTaken n) none = refl
+none_refused (Written w) none = refl
+
+-- what holds of a reply, or of a refusal
+pub ok_of : {E : Type 0} (result : Result Reply E) (reply : Reply) (P : Reply → Type 0) → IfOk result (λ r. (r ≡ reply) × (is_refused reply ≡ false)) → (is_refused reply ≡ false → P reply) → IfOk result P
+ok_of (Ok r) reply P is holds = subst P (sym is.0) (holds is.1)
+ok_of (Err e) reply P is holds = tt
+
+pub err_of : {E : Type 0} (result : Result Reply E) (reply : Reply) (P : Type 0) → IfErr result (λ _. is_refused reply ≡ true) → (is_refused reply ≡ true → P) → OnErr result P
+err_of (Ok r) reply P is holds = tt
+err_of (Err e) reply P is holds = holds is
+
+module _ {D : Type 0} (is_lawful : D → Type 0) (state : D → DiskState) (answers : Answers) where
+  -- one command has one reply
+  pub one_reply : (c : Command) (r : Reply) (rest : List Reply) (old new : Keeping D) → Driven is_lawful state answers (c ∷ []) (rest ++ r ∷ []) old new
+      → Obeys is_lawful state answers c r old new × (submitted_by (c ∷ []) (rest ++ r ∷ []) ≡ submitted_in c r)
+  one_reply c r [] old new d = (subst (λ (k : Keeping D). Obeys is_lawful state answers c r old k) (sym d.3) d.2, append-nil (submitted_in c r))
+  one_reply c r (x ∷ []) old new d = absurd d.3
+  one_reply c r (x ∷ y ∷ ys) old new d = absurd d.3
+
+  pub some_reply : (c : Command) (replies : List Reply) (old new : Keeping D) → Driven is_lawful state answers (c ∷ []) replies old new → replies ≡ [] → ⊥
+  some_reply c [] old new d is = d
+  some_reply c (r ∷ rs) old new d is = absurd (let no : r ∷ rs ≡ [] = is in cc)
+
+  rests_carry : (old new : Keeping D) → Rests old new → old.broken ≡ false → Carries answers old new []
+  rests_carry old new rests whole = unmoved answers old new rests.plan rests.standing (rests.broken ∙ whole)
+
+  -- A COMMAND THAT WRITES NOTHING, whatever its reply is
+  pub rest : (c : Command) (r : Reply) (old new : Keeping D) → Obeys is_lawful state answers c r old new → old.broken ≡ false → is_resting c ≡ true → Carries answers old new []
+  rest (Submit batch) r old new obeys whole is = absurd (let no : false ≡ true = is in cc)
+  rest Release r old new obeys whole is = rests_carry old new (releases is_lawful state answers r old new obeys) whole
+  rest Settle r old new obeys whole is = rests_carry old new (settles is_lawful state answers r old new obeys) whole
+  rest Collect r old new obeys whole is = rests_carry old new (collects is_lawful state answers r old new obeys) whole
+  rest NextOut r old new obeys whole is = rests_carry old new (hands_out is_lawful state answers r old new obeys) whole
+  rest Cut r old new obeys whole is = rests_carry old new (cuts is_lawful state answers r old new obeys) whole
+  rest WriteCut r old new obeys whole is = absurd (let no : false ≡ true = is in cc)
+
+  -- A COMMAND THAT WAS NOT REFUSED: the keeper goes on with what it submitted
+  pub carry : Stands-on answers → Cuts-on answers → (c : Command) (r : Reply) (old new : Keeping D) → IsKeeping old answers → Obeys is_lawful state answers c r old new
+      → old.broken ≡ false → is_refused r ≡ false → Carries answers old new (submitted_in c r)
+  carry stands_on cuts_on (Submit batch) (Submitted n) old new kept obeys whole done = submitted answers old new new.device batch whole obeys.0.1
+  carry stands_on cuts_on (Submit batch) (Refused e b) old new kept obeys whole done = absurd (let no : true ≡ false = done in cc)
+  carry stands_on cuts_on (Submit batch) (Released n) old new kept obeys whole done = absurd obeys.0
+  carry stands_on cuts_on (Submit batch) Settled old new kept obeys whole done = absurd obeys.0
+  carry stands_on cuts_on (Submit batch) (Collected n) old new kept obeys whole done = absurd obeys.0
+  carry stands_on cuts_on (Submit batch) (Out o) old new kept obeys whole done = absurd obeys.0
+  carry stands_on cuts_on (Submit batch) (CutTaken n) old new kept obeys whole done = absurd obeys.0
+  carry stands_on cuts_on (Submit batch) (Written w) old new kept obeys whole done = absurd obeys.0
+  carry stands_on cuts_on Release r old new kept obeys whole done = rests_carry old new (releases is_lawful state answers r old new obeys) whole
+  carry stands_on cuts_on Settle r old new kept obeys whole done = rests_carry old new (settles is_lawful state answers r old new obeys) whole
+  carry stands_on cuts_on Collect r old new kept obeys whole done = rests_carry old new (collects is_lawful state answers r old new obeys) whole
+  carry stands_on cuts_on NextOut r old new kept obeys whole done = rests_carry old new (hands_out is_lawful state answers r old new obeys) whole
+  carry stands_on cuts_on Cut r old new kept obeys whole done = rests_carry old new (cuts is_lawful state answers r old new obeys) whole
+  carry stands_on cuts_on WriteCut (Written w) old new kept obeys whole done =
+      ⊎_elim
+      (λ none. unmoved answers old new (ap (λ (k : Keeping D). k.plan) none.2) (ap (λ (k : Keeping D). k.standing) none.2) (ap (λ (k : Keeping D). k.broken) none.2 ∙ whole))
+      (λ written. checkpointed answers stands_on cuts_on old new new.device whole kept written.1)
+      obeys.0.1
+  carry stands_on cuts_on WriteCut (Refused e b) old new kept obeys whole done = absurd (let no : true ≡ false = done in cc)
+  carry stands_on cuts_on WriteCut (Submitted n) old new kept obeys whole done = absurd obeys.0
+  carry stands_on cuts_on WriteCut (Released n) old new kept obeys whole done = absurd obeys.0
+  carry stands_on cuts_on WriteCut Settled old new kept obeys whole done = absurd obeys.0
+  carry stands_on cuts_on WriteCut (Collected n) old new kept obeys whole done = absurd obeys.0
+  carry stands_on cuts_on WriteCut (Out o) old new kept obeys whole done = absurd obeys.0
+  carry stands_on cuts_on WriteCut (CutTaken n) old new kept obeys whole done = absurd obeys.0
+
+module _ {D : Type 0} (is_lawful : D → Type 0) (state : D → DiskState) (answers : Answers) (stands_on : Stands-on answers) (old new : Keeping D) (whole : old.broken ≡ false)
+    (before : is_lawful new.device → is_lawful old.device)
+    (counts : is_lawful new.device → (c : List ℕ) → (state new.device).images c → (state new.device).since (state old.device).moment c) where
+  none_left : (more : List AnySubmitted) (other : Keeping D) → new ≡ other → other.plan ≡ old.plan → other.standing ≡ old.standing → other.broken ≡ false → Leaves is_lawful state answers old new more
+  none_left more other is plan standing same =
+      leaves_none is_lawful state answers old new more
+      (unmoved answers old new (ap (λ (k : Keeping D). k.plan) is ∙ plan) (ap (λ (k : Keeping D). k.standing) is ∙ standing) (ap (λ (k : Keeping D). k.broken) is ∙ same))
+
+  rests_left : (more : List AnySubmitted) → Rests old new → Leaves is_lawful state answers old new more
+  rests_left more rests = leaves_none is_lawful state answers old new more (rests_carry is_lawful state answers old new rests whole)
+
+  -- A COMMAND THAT WAS REFUSED: nothing was submitted; or the device failed, and its batch stands on the disk or not
+  pub refused : (c : Command) (e : KeeperError) (b : _) → Obeys is_lawful state answers c (Refused e b) old new
+      → (is_lawful old.device → SinceAdvance answers old.plan old.standing (submitted_in c (Refused e b)) (last_epoch old.standing) (state old.device).moment (state new.device))
+      → Leaves is_lawful state answers old new (batch_in c)
+  refused (Submit batch) e b obeys since =
+      ⊎_elim
+      (λ is. none_left (submission 0 batch ∷ []) old is refl refl whole)
+      (λ other. ⊎_elim
+      (λ memory. none_left (submission 0 batch ∷ []) (record old { device = new.device }) memory.1 refl refl whole)
+      (λ device. record {
+        count = 0;
+        few = omega arith;
+        left = inr (stopped_one is_lawful state answers stands_on old new before counts (submission 0 batch)
+            (λ lawful.
+            subst (λ (f : KeeperError). SinceAdvance answers old.plan old.standing (submitted_in (Submit batch) (Refused f b)) (last_epoch old.standing) (state old.device).moment (state new.device)) device.0
+            (since lawful)));
+      })
+      other)
+      obeys.0.3
+  refused Release e b obeys since = rests_left [] (releases is_lawful state answers (Refused e b) old new obeys)
+  refused Settle e b obeys since = rests_left [] (settles is_lawful state answers (Refused e b) old new obeys)
+  refused Collect e b obeys since = rests_left [] (collects is_lawful state answers (Refused e b) old new obeys)
+  refused NextOut e b obeys since = rests_left [] (hands_out is_lawful state answers (Refused e b) old new obeys)
+  refused Cut e b obeys since = rests_left [] (cuts is_lawful state answers (Refused e b) old new obeys)
+  refused WriteCut e b obeys since =
+      ⊎_elim
+      (λ many. none_left [] (record old { waiting = false }) many.1 refl refl whole)
+      (λ other. ⊎_elim
+      (λ device. record {
+        count = 0;
+        few = omega arith;
+        left = inr (stopped_none is_lawful state answers stands_on old new before counts since);
+      })
+      (λ is. none_left [] old is refl refl whole)
+      other)
+      obeys.0.2

@@ -1,0 +1,56 @@
+//! What a feed tells its keeper beside the workers.
+ghost use Rattle.std.specs.Prelude.{◌≡◌, ◌↔◌, [], true, false, IfOk, IfErr, OnErr};
+ghost use Rattle.td_keeper.specs.Driven.{submitted_in, Obeys};
+ghost use Rattle.td_feed.specs.Carried.{batch_in, is_refused, is_resting, Carries, Leaves};
+
+use std::alloc::Global;
+use std::sync::Wait;
+use td_calls::Law;
+use td_console::Fault;
+use td_disk::Disk;
+use td_keeper::laws::each_is_kept;
+use td_keeper::{Command, Keeper, Reply};
+use td_pool::{Crew, Pool};
+use td_standing::laws;
+
+/// Tells a keeper one command, and answers its reply. Refusals: the keeper's; and `Memory`, where there was no room for the reply.
+pub(crate) fn tell<D: Disk, L: Law, K: Crew, R: Wait>(
+    rt: &R,
+    alloc: Global,
+    keeper: &mut Keeper<D, L>,
+    pool: &Pool<K, L>,
+    command: Command,
+) -> Result<Reply, Fault>
+    requires whole { keeper.old.broken ≡ false }
+    ensures obeyed { IfOk result (λ reply. Obeys D.is_lawful D.state L.answers command reply keeper.old keeper.new) }
+    ensures done { IfOk result (λ reply. is_refused reply ≡ false) }
+    ensures size { D.capacity keeper.new.device ≡ D.capacity keeper.old.device }
+    ensures lawful { D.is_lawful keeper.old.device ↔ D.is_lawful keeper.new.device }
+    ensures carried { IfOk result (λ reply. Carries L.answers keeper.old keeper.new (submitted_in command reply)) }
+    ensures left { OnErr result (Leaves D.is_lawful D.state L.answers keeper.old keeper.new (batch_in command)) }
+    ensures rests { is_resting command ≡ true → Carries L.answers keeper.old keeper.new [] }
+{
+    laws::advance_stands::<L>();
+    laws::standings_advance::<L>();
+    each_is_kept(keeper);
+    let mut commands = Vec::with_capacity(alloc, 1)?;
+    commands.push_reserved(command);
+    match keeper.drive(rt, alloc, pool, commands) {
+        Ok(mut replies) => match replies.pop() {
+            Some(reply) => unless_refused(reply),
+            None => unreachable!(),
+        },
+        Err((_memory, _commands)) => Err(Fault::Memory),
+    }
+}
+
+/// A reply that is no refusal; else the fault for that.
+fn unless_refused(reply: Reply) -> Result<Reply, Fault>
+    ensures ok { IfOk result (λ r. (r ≡ reply) × (is_refused reply ≡ false)) }
+    ensures refused { IfErr result (λ _. is_refused reply ≡ true) }
+{
+    match reply {
+        Reply::Refused { error, batch: _ } => Err(Fault::from(error)),
+        _ => Ok(reply),
+    }
+}

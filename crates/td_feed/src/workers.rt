@@ -1,0 +1,192 @@
+//! A feed beside the workers, each in a thread of its own.
+ghost use Rattle.std.specs.Prelude.{◌≡◌, ◌↔◌, false, Ok, OnOk, OnErr};
+ghost use Rattle.td_feed.specs.Orders.{submissions};
+ghost use Rattle.td_feed.specs.Fed.{pool_fault};
+ghost use Rattle.td_feed.specs.Carried.{Carries, Leaves};
+
+use crate::order::Order;
+use crate::under_way::Feeding;
+use std::alloc::Global;
+use std::sync::Wait;
+use std::sync::ledger::Blank;
+use std::thread;
+use std::thread::Threads;
+use td_calls::{Closures, Law};
+use td_console::{Fault, Sink};
+use td_core::{Hall, HallError};
+use td_disk::Disk;
+use td_keeper::Keeper;
+use td_pool::{Crew, OpenGate, Pool, PoolError, Seat};
+use td_standing::KeeperError;
+
+/// Obeys orders by a hall on which workers work, and settles. Refusals: those of the keeper and of the writer; that of a worker,
+/// in place of epochs that did not pass for it; and `Memory`, also where a thread could not be made.
+pub(crate) fn obey_by_workers<
+    D: Disk + Drop,
+    W: Sink,
+    L: Law + Send + Sync,
+    C: Closures<L> + Sync,
+    K: Crew + Send + Sync,
+    R: Threads + Wait + Sync,
+>(
+    rt: &R,
+    alloc: Global,
+    keeper: Keeper<D, L>,
+    hall: Hall<L>,
+    blank: Blank,
+    feeding: Feeding,
+    orders: Vec<Order>,
+    writer: &mut W,
+    calls: &C,
+) -> (Keeper<D, L>, Result<(), Fault>)
+    requires name { blank.name ≡ K.name }
+    requires parts { (blank.parts ≡ K.parts) × (K.parts ≡ K.shards) }
+    requires hall { (hall.workers ≡ K.shards) × (hall.given ≡ K.start) }
+    requires whole { keeper.broken ≡ false }
+    ensures size { D.capacity result.0.device ≡ D.capacity keeper.device }
+    ensures lawful { D.is_lawful keeper.device ↔ D.is_lawful result.0.device }
+    ensures fed { OnOk result.1 (Carries L.answers keeper result.0 (submissions orders.items)) }
+    ensures left { OnErr result.1 (Leaves D.is_lawful D.state L.answers keeper result.0 (submissions orders.items)) }
+{
+    match Pool::<K, L>::new(alloc, hall, blank) {
+        Ok((pool, seats)) => beside(
+            rt,
+            alloc,
+            keeper,
+            &pool,
+            seats,
+            feeding,
+            orders,
+            writer,
+            calls,
+        ),
+        Err((_memory, _hall)) => (keeper, Err(Fault::Memory)),
+    }
+}
+
+/// Obeys orders beside a worker for each seat, and stops the workers.
+fn beside<
+    D: Disk + Drop,
+    W: Sink,
+    L: Law + Send + Sync,
+    C: Closures<L> + Sync,
+    K: Crew + Send + Sync,
+    R: Threads + Wait + Sync,
+>(
+    rt: &R,
+    alloc: Global,
+    keeper: Keeper<D, L>,
+    pool: &Pool<K, L>,
+    seats: Vec<Seat<K, L>>,
+    feeding: Feeding,
+    orders: Vec<Order>,
+    writer: &mut W,
+    calls: &C,
+) -> (Keeper<D, L>, Result<(), Fault>)
+    requires whole { keeper.broken ≡ false }
+    ensures size { D.capacity result.0.device ≡ D.capacity keeper.device }
+    ensures lawful { D.is_lawful keeper.device ↔ D.is_lawful result.0.device }
+    ensures fed { OnOk result.1 (Carries L.answers keeper result.0 (submissions orders.items)) }
+    ensures left { OnErr result.1 (Leaves D.is_lawful D.state L.answers keeper result.0 (submissions orders.items)) }
+{
+    thread::scope(
+        thread::scope_env(),
+        rt,
+        |scope| -> (Keeper<D, L>, Result<(), Fault>)
+            requires { keeper.broken ≡ false }
+            ensures size { D.capacity result.0.device ≡ D.capacity keeper.device }
+            ensures lawful { D.is_lawful keeper.device ↔ D.is_lawful result.0.device }
+            ensures fed { OnOk result.1 (Carries L.answers keeper result.0 (submissions orders.items)) }
+            ensures left { OnErr result.1 (Leaves D.is_lawful D.state L.answers keeper result.0 (submissions orders.items)) }
+        {
+            let mut keeper = keeper;
+            let mut workers = Vec::new(alloc);
+            let mut started = Ok(());
+            for seat in seats {
+                if workers.reserve(1).is_err() {
+                    started = Err(Fault::Memory);
+                    break;
+                }
+                match scope.spawn(move || serve(rt, alloc, pool, seat, calls)) {
+                    Ok(worker) => workers.push_reserved(worker),
+                    Err(_) => {
+                        started = Err(Fault::Memory);
+                        break;
+                    }
+                }
+            }
+            let obeyed = obey_each(rt, alloc, &mut keeper, pool, started, feeding, orders, writer);
+            pool.stop(rt);
+            let mut worked = Ok(());
+            for worker in workers {
+                worked = worked.and(worker.join(rt));
+            }
+            (keeper, ended_as(obeyed, worked))
+        },
+    )
+}
+
+/// Works from a seat until the pool is stopped. Where the work ends by a refusal, it stops the pool.
+fn serve<L: Law, C: Closures<L>, K: Crew, R: Wait>(
+    rt: &R,
+    alloc: Global,
+    pool: &Pool<K, L>,
+    mut seat: Seat<K, L>,
+    calls: &C,
+) -> Result<(), PoolError> {
+    let worked = pool.work(rt, alloc, &mut seat, calls, &OpenGate);
+    if worked.is_err() {
+        pool.stop(rt);
+    }
+    worked
+}
+
+/// Obeys each order in turn, and settles, where the workers were started. Refusals: why they were not; those of the keeper and of
+/// the writer.
+fn obey_each<D: Disk, W: Sink, L: Law, K: Crew, R: Wait>(
+    rt: &R,
+    alloc: Global,
+    keeper: &mut Keeper<D, L>,
+    pool: &Pool<K, L>,
+    started: Result<(), Fault>,
+    mut feeding: Feeding,
+    orders: Vec<Order>,
+    writer: &mut W,
+) -> Result<(), Fault>
+    requires whole { keeper.old.broken ≡ false }
+    ensures size { D.capacity keeper.new.device ≡ D.capacity keeper.old.device }
+    ensures lawful { D.is_lawful keeper.old.device ↔ D.is_lawful keeper.new.device }
+    ensures fed { OnOk result (Carries L.answers keeper.old keeper.new (submissions orders.items)) }
+    ensures left { OnErr result (Leaves D.is_lawful D.state L.answers keeper.old keeper.new (submissions orders.items)) }
+{
+    started?;
+    feeding.release(rt, alloc, keeper, pool)?;
+    for order in orders {
+        feeding.obey(rt, alloc, keeper, pool, order, writer)?;
+    }
+    feeding.settle(rt, alloc, keeper, pool, writer)
+}
+
+/// How a feed ended: as a worker's refusal says, in place of epochs that did not pass for it.
+fn ended_as(obeyed: Result<(), Fault>, worked: Result<(), PoolError>) -> Result<(), Fault>
+    ensures { OnOk result (obeyed ≡ Ok tt) }
+{
+    match (obeyed, worked) {
+        (Ok(()) | Err(Fault::Keeper(KeeperError::NotPassed(_))), Err(refusal)) => {
+            Err(fault_of(refusal))
+        }
+        (obeyed, _) => obeyed,
+    }
+}
+
+/// The fault for a worker's refusal.
+fn fault_of(refusal: PoolError) -> Fault
+    ensures { result ≡ pool_fault refusal }
+{
+    match refusal {
+        PoolError::NoCall(vertex, code) => Fault::NoCall(vertex, code),
+        PoolError::Memory | PoolError::Hall(HallError::Memory) => Fault::Memory,
+        PoolError::Hall(HallError::Spent) => Fault::Spent,
+        PoolError::Hall(_) | PoolError::NotAll => Fault::Keeper(KeeperError::Foreign),
+    }
+}

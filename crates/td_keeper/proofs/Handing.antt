@@ -1,0 +1,368 @@
+-- What commands hand out, and what is left in the queue, is what the batch meaning has.
+use Rattle.std.proofs.Common.{◌≡◌, ⊎_elim, ℕ, zero, suc, ◌+◌, ◌-◌, ◌≤◌, Bool, true, false, List, [], ◌∷◌, ◌++◌, length, take, drop, refl, sym, ap, ◌∙◌, subst, arith}
+use Rattle.std.specs.Prelude.{Option, Some, None, if◌then◌else◌}
+use Rattle.std.proofs.lemmas.List.{append-nil, append_assoc, length-append, length-map, length-drop, map-append, take-append-le, drop-append-le, drop-drop, length-take-le, take-append-drop, take-map}
+use Rattle.td_stamp.specs.declared.values.Entry.{Entry}
+use Rattle.td_stamp.specs.declared.values.Output.{Output}
+use Rattle.td_stamp.specs.declared.epoch_out.EpochOut.{EpochOut}
+use Rattle.td_stamp.specs.States.{StateList}
+use Rattle.td_plan.specs.Lines.{Line}
+use Rattle.td_plan.specs.Tree.{tree_of}
+use Rattle.td_calls.specs.Answers.{Answers}
+use Rattle.td_batch.specs.Meaning.{run, numbered}
+use Rattle.td_machine.specs.State.{HallState}
+use Rattle.td_machine.specs.Steps.{collect_step, to_collect, outputs_at}
+use Rattle.td_machine.specs.Sound.{outs_by}
+use Rattle.td_disk.specs.Disk.{DiskState}
+use Rattle.td_journal.specs.declared.submitted.Submitted.{Submitted as AnySubmitted}
+use Rattle.td_standing.specs.Standing.{Standing, last_epoch, submission, batches_of, with_more, cut_at}
+use Rattle.td_standing.specs.declared.error.KeeperError.{KeeperError}
+use Rattle.td_standing.specs.declared.error.KeeperError.TheVariants as error
+use Rattle.td_keeper.specs.declared.command.Command.{Command}
+use Rattle.td_keeper.specs.declared.command.Command.TheVariants.{Submit, Release, Settle, Collect, NextOut, Cut, WriteCut}
+use Rattle.td_keeper.specs.declared.command.Reply.{Reply}
+use Rattle.td_keeper.specs.declared.command.Reply.TheVariants.{Submitted, Released, Settled, Collected, Out, CutTaken, Written, Refused}
+use Rattle.td_keeper.specs.Keeping.{Keeping, IsKeeping, with_batch, with_checkpoint}
+use Rattle.td_keeper.specs.Halls.{meant_outs, with_collected, with_cut}
+use Rattle.td_keeper.specs.Driven.{is_device, submitted_in, submitted_by, handed_in, handed_out, outs_beyond, HandsOn, Submits, Releases, Settles, Collects, HandsOut, Cuts, Writes, Obeys, Driven}
+use Rattle.td_keeper.proofs.Collecting.{OutsJoin}
+use Rattle.td_keeper.proofs.Runs.{out_at, length_outs, take_on}
+use Rattle.td_keeper.proofs.Driving.{is_device_is, driven_broken}
+
+-- outputs, and then others
+numbered-append : (n : ℕ) (xs ys : List (List Output)) → numbered n (xs ++ ys) ≡ numbered n xs ++ numbered (n + length xs) ys
+numbered-append n [] ys = let is : n ≡ n + 0 = omega arith in ap (λ m. numbered m ys) is
+numbered-append n (x ∷ xs) ys =
+    let is : n + 1 + length xs ≡ n + length (x ∷ xs) = omega arith in
+    λ i. record { epoch = n; recs = x } ∷ (numbered-append (n + 1) xs ys ∙ ap (λ m. numbered (n + 1) xs ++ numbered m ys) is) i
+
+-- outputs, by the parts of a keeper of which they are made
+abbrev beyond : Answers → List Line → Standing → ℕ → List AnySubmitted → ℕ → List EpochOut
+beyond answers plan s from x to = numbered (from + 1) (take (to - from) (drop (from - s.epoch) (run answers (tree_of plan) s.states (batches_of (s.submitted ++ x))).outs))
+
+module _ {D : Type 0} (answers : Answers) (outs_join : OutsJoin answers) where
+  -- all outputs of what a keeper stands for, with more submitted
+  abbrev outs_of : Keeping D → List AnySubmitted → List (List Output)
+  outs_of k x = (run answers (tree_of k.plan) k.standing.states (batches_of (k.standing.submitted ++ x))).outs
+
+  many : (k : Keeping D) (x : List AnySubmitted) → length (outs_of k x) ≡ length k.standing.submitted + length x
+  many k x =
+      length_outs answers (tree_of k.plan) k.standing.states (batches_of (k.standing.submitted ++ x))
+      ∙ (length-map (k.standing.submitted ++ x) (λ s. s.batch) ∙ length-append k.standing.submitted x)
+
+  -- those of later batches come after them
+  abbrev later_outs : (k : Keeping D) (x z : List AnySubmitted) → List (List Output)
+  later_outs k x z = (run answers (tree_of k.plan) (run answers (tree_of k.plan) k.standing.states (batches_of (k.standing.submitted ++ x))).states (batches_of z)).outs
+
+  outs_after : (k : Keeping D) (x z : List AnySubmitted) → outs_of k (x ++ z) ≡ outs_of k x ++ later_outs k x z
+  outs_after k x z =
+      ap (λ (l : List (List Entry)). (run answers (tree_of k.plan) k.standing.states l).outs)
+      (ap batches_of (sym (append_assoc k.standing.submitted x z)) ∙ map-append (λ s. s.batch) (k.standing.submitted ++ x) z)
+      ∙ outs_join (tree_of k.plan) k.standing.states (batches_of (k.standing.submitted ++ x)) (batches_of z)
+
+  -- so what is submitted later changes none of them
+  longer : (k : Keeping D) (x z : List AnySubmitted) (to : ℕ) → k.standing.epoch ≤ k.collected → k.collected ≤ to → to ≤ last_epoch k.standing + length x
+      → outs_beyond k answers (x ++ z) to ≡ outs_beyond k answers x to
+  longer k x z to from up most =
+      let A = outs_of k x in
+      let B = later_outs k x z in
+      let n = many k x in
+      let d = k.collected - k.standing.epoch in
+      let left = length-drop d A in
+      ap (λ l. numbered (k.collected + 1) (take (to - k.collected) (drop d l))) (outs_after k x z)
+      ∙ ap (λ l. numbered (k.collected + 1) (take (to - k.collected) l)) (drop-append-le d A B (omega (arith, n, from, up, most)))
+      ∙ ap (numbered (k.collected + 1)) (take-append-le (to - k.collected) (drop d A) B (omega (arith, n, left, from, up, most)))
+
+  -- up to an epoch, and then from that on
+  parted : (k : Keeping D) (x : List AnySubmitted) (mid to : ℕ) → k.standing.epoch ≤ k.collected → k.collected ≤ mid → mid ≤ to → to ≤ last_epoch k.standing + length x
+      → outs_beyond k answers x to ≡ outs_beyond k answers x mid ++ numbered (mid + 1) (take (to - mid) (drop (mid - k.standing.epoch) (outs_of k x)))
+  parted k x mid to from first second most =
+      let A = outs_of k x in
+      let n = many k x in
+      let d = k.collected - k.standing.epoch in
+      let rest = drop d A in
+      let left = length-drop d A in
+      let whole : to - k.collected ≡ mid - k.collected + (to - mid) = omega (arith, first, second) in
+      let place : d + (mid - k.collected) ≡ mid - k.standing.epoch = omega (arith, from, first) in
+      let here : length (take (mid - k.collected) rest) ≡ mid - k.collected = length-take-le (mid - k.collected) rest (omega (arith, n, left, from, first, second, most)) in
+      let next : k.collected + 1 + length (take (mid - k.collected) rest) ≡ mid + 1 = omega (arith, here, first) in
+      ap (λ m. numbered (k.collected + 1) (take m rest)) whole
+      ∙ ap (numbered (k.collected + 1)) (take_on (mid - k.collected) (to - mid) rest)
+      ∙ ap (λ l. numbered (k.collected + 1) (take (mid - k.collected) rest ++ take (to - mid) l)) (drop-drop (mid - k.collected) d A)
+      ∙ ap (λ m. numbered (k.collected + 1) (take (mid - k.collected) rest ++ take (to - mid) (drop m A))) place
+      ∙ numbered-append (k.collected + 1) (take (mid - k.collected) rest) (take (to - mid) (drop (mid - k.standing.epoch) A))
+      ∙ ap (λ m. outs_beyond k answers x mid ++ numbered m (take (to - mid) (drop (mid - k.standing.epoch) A))) next
+
+  -- a keeper that differs in nothing of it
+  same_all : (old mid new : Keeping D) (y : List AnySubmitted) (hs : List EpochOut) → mid.plan ≡ old.plan → mid.standing ≡ old.standing → mid.collected ≡ old.collected → mid.queue ≡ old.queue
+      → HandsOn answers mid new y hs → HandsOn answers old new y hs
+  same_all old mid new y hs plan standing collected queue rest = record {
+    on = omega (arith, rest.on, collected);
+    within = subst (λ (s : Standing). new.collected ≤ last_epoch s + length y) standing rest.within;
+    outs = rest.outs ∙ (λ i. queue i ++ beyond answers (plan i) (standing i) (collected i) y new.collected);
+  }
+
+  -- a batch was submitted
+  one_more : (old mid new : Keeping D) (x y : List AnySubmitted) (hs : List EpochOut) → mid.plan ≡ old.plan → mid.standing ≡ with_more old.standing x → mid.collected ≡ old.collected → mid.queue ≡ old.queue
+      → HandsOn answers mid new y hs → HandsOn answers old new (x ++ y) hs
+  one_more old mid new x y hs plan standing collected queue rest =
+      let within : new.collected ≤ last_epoch (with_more old.standing x) + length y = subst (λ (s : Standing). new.collected ≤ last_epoch s + length y) standing rest.within in
+      let n = length-append old.standing.submitted x in
+      let m = length-append x y in
+      let assoc = append_assoc old.standing.submitted x y in record {
+        on = omega (arith, rest.on, collected);
+        within = omega (arith, within, n, m);
+        outs = rest.outs ∙ (λ i. queue i ++ beyond answers (plan i) (standing i) (collected i) y new.collected)
+            ∙ (λ i. old.queue ++ numbered (old.collected + 1) (take (new.collected - old.collected) (drop (old.collected - old.standing.epoch) (run answers (tree_of old.plan) old.standing.states (batches_of (assoc i))).outs)));
+      }
+
+  -- what perhaps was submitted as the device failed has no outputs yet
+  perhaps : (old new : Keeping D) (x : List AnySubmitted) (hs : List EpochOut) → IsKeeping old answers → HandsOn answers old new [] hs → HandsOn answers old new (x ++ []) hs
+  perhaps old new x hs kept rest =
+      let n = length-append x [] in record {
+        on = rest.on;
+        within = omega (arith, rest.within, n);
+        outs = rest.outs
+            ∙ ap (λ l. old.queue ++ l) (sym (longer old [] x new.collected (omega (arith, kept.from_checkpoint, kept.collected)) rest.on rest.within)
+            ∙ ap (λ (z : List AnySubmitted). outs_beyond old answers z new.collected) (sym (append-nil x)));
+      }
+
+  -- outputs were collected
+  brought : (old mid new : Keeping D) (y : List AnySubmitted) (hs outs : List EpochOut) → IsKeeping old answers → IsKeeping mid answers → mid.plan ≡ old.plan → mid.standing ≡ old.standing
+      → mid.queue ≡ old.queue ++ outs → outs ≡ meant_outs old answers old.collected mid.collected → old.collected ≤ mid.collected
+      → HandsOn answers mid new y hs → HandsOn answers old new y hs
+  brought old mid new y hs outs kept kept_mid plan standing queue meant up rest =
+      let within : new.collected ≤ last_epoch old.standing + length y = subst (λ (s : Standing). new.collected ≤ last_epoch s + length y) standing rest.within in
+      let done : mid.collected ≤ last_epoch old.standing = subst (λ (s : Standing). mid.collected ≤ last_epoch s) standing kept_mid.done in
+      let from : old.standing.epoch ≤ old.collected = omega (arith, kept.from_checkpoint, kept.collected) in
+      let none = append-nil old.standing.submitted in
+      let found : outs ≡ outs_beyond old answers y mid.collected =
+      meant
+      ∙ (λ i. numbered (old.collected + 1) (take (mid.collected - old.collected) (drop (old.collected - old.standing.epoch) (run answers (tree_of old.plan) old.standing.states (batches_of (sym none i))).outs)))
+      ∙ sym (longer old [] y mid.collected from up (omega (arith, done))) in
+      let rest_of : outs_beyond mid answers y new.collected ≡ numbered (mid.collected + 1) (take (new.collected - mid.collected) (drop (mid.collected - old.standing.epoch) (outs_of old y))) =
+      λ i. beyond answers (plan i) (standing i) mid.collected y new.collected in record {
+        on = omega (arith, up, rest.on);
+        within = within;
+        outs = rest.outs ∙ (λ i. queue i ++ rest_of i) ∙ append_assoc old.queue outs (onward new.collected)
+            ∙ ap (λ l. old.queue ++ (l ++ onward new.collected)) found
+            ∙ ap (λ l. old.queue ++ l) (sym (parted old y mid.collected new.collected from up rest.on within));
+      }
+    where
+      onward : ℕ → List EpochOut
+      onward to = numbered (mid.collected + 1) (take (to - mid.collected) (drop (mid.collected - old.standing.epoch) (outs_of old y)))
+
+-- what comes after the first
+drop_past : {A : Type 0} (xs ys : List A) (n : ℕ) → length xs ≡ n → drop n (xs ++ ys) ≡ ys
+drop_past [] ys zero is = refl
+drop_past [] ys (suc n) is = absurd (omega (arith, is))
+drop_past (x ∷ xs) ys zero is = absurd (omega (arith, is))
+drop_past (x ∷ xs) ys (suc n) is = drop_past xs ys n (omega (arith, is))
+
+module _ {D : Type 0} (answers : Answers) (outs_join : OutsJoin answers) where
+  -- a cut was written
+  cut_off : (old mid new : Keeping D) (y : List AnySubmitted) (hs : List EpochOut) → IsKeeping old answers → mid.plan ≡ old.plan
+      → mid.standing ≡ cut_at old.standing (old.base - old.standing.epoch) old.base_states → mid.collected ≡ old.collected → mid.queue ≡ old.queue
+      → last_epoch (cut_at old.standing (old.base - old.standing.epoch) old.base_states) ≡ last_epoch old.standing
+      → HandsOn answers mid new y hs → HandsOn answers old new y hs
+  cut_off old mid new y hs kept plan standing collected queue far rest =
+      let within : new.collected ≤ last_epoch (cut_at s n old.base_states) + length y = subst (λ (t : Standing). new.collected ≤ last_epoch t + length y) standing rest.within in record {
+        on = omega (arith, rest.on, collected);
+        within = omega (arith, within, far);
+        outs = rest.outs ∙ (λ i. queue i ++ beyond answers (plan i) (standing i) (collected i) y new.collected)
+            ∙ ap (λ l. old.queue ++ numbered (old.collected + 1) (take (new.collected - old.collected) l)) (sym others);
+      }
+    where
+      s : Standing
+      s = old.standing
+
+      n : ℕ
+      n = old.base - s.epoch
+
+      most : n ≤ length s.submitted
+      most = omega (arith, kept.released, kept.from_checkpoint)
+
+      first : List (List Entry)
+      first = batches_of (take n s.submitted)
+
+      B : List (List Output)
+      B = (run answers (tree_of old.plan) old.base_states (batches_of (drop n s.submitted ++ y))).outs
+
+      based : (run answers (tree_of old.plan) s.states first).states ≡ old.base_states
+      based = ap (λ (l : List (List Entry)). (run answers (tree_of old.plan) s.states l).states) (sym (take-map (λ s. s.batch) n s.submitted)) ∙ sym kept.base_states
+
+      whole : s.submitted ++ y ≡ take n s.submitted ++ (drop n s.submitted ++ y)
+      whole = ap (λ (l : List AnySubmitted). l ++ y) (sym (take-append-drop n s.submitted)) ∙ append_assoc (take n s.submitted) (drop n s.submitted) y
+
+      all : (run answers (tree_of old.plan) s.states (batches_of (s.submitted ++ y))).outs ≡ (run answers (tree_of old.plan) s.states first).outs ++ B
+      all =
+          ap (λ (l : List (List Entry)). (run answers (tree_of old.plan) s.states l).outs) (ap batches_of whole ∙ map-append (λ s. s.batch) (take n s.submitted) (drop n s.submitted ++ y))
+          ∙ outs_join (tree_of old.plan) s.states first (batches_of (drop n s.submitted ++ y))
+          ∙ ap (λ (b : StateList). (run answers (tree_of old.plan) s.states first).outs ++ (run answers (tree_of old.plan) b (batches_of (drop n s.submitted ++ y))).outs) based
+
+      some : length (run answers (tree_of old.plan) s.states first).outs ≡ n
+      some = length_outs answers (tree_of old.plan) s.states first ∙ (length-map (take n s.submitted) (λ s. s.batch) ∙ length-take-le n s.submitted most)
+
+      place : old.collected - s.epoch ≡ n + (old.collected - (s.epoch + n))
+      place = omega (arith, kept.from_checkpoint, kept.collected)
+
+      others : drop (old.collected - s.epoch) (run answers (tree_of old.plan) s.states (batches_of (s.submitted ++ y))).outs ≡ drop (old.collected - (s.epoch + n)) B
+      others =
+          (λ i. drop (place i) (all i))
+          ∙ (sym (drop-drop (old.collected - (s.epoch + n)) n ((run answers (tree_of old.plan) s.states first).outs ++ B))
+          ∙ ap (drop (old.collected - (s.epoch + n))) (drop_past (run answers (tree_of old.plan) s.states first).outs B n some))
+
+-- the law, as it is handed in
+abbrev pub Last : Type 0
+Last = (s : Standing) (k : ℕ) (states : StateList) → k ≤ length s.submitted → last_epoch (cut_at s k states) ≡ last_epoch s
+
+-- so many were collected
+collected_count : (S : HallState) → (collect_step S).1.collected ≡ S.collected + length (outs_by (collect_step S).0)
+collected_count S = ap (λ (n : ℕ). S.collected + n) (sym (length-map (to_collect S) (λ e. out_at e (outputs_at S e))))
+
+module _ {D : Type 0} (is_lawful : D → Type 0) (state : D → DiskState) (answers : Answers) (outs_join : OutsJoin answers) (last : Last) where
+  -- ONE COMMAND, and then others
+  hands : (c : Command) (r : Reply) (old mid new : Keeping D) (y : List AnySubmitted) (hs : List EpochOut) → IsKeeping old answers → IsKeeping mid answers
+      → Obeys is_lawful state answers c r old mid → (mid.broken ≡ true → y ≡ []) → HandsOn answers mid new y hs → HandsOn answers old new (submitted_in c r ++ y) (handed_in r ++ hs)
+  hands (Submit batch) (Submitted n) old mid new y hs kept kept_mid obeys none rest =
+      let is = obeys.0.1 in
+      one_more answers outs_join old mid new (submission 0 batch ∷ []) y hs (ap (λ k. k.plan) is) (ap (λ k. k.standing) is) (ap (λ k. k.collected) is) (ap (λ k. k.queue) is) rest
+  hands (Submit batch) (Refused e b) old mid new y hs kept kept_mid obeys none rest = by (is_device e) refl
+    where
+      alike : (mid.plan ≡ old.plan) × (mid.standing ≡ old.standing) × (mid.collected ≡ old.collected) × (mid.queue ≡ old.queue)
+      alike =
+          ⊎_elim (λ is. (ap (λ k. k.plan) is, ap (λ k. k.standing) is, ap (λ k. k.collected) is, ap (λ k. k.queue) is))
+          (λ other. ⊎_elim (λ is. (ap (λ k. k.plan) is.1, ap (λ k. k.standing) is.1, ap (λ k. k.collected) is.1, ap (λ k. k.queue) is.1))
+          (λ is. (ap (λ k. k.plan) is.1, ap (λ k. k.standing) is.1, ap (λ k. k.collected) is.1, ap (λ k. k.queue) is.1)) other) obeys.0.3
+
+      on : HandsOn answers old new y hs
+      on = same_all answers outs_join old mid new y hs alike.0 alike.1 alike.2 alike.3 rest
+
+      by : (d : Bool) → is_device e ≡ d → HandsOn answers old new ((if d then submission 0 batch ∷ [] else []) ++ y) hs
+      by false is = on
+      by true is =
+          let no : y ≡ [] = none (obeys.0.1 (is_device_is e is)) in
+          subst (λ (l : List AnySubmitted). HandsOn answers old new ((submission 0 batch ∷ []) ++ l) hs) (sym no)
+          (perhaps answers outs_join old new (submission 0 batch ∷ []) hs kept (subst (λ (l : List AnySubmitted). HandsOn answers old new l hs) no on))
+  hands (Submit batch) (Released n) old mid new y hs kept kept_mid obeys none rest = absurd obeys.0
+  hands (Submit batch) Settled old mid new y hs kept kept_mid obeys none rest = absurd obeys.0
+  hands (Submit batch) (Collected n) old mid new y hs kept kept_mid obeys none rest = absurd obeys.0
+  hands (Submit batch) (Out o) old mid new y hs kept kept_mid obeys none rest = absurd obeys.0
+  hands (Submit batch) (CutTaken n) old mid new y hs kept kept_mid obeys none rest = absurd obeys.0
+  hands (Submit batch) (Written w) old mid new y hs kept kept_mid obeys none rest = absurd obeys.0
+  hands Release (Released n) old mid new y hs kept kept_mid obeys none rest = same_all answers outs_join old mid new y hs (ap (λ k. k.plan) obeys.0) (ap (λ k. k.standing) obeys.0) (ap (λ k. k.collected) obeys.0) (ap (λ k. k.queue) obeys.0) rest
+  hands Release (Refused e b) old mid new y hs kept kept_mid obeys none rest = same_all answers outs_join old mid new y hs (ap (λ k. k.plan) obeys.1) (ap (λ k. k.standing) obeys.1) (ap (λ k. k.collected) obeys.1) (ap (λ k. k.queue) obeys.1) rest
+  hands Release (Submitted n) old mid new y hs kept kept_mid obeys none rest = absurd obeys
+  hands Release Settled old mid new y hs kept kept_mid obeys none rest = absurd obeys
+  hands Release (Collected n) old mid new y hs kept kept_mid obeys none rest = absurd obeys
+  hands Release (Out o) old mid new y hs kept kept_mid obeys none rest = absurd obeys
+  hands Release (CutTaken n) old mid new y hs kept kept_mid obeys none rest = absurd obeys
+  hands Release (Written w) old mid new y hs kept kept_mid obeys none rest = absurd obeys
+  hands Settle Settled old mid new y hs kept kept_mid obeys none rest = same_all answers outs_join old mid new y hs (ap (λ k. k.plan) obeys) (ap (λ k. k.standing) obeys) (ap (λ k. k.collected) obeys) (ap (λ k. k.queue) obeys) rest
+  hands Settle (Refused e b) old mid new y hs kept kept_mid obeys none rest = same_all answers outs_join old mid new y hs (ap (λ k. k.plan) obeys.1) (ap (λ k. k.standing) obeys.1) (ap (λ k. k.collected) obeys.1) (ap (λ k. k.queue) obeys.1) rest
+  hands Settle (Submitted n) old mid new y hs kept kept_mid obeys none rest = absurd obeys
+  hands Settle (Released n) old mid new y hs kept kept_mid obeys none rest = absurd obeys
+  hands Settle (Collected n) old mid new y hs kept kept_mid obeys none rest = absurd obeys
+  hands Settle (Out o) old mid new y hs kept kept_mid obeys none rest = absurd obeys
+  hands Settle (CutTaken n) old mid new y hs kept kept_mid obeys none rest = absurd obeys
+  hands Settle (Written w) old mid new y hs kept kept_mid obeys none rest = absurd obeys
+  hands Collect (Collected n) old mid new y hs kept kept_mid obeys none rest =
+      let is = obeys.2 in
+      let so_many : mid.collected ≡ old.collected + n = ap (λ k. k.collected) is ∙ (collected_count obeys.0 ∙ (λ i. obeys.1.collected i + sym obeys.3 i)) in
+      brought answers outs_join old mid new y hs (outs_by (collect_step obeys.0).0) kept kept_mid (ap (λ k. k.plan) is) (ap (λ k. k.standing) is) (ap (λ k. k.queue) is)
+      (obeys.4 ∙ ap (λ m. meant_outs old answers old.collected m) (sym so_many)) (omega (arith, so_many)) rest
+  hands Collect (Refused e b) old mid new y hs kept kept_mid obeys none rest = same_all answers outs_join old mid new y hs (ap (λ k. k.plan) obeys.1) (ap (λ k. k.standing) obeys.1) (ap (λ k. k.collected) obeys.1) (ap (λ k. k.queue) obeys.1) rest
+  hands Collect (Submitted n) old mid new y hs kept kept_mid obeys none rest = absurd obeys
+  hands Collect (Released n) old mid new y hs kept kept_mid obeys none rest = absurd obeys
+  hands Collect Settled old mid new y hs kept kept_mid obeys none rest = absurd obeys
+  hands Collect (Out o) old mid new y hs kept kept_mid obeys none rest = absurd obeys
+  hands Collect (CutTaken n) old mid new y hs kept kept_mid obeys none rest = absurd obeys
+  hands Collect (Written w) old mid new y hs kept kept_mid obeys none rest = absurd obeys
+  hands NextOut (Out o) old mid new y hs kept kept_mid obeys none rest =
+      ⊎_elim
+      (λ no.
+      subst (λ (p : Option EpochOut). HandsOn answers old new y (handed_in (Out p) ++ hs)) (sym no.0)
+      (same_all answers outs_join old mid new y hs (ap (λ k. k.plan) no.2) (ap (λ k. k.standing) no.2) (ap (λ k. k.collected) no.2) (ap (λ k. k.queue) no.2) rest))
+      (λ one. subst (λ (p : Option EpochOut). HandsOn answers old new y (handed_in (Out p) ++ hs)) (sym one.1) (first_out one.0 one.2 one.3))
+      obeys
+    where
+      first_out : (f : EpochOut) → old.queue ≡ f ∷ mid.queue → mid ≡ record old { queue = mid.queue } → HandsOn answers old new y (f ∷ hs)
+      first_out f queue is =
+          let plan : mid.plan ≡ old.plan = ap (λ k. k.plan) is in
+          let standing : mid.standing ≡ old.standing = ap (λ k. k.standing) is in
+          let collected : mid.collected ≡ old.collected = ap (λ k. k.collected) is in record {
+            on = omega (arith, rest.on, collected);
+            within = subst (λ (s : Standing). new.collected ≤ last_epoch s + length y) standing rest.within;
+            outs = ap (λ (l : List EpochOut). f ∷ l) (rest.outs ∙ (λ i. mid.queue ++ beyond answers (plan i) (standing i) (collected i) y new.collected))
+                ∙ ap (λ (l : List EpochOut). l ++ outs_beyond old answers y new.collected) (sym queue);
+          }
+  hands NextOut (Refused e b) old mid new y hs kept kept_mid obeys none rest = absurd obeys
+  hands NextOut (Submitted n) old mid new y hs kept kept_mid obeys none rest = absurd obeys
+  hands NextOut (Released n) old mid new y hs kept kept_mid obeys none rest = absurd obeys
+  hands NextOut Settled old mid new y hs kept kept_mid obeys none rest = absurd obeys
+  hands NextOut (Collected n) old mid new y hs kept kept_mid obeys none rest = absurd obeys
+  hands NextOut (CutTaken n) old mid new y hs kept kept_mid obeys none rest = absurd obeys
+  hands NextOut (Written w) old mid new y hs kept kept_mid obeys none rest = absurd obeys
+  hands Cut (CutTaken n) old mid new y hs kept kept_mid obeys none rest =
+      let is = obeys.5 in
+      let so_many : mid.collected ≡ (collect_step obeys.0).1.collected = ap (λ k. k.collected) is in
+      let count = collected_count obeys.0 in
+      brought answers outs_join old mid new y hs (outs_by (collect_step obeys.0).0) kept kept_mid (ap (λ k. k.plan) is) (ap (λ k. k.standing) is) (ap (λ k. k.queue) is)
+      (obeys.7 ∙ ap (λ m. meant_outs old answers old.collected m) (sym so_many)) (omega (arith, so_many, count, obeys.2.collected)) rest
+  hands Cut (Refused e b) old mid new y hs kept kept_mid obeys none rest =
+      ⊎_elim
+      (λ few. same_all answers outs_join old mid new y hs (ap (λ k. k.plan) few.0) (ap (λ k. k.standing) few.0) (ap (λ k. k.collected) few.0) (ap (λ k. k.queue) few.0) rest)
+      (λ some.
+      let is = some.3 in
+      let so_many : mid.collected ≡ (collect_step some.0).1.collected = ap (λ k. k.collected) is in
+      let count = collected_count some.0 in
+      brought answers outs_join old mid new y hs (outs_by (collect_step some.0).0) kept kept_mid (ap (λ k. k.plan) is) (ap (λ k. k.standing) is) (ap (λ k. k.queue) is)
+      (some.4 ∙ ap (λ m. meant_outs old answers old.collected m) (sym so_many)) (omega (arith, so_many, count, some.1.collected)) rest)
+      obeys.1
+  hands Cut (Submitted n) old mid new y hs kept kept_mid obeys none rest = absurd obeys
+  hands Cut (Released n) old mid new y hs kept kept_mid obeys none rest = absurd obeys
+  hands Cut Settled old mid new y hs kept kept_mid obeys none rest = absurd obeys
+  hands Cut (Collected n) old mid new y hs kept kept_mid obeys none rest = absurd obeys
+  hands Cut (Out o) old mid new y hs kept kept_mid obeys none rest = absurd obeys
+  hands Cut (Written w) old mid new y hs kept kept_mid obeys none rest = absurd obeys
+  hands WriteCut (Written w) old mid new y hs kept kept_mid obeys none rest =
+      ⊎_elim
+      (λ no. same_all answers outs_join old mid new y hs (ap (λ k. k.plan) no.2) (ap (λ k. k.standing) no.2) (ap (λ k. k.collected) no.2) (ap (λ k. k.queue) no.2) rest)
+      (λ some.
+      let is = some.1 in
+      cut_off answers outs_join old mid new y hs kept (ap (λ k. k.plan) is) (ap (λ k. k.standing) is) (ap (λ k. k.collected) is) (ap (λ k. k.queue) is)
+      (last old.standing (old.base - old.standing.epoch) old.base_states (omega (arith, kept.released, kept.from_checkpoint))) rest)
+      obeys.0.1
+  hands WriteCut (Refused e b) old mid new y hs kept kept_mid obeys none rest =
+      ⊎_elim
+      (λ few. same_all answers outs_join old mid new y hs (ap (λ k. k.plan) few.1) (ap (λ k. k.standing) few.1) (ap (λ k. k.collected) few.1) (ap (λ k. k.queue) few.1) rest)
+      (λ other. ⊎_elim
+      (λ few. same_all answers outs_join old mid new y hs (ap (λ k. k.plan) few.1) (ap (λ k. k.standing) few.1) (ap (λ k. k.collected) few.1) (ap (λ k. k.queue) few.1) rest)
+      (λ is. same_all answers outs_join old mid new y hs (ap (λ k. k.plan) is) (ap (λ k. k.standing) is) (ap (λ k. k.collected) is) (ap (λ k. k.queue) is) rest)
+      other)
+      obeys.0.2
+  hands WriteCut (Submitted n) old mid new y hs kept kept_mid obeys none rest = absurd obeys.0
+  hands WriteCut (Released n) old mid new y hs kept kept_mid obeys none rest = absurd obeys.0
+  hands WriteCut Settled old mid new y hs kept kept_mid obeys none rest = absurd obeys.0
+  hands WriteCut (Collected n) old mid new y hs kept kept_mid obeys none rest = absurd obeys.0
+  hands WriteCut (Out o) old mid new y hs kept kept_mid obeys none rest = absurd obeys.0
+  hands WriteCut (CutTaken n) old mid new y hs kept kept_mid obeys none rest = absurd obeys.0
+
+  -- WHAT COMMANDS HAND OUT
+  pub driven_hands : (commands : List Command) (replies : List Reply) (old new : Keeping D) → IsKeeping old answers → Driven is_lawful state answers commands replies old new
+      → HandsOn answers old new (submitted_by commands replies) (handed_out replies)
+  driven_hands [] [] old new kept e =
+      subst (λ (k : Keeping D). HandsOn answers old k [] []) (sym e) (record {
+        on = omega arith;
+        within = omega (arith, kept.done);
+        outs = sym (append-nil old.queue) ∙ ap (λ m. old.queue ++ numbered (old.collected + 1) (take m (drop (old.collected - old.standing.epoch) (outs_of answers outs_join old [])))) zero_is;
+      })
+    where
+      zero_is : 0 ≡ old.collected - old.collected
+      zero_is = omega arith
+  driven_hands [] (r ∷ rs) old new kept none = absurd none
+  driven_hands (c ∷ cs) [] old new kept none = absurd none
+  driven_hands (c ∷ cs) (r ∷ rs) old new kept driven =
+      hands c r old driven.0 new (submitted_by cs rs) (handed_out rs) kept driven.1 driven.2
+      (λ broke. (driven_broken is_lawful state answers cs rs driven.0 new driven.3 broke).1)
+      (driven_hands cs rs driven.0 new driven.1 driven.3)
