@@ -50,15 +50,7 @@ pub(crate) fn obey_by_workers<
 {
     match Pool::<K, L>::new(alloc, hall, blank) {
         Ok((pool, seats)) => beside(
-            rt,
-            alloc,
-            keeper,
-            &pool,
-            seats,
-            feeding,
-            orders,
-            writer,
-            calls,
+            rt, alloc, keeper, &pool, seats, feeding, orders, writer, calls,
         ),
         Err((_memory, _hall)) => (keeper, Err(Fault::Memory)),
     }
@@ -115,7 +107,16 @@ fn beside<
                     }
                 }
             }
-            let obeyed = obey_each(rt, alloc, &mut keeper, pool, started, feeding, orders, writer);
+            let obeyed = obey_each(
+                rt,
+                alloc,
+                &mut keeper,
+                pool,
+                started,
+                feeding,
+                orders,
+                writer,
+            );
             pool.stop(rt);
             let mut worked = Ok(());
             for worker in workers {
