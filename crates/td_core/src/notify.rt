@@ -132,5 +132,5 @@ fn take_waiting(shards: &mut Vec<Shard>, task: &Task)
     ensures waits { waits shards.new.items ≡ map (waiting_without task.now) (enumerate_from 0 shards.old.items) }
 {
     let shard = &mut shards[usize::from(task.shard())];
-    let _items = shard.waiting.take(task.vertex(), task.time());
+    shard.waiting.forget(task.vertex(), task.time());
 }

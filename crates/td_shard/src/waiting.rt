@@ -1,8 +1,6 @@
 //! What waits at the groups and folds of a shard.
 ghost use Rattle.std.specs.Prelude.{◌≡◌, ◌++◌, ◌<◌, [], length, map, is_some, OnOk, OnErr};
-ghost use Rattle.std.specs.Option.{option_copied, option_map};
-ghost use Rattle.td_stamp.specs.Orders.{arrival_cmp};
-ghost use Rattle.td_stamp.specs.Bag.{bag_of};
+ghost use Rattle.std.specs.Option.{option_copied};
 ghost use Rattle.td_stamp.specs.Groups.{arrival_of};
 ghost use Rattle.td_shard.specs.Asked.{items_at, with_items, without_items};
 
@@ -12,12 +10,12 @@ use std::alloc::Global;
 use std::collections::BTreeMap;
 use std::collections::btree_map::Keys;
 use std::marker::Model;
-use td_stamp::{Arrival, Bag, Rec, Time};
+use td_stamp::{Arrival, Rec, Time};
 
 /// The items that wait for notifications, and the notifications that are asked for (Naiad, section 2.2: NotifyAt). Contracts
 /// see the notifications in their order, each with its items as they came.
 ///
-/// The items of a vertex and time are pushed into one list, and sorted once, when they are taken.
+/// The items of a vertex and time are pushed into one list, and stand there as they came.
 #[derive(Drop)]
 pub struct Waiting {
     asked: BTreeMap<Noted, Vec<Arrival>>,
@@ -103,16 +101,12 @@ impl Waiting {
         }
     }
 
-    /// Takes the items that wait at a vertex and time, as a bag, and with them its notification. Takes no memory.
-    pub fn take(&mut self, vertex: u8, time: &Time) -> Option<Bag<Arrival>>
-        ensures taken { result ≡ option_map (bag_of arrival_cmp) (items_at self.old vertex time.now) }
+    /// Lets go the notification of a vertex and time, and the items that wait for it. Takes no memory.
+    pub fn forget(&mut self, vertex: u8, time: &Time)
         ensures left { self.new ≡ without_items self.old vertex time.now }
     {
         let time = time.copy();
-        match self.asked.remove(&Noted { time, vertex }) {
-            Some(items) => Some(Bag::from_vec(self.alloc, items)),
-            None => None,
-        }
+        let _items = self.asked.remove(&Noted { time, vertex });
     }
 }
 
