@@ -4,7 +4,7 @@ use std::fs::File;
 use std::io;
 use std::rt::Files;
 use td_console::{Fault, StdReader, StdWriter};
-use td_disk::FileDisk;
+use td_disk::{FileDisk, ReadAhead};
 use td_feed::{format, read_plan, shape_of, show};
 use td_plan::Plan;
 
@@ -36,17 +36,17 @@ pub(crate) fn show_disk<R: Files<File = File> + Print + AllocGlobal>(
     show(rt.alloc(), &mut disk, &plan, &mut writer)
 }
 
-/// The disk in the file at `disk`, and the plan in the file at `plan`.
+/// The disk in the file at `disk`, which is read a block at a time, and the plan in the file at `plan`.
 pub(crate) fn open_disk<R: Files<File = File> + AllocGlobal>(
     rt: &R,
     disk: &str,
     plan: &str,
-) -> Result<(FileDisk, Plan), Fault> {
+) -> Result<(ReadAhead<FileDisk>, Plan), Fault> {
     let held = hold_streams(rt)?;
     let plan = plan_at(rt, plan)?;
     let disk = FileDisk::open(rt, disk)?;
     drop(held);
-    Ok((disk, plan))
+    Ok((ReadAhead::new(rt.alloc(), disk), plan))
 }
 
 /// The plan in the file at `path`.

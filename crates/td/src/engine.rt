@@ -1,6 +1,6 @@
 //! The engines of the program that want closures.
 
-use td_disk::FileDisk;
+use td_disk::{FileDisk, ReadAhead};
 use td_plan::Plan;
 
 /// Which engine is to answer: the plain evaluator, or a hall of so many shards; `Sim` takes tasks by these picks, and `Feed`
@@ -10,5 +10,5 @@ pub(crate) enum Engine {
     Batch,
     Run(u8),
     Sim(u8, Vec<u64>),
-    Feed(FileDisk, Plan, u8),
+    Feed(ReadAhead<FileDisk>, Plan, u8),
 }

@@ -1,3 +1,4 @@
+pub mod Ahead
 pub mod Disk
 pub mod Fail
 pub mod FileDisk

@@ -2,9 +2,11 @@
 //! may leave any bytes in each range that was written, and nothing else changes. The one contract
 //! is that of the trait [`Disk`]. [`MemoryDisk`] keeps it and can be crashed at every moment,
 //! [`FuseDisk`] keeps it where its inner disk does and stops at a chosen call, [`FailDisk`] likewise
-//! and one of its calls fails, and [`FileDisk`] is a file: no contract claims that one keeps it.
+//! and one of its calls fails, [`ReadAhead`] likewise and is read a block at a time, and [`FileDisk`]
+//! is a file: no contract claims that one keeps it.
 #![tactic(auto)]
 
+mod ahead;
 mod disk;
 mod error;
 mod fail;
@@ -13,6 +15,7 @@ mod fuse;
 pub mod laws;
 mod memory;
 
+pub use ahead::ReadAhead;
 pub use disk::Disk;
 pub use error::{Fault, MakeError};
 pub use fail::FailDisk;

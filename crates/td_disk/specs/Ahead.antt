@@ -1,0 +1,13 @@
+-- A disk that is read a block at a time.
+use Rattle.std.specs.Prelude.{ℕ, ◌-◌, ◌^◌, ◌<◌, Result, ⊤}
+use Rattle.td_disk.specs.declared.disk.Disk.{Ghosts}
+use Rattle.td_disk.specs.declared.error.Fault.{Fault}
+use Rattle.td_disk.specs.declared.ahead.ReadAhead.{ReadAhead}
+
+-- the disk that is read
+abbrev pub inner_of : {D : Type 0} {g : Ghosts D} → ReadAhead D g → D
+inner_of r = r.inner
+
+-- A write or a sync is passed on unless the count of failures stands at its top: its answer is the inner disk's, and gives what that gives.
+abbrev pub IsPassedOn : {D : Type 0} {g : Ghosts D} → (Result ⊤ Fault → D → Type 0) → ℕ → Result ⊤ Fault → ReadAhead D g → Type 0
+IsPassedOn gives count result new = count < 2 ^ 64 - 1 → gives result (inner_of new)

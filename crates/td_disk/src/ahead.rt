@@ -1,0 +1,165 @@
+// A disk that is read a block at a time. It is lawful where the inner one is.
+ghost use Rattle.std.specs.Prelude.{◌≡◌, ◌+◌, ◌≤◌, ◌↔◌, length, IfSome};
+ghost use Rattle.td_disk.specs.Disk.{bytes_at, NoNewImages, TimePasses};
+
+use crate::{Disk, Fault};
+use std::alloc::Global;
+
+/// How many bytes a block has, where the disk has as many.
+const BLOCK: u64 = 1 << 16;
+
+/// How many of a block's bytes stand before the place that is asked for: what is read first may stand behind what is read next.
+const BEHIND: u64 = 1 << 14;
+
+/// A disk that is read a block at a time where reads follow one another with no write between them: each but the first is answered from
+/// the block around its place, which is read with one call of the inner disk. A write lets the block go, and its memory; so
+/// does a failure. What does not stand in one block is read by itself, and so is all where memory for a block is refused or the
+/// block cannot be read.
+#[derive(Drop)]
+pub struct ReadAhead<D: Disk> {
+    alloc: Global,
+    inner: D,
+    block: Vec<u8>,
+    start: u64,
+    follows_read: bool,
+    failures: u64,
+    ghost current: { D.is_lawful inner → block.items ≡ bytes_at start (length block.items) (D.state inner).bytes },
+}
+
+impl<D: Disk> ReadAhead<D> {
+    ghost use Rattle.td_disk.specs.Ahead.{inner_of};
+
+    /// The disk of this one, no call of which has failed. Blocks are allocated with `alloc`.
+    pub fn new(alloc: Global, inner: D) -> ReadAhead<D>
+        ensures inner { inner_of result ≡ inner }
+        ensures failures { ⟦<ReadAhead<D> as Disk>⟧.failures result ≡ 0 }
+    {
+        ReadAhead {
+            alloc,
+            inner,
+            block: Vec::new(alloc),
+            start: 0,
+            follows_read: false,
+            failures: 0,
+        }
+    }
+
+    // Where so many bytes from the offset `at` on begin in the block, if it has them.
+    fn place_of(&self, at: u64, len: usize) -> Option<usize>
+        ensures { IfSome result (λ first. (self.now.start + first ≡ at) × (first + len ≤ length self.now.block.items)) }
+    {
+        let first = at.checked_sub(self.start)? as usize;
+        if first <= self.block.len() && len <= self.block.len() - first {
+            Some(first)
+        } else {
+            None
+        }
+    }
+
+    // Reads the block around an offset where this read follows another and the block does not have so many bytes from there on.
+    fn look_ahead(&mut self, at: u64, len: usize)
+        requires { at ≤ D.capacity self.old.inner }
+        ensures size { D.capacity self.new.inner ≡ D.capacity self.old.inner }
+        ensures lawful { D.is_lawful self.old.inner ↔ D.is_lawful self.new.inner }
+        ensures failures { self.new.failures ≡ self.old.failures }
+        ensures same { D.is_lawful self.old.inner → (D.state self.new.inner).bytes ≡ (D.state self.old.inner).bytes }
+        ensures images { D.is_lawful self.old.inner → NoNewImages (D.state self.old.inner) (D.state self.new.inner) }
+        ensures time { D.is_lawful self.old.inner → TimePasses (D.state self.old.inner) (D.state self.new.inner) }
+    {
+        if self.follows_read && self.place_of(at, len).is_none() {
+            self.take_block(at);
+        }
+        self.follows_read = true;
+    }
+
+    // Reads the block around an offset, or lets the block go.
+    fn take_block(&mut self, at: u64)
+        requires { at ≤ D.capacity self.old.inner }
+        ensures size { D.capacity self.new.inner ≡ D.capacity self.old.inner }
+        ensures lawful { D.is_lawful self.old.inner ↔ D.is_lawful self.new.inner }
+        ensures failures { self.new.failures ≡ self.old.failures }
+        ensures same { D.is_lawful self.old.inner → (D.state self.new.inner).bytes ≡ (D.state self.old.inner).bytes }
+        ensures images { D.is_lawful self.old.inner → NoNewImages (D.state self.old.inner) (D.state self.new.inner) }
+        ensures time { D.is_lawful self.old.inner → TimePasses (D.state self.old.inner) (D.state self.new.inner) }
+    {
+        let start = at.saturating_sub(BEHIND);
+        let len = BLOCK.min(self.inner.size() - start);
+        self.block.clear();
+        if self.block.resize(len as usize, 0).is_err() {
+            return;
+        }
+        self.start = start;
+        if self.inner.read(start, &mut self.block).is_err() {
+            self.block.clear();
+        }
+    }
+}
+
+impl<D: Disk> Disk for ReadAhead<D> {
+    ghost use Rattle.td_disk.specs.Ahead.{IsPassedOn};
+
+    ghost capacity = { λ r. D.capacity r.inner };
+
+    ghost failures = { λ r. r.failures };
+
+    ghost is_lawful = { λ r. D.is_lawful r.inner };
+
+    ghost state = { λ r. D.state r.inner };
+
+    ghost write_gives = { λ r at bytes result q. IsPassedOn (D.write_gives r.inner at bytes) r.failures result q };
+
+    ghost sync_gives = { λ r result q. IsPassedOn (D.sync_gives r.inner) r.failures result q };
+
+    ghost reads_image = { λ r lawful. D.reads_image r.inner lawful };
+
+    ghost image_size = { λ r c lawful image. D.image_size r.inner c lawful image };
+
+    ghost counts_now = { λ r t c lawful le image. D.counts_now r.inner t c lawful le image };
+
+    ghost only_now = { λ r c lawful left. D.only_now r.inner c lawful left };
+
+    fn size(&self) -> u64 {
+        self.inner.size()
+    }
+
+    fn read(&mut self, at: u64, bytes: &mut [u8]) -> Result<(), Fault> {
+        if self.failures == u64::MAX {
+            return Err(Fault::Device);
+        }
+        self.look_ahead(at, bytes.len());
+        if let Some(first) = self.place_of(at, bytes.len()) {
+            bytes.copy_from_slice(&self.block[first..first + bytes.len()]);
+            return Ok(());
+        }
+        let answer = self.inner.read(at, bytes);
+        if answer.is_err() {
+            self.failures += 1;
+        }
+        answer
+    }
+
+    fn write(&mut self, at: u64, bytes: &[u8]) -> Result<(), Fault> {
+        self.follows_read = false;
+        self.block = Vec::new(self.alloc);
+        if self.failures == u64::MAX {
+            return Err(Fault::Device);
+        }
+        let answer = self.inner.write(at, bytes);
+        if answer.is_err() {
+            self.failures += 1;
+        }
+        answer
+    }
+
+    fn sync(&mut self) -> Result<(), Fault> {
+        if self.failures == u64::MAX {
+            return Err(Fault::Device);
+        }
+        let answer = self.inner.sync();
+        if answer.is_err() {
+            self.block.clear();
+            self.failures += 1;
+        }
+        answer
+    }
+}
