@@ -113,23 +113,21 @@ def functions_in(path, text):
 
 
 class Edit:
-    """A must-fail edit of a crate, and the function in whose body it stands, or None."""
+    """A must-fail edit of a crate, and the function in whose body its last change stands, or None. What it changes before only makes the
+    last `old:` text stand once, or is of the same function; elsewhere it has to be proved."""
 
     def __init__(self, file, crate, rt):
         self.name = pathlib.Path(file).stem
         self.file = file
         self.text = pathlib.Path(file).read_text(encoding="utf-8")
-        texts, self.why = rt.edited(self.text, crate.folder)
-        self.function = None
-        places = [self.place(crate, path, text) for path, text in (texts or {}).items()]
-        if len(places) == 1:
-            self.function = places[0]
+        texts, why = rt.edited(self.text, crate.folder)
+        self.function = self.place(texts, crate, rt) if why is None else None
 
-    @staticmethod
-    def place(crate, path, text):
-        """The function in whose body a file differs from its edited text, but for spaces."""
-        before = pathlib.Path(crate.folder, path).read_text(encoding="utf-8")
-        old, new = ([re.sub(r"\s+", "", it) for it in both.split("\n")] for both in (before, text))
+    def place(self, texts, crate, rt):
+        path = re.findall(r"(?m)^file: (.*?)\s*$", self.text)[-1]
+        earlier, _ = rt.edited(self.text[:self.text.rindex("old: ")], crate.folder)
+        before = (earlier or {}).get(path) or pathlib.Path(crate.folder, path).read_text(encoding="utf-8")
+        old, new = ([re.sub(r"\s+", "", it) for it in both.split("\n")] for both in (before, texts[path]))
         first = next((at for at, (a, b) in enumerate(zip(old, new)) if a != b), len(old) - 1)
         same = next((at for at, (a, b) in enumerate(zip(reversed(old), reversed(new))) if a != b), 0)
         last = max(first, len(old) - 1 - same)
