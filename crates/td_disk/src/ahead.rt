@@ -62,6 +62,7 @@ impl<D: Disk> ReadAhead<D> {
         ensures size { D.capacity self.new.inner ≡ D.capacity self.old.inner }
         ensures lawful { D.is_lawful self.old.inner ↔ D.is_lawful self.new.inner }
         ensures failures { self.new.failures ≡ self.old.failures }
+        ensures later { D.failures self.old.inner ≤ D.failures self.new.inner }
         ensures same { D.is_lawful self.old.inner → (D.state self.new.inner).bytes ≡ (D.state self.old.inner).bytes }
         ensures images { D.is_lawful self.old.inner → NoNewImages (D.state self.old.inner) (D.state self.new.inner) }
         ensures time { D.is_lawful self.old.inner → TimePasses (D.state self.old.inner) (D.state self.new.inner) }
@@ -78,6 +79,7 @@ impl<D: Disk> ReadAhead<D> {
         ensures size { D.capacity self.new.inner ≡ D.capacity self.old.inner }
         ensures lawful { D.is_lawful self.old.inner ↔ D.is_lawful self.new.inner }
         ensures failures { self.new.failures ≡ self.old.failures }
+        ensures later { D.failures self.old.inner ≤ D.failures self.new.inner }
         ensures same { D.is_lawful self.old.inner → (D.state self.new.inner).bytes ≡ (D.state self.old.inner).bytes }
         ensures images { D.is_lawful self.old.inner → NoNewImages (D.state self.old.inner) (D.state self.new.inner) }
         ensures time { D.is_lawful self.old.inner → TimePasses (D.state self.old.inner) (D.state self.new.inner) }
@@ -96,7 +98,7 @@ impl<D: Disk> ReadAhead<D> {
 }
 
 impl<D: Disk> Disk for ReadAhead<D> {
-    ghost use Rattle.td_disk.specs.Ahead.{IsPassedOn};
+    ghost use Rattle.td_disk.specs.Ahead.{FailsWithInner, IsPassedOn};
 
     ghost capacity = { λ r. D.capacity r.inner };
 
@@ -105,6 +107,8 @@ impl<D: Disk> Disk for ReadAhead<D> {
     ghost is_lawful = { λ r. D.is_lawful r.inner };
 
     ghost state = { λ r. D.state r.inner };
+
+    ghost read_gives = { λ r _ _ result q. FailsWithInner D.failures r.failures result r q };
 
     ghost write_gives = { λ r at bytes result q. IsPassedOn (D.write_gives r.inner at bytes) r.failures result q };
 
