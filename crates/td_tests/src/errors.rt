@@ -6,6 +6,7 @@ use td_progress::ProgressError;
 use td_reach::ReachError;
 use td_shard::ShardError;
 use td_task::TaskError;
+use td_watch::WatchError;
 
 #[test]
 fn refusals_have_numbers_and_texts(rt: HostRuntime) -> Result<(), Fail> {
@@ -14,20 +15,31 @@ fn refusals_have_numbers_and_texts(rt: HostRuntime) -> Result<(), Fail> {
         ProgressError::Memory,
         ReachError::Memory,
     );
-    let (shard, task, calls) = (
+    let (shard, task, calls, watch) = (
         ShardError::Memory,
         TaskError::NoCall(2, 41),
         CallsError::CodeUsed,
+        WatchError::Memory,
     );
     assert_eq!(rt;
         (batch.number(), progress.number(), reach.number()),
         (1, 1, 1)
     );
-    assert_eq!(rt; (shard.number(), task.number(), calls.number()), (1, 1, 1));
-    let texts = format!(in rt.alloc(); "{batch}, {progress}, {reach}, {shard}, {task}, {calls}")?;
+    assert_eq!(rt;
+        (
+            shard.number(),
+            task.number(),
+            calls.number(),
+            watch.number()
+        ),
+        (1, 1, 1, 1)
+    );
+    let texts = format!(in rt.alloc();
+        "{batch}, {progress}, {reach}, {shard}, {task}, {calls}, {watch}"
+    )?;
     assert_eq!(rt;
         texts.as_str(),
-        "memory, memory, memory, memory, vertex 2: no closure 41, code used"
+        "memory, memory, memory, memory, vertex 2: no closure 41, code used, memory"
     );
     Ok(())
 }

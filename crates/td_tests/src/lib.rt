@@ -31,4 +31,6 @@ mod stamp;
 #[cfg(test)]
 mod task;
 #[cfg(test)]
+mod watch;
+#[cfg(test)]
 mod watch_beside;

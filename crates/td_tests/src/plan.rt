@@ -1,7 +1,24 @@
 //! What a plan hands out, and its canonical text.
 use std::test::Fail;
-use td_plan::{Block, Edge, Kind, Loop, Plan};
+use td_plan::{Block, Edge, Kind, Loop, Plan, Vertex};
 use td_stamp::{Bag, Batch};
+
+/// A vertex's number and kind.
+fn name_of(vertex: &Vertex) -> (u8, Kind) {
+    (vertex.number(), vertex.kind())
+}
+
+/// Whether a vertex is an input, and whether it is an output.
+fn ends_of(vertex: &Vertex) -> (bool, bool) {
+    (vertex.is_input(), vertex.is_output())
+}
+
+/// How many sources a vertex has, in how many loops it stands, reads, and is read.
+fn lengths_of(vertex: &Vertex) -> (usize, usize, usize, Option<usize>) {
+    let (sources, loops) = (vertex.copy().sources().len(), vertex.loops().len());
+    let read_on = vertex.read_on().map(|loops| loops.len());
+    (sources, loops, vertex.reads_on().len(), read_on)
+}
 
 #[test]
 fn what_a_plan_hands_out(rt: HostRuntime) -> Result<(), Fail> {
@@ -14,24 +31,17 @@ fn what_a_plan_hands_out(rt: HostRuntime) -> Result<(), Fail> {
         "0 input\nloop 7\n1 enter 0\n2 leave 1\nend\n3 output 2 0\n"
     );
     let rows = [
-        (Kind::Input, 0, 0, 0, Some(0)),
-        (Kind::Enter, 1, 1, 0, Some(1)),
-        (Kind::Leave, 1, 1, 1, Some(0)),
-        (Kind::Output, 2, 0, 0, None),
+        ((0, Kind::Input), (true, false), (0, 0, 0, Some(0))),
+        ((1, Kind::Enter), (false, false), (1, 1, 0, Some(1))),
+        ((2, Kind::Leave), (false, false), (1, 1, 1, Some(0))),
+        ((3, Kind::Output), (false, true), (2, 0, 0, None)),
     ];
-    let mut number = 0u8;
-    for (vertex, (kind, sources, loops, reads_on, read_on)) in plan.vertices().iter().zip(rows) {
-        assert_eq!(rt; vertex.number(), number);
-        assert_eq!(rt; vertex.kind(), kind);
-        assert_eq!(rt; vertex.is_input(), number == 0);
-        assert_eq!(rt; vertex.is_output(), number == 3);
-        assert_eq!(rt; vertex.copy().sources().len(), sources);
-        assert_eq!(rt; vertex.loops().len(), loops);
-        assert_eq!(rt; vertex.reads_on().len(), reads_on);
-        assert_eq!(rt; vertex.read_on().map(|loops| loops.len()), read_on);
-        number = number.wrapping_add(1);
+    assert_eq!(rt; plan.vertices().len(), rows.len());
+    for (vertex, (name, ends, lengths)) in plan.vertices().iter().zip(rows) {
+        assert_eq!(rt; name_of(vertex), name);
+        assert_eq!(rt; ends_of(vertex), ends);
+        assert_eq!(rt; lengths_of(vertex), lengths);
     }
-    assert_eq!(rt; number, 4);
     let last = Edge {
         source: 0,
         reader: 3,

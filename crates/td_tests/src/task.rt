@@ -1,4 +1,5 @@
 //! A task that was run is handed back, and so is one whose closure is not there.
+use std::alloc::Global;
 use std::sync::Arc;
 use std::test::Fail;
 use td_calls::{Calls, MapBox, Stock, StockCalls, StockMap, stock};
@@ -6,26 +7,38 @@ use td_plan::Kind;
 use td_stamp::{Item, Rec, Time};
 use td_task::{KeyedItems, Task, TaskError, Work};
 
+/// The last of the records of `task`.
+const LAST: Rec = Rec { key: 63, val: -4 };
+
+/// A task of 64 records for the closure 6.
+fn task(alloc: Global) -> Result<Task, Fail> {
+    let recs = [LAST; 64].to_vec(alloc)?;
+    let work = Arc::new(alloc, Work::Messages(1, recs))?;
+    Ok(Task::new(1, 5, 2, Kind::Map(6), Time::new(3), work))
+}
+
 #[test]
-fn tasks_come_back(rt: HostRuntime) -> Result<(), Fail> {
-    let mut calls: StockCalls = Calls::new(rt.alloc());
-    let last = Rec { key: 63, val: -4 };
-    let recs = [last; 64].to_vec(rt.alloc())?;
-    let work = Arc::new(rt.alloc(), Work::Messages(1, recs))?;
-    let task = Task::new(1, 5, 2, Kind::Map(6), Time::new(3), work);
+fn a_task_without_its_closure_comes_back(rt: HostRuntime) -> Result<(), Fail> {
+    let calls: StockCalls = Calls::new(rt.alloc());
+    let task = task(rt.alloc())?;
     let copy = task.copy()?;
     let Err((refusal, back)) = task.run::<Stock, StockCalls>(rt.alloc(), &calls) else {
         return Err("a closure that is not there")?;
     };
     assert_eq!(rt; refusal, TaskError::NoCall(2, 6));
     assert!(rt; back.same(&copy));
+    Ok(())
+}
 
+#[test]
+fn a_task_that_was_run_is_handed_back(rt: HostRuntime) -> Result<(), Fail> {
+    let mut calls: StockCalls = Calls::new(rt.alloc());
     let twice: MapBox = Box::new(rt.alloc(), |port: u8, rec: Rec| stock::twice(port, rec))?;
     assert!(rt; calls.add_map(StockMap::new(6, twice)).is_ok());
-    let run = back.run::<Stock, StockCalls>(rt.alloc(), &calls);
+    let run = task(rt.alloc())?.run::<Stock, StockCalls>(rt.alloc(), &calls);
     let done = run.map_err(|(refusal, _)| refusal)?;
     assert_eq!(rt; (done.len(), done.sent().len()), (64, 128));
-    assert_eq!(rt; done.answer(63), Some([last, last].as_slice()));
+    assert_eq!(rt; done.answer(63), Some([LAST, LAST].as_slice()));
     let task = done.into_task();
     assert_eq!(rt; (task.shard(), task.number()), (1, 5));
     assert_eq!(rt; (task.vertex(), task.kind()), (2, Kind::Map(6)));

@@ -206,7 +206,7 @@ fn last_reader(readers: &mut Vec<Reader>, _writer: &Writer) -> Option<Reader>
 }
 
 /// The writer of a watch of three zeros, and two readers of it.
-fn watch(alloc: Global) -> Result<(Writer, Reader, Reader), Fail>
+pub(crate) fn watch(alloc: Global) -> Result<(Writer, Reader, Reader), Fail>
     ensures words { IfOk result (λ all. all.0.words ≡ 0 ∷ 0 ∷ 0 ∷ []) }
     ensures first { IfOk result (λ all. all.1.watch ≡ all.0.watch) }
     ensures second { IfOk result (λ all. all.2.watch ≡ all.0.watch) }

@@ -15,6 +15,3 @@ pub use error::WatchError;
 pub use reader::Reader;
 pub use watch::Watch;
 pub use writer::Writer;
-
-#[cfg(test)]
-mod tests;

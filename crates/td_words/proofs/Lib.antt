@@ -1,3 +1,4 @@
 pub mod Asked
 pub mod BatchWords
 pub mod DiskWords
+pub mod Leaves

@@ -1,5 +1,5 @@
 //! The commands of the program, as clap has them.
-ghost use Rattle.std.specs.Prelude.{◌≡◌, false, IfOk};
+ghost use Rattle.std.specs.Prelude.{◌≡◌, false, IfOk, IsOkAnd};
 ghost use Rattle.clap.specs.Words.{app_of, new_app, rule_of, with_rule, with_subcommand};
 ghost use Rattle.td_words.specs.Command.{td, batch_app, run_app, sim_app, format_app, feed_app, show_app, workers_rule, picks_rule, word_rule, number_rule};
 ghost use Rattle.td_words.specs.Jobs.{has_globals};
@@ -92,73 +92,73 @@ pub(crate) fn command<'a>(alloc: Global) -> Result<Command<'a>, AllocError>
         .about(TD)
         .after_help(TD_MORE)
         .subcommand_required(true);
-    let td = with_batch(alloc, td)?;
-    let td = with_run(alloc, td)?;
-    let td = with_sim(alloc, td)?;
-    let td = with_format(alloc, td)?;
-    let td = with_feed(alloc, td)?;
-    with_show(alloc, td)
+    let td = with_leaf(td, batch_leaf(alloc))?;
+    let td = with_leaf(td, run_leaf(alloc))?;
+    let td = with_leaf(td, sim_leaf(alloc))?;
+    let td = with_leaf(td, format_leaf(alloc))?;
+    let td = with_leaf(td, feed_leaf(alloc))?;
+    with_leaf(td, show_leaf(alloc))
 }
 
-/// With `batch`.
-fn with_batch<'a>(alloc: Global, td: Command<'a>) -> Result<Command<'a>, AllocError>
-    ensures { IfOk result (λ c. app_of c ≡ with_subcommand (app_of td.entry) batch_app.top) }
+/// `batch`.
+fn batch_leaf<'a>(alloc: Global) -> Result<Command<'a>, AllocError>
+    ensures app { IfOk result (λ c. app_of c ≡ batch_app) }
+    ensures globals { IfOk result (λ c. has_globals c ≡ false) }
 {
-    let leaf = new_leaf(alloc, "batch", BATCH, BATCH_MORE);
-    with_leaf(td, leaf)
+    Ok(new_leaf(alloc, "batch", BATCH, BATCH_MORE))
 }
 
-/// With `run`.
-fn with_run<'a>(alloc: Global, td: Command<'a>) -> Result<Command<'a>, AllocError>
-    ensures { IfOk result (λ c. app_of c ≡ with_subcommand (app_of td.entry) run_app.top) }
+/// `run`.
+fn run_leaf<'a>(alloc: Global) -> Result<Command<'a>, AllocError>
+    ensures app { IfOk result (λ c. app_of c ≡ run_app) }
+    ensures globals { IfOk result (λ c. has_globals c ≡ false) }
 {
     let leaf = new_leaf(alloc, "run", RUN, BATCH_MORE);
-    let leaf = with_arg(leaf, workers_arg(alloc))?;
-    with_leaf(td, leaf)
+    with_arg(leaf, workers_arg(alloc))
 }
 
-/// With `sim`.
-fn with_sim<'a>(alloc: Global, td: Command<'a>) -> Result<Command<'a>, AllocError>
-    ensures { IfOk result (λ c. app_of c ≡ with_subcommand (app_of td.entry) sim_app.top) }
+/// `sim`.
+fn sim_leaf<'a>(alloc: Global) -> Result<Command<'a>, AllocError>
+    ensures app { IfOk result (λ c. app_of c ≡ sim_app) }
+    ensures globals { IfOk result (λ c. has_globals c ≡ false) }
 {
     let leaf = new_leaf(alloc, "sim", SIM, SIM_MORE);
     let leaf = with_arg(leaf, workers_arg(alloc))?;
-    let leaf = with_arg(leaf, picks_arg(alloc))?;
-    with_leaf(td, leaf)
+    with_arg(leaf, picks_arg(alloc))
 }
 
-/// With `format`.
-fn with_format<'a>(alloc: Global, td: Command<'a>) -> Result<Command<'a>, AllocError>
-    ensures { IfOk result (λ c. app_of c ≡ with_subcommand (app_of td.entry) format_app.top) }
+/// `format`.
+fn format_leaf<'a>(alloc: Global) -> Result<Command<'a>, AllocError>
+    ensures app { IfOk result (λ c. app_of c ≡ format_app) }
+    ensures globals { IfOk result (λ c. has_globals c ≡ false) }
 {
     let leaf = new_leaf(alloc, "format", FORMAT, FORMAT_MORE);
     let leaf = with_arg(leaf, word_arg(alloc, "disk", "DISK", NEW_DISK))?;
     let leaf = with_arg(leaf, word_arg(alloc, "plan", "PLAN", PLAN))?;
     let leaf = with_arg(leaf, number_arg(alloc, "m", "M", RECORDS))?;
     let leaf = with_arg(leaf, number_arg(alloc, "n", "N", CELLS))?;
-    let leaf = with_arg(leaf, number_arg(alloc, "k", "K", STATES))?;
-    with_leaf(td, leaf)
+    with_arg(leaf, number_arg(alloc, "k", "K", STATES))
 }
 
-/// With `feed`.
-fn with_feed<'a>(alloc: Global, td: Command<'a>) -> Result<Command<'a>, AllocError>
-    ensures { IfOk result (λ c. app_of c ≡ with_subcommand (app_of td.entry) feed_app.top) }
+/// `feed`.
+fn feed_leaf<'a>(alloc: Global) -> Result<Command<'a>, AllocError>
+    ensures app { IfOk result (λ c. app_of c ≡ feed_app) }
+    ensures globals { IfOk result (λ c. has_globals c ≡ false) }
 {
     let leaf = new_leaf(alloc, "feed", FEED, FEED_MORE);
     let leaf = with_arg(leaf, word_arg(alloc, "disk", "DISK", DISK))?;
     let leaf = with_arg(leaf, word_arg(alloc, "plan", "PLAN", PLAN))?;
-    let leaf = with_arg(leaf, workers_arg(alloc))?;
-    with_leaf(td, leaf)
+    with_arg(leaf, workers_arg(alloc))
 }
 
-/// With `show`.
-fn with_show<'a>(alloc: Global, td: Command<'a>) -> Result<Command<'a>, AllocError>
-    ensures { IfOk result (λ c. app_of c ≡ with_subcommand (app_of td.entry) show_app.top) }
+/// `show`.
+fn show_leaf<'a>(alloc: Global) -> Result<Command<'a>, AllocError>
+    ensures app { IfOk result (λ c. app_of c ≡ show_app) }
+    ensures globals { IfOk result (λ c. has_globals c ≡ false) }
 {
     let leaf = new_leaf(alloc, "show", SHOW, SHOW_MORE);
     let leaf = with_arg(leaf, word_arg(alloc, "disk", "DISK", DISK))?;
-    let leaf = with_arg(leaf, word_arg(alloc, "plan", "PLAN", PLAN))?;
-    with_leaf(td, leaf)
+    with_arg(leaf, word_arg(alloc, "plan", "PLAN", PLAN))
 }
 
 /// A subcommand without arguments, with what help says of it, in one line and at its end.
@@ -179,12 +179,18 @@ fn with_arg<'a>(command: Command<'a>, arg: Arg<'a>) -> Result<Command<'a>, Alloc
     command.arg(arg)
 }
 
-/// `td` and one subcommand more, without a global argument.
-fn with_leaf<'a>(td: Command<'a>, leaf: Command<'a>) -> Result<Command<'a>, AllocError>
-    requires globals { has_globals leaf ≡ false }
-    ensures { IfOk result (λ c. app_of c ≡ with_subcommand (app_of td.entry) (app_of leaf.entry).top) }
+/// `td` and one subcommand more, without a global argument, where that one could be made.
+fn with_leaf<'a>(
+    td: Command<'a>,
+    leaf: Result<Command<'a>, AllocError>,
+) -> Result<Command<'a>, AllocError>
+    requires globals { IfOk leaf (λ l. has_globals l ≡ false) }
+    ensures { IfOk result (λ c. IsOkAnd leaf.entry (λ l. app_of c ≡ with_subcommand (app_of td.entry) (app_of l).top)) }
 {
-    td.subcommand(leaf)
+    match leaf {
+        Ok(leaf) => td.subcommand(leaf),
+        Err(error) => Err(error),
+    }
 }
 
 /// `--workers W`.

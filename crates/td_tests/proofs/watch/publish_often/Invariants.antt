@@ -1,5 +1,5 @@
 use Rattle.std.proofs.Common.{◌≡◌, ◌+◌, [], ◌∷◌}
-use Rattle.td_watch.proofs.tests.publish_often.Given as goal
+use Rattle.td_tests.proofs.watch.publish_often.Given as goal
 
 abbrev pub invariant-loop-i : goal.invariant-loop-i
 invariant-loop-i l =

@@ -1,29 +1,29 @@
+//! A watch: what is read is what was published, also by threads beside the writer.
 ghost use Rattle.std.specs.Prelude.{◌≡◌, [], ◌∷◌};
 
-use super::*;
+use crate::watch_beside::watch;
 use std::alloc::Global;
 use std::process::Abort;
-use std::test::*;
+use std::test::Fail;
 use std::thread::{Threads, join};
+use td_watch::{Reader, Watch, WatchError, Writer};
 
 #[test]
 fn a_read_is_as_new_as_the_last_publish(rt: HostRuntime) -> Result<(), Fail> {
-    let Watch {
-        mut writer,
-        mut readers,
-    } = Watch::new(rt.alloc(), [0, 0, 0], 2)?;
-    let mut second = readers.pop().ok_or("a second reader")?;
-    let mut first = readers.pop().ok_or("a first reader")?;
-    assert_eq!(rt; first.read(), [0, 0, 0]);
+    let (mut writer, mut first, mut second) = watch(rt.alloc())?;
+    let before = first.read();
     writer.publish([1, 0, 0]);
-    assert_eq!(rt; first.read(), [1, 0, 0]);
-    assert_eq!(rt; second.read(), [1, 0, 0]);
+    let (one, beside) = (first.read(), second.read());
     writer.publish([1, 1, 0]);
-    assert_eq!(rt; first.read(), [1, 1, 0]);
+    let two = first.read();
     writer.publish([1, 1, 1]);
-    assert_eq!(rt; first.read(), [1, 1, 1]);
-    assert_eq!(rt; writer.meet(second), [1, 0, 0]);
-    assert_eq!(rt; writer.meet(first), [1, 1, 1]);
+    let three = first.read();
+    assert_eq!(rt;
+        [before, one, beside, two, three],
+        [[0, 0, 0], [1, 0, 0], [1, 0, 0], [1, 1, 0], [1, 1, 1]]
+    );
+    let met = [writer.meet(second), writer.meet(first)];
+    assert_eq!(rt; met, [[1, 0, 0], [1, 1, 1]]);
     Ok(())
 }
 
@@ -54,12 +54,8 @@ fn read_often(mut reader: Reader) -> (bool, Reader)
 }
 
 fn read_beside_the_writer<R: Threads + Abort + Sync>(rt: &R, alloc: Global) -> Result<(), Fail> {
-    let Watch {
-        writer,
-        mut readers,
-    } = Watch::new(alloc, [2, 1, 0], 2)?;
-    let second = readers.pop().ok_or("a second reader")?;
-    let first = readers.pop().ok_or("a first reader")?;
+    let (mut writer, first, second) = watch(alloc)?;
+    writer.publish([2, 1, 0]);
     let (mut writer, ((first_rises, first), (second_rises, second))) = join(
         rt,
         move || -> Writer
@@ -93,16 +89,6 @@ fn a_watch_may_have_no_reader(rt: HostRuntime) -> Result<(), Fail> {
     } = Watch::new(rt.alloc(), [3, 2, 1], 0)?;
     assert!(rt; readers.is_empty());
     writer.publish([3, 3, 3]);
-    Ok(())
-}
-
-#[test]
-fn the_refusal_has_a_number_and_a_text(rt: HostRuntime) -> Result<(), Fail> {
-    assert_eq!(rt; WatchError::Memory.number(), 1);
-    assert_eq!(rt;
-        WatchError::Memory.to_string(rt.alloc())?.as_str(),
-        "memory"
-    );
     Ok(())
 }
 
