@@ -131,7 +131,19 @@ class Edit:
         first = next((at for at, (a, b) in enumerate(zip(old, new)) if a != b), len(old) - 1)
         same = next((at for at, (a, b) in enumerate(zip(reversed(old), reversed(new))) if a != b), 0)
         last = max(first, len(old) - 1 - same)
-        return next((it for it in functions_in(path, before) if it.first <= first and last <= it.last), None)
+        found = functions_in(path, before)
+        added = self.added(old[first], new[first])
+        if added and first == last:
+            # (it is put before a function of the same block)
+            below = next((it for it in found if first < it.first), None)
+            return below and Function(first, last, below.module, below.block, added)
+        return next((it for it in found if it.first <= first and last <= it.last), None)
+
+    def added(self, old, new):
+        """The name of the one function that a line has more than it had, if there is one; both are without their blanks."""
+        names = [re.findall(r"\bfn(\w+)[(<]", re.sub(r"pub(?:\(\w+\))?(?=fn)", " ", it)) for it in (old, new)]
+        more = [it for it in names[1] if it not in names[0]]
+        return more[0] if len(more) == 1 and names[0] and len(names[1]) == len(names[0]) + 1 else None
 
 
 def together(edits, crate, rt):
@@ -166,6 +178,15 @@ def tried_together(edits, texts, crate, rt, kept):
     return refused
 
 
+def tried_alone(edit, crate, rt, kept):
+    """Whether an edit by itself is refused, and what the kit says of it: over what was kept, and else from nothing."""
+    for start in (kept, None):
+        kind, said = rt.must_fail(crate, edit.file, ["--jobs", "1"], start)
+        if kind in (rt.REFUSED, rt.AT_LIMIT):
+            return True, said
+    return False, said
+
+
 def try_edits(crate, files, rt):
     """Tries a crate's edits, and says of each by its name whether it was refused, and how."""
     answers, kept = {}, tempfile.mkdtemp(prefix="td-edits-")
@@ -181,9 +202,7 @@ def try_edits(crate, files, rt):
                 break
         for edit in edits:
             if edit.name not in answers:
-                well, said = rt.must_fail(crate, edit.file, ["--jobs", "1"], kept)
-                well, said = (well, said) if well else rt.must_fail(crate, edit.file, ["--jobs", "1"])
-                answers[edit.name] = (well, said)
+                answers[edit.name] = tried_alone(edit, crate, rt, kept)
     finally:
         shutil.rmtree(kept, ignore_errors=True)
     return answers

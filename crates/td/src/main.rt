@@ -4,10 +4,12 @@
 ghost use Rattle.td_words.specs.Command.{HasWorkers};
 ghost use Rattle.td.specs.Whole.{IsLawfulEngine, HasEach, map_codes, group_codes, fold_codes};
 
+mod catalogue;
 mod disk;
 mod engine;
 mod store;
 
+use crate::catalogue::{fold_of, group_of, map_of};
 use crate::disk::{format_disk, open_disk, show_disk};
 use crate::engine::Engine;
 use crate::store::{store_fold, store_group, store_map};
@@ -17,7 +19,7 @@ use std::rt::{Env, Files};
 use std::sync::Wait;
 use std::thread::Threads;
 use std::{env, io};
-use td_calls::{Calls, FoldBox, GroupBox, MapBox, Stock, StockCalls, stock};
+use td_calls::{Calls, FoldBox, GroupBox, MapBox, Stock, StockCalls};
 use td_console::{Fault, StdReader, StdWriter, batch, fault_line, read_picks, run, sim};
 use td_feed::feed;
 use td_stamp::{Item, Rec, State};
@@ -104,7 +106,7 @@ fn ended<R: Eprint + AllocGlobal>(rt: &R, answer: Result<(), Fault>) -> ExitCode
 }
 
 /// Answers standard input with the closures of the catalogue. The closures are made here, since a function may not hand
-/// out one that it makes.
+/// out one that it makes; of each kind there is one, which captures its code.
 fn run_engine<R: Input + Print + AllocGlobal + Threads + Wait + Sync>(
     rt: &R,
     engine: Engine,
@@ -113,50 +115,24 @@ fn run_engine<R: Input + Print + AllocGlobal + Threads + Wait + Sync>(
 {
     let alloc = rt.alloc();
     let mut calls: StockCalls = Calls::new(alloc);
-    let same: MapBox = Box::new(alloc, |port: u8, rec: Rec| stock::same(port, rec))?;
-    store_map(&mut calls, 1, same)?;
-    let less: MapBox = Box::new(alloc, |port: u8, rec: Rec| stock::less(port, rec))?;
-    store_map(&mut calls, 2, less)?;
-    let even: MapBox = Box::new(alloc, |port: u8, rec: Rec| stock::even(port, rec))?;
-    store_map(&mut calls, 3, even)?;
-    let odd: MapBox = Box::new(alloc, |port: u8, rec: Rec| stock::odd(port, rec))?;
-    store_map(&mut calls, 4, odd)?;
-    let halved_key: MapBox = Box::new(alloc, |port: u8, rec: Rec| stock::halved_key(port, rec))?;
-    store_map(&mut calls, 5, halved_key)?;
-    let twice: MapBox = Box::new(alloc, |port: u8, rec: Rec| stock::twice(port, rec))?;
-    store_map(&mut calls, 6, twice)?;
-    let port: MapBox = Box::new(alloc, |port: u8, rec: Rec| stock::port(port, rec))?;
-    store_map(&mut calls, 7, port)?;
-    let above_zero: MapBox = Box::new(alloc, |port: u8, rec: Rec| stock::above_zero(port, rec))?;
-    store_map(&mut calls, 8, above_zero)?;
-    let next_key: MapBox = Box::new(alloc, |port: u8, rec: Rec| stock::next_key(port, rec))?;
-    store_map(&mut calls, 9, next_key)?;
-    let count: GroupBox = Box::new(alloc, |key: u64, items: &[Item]| stock::count(key, items))?;
-    store_group(&mut calls, 20, count)?;
-    let sum: GroupBox = Box::new(alloc, |key: u64, items: &[Item]| stock::sum(key, items))?;
-    store_group(&mut calls, 21, sum)?;
-    let least: GroupBox = Box::new(alloc, |key: u64, items: &[Item]| stock::least(key, items))?;
-    store_group(&mut calls, 22, least)?;
-    let greatest: GroupBox = Box::new(
-        alloc,
-        |key: u64, items: &[Item]| stock::greatest(key, items),
-    )?;
-    store_group(&mut calls, 23, greatest)?;
-    let join_least: GroupBox = Box::new(
-        alloc,
-        |key: u64, items: &[Item]| stock::join_least(key, items),
-    )?;
-    store_group(&mut calls, 24, join_least)?;
-    let totalled: FoldBox = Box::new(
-        alloc,
-        |key: u64, state: Option<State>, items: &[Item]| stock::totalled(key, state, items),
-    )?;
-    store_fold(&mut calls, 40, totalled)?;
-    let toggled: FoldBox = Box::new(
-        alloc,
-        |key: u64, state: Option<State>, items: &[Item]| stock::toggled(key, state, items),
-    )?;
-    store_fold(&mut calls, 41, toggled)?;
+    for code in 1..10u16 {
+        let map: MapBox = Box::new(alloc, move |port: u8, rec: Rec| map_of(code, port, rec))?;
+        store_map(&mut calls, code, map)?;
+    }
+    for code in 20..25u16 {
+        let group: GroupBox = Box::new(
+            alloc,
+            move |key: u64, items: &[Item]| group_of(code, key, items),
+        )?;
+        store_group(&mut calls, code, group)?;
+    }
+    for code in 40..42u16 {
+        let fold: FoldBox = Box::new(
+            alloc,
+            move |key: u64, state: Option<State>, items: &[Item]| fold_of(code, key, state, items),
+        )?;
+        store_fold(&mut calls, code, fold)?;
+    }
     answer(rt, &calls, engine)
 }
 

@@ -11,21 +11,13 @@ mod errors;
 #[cfg(test)]
 mod gate;
 #[cfg(test)]
-mod head;
-#[cfg(test)]
-mod journal;
-#[cfg(test)]
 mod keeper;
 #[cfg(test)]
 mod plan;
 #[cfg(test)]
-mod progress;
-#[cfg(test)]
 mod reach;
 #[cfg(test)]
 mod shard;
-#[cfg(test)]
-mod slots;
 #[cfg(test)]
 mod stamp;
 #[cfg(test)]
