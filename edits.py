@@ -109,6 +109,13 @@ def functions_in(path, text):
     return found
 
 
+def added_function(old, new):
+    """The name of the one function that a line with a function's head has more than it had, if there is one; both are without blanks."""
+    names = [re.findall(r"\bfn(\w+)[(<]", re.sub(r"pub(?:\(\w+\))?(?=fn)", " ", it)) for it in (old, new)]
+    more = [it for it in names[1] if it not in names[0]]
+    return more[0] if len(more) == 1 and names[0] and len(names[1]) == len(names[0]) + 1 else None
+
+
 # Edits
 
 
@@ -132,18 +139,12 @@ class Edit:
         same = next((at for at, (a, b) in enumerate(zip(reversed(old), reversed(new))) if a != b), 0)
         last = max(first, len(old) - 1 - same)
         found = functions_in(path, before)
-        added = self.added(old[first], new[first])
+        added = added_function(old[first], new[first])
         if added and first == last:
             # (it is put before a function of the same block)
             below = next((it for it in found if first < it.first), None)
             return below and Function(first, last, below.module, below.block, added)
         return next((it for it in found if it.first <= first and last <= it.last), None)
-
-    def added(self, old, new):
-        """The name of the one function that a line has more than it had, if there is one; both are without their blanks."""
-        names = [re.findall(r"\bfn(\w+)[(<]", re.sub(r"pub(?:\(\w+\))?(?=fn)", " ", it)) for it in (old, new)]
-        more = [it for it in names[1] if it not in names[0]]
-        return more[0] if len(more) == 1 and names[0] and len(names[1]) == len(names[0]) + 1 else None
 
 
 def together(edits, crate, rt):
