@@ -1,6 +1,8 @@
 //! The plain evaluator.
 ghost use Rattle.std.specs.Prelude.{◌≡◌, ◌≤◌, ◌<◌, ◌+◌, ◌^◌, ◌++◌, None, IsTrue, IfOk, OnOk, All, length, fold};
 ghost use Rattle.std.specs.List.{list_all};
+ghost use Rattle.td_stamp.specs.Bag.{bag_of};
+ghost use Rattle.td_stamp.specs.Orders.{output_cmp};
 ghost use Rattle.td_plan.specs.Blocks.{vertices};
 ghost use Rattle.td_plan.specs.Inputs.{is_input_of};
 ghost use Rattle.td_plan.specs.Tree.{tree_of};
@@ -19,7 +21,7 @@ use crate::tree::Tree;
 use std::alloc::Global;
 use td_calls::{Closures, Law};
 use td_plan::Plan;
-use td_stamp::{Bag, Batch, EpochOut, States};
+use td_stamp::{Bag, Batch, EpochOut, Output, States};
 
 /// The states and outputs to which a plan comes from these states by these batches, one an epoch, numbered from `first`
 /// on: the batch meaning. An epoch without records has its output too. It takes O(n log n) time in the records that pass
@@ -41,12 +43,19 @@ pub fn evaluate<L: Law, C: Closures<L>>(
 {
     let mut states = states.copy()?;
     let mut outs = Vec::new(alloc);
-    let mut epoch = first;
     for batch in batches {
+        let epoch = number_after(first, outs.as_slice());
         outs.push(evaluate_epoch::<L, C>(alloc, plan, calls, &mut states, epoch, batch)?)?;
-        epoch += 1;
     }
     Ok((states, outs))
+}
+
+/// The number of the epoch after these, of which the first is numbered `first`.
+fn number_after(first: u64, outs: &[EpochOut]) -> u64
+    requires { first + length outs.now < 2 ^ 64 }
+    ensures { result ≡ first + length outs.now }
+{
+    first + outs.len() as u64
 }
 
 /// One epoch of the batch meaning, numbered `epoch`: its output, and the states after it in place of those before. They
@@ -78,10 +87,18 @@ pub fn evaluate_epoch<L: Law, C: Closures<L>>(
         &tree,
     )?;
     keep_all(states, brought.changes.as_slice())?;
-    Ok(EpochOut {
+    Ok(output_of(alloc, epoch, brought.outputs))
+}
+
+/// The output of an epoch: what it put out, in order.
+fn output_of(alloc: Global, epoch: u64, outputs: Vec<Output>) -> EpochOut
+    ensures epoch { result.epoch ≡ epoch }
+    ensures recs { result.recs ≡ bag_of output_cmp outputs.items }
+{
+    EpochOut {
         epoch,
-        recs: Bag::from_vec(alloc, brought.outputs),
-    })
+        recs: Bag::from_vec(alloc, outputs),
+    }
 }
 
 /// Has the folds keep what they are to keep. Refusal: `Memory`, after which some keys have their new state.

@@ -1,5 +1,5 @@
 //! Draining: all that can be taken is taken, run and given.
-ghost use Rattle.std.specs.Prelude.{◌≡◌, ◌↔◌, ◌<◌, ◌∷◌, [], ℕ, length, true, None, HoldsAt, IfOk, IfErr, OnOk, OnErr, IsErrAnd};
+ghost use Rattle.std.specs.Prelude.{◌≡◌, ◌↔◌, ◌<◌, ◌∷◌, [], ℕ, length, true, None, IsTrue, HoldsAt, IfOk, IfErr, OnOk, OnErr, IsErrAnd};
 ghost use Rattle.td_plan.specs.Blocks.{vertices};
 ghost use Rattle.td_calls.specs.Fits.{first_lack};
 ghost use Rattle.td_machine.specs.Active.{has_passed, unpassed, kind_of};
@@ -84,10 +84,17 @@ fn drain_floor<L: Law, C: Closures<L>>(
     loop {
         let taken = floor.taken;
         go_round::<L, C>(floor, calls, drained)?;
-        if floor.taken == taken {
+        if is_still(floor, taken) {
             return Ok(());
         }
     }
+}
+
+/// Whether no task was taken since so many were.
+fn is_still(floor: &Floor, taken: u64) -> bool
+    ensures { IsTrue result ↔ (floor.now.taken ≡ taken) }
+{
+    floor.taken == taken
 }
 
 /// Clears each shard in turn. Refusals: `Memory` and `Spent`.

@@ -1,4 +1,4 @@
-use Rattle.std.proofs.Common.{◌++◌, ◌∷◌, [], List, ap, ◌∙◌, arith}
+use Rattle.std.proofs.Common.{◌≡◌, ℕ, ◌+◌, ◌++◌, ◌∷◌, [], List, length, length-append, ap, ◌∙◌}
 use Rattle.td_stamp.specs.declared.values.Entry.{Entry}
 use Rattle.td_stamp.specs.declared.values.Output.{Output}
 use Rattle.td_plan.specs.Tree.{tree_of}
@@ -16,13 +16,13 @@ loop-batch-preserved g c =
     let kept = c.loop-batch.states in
     let out = c.in_ok-evaluate_epoch.field-0 in
     let recs : List Output = out.recs in
-    let at = c.loop-batch.invariant.epoch_is in
+    let at : c.number_after-epoch.result ≡ c.args.first + i = c.number_after-epoch.ensures ∙ ap (λ (n : ℕ). c.args.first + n) (ap length c.as_slice.ensures.value ∙ c.loop-batch.invariant.count_is) in
     let made = c.in_ok-evaluate_epoch.ensures in
     let more =
     one_more answers nodes c.args.first c.args.states.now c.args.batches.now i batch kept c.evaluate_epoch.new.states c.loop-batch.outs.items recs c.loop-batch-test.true c.loop-batch.invariant.kept c.loop-batch.invariant.so_far
     (made.states ∙ ap (λ b. (epoch_result (input_of answers kept b) nodes).states) c.batch-item.is) (made.out ∙ ap (λ b. (epoch_result (input_of answers kept b) nodes).outs) c.batch-item.is) in
     record {
-      epoch_is = omega (arith, at);
+      count_is = ap length c.in_ok-push.ensures.items ∙ length-append c.loop-batch.outs.items (record { epoch = out.epoch; recs = recs } ∷ []) ∙ ap (λ n. n + 1) c.loop-batch.invariant.count_is;
       kept = more.0;
       so_far = c.in_ok-push.ensures.items ∙ ap (λ n. c.loop-batch.outs.items ++ record { epoch = n; recs = recs } ∷ []) (made.number ∙ at) ∙ more.1;
     }
