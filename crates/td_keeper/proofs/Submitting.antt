@@ -1,5 +1,5 @@
 -- A batch that a keeper submits.
-use Rattle.std.proofs.Common.{◌≡◌, ◌==◌, ℕ, ◌+◌, Bool, true, false, nat_le, List, refl, sym, ◌∙◌, subst, arith}
+use Rattle.std.proofs.Common.{◌≡◌, ◌==◌, ℕ, ◌+◌, Bool, true, false, nat_le, List, [], ◌∷◌, refl, sym, ◌∙◌, subst, arith, length-append}
 use Rattle.std.specs.Prelude.{Option, Some, None}
 use Rattle.std.specs.List.{list_all, list_any}
 use Rattle.td_stamp.specs.declared.values.Entry.{Entry}
@@ -12,12 +12,14 @@ use Rattle.td_disk.specs.Disk.{DiskState}
 use Rattle.td_head.specs.declared.head.Head.{Head}
 use Rattle.td_journal.specs.Numbers.{may_come}
 use Rattle.td_journal.specs.Cell.{is_batch}
+use Rattle.td_journal.specs.declared.submitted.Submitted.{Submitted}
 use Rattle.td_machine.specs.Steps.{accepts}
-use Rattle.td_standing.specs.Standing.{Standing, last_epoch, last_request}
+use Rattle.td_standing.specs.Standing.{Standing, last_epoch, last_request, with_more}
 use Rattle.td_standing.specs.Told.{inputs_of}
 use Rattle.td_standing.specs.Tells.{Keeps, HasRoom, IsFresh}
 use Rattle.td_standing.specs.Advanced.{HeldWhere}
-use Rattle.td_keeper.specs.Keeping.{Keeping}
+use Rattle.td_watch.specs.View.{View}
+use Rattle.td_keeper.specs.Keeping.{Keeping, words_at, IsBelow}
 use Rattle.td_keeper.proofs.Accepting.{IsAccepted}
 
 -- where nothing is broken, a keeper's disk keeps its standing
@@ -52,3 +54,8 @@ has_room k batch epoch is at = record { room = is.room; epoch = at; small = omeg
 pub is_none : {X : Type 0} (o : Option X) → ((x : X) → o ≡ Some x → ⊥) → o ≡ None
 is_none None not_ = refl
 is_none (Some x) not_ = absurd (not_ x refl)
+
+-- a writer that is not above a keeper is not above it after one epoch more
+pub below_more : (o : Option View) (s : Standing) (x : Submitted) (collected : ℕ) → IsBelow o (words_at s collected) → IsBelow o (words_at (with_more s (x ∷ [])) collected)
+below_more None s x collected below = tt
+below_more (Some v) s x collected below = (omega (arith, below.0, length-append s.submitted (x ∷ [])), below.1, below.2)

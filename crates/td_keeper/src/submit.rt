@@ -10,7 +10,7 @@ ghost use Rattle.td_keeper.specs.Refused.{submit_refusal};
 ghost use Rattle.td_standing.specs.declared.error.KeeperError.TheVariants.{Memory, Device};
 
 use crate::keeper::Keeper;
-use crate::watch::publish;
+use crate::watch::{publish, words_at};
 use td_calls::Law;
 use td_disk::Disk;
 use td_journal::{Journal, JournalError, Submitted};
@@ -81,7 +81,7 @@ impl<D: Disk, L: Law> Keeper<D, L> {
             Ok(()) => {
                 self.submitted
                     .push_back_reserved(Submitted { request: 0, batch });
-                let words = [epoch, self.collected, self.checkpoint.epoch];
+                let words = words_at(&self.checkpoint, &self.submitted, self.collected);
                 publish(&mut self.watch, words);
                 Ok(epoch)
             }

@@ -1,7 +1,8 @@
-use Rattle.std.proofs.Common.{◌≡◌, inl, inr, ⊎_elim, Result, Err, ℕ, ◌+◌, ◌≤◌, true, false, List, [], ◌∷◌, ◌++◌, sym, ap, ◌∙◌, subst, arith}
+use Rattle.std.proofs.Common.{◌≡◌, inl, inr, ⊎_elim, Result, Err, ℕ, ◌+◌, ◌^◌, ◌<◌, ◌≤◌, true, false, List, [], ◌∷◌, ◌++◌, sym, ap, ◌∙◌, subst, arith}
 use Rattle.std.specs.Prelude.{Option, Some, None, length}
 use Rattle.std.proofs.lemmas.List.{length-append}
 use Rattle.td_watch.specs.View.{View}
+use Rattle.td_watch.specs.Words.{KeepsOrder}
 use Rattle.td_plan.specs.Tree.{tree_of}
 use Rattle.td_gate.specs.CrashSafe.{CrashSafe, Unchanged}
 use Rattle.td_head.specs.Layout.{size_of}
@@ -14,12 +15,12 @@ use Rattle.td_standing.specs.Stops.{Advance, Holds}
 use Rattle.td_standing.specs.Told.{inputs_of, ring_of}
 use Rattle.td_standing.specs.Tells.{HasRoom}
 use Rattle.td_standing.specs.Advanced.{AdvancesSince, HeldWhere, states_by}
-use Rattle.td_keeper.specs.Keeping.{Keeping, IsKeeping, keeping_of, words_at, published}
+use Rattle.td_keeper.specs.Keeping.{Keeping, IsKeeping, keeping_of, words_at, published, IsBelow}
 use Rattle.td_keeper.specs.Refused.{submit_refusal}
 use Rattle.td_keeper.proofs.Accepting.{IsAccepted, accepted, never_device}
 use Rattle.td_keeper.proofs.Kept.{submitted, elsewhere}
 use Rattle.td_keeper.proofs.Since.{either, from_start, held, by_further, unwritten}
-use Rattle.td_keeper.proofs.Submitting.{keeps_of, held_of, no_request, lawful_batch, has_room, is_none}
+use Rattle.td_keeper.proofs.Submitting.{keeps_of, held_of, no_request, lawful_batch, has_room, is_none, below_more}
 use Rattle.td_keeper.proofs.keeper.Keeper.submit.Goals as goal
 
 abbrev as_err : AnyError → Result (Unit {0}) AnyError
@@ -82,6 +83,37 @@ returns-in-Ok-clause-images g c old whole =
     by_further g.D.Disk.is_lawful state g.met.D.Disk.only_now g.L.Law.answers c.told_in_parts.ensures.together c.standings_advance.ensures.not_yet c.self.view_is c.self.invariant.2
     (submission 0 c.args.batch ∷ []) (state c.submit_batch.new.device) old whole (returns-in-Ok-clause-further g c old whole)
 
+pub words_at-words-requires : goal.words_at-words-requires
+words_at-words-requires g c =
+    let s = standing_from c.self.inside.checkpoint c.self.inside.submitted.items in
+    let x : List Submitted = submission 0 c.args.batch ∷ [] in
+    let items : c.push_back_reserved.new.self.items ≡ c.self.inside.submitted.items ++ x = c.push_back_reserved.ensures.items ∙ ap (λ (l : List Submitted). l ++ x) c.reserve.ensures.items in
+    let k = keeping_of c.self.inside.device c.self.inside.plan c.self.inside.head c.self.inside.checkpoint c.self.inside.submitted.items c.self.inside.broken c.self.inside.taken c.self.inside.collected c.self.inside.queue.items c.self.inside.watch in
+    let none : submit_refusal k c.args.batch ≡ None = ap (λ (z : Keeping g.row.D.Denot). submit_refusal z c.args.batch) c.self.view_is ∙ (sym c.refusal_of.ensures ∙ is_none c.refusal_of.result c.in_default.not-Some) in
+    let small = (accepted k c.args.batch none).small in
+    let size : length (c.self.inside.submitted.items ++ x) ≡ length c.self.inside.submitted.items + 1 = length-append c.self.inside.submitted.items x in
+    subst (λ (v : List Submitted). last_epoch (standing_from c.self.inside.checkpoint v) < 2 ^ 63) (sym items) (omega (arith, small, size))
+
+pub publish-requires-clause-ordered : goal.publish-requires-clause-ordered
+publish-requires-clause-ordered g c =
+    let s = standing_from c.self.inside.checkpoint c.self.inside.submitted.items in
+    let x : List Submitted = submission 0 c.args.batch ∷ [] in
+    let items : c.push_back_reserved.new.self.items ≡ c.self.inside.submitted.items ++ x = c.push_back_reserved.ensures.items ∙ ap (λ (l : List Submitted). l ++ x) c.reserve.ensures.items in
+    let words : c.words_at-words.result ≡ words_at (with_more s x) c.self.inside.collected =
+    c.words_at-words.ensures ∙ ap (λ (v : List Submitted). words_at (standing_from c.self.inside.checkpoint v) c.self.inside.collected) items in
+    let keeping = c.self.invariant.1 in
+    let size : length (c.self.inside.submitted.items ++ x) ≡ length c.self.inside.submitted.items + 1 = length-append c.self.inside.submitted.items x in
+    subst KeepsOrder (sym words) (omega (arith, keeping.from_checkpoint, keeping.collected), omega (arith, keeping.done, size))
+
+pub publish-requires-clause-rises : goal.publish-requires-clause-rises
+publish-requires-clause-rises g c =
+    let s = standing_from c.self.inside.checkpoint c.self.inside.submitted.items in
+    let x : List Submitted = submission 0 c.args.batch ∷ [] in
+    let items : c.push_back_reserved.new.self.items ≡ c.self.inside.submitted.items ++ x = c.push_back_reserved.ensures.items ∙ ap (λ (l : List Submitted). l ++ x) c.reserve.ensures.items in
+    let words : c.words_at-words.result ≡ words_at (with_more s x) c.self.inside.collected =
+    c.words_at-words.ensures ∙ ap (λ (v : List Submitted). words_at (standing_from c.self.inside.checkpoint v) c.self.inside.collected) items in
+    subst (IsBelow c.self.inside.watch) (sym words) (below_more c.self.inside.watch s (submission 0 c.args.batch) c.self.inside.collected c.self.invariant.1.watched)
+
 pub invariant_of-self-in-Ok : goal.invariant_of-self-in-Ok
 invariant_of-self-in-Ok g c =
     let state = g.D.Disk.state in
@@ -102,9 +134,8 @@ invariant_of-self-in-Ok g c =
     let lawful : is_batch (inputs_of plan) batch ≡ true = lawful_batch c.inputs_are_accepted.ensures c.batches_are_in_order.ensures.written plan batch c.vertices-plan.ensures.lawful c.list-in_order.ensures.sorted taken.named in
     let new = c.submit_batch.new.device in
     let items : c.push_back_reserved.new.self.items ≡ c.self.inside.submitted.items ++ x = c.push_back_reserved.ensures.items ∙ ap (λ (l : List Submitted). l ++ x) c.reserve.ensures.items in
-    let size : length (c.self.inside.submitted.items ++ x) ≡ length c.self.inside.submitted.items + 1 = length-append c.self.inside.submitted.items x in
-    let last : c.last_epoch-epoch.result + 1 ≡ last_epoch (with_more s x) = omega (arith, epoch, size) in
-    let watch : c.publish.new.watch ≡ published c.self.inside.watch (words_at (with_more s x) c.self.inside.collected) = c.publish.ensures ∙ ap (λ (n : ℕ). published c.self.inside.watch (n ∷ c.self.inside.collected ∷ s.epoch ∷ [])) last in (
+    let watch : c.publish.new.watch ≡ published c.self.inside.watch (words_at (with_more s x) c.self.inside.collected) =
+    c.publish.ensures ∙ ap (published c.self.inside.watch) (c.words_at-words.ensures ∙ ap (λ (v : List Submitted). words_at (standing_from c.self.inside.checkpoint v) c.self.inside.collected) items) in (
       subst (λ (n : ℕ). size_of head.shape ≤ n) (sym c.in-Ok.ensures.size) c.self.invariant.0,
       subst (λ (v : List Submitted). IsKeeping (keeping_of new plan head c.self.inside.checkpoint v c.self.inside.broken c.self.inside.taken c.self.inside.collected c.self.inside.queue.items c.publish.new.watch) answers) (sym items)
           (subst (λ (o : Option View). IsKeeping (keeping_of new plan head c.self.inside.checkpoint (c.self.inside.submitted.items ++ x) c.self.inside.broken c.self.inside.taken c.self.inside.collected c.self.inside.queue.items o) answers) (sym watch)
