@@ -1,6 +1,6 @@
 -- What commands hand out, and what is left in the queue, is what the batch meaning has.
 use Rattle.std.proofs.Common.{◌≡◌, ⊎_elim, ℕ, zero, suc, ◌+◌, ◌-◌, ◌≤◌, Bool, true, false, List, [], ◌∷◌, ◌++◌, length, take, drop, refl, sym, ap, ◌∙◌, subst, arith}
-use Rattle.std.specs.Prelude.{Option, Some, None, if◌then◌else◌}
+use Rattle.std.specs.Prelude.{Option, if◌then◌else◌}
 use Rattle.std.proofs.lemmas.List.{append-nil, append_assoc, length-append, length-map, length-drop, map-append, take-append-le, drop-append-le, drop-drop, length-take-le, take-append-drop, take-map}
 use Rattle.td_stamp.specs.declared.values.Entry.{Entry}
 use Rattle.td_stamp.specs.declared.values.Output.{Output}
@@ -16,15 +16,13 @@ use Rattle.td_machine.specs.Sound.{outs_by}
 use Rattle.td_disk.specs.Disk.{DiskState}
 use Rattle.td_journal.specs.declared.submitted.Submitted.{Submitted as AnySubmitted}
 use Rattle.td_standing.specs.Standing.{Standing, last_epoch, submission, batches_of, with_more, cut_at}
-use Rattle.td_standing.specs.declared.error.KeeperError.{KeeperError}
-use Rattle.td_standing.specs.declared.error.KeeperError.TheVariants as error
 use Rattle.td_keeper.specs.declared.command.Command.{Command}
 use Rattle.td_keeper.specs.declared.command.Command.TheVariants.{Submit, Release, Settle, Collect, NextOut, Cut, WriteCut}
 use Rattle.td_keeper.specs.declared.command.Reply.{Reply}
 use Rattle.td_keeper.specs.declared.command.Reply.TheVariants.{Submitted, Released, Settled, Collected, Out, CutTaken, Written, Refused}
-use Rattle.td_keeper.specs.Keeping.{Keeping, IsKeeping, with_batch, with_checkpoint}
-use Rattle.td_keeper.specs.Halls.{meant_outs, with_collected, with_cut}
-use Rattle.td_keeper.specs.Driven.{is_device, submitted_in, submitted_by, handed_in, handed_out, outs_beyond, HandsOn, Submits, Releases, Settles, Collects, HandsOut, Cuts, Writes, Obeys, Driven}
+use Rattle.td_keeper.specs.Keeping.{Keeping, IsKeeping}
+use Rattle.td_keeper.specs.Halls.{meant_outs}
+use Rattle.td_keeper.specs.Driven.{is_device, submitted_in, submitted_by, handed_in, handed_out, outs_beyond, HandsOn, Obeys, Driven}
 use Rattle.td_keeper.proofs.Collecting.{OutsJoin}
 use Rattle.td_keeper.proofs.Runs.{out_at, length_outs, take_on}
 use Rattle.td_keeper.proofs.Driving.{is_device_is, driven_broken}

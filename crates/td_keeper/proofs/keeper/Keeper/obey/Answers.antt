@@ -1,9 +1,9 @@
-use Rattle.std.proofs.Common.{◌≡◌, false, List, ap, ⊎_elim, inl, inr, Some}
+use Rattle.std.proofs.Common.{List, ap, ⊎_elim, inl, inr, Some, rules}
 use Rattle.td_journal.specs.declared.submitted.Submitted.{Submitted}
 use Rattle.td_standing.specs.Standing.{last_epoch}
 use Rattle.td_standing.specs.Advanced.{AdvancesSince}
 use Rattle.td_keeper.proofs.Driving.{refused_in}
-use Rattle.std.specs.Prelude.{Option, Result, Ok, Err, ℕ}
+use Rattle.std.specs.Prelude.{Option, Result, Ok, ℕ}
 use Rattle.td_standing.specs.declared.error.KeeperError.{KeeperError}
 use Rattle.td_keeper.proofs.keeper.Keeper.obey.Goals as goal
 
@@ -55,3 +55,6 @@ returns-in-Ok-cut_lent-clause-obeyed g c =
     let own = c.in-Ok-cut_lent.ensures.own in
     let cut = c.in-Ok-cut_lent.ensures.cut in
     rw c.in-Cut.is (c.deref_mut-in-Cut.result.now.hall, c.cut_lent.new.hall.hall, own.0, own.1, cut.0, cut.2, c.in-Ok-cut_lent.ensures.meaning, c.in-Ok-cut_lent.ensures.outs own.0)
+
+pub returns-in-Ok-released-clause-obeyed : goal.returns-in-Ok-released-clause-obeyed
+returns-in-Ok-released-clause-obeyed g c = search rules

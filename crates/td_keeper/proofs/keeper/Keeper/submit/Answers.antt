@@ -1,4 +1,4 @@
-use Rattle.std.proofs.Common.{◌≡◌, inl, inr, ⊎_elim, Result, Err, ℕ, ◌+◌, ◌^◌, ◌<◌, ◌≤◌, true, false, List, [], ◌∷◌, ◌++◌, sym, ap, ◌∙◌, subst, arith}
+use Rattle.std.proofs.Common.{◌≡◌, inl, inr, ⊎_elim, Result, Err, ℕ, ◌+◌, ◌^◌, ◌<◌, ◌≤◌, true, false, List, [], ◌∷◌, ◌++◌, sym, ap, ◌∙◌, subst, arith, rules}
 use Rattle.std.specs.Prelude.{Option, Some, None, length}
 use Rattle.std.proofs.lemmas.List.{length-append}
 use Rattle.td_watch.specs.View.{View}
@@ -345,3 +345,12 @@ returns-in_default-refusal-clause-nothing g c =
     (λ old whole.
     let keeps = keeps_of c.self.inside.broken answers plan head side s (state device) whole (c.self.invariant.2 old) in
     unwritten answers plan c.told_in_parts.ensures.together head side s [] (state device) (state c.submit_batch.new.device) (c.in-Err.ensures.unwritten (ap as_err memory) old) still keeps))
+
+pub returns-in_default-refusal-clause-unchanged : goal.returns-in_default-refusal-clause-unchanged
+returns-in_default-refusal-clause-unchanged g c = search rules
+
+pub returns-in_default-refusal-clause-device : goal.returns-in_default-refusal-clause-device
+returns-in_default-refusal-clause-device g c = search rules
+
+pub returns-in_default-refusal-clause-broken : goal.returns-in_default-refusal-clause-broken
+returns-in_default-refusal-clause-broken g c = search rules
