@@ -2,11 +2,15 @@
 """Asks td_reach all that there is to ask of some plans, compares the answers with a search over paths, and takes its time.
 
     bench/could.py [PLANS [SEED]]       needs the kit; by default 20 random plans of 64 vertices beside LOOP, NEST and RING
+    bench/could.py --steps              needs crates/engine_steps/out/engine_steps (see the README)
 
 It builds bench/could.rattle in a copy of the repository's crates below it, which is proved on the way. The search shares
 nothing with td_reach: it goes along edges and keeps the earliest time at each place. Of each plan it compares every pair of
 places, at each time of epoch 1 whose counters are 0, 1 or 2. Last come the times: nanoseconds for the table of a plan, and
-for one answer, the mean over all pairs of places and times, ten rounds."""
+for one answer, the mean over all pairs of places and times, ten rounds.
+
+With `--steps` no program is built, and no time taken: `engine_steps`, which makes the table for each question, is asked of LOOP,
+NEST, RING and 20 random plans of 16 vertices, at most a thousand pairs of each, drawn from all."""
 
 import itertools
 import pathlib
@@ -18,6 +22,8 @@ import tempfile
 
 ROOT = pathlib.Path(__file__).resolve().parent.parent
 BELOW = ["td_stamp", "td_plan", "td_reach"]
+STEPS = ROOT / "crates/engine_steps/out/engine_steps"
+PAIRS_BY_STEPS = 1000
 LOOP = "0 input\nloop 3\n1 enter 0\n2 feedback 3\n3 map 2 1 2\n4 leave 3\nend\n5 output 4\n"
 NEST = ("0 input\nloop 2\n1 enter 0\n2 feedback 7\n3 map 1 1 2\nloop 2\n4 enter 3\n5 feedback 6\n6 group 21 4 5\n"
         "7 leave 6\nend\n8 leave 7\nend\n9 output 8\n")
@@ -136,11 +142,15 @@ class Search:
     def stamps(self):
         return [(place, time) for place in self.places for time in itertools.product(range(3), repeat=place[2])]
 
+    def answers_from(self, stamp, others):
+        """Whether one pointstamp could result in each of others."""
+        at = self.earliest(*stamp)
+        return "".join("01"[to[:2] in at and at[to[:2]] <= other] for to, other in others)
+
     def answers(self):
         stamps = self.stamps()
-        for place, time in stamps:
-            at = self.earliest(place, time)
-            yield "".join("01"[to[:2] in at and at[to[:2]] <= other] for to, other in stamps)
+        for stamp in stamps:
+            yield self.answers_from(stamp, stamps)
 
 
 # The program
@@ -182,7 +192,53 @@ def compare(program, name, text):
     print(f"{name}: {len(search.vertices)} vertices, {len(search.edges)} edges, {len(stamps) ** 2} pairs, {yes} yes, no difference")
 
 
+# By `engine_steps`
+
+
+def worded(stamp):
+    (kind, number, _), time = stamp
+    return f"{kind} {number} 1" + (f"<{','.join(map(str, time))}>" if time else "")
+
+
+def drawn_pairs(rng, stamps):
+    """Pairs of pointstamps: all, or as many of them as are asked."""
+    count = len(stamps) ** 2
+    numbers = range(count) if count <= PAIRS_BY_STEPS else rng.sample(range(count), PAIRS_BY_STEPS)
+    return [(stamps[number // len(stamps)], stamps[number % len(stamps)]) for number in numbers]
+
+
+def compare_steps(name, text, rng):
+    """Compares what `engine_steps` answers with the search, and answers of how many pairs."""
+    search = Search(text)
+    pairs = drawn_pairs(rng, search.stamps())
+    commands = "".join(f"could {worded(one)} to {worded(other)}\n" for one, other in pairs)
+    done = subprocess.run([STEPS], input=f"{text}--\n{commands}", capture_output=True, text=True)
+    got = done.stdout.splitlines()
+    if done.returncode != 0 or len(got) != len(pairs):
+        sys.exit(f"{name}: status {done.returncode}, {len(got)} answers to {len(pairs)} pairs: {done.stderr}\n{text}")
+    for (one, other), answer in zip(pairs, got):
+        wanted = {"0": "no", "1": "yes"}[search.answers_from(one, [other])]
+        if answer != wanted:
+            sys.exit(f"{name}: from {one} to {other}: td_reach {answer}, the search {wanted}\n{text}")
+    return len(pairs), got.count("yes")
+
+
+def compare_by_steps():
+    if not STEPS.exists():
+        sys.exit(f"{STEPS} is not there: cd crates/engine_steps && rt run")
+    rng = random.Random(1)
+    plans = [("LOOP", LOOP), ("NEST", NEST), ("RING", RING)]
+    plans += [(f"random {i}", RandomPlan(rng, 16, 32).text) for i in range(1, 21)]
+    counts = [compare_steps(name, text, rng) for name, text in plans]
+    asked, yes = map(sum, zip(*counts))
+    if yes in (0, asked):
+        sys.exit(f"all {asked} answers are alike")
+    print(f"{len(plans)} plans, {asked} pairs asked of engine_steps, {yes} yes, no difference")
+
+
 def main():
+    if sys.argv[1:] == ["--steps"]:
+        return compare_by_steps()
     count = int(sys.argv[1]) if len(sys.argv) > 1 else 20
     rng = random.Random(int(sys.argv[2]) if len(sys.argv) > 2 else 1)
     plans = [("LOOP", LOOP), ("NEST", NEST), ("RING", RING)]

@@ -7,14 +7,18 @@ It runs `td batch`, `run` and `sim` on the files, by default on the examples, an
 Each run must answer as with ample memory, or write nothing to standard output, `td: memory` to standard error, and end with
 status 1.
 
-Without files it also runs `engine_steps` on its rows (rows/steps.txt, and those of rows/keeper.txt whose disk does not stop or
-fail), where a call that was refused is made once more. Each run must then answer as the row says, but for a line
-`refused: memory`; or, where the program itself lacked memory before the first call, end with status 1 and no answer. Where a
-feed was refused, which is not made once more, or the disk in memory could not grow its record of calls and failed, the run is
-made again up to there, and a recovery must then tell at least what was acknowledged. A feed has workers in threads, so that no two
-runs make their allocations in one order: in rows with feeds each feed is followed by a recovery, in the same run."""
+Without files it also runs `engine_steps` on its rows (rows/steps.txt, and those of rows/keeper.txt and rows/threads.txt whose
+disk does not stop or fail), where a call that was refused is made once more. Each run must then answer as the row says, but for
+a line `refused: memory`; or, where the program itself lacked memory before the first call, end with status 1 and no answer.
+Where a feed was refused, which is not made once more, or the disk in memory could not grow its record of calls and failed, the
+run is made again up to there, and a recovery must then tell at least what was acknowledged. A feed and a drive have workers in
+threads, so that no two runs make their allocations in one order: in rows with them each is followed by two recoveries in the
+same run, of which one may be refused. Where a drive or one of its workers was refused, the hall may be gone, and the run then
+ends as one that has none. A row whose workers wait for one another at the gate is left out: one would wait ten seconds and more
+for another that was refused. Each run must end within 30 seconds."""
 
 import concurrent.futures
+import functools
 import importlib.machinery
 import importlib.util
 import os
@@ -28,7 +32,7 @@ import tempfile
 ROOT = pathlib.Path(__file__).resolve().parent.parent
 TD = ROOT / "crates/td/out/td"
 STEPS = ROOT / "crates/engine_steps/out/engine_steps"
-ROWS = ("rows/steps.txt", "rows/keeper.txt")
+ROWS = ("rows/steps.txt", "rows/pointstamps.txt", "rows/keeper.txt", "rows/threads.txt")
 EXAMPLES = sorted((ROOT / "examples").glob("*.td"))
 REFUSED = (1, b"", b"td: memory\n")
 # What `engine_steps` prints for a call that is made once more, and how it ends where there was none to make again.
@@ -36,22 +40,31 @@ AGAIN = b"refused: memory"
 BEFORE = (1, b"", b"Error: Memory\n")
 # What it prints where the disk in memory could not grow its record.
 FAILED = b"refused: device"
-# Commands of rows that are not run: those of disks that stop or fail by themselves.
-LEFT_OUT = re.compile(rb"(?m)^(stop|fail|crash) ")
+# What it prints of a drive's command that was refused, or of a worker that was.
+REFUSED_IN_DRIVE = re.compile(rb"(worker \d+ )?refused: memory(, back came.*)?")
+# How it ends where the hall is gone with a drive that was refused, and where the disk failed as it was formatted.
+ENDS_EARLY = ((1, b"Error: NoHall\n"), (1, b"Error: NoKeeper\n"))
+# Commands of rows that are not run: those of disks that stop or fail by themselves, and of workers that wait at the gate.
+LEFT_OUT = re.compile(rb"(?m)^(stop|fail|crash) |^drive meet$")
 # Commands after which another disk is there, or other bytes on it.
 OTHER_DISK = (b"format", b"blank", b"byte", b"size")
 # Those that have workers in threads.
-FEEDS = (b"feed ", b"meet ")
+WITH_WORKERS = (b"feed ", b"meet ", b"drive ")
 # The allocations of reading the input hang on its length, so each is filled up to so many bytes more.
 ROOM = 64
 # So many runs in a row that meet no refusal end the count.
 UNTOUCHED = 40
+# Seconds for one run.
+SECONDS = 30
 
 
 def answer(library, words, text, program=TD, **refused):
     """Status, output and errors of one run."""
-    done = subprocess.run([program, *words], input=text, capture_output=True,
-                          env={**os.environ, "LD_PRELOAD": str(library), **refused})
+    try:
+        done = subprocess.run([program, *words], input=text, capture_output=True, timeout=SECONDS,
+                              env={**os.environ, "LD_PRELOAD": str(library), **refused})
+    except subprocess.TimeoutExpired:
+        return "it did not end", b"", b""
     return done.returncode, done.stdout, done.stderr
 
 
@@ -91,7 +104,7 @@ def filled(text, length):
 def steps_in(text):
     """The plan, and the commands, each with the lines that are its own."""
     plan, _, rest = text.partition(b"--\n")
-    return plan + b"--\n", re.findall(rb"(?m)^feed .*\n(?:(?!end$).*\n)*end\n|^.*\n", rest)
+    return plan + b"--\n", re.findall(rb"(?m)^(?:feed|meet|drive) .*\n(?:(?!end$).*\n)*end\n|^.*\n", rest)
 
 
 def is_as_written(got, want):
@@ -115,13 +128,13 @@ class Played:
         self.title, command = row
         self.text = command.text["<"]
         self.plan, self.steps = steps_in(self.text)
-        self.has_feeds = any(step.startswith(FEEDS) for step in self.steps)
-        if self.has_feeds:
-            self.steps = [made for step in self.steps for made in ([step, b"recover\n"] if step.startswith(FEEDS) else [step])]
+        self.has_workers = any(step.startswith(WITH_WORKERS) for step in self.steps)
+        if self.has_workers:
+            self.steps = [made for step in self.steps for made in [step, *[b"recover\n"] * 2 * step.startswith(WITH_WORKERS)]]
             self.text = self.plan + b"".join(self.steps)
         self.length = len(self.text) + ROOM
         self.want = command.status, command.text[">"].splitlines(), command.text["!"]
-        if self.has_feeds:
+        if self.has_workers:
             self.want = self.run(self.text)
 
     def run(self, text, **refused):
@@ -141,10 +154,8 @@ class Played:
         return high
 
     def is_told(self, lines, number):
-        """Whether a run whose disk failed, or a feed of which was refused, tells what was acknowledged until then."""
+        """Whether a run whose disk failed tells what was acknowledged until then."""
         at = next(index for index, line in enumerate(lines) if line.startswith(FAILED) or line == AGAIN)
-        if self.has_feeds:
-            return self.is_told_then(lines, at)
         done = self.steps[:self.steps_until(at, REFUSED=str(number))]
         status, lines, errors = self.run(self.plan + b"".join(done) + b"recover\n", REFUSED=str(number))
         if (status, errors) != (0, b"") or lines[:at] != self.want[1][:at]:
@@ -157,16 +168,24 @@ class Played:
         # A disk that tells no epochs is refused as the row says.
         return told[-1] >= acknowledged if told else acknowledged == 0 and lines[at + 1:] == self.want[1][at:at + 1]
 
-    def is_told_then(self, lines, at):
-        """Whether the first recovery after a line of such a run tells what was acknowledged until then."""
-        if lines[:at] != self.want[1][:at]:
-            return False
-        done = next((count for count in range(len(self.steps)) if self.lines_after(count) > at), len(self.steps))
+    @functools.cached_property
+    def counts(self):
+        """How many lines each beginning of the commands prints."""
+        return [self.lines_after(count) for count in range(len(self.steps) + 1)]
+
+    def is_told_then(self, lines):
+        """Whether a run hands out no other epochs than the whole from the line on in which it differs, and the first recovery after it
+        tells what was acknowledged until then."""
+        at = next((index for index, (one, other) in enumerate(zip(lines, self.want[1])) if one != other), len(lines))
+        done = next((count for count, printed in enumerate(self.counts) if printed > at), len(self.steps))
         begin = max(index for index, step in enumerate(self.steps[:done]) if step.startswith(OTHER_DISK))
         if begin == done - 1:
             return True
-        acknowledged = max([int(line[4:]) for line in lines[self.lines_after(begin):at] if line.startswith(b"ack ")], default=0)
-        told = [int(line.split(b":")[0].split()[1]) for line in self.first_recovery(lines[at + 1:])]
+        recovery = next((index for index, line in enumerate(lines) if index >= at and line.startswith(b"kept ")), len(lines))
+        if any(line.startswith(b"epoch ") and line not in self.want[1] for line in lines[at:recovery]):
+            return False
+        acknowledged = max([int(line[4:]) for line in lines[self.counts[begin]:recovery] if line.startswith(b"ack ")], default=0)
+        told = [int(line.split(b":")[0].split()[1]) for line in self.first_recovery(lines[recovery:])]
         return told[-1] >= acknowledged if told else acknowledged == 0
 
     def first_recovery(self, lines):
@@ -174,6 +193,13 @@ class Played:
         first = next((index for index, line in enumerate(lines) if line.startswith(b"kept ")), len(lines))
         after = next((index for index in range(first + 1, len(lines)) if not re.match(rb"epoch \d+:( \(\d+ \d+ -?\d+\))*$", lines[index])), len(lines))
         return lines[first:after]
+
+    def is_well_refused(self, status, lines, errors, number):
+        """Whether a run that answers otherwise may: its disk failed, or a feed or a drive was refused, and nothing is lost."""
+        if self.has_workers:
+            is_refused = any(line.startswith(FAILED) or REFUSED_IN_DRIVE.fullmatch(line) for line in lines)
+            return is_refused and (status, errors) in (self.want[::2], (0, b""), *ENDS_EARLY) and self.is_told_then(lines)
+        return any(line.startswith(FAILED) or line == AGAIN for line in lines) and self.is_told(lines, number)
 
     def refuse_each(self):
         """Counts the allocations, the calls that were made again and the disks that failed; the script ends at another answer."""
@@ -185,9 +211,9 @@ class Played:
             if (status, lines, errors) == self.want:
                 continue
             untouched = 0
-            if (status, errors) == (self.want[0], self.want[2]) and is_as_written(lines, self.want[1]):
+            if (status, errors) == self.want[::2] and is_as_written(lines, self.want[1]):
                 again += 1
-            elif any(line.startswith(FAILED) or line == AGAIN for line in lines) and self.is_told(lines, number):
+            elif self.is_well_refused(status, lines, errors, number):
                 failed += 1
             elif (status, b"".join(lines), errors) != BEFORE:
                 sys.exit(f"{self.title}: with allocation {number} refused: {status, lines, errors}")
@@ -204,7 +230,8 @@ def refuse_all_steps(library):
     numbers, again, failed = map(sum, zip(*counts))
     if again == 0 or failed == 0:
         sys.exit(f"engine_steps: {again} calls were refused, and {failed} disks failed")
-    print(f"{len(rows)} rows of engine_steps: {numbers} allocations, {again} calls made again, {failed} disks failed or feeds refused, no other answer")
+    print(f"{len(rows)} rows of engine_steps: {numbers} allocations, {again} calls made again, "
+          f"{failed} disks failed or feeds and drives refused, no other answer")
 
 
 def main():

@@ -1,19 +1,21 @@
 #!/usr/bin/env python3
-"""Stops a feed of 40 epochs at each of its writes and syncs, and crashes it in five ways.
+"""Stops two feeds at each of their writes and syncs, and crashes them in five ways.
 
     bench/each_stop.py          needs crates/td/out/td and crates/engine_steps/out/engine_steps (see the README)
 
-The feed is `engine_steps`' on a disk in memory: a plan with two folds and a group, small batches, a ring of three cells, and a
-cut before it is full. It stops at the K-th write or sync, for each K until none is met; of each range that was written and not
-synced a crash leaves the old bytes, the new ones, or 00, a5 or ff all over. Then `show` tells what is left, and the epochs that
-are not told are fed on. It is required of each stop that
+The feeds are `engine_steps`' on a disk in memory. One has 40 epochs: a plan with two folds and a group, small batches, a ring
+of three cells, and a cut before it is full. The other is the running total of docs/TUTORIAL.md, two epochs and a cut after
+them, whose last lines stand here. A feed stops at the K-th write or sync, for each K until none is met; of each range that was
+written and not synced a crash leaves the old bytes, the new ones, or 00, a5 or ff all over. Then `show` tells what is left, and
+the epochs that are not told are fed on. It is required of each stop that
 
 - what is told is what was acknowledged, or one epoch more, with as many records in each epoch as were fed;
 - the lines that were written before the stop are those of a feed that is not stopped, up to there;
 - the feed that goes on writes the output lines of all epochs after the checkpoint, acknowledges the rest, and ends with the
   states of the whole.
 
-The output lines are those of `td batch` on all epochs, and the states are reckoned here from these lines and the records."""
+The output lines are those of `td batch` on all epochs. The states of the 40 epochs are reckoned here from these lines and the
+records."""
 
 import concurrent.futures
 import pathlib
@@ -26,9 +28,11 @@ ROOT = pathlib.Path(__file__).resolve().parent.parent
 TD = ROOT / "crates/td/out/td"
 STEPS = ROOT / "crates/engine_steps/out/engine_steps"
 
-PLAN = "0 input\n1 fold 40 0\n2 fold 41 0\n3 group 20 1 2\n4 output 1\n5 output 2\n6 output 3\n"
-SHAPE = "3 3 6"
+FOLDS = "0 input\n1 fold 40 0\n2 fold 41 0\n3 group 20 1 2\n4 output 1\n5 output 2\n6 output 3\n"
 EPOCHS, RECORDS, KEYS = 40, 3, 3
+TOTAL = "0 input\n1 fold 40 0\n2 output 1\n"
+TOTAL_EPOCHS = [([(7, 5)], False), ([(7, -2), (8, 1)], True)]
+TOTAL_STATES = ["state 1 7 3 2", "state 1 8 1 1"]
 FILLS = ("old", "new", "00", "a5", "ff")
 # So many stops are played by one run of the program.
 STOPS_OF_A_RUN = 40
@@ -51,21 +55,6 @@ def lines_of(records):
     return [f"0 {key} {val}" for key, val in records] + ["."]
 
 
-def fed(epochs):
-    """The input of a feed."""
-    return [line for records, is_cut in epochs for line in lines_of(records) + ["cut"] * is_cut]
-
-
-def outputs_of(epochs):
-    """The output lines of each epoch, by `td batch`."""
-    text = PLAN + "--\n" + "".join(f"{line}\n" for records, _ in epochs for line in lines_of(records))
-    done = subprocess.run([TD, "batch"], input=text, capture_output=True, text=True, check=True)
-    outputs = [[] for _ in range(len(epochs) + 1)]
-    for line in done.stdout.splitlines():
-        outputs[int(line.split()[0])].append(line)
-    return outputs
-
-
 def states_after(epochs, outputs):
     """The lines of the states: of fold 1 the last total of a key and how many records it had, of fold 2 the greatest value of
     the epoch in which it last sent 1, where it did not send 0 since."""
@@ -84,51 +73,73 @@ def states_after(epochs, outputs):
         f"state 2 {key} {toggled[key]} 0" for key in sorted(toggled)]
 
 
-def rest_of(epochs, kept, told):
-    """The input that is left where so much is told: the cut that follows the last epoch, where it is not written, comes first."""
-    is_cut_left = told > kept and epochs[told - 1][1]
-    return ["cut"] * is_cut_left + fed(epochs[told:])
+class Feed:
+    """A feed's plan, its disk's shape, its epochs and their output lines, and the states that it ends with."""
+
+    def __init__(self, plan, shape, epochs, states=None):
+        self.plan, self.shape, self.epochs = plan, shape, epochs
+        self.outputs = self.made_outputs()
+        self.states = states or states_after(epochs, self.outputs)
+
+    def made_outputs(self):
+        """The output lines of each epoch, by `td batch`."""
+        text = self.plan + "--\n" + "".join(f"{line}\n" for records, _ in self.epochs for line in lines_of(records))
+        done = subprocess.run([TD, "batch"], input=text, capture_output=True, text=True, check=True)
+        outputs = [[] for _ in range(len(self.epochs) + 1)]
+        for line in done.stdout.splitlines():
+            outputs[int(line.split()[0])].append(line)
+        return outputs
+
+    def input_after(self, told):
+        """The input of the epochs after one."""
+        return [line for records, is_cut in self.epochs[told:] for line in lines_of(records) + ["cut"] * is_cut]
+
+    def rest(self, kept, told):
+        """The input that is left where so much is told: the cut that follows the last epoch, where it is not written, comes first."""
+        is_cut_left = told > kept and self.epochs[told - 1][1]
+        return ["cut"] * is_cut_left + self.input_after(told)
+
+    def written(self, kept, told):
+        """What a feed of all that is left writes."""
+        written, done = [], kept
+        for number, (_, is_cut) in enumerate(self.epochs[:told][-1:] + self.epochs[told:], max(told, 1)):
+            if number > told:
+                written.append(f"ack {number}")
+            if is_cut and number > kept:
+                written += [line for lines in self.outputs[done + 1:number + 1] for line in lines] + [f"cut {number}"]
+                done = number
+        return written
+
+    def shown(self):
+        """What `show` prints of the whole."""
+        return [f"kept {len(self.epochs)}", f"told {len(self.epochs)}", *self.states]
+
+    def stopped(self, stop, fill):
+        """The commands of a feed that is stopped, and of what is told then."""
+        return [f"format {self.shape}", f"stop {stop}", "feed 2", *self.input_after(0), "end", f"crash {fill}", "show"]
+
+    def played(self, parts):
+        """What the program answers to each of some lists of commands, with a mark between them: a `tell` of a hall."""
+        mark = ["open 1 1", "tell"]
+        text = self.plan + "--\n" + "".join(f"{line}\n" for part in parts for line in part + mark)
+        done = subprocess.run([STEPS], input=text, capture_output=True, text=True)
+        answers = re.split(r"(?m)^shards 1, .*\n", done.stdout)
+        if done.returncode != 0 or len(answers) != len(parts) + 1 or answers[-1]:
+            sys.exit(f"engine_steps ended with {done.returncode}: {done.stderr} {done.stdout[-1000:]}")
+        return [answer.splitlines() for answer in answers[:-1]]
 
 
-def feed_text(epochs, outputs, kept, told):
-    """What a feed of all that is left writes."""
-    written, done = [], kept
-    for number, (_, is_cut) in enumerate(epochs[:told][-1:] + epochs[told:], max(told, 1)):
-        if number > told:
-            written.append(f"ack {number}")
-        if is_cut and number > kept:
-            written += [line for lines in outputs[done + 1:number + 1] for line in lines] + [f"cut {number}"]
-            done = number
-    return written
-
-
-def played(parts):
-    """What the program answers to each of some lists of commands, with a mark between them: a `tell` of a hall."""
-    mark = ["open 1 1", "tell"]
-    text = PLAN + "--\n" + "".join(f"{line}\n" for part in parts for line in part + mark)
-    done = subprocess.run([STEPS], input=text, capture_output=True, text=True)
-    answers = re.split(r"(?m)^shards 1, .*\n", done.stdout)
-    if done.returncode != 0 or len(answers) != len(parts) + 1 or answers[-1]:
-        sys.exit(f"engine_steps ended with {done.returncode}: {done.stderr} {done.stdout[-1000:]}")
-    return [answer.splitlines() for answer in answers[:-1]]
-
-
-def stopped(epochs, stop, fill):
-    """The commands of a feed that is stopped, and of what is told then."""
-    return [f"format {SHAPE}", f"stop {stop}", "feed 2", *fed(epochs), "end", f"crash {fill}", "show"]
-
-
-def read_stop(name, epochs, outputs, answer):
+def read_stop(name, feed, answer):
     """Whether the feed met its stop, and the checkpoint and the last epoch that are told; the script ends where these are wrong."""
     at = next(index for index, line in enumerate(answer) if line.startswith("kept "))
     written, shown = answer[:at], answer[at:]
     is_met = written[-1:] == ["refused: device"]
-    whole = feed_text(epochs, outputs, 0, 0)
+    whole = feed.written(0, 0)
     before = written[:-1] if is_met else written
     acknowledged = max([int(line[4:]) for line in before if line.startswith("ack ")], default=0)
     kept, told = int(shown[0].removeprefix("kept ")), int(shown[1].removeprefix("told "))
     counts = [line for line in shown if line.startswith("epoch ")]
-    wanted = [f"epoch {number} {len(epochs[number - 1][0])}" for number in range(kept + 1, told + 1)]
+    wanted = [f"epoch {number} {len(feed.epochs[number - 1][0])}" for number in range(kept + 1, told + 1)]
     if before != whole[:len(before)] or (not is_met and before != whole):
         sys.exit(f"{name}: what was written is no beginning of the whole: {written}")
     if told not in (acknowledged, acknowledged + 1) or counts != wanted:
@@ -136,46 +147,51 @@ def read_stop(name, epochs, outputs, answer):
     return is_met, kept, told
 
 
-def check_rest(name, epochs, outputs, kept, told, answer):
+def check_rest(name, feed, kept, told, answer):
     """The script ends where the feed that went on did not come to the whole."""
     at = next(index for index, line in enumerate(answer) if line.startswith("kept "))
     last = next(index for index, line in enumerate(answer) if index > at and not line.startswith(("told ", "state ", "epoch ")))
     rest = answer[last:]
-    wanted = feed_text(epochs, outputs, kept, told) + [f"kept {EPOCHS}", f"told {EPOCHS}"] + states_after(epochs, outputs)
+    wanted = feed.written(kept, told) + feed.shown()
     if rest != wanted:
         sys.exit(f"{name}: fed on from epoch {told + 1} with a checkpoint at {kept}: {rest}, and not {wanted}")
 
 
-def stop_each(epochs, outputs, fill, first):
-    """Plays some stops, and answers how many were met, and how many of them told an epoch more than was acknowledged."""
+def stop_some(feed, fill, first):
+    """Plays some stops, and answers how many were met, and which last epochs were told."""
     stops = range(first, first + STOPS_OF_A_RUN)
-    parts = [stopped(epochs, stop, fill) for stop in stops]
-    told = [read_stop(f"stop {stop}, {fill}", epochs, outputs, answer) for stop, answer in zip(stops, played(parts))]
-    on = [part + ["feed 3", *rest_of(epochs, kept, last), "end", "show"] for part, (_, kept, last) in zip(parts, told)]
-    for stop, (_, kept, last), answer in zip(stops, told, played(on)):
-        check_rest(f"stop {stop}, {fill}", epochs, outputs, kept, last, answer)
+    parts = [feed.stopped(stop, fill) for stop in stops]
+    told = [read_stop(f"stop {stop}, {fill}", feed, answer) for stop, answer in zip(stops, feed.played(parts))]
+    on = [part + ["feed 3", *feed.rest(kept, last), "end", "show"] for part, (_, kept, last) in zip(parts, told)]
+    for stop, (_, kept, last), answer in zip(stops, told, feed.played(on)):
+        check_rest(f"stop {stop}, {fill}", feed, kept, last, answer)
     return sum(is_met for is_met, _, _ in told), {last for _, _, last in told}
 
 
-def main():
-    for program in (TD, STEPS):
-        if not program.exists():
-            sys.exit(f"{program} is not there: cd {program.parent.parent} && rt run")
-    epochs = made_epochs()
-    outputs = outputs_of(epochs)
+def stop_each(feed):
+    """Plays all stops with all fills, and prints how many were met."""
     runs, first = [], 1
     with concurrent.futures.ThreadPoolExecutor() as pool:
         while True:
-            answers = list(pool.map(lambda fill: stop_each(epochs, outputs, fill, first), FILLS))
+            answers = list(pool.map(lambda fill: stop_some(feed, fill, first), FILLS))
             runs += answers
             if all(met == 0 for met, _ in answers):
                 break
             first += STOPS_OF_A_RUN
     met = sum(met for met, _ in runs)
     told = set().union(*[told for _, told in runs])
-    if told != set(range(EPOCHS + 1)):
-        sys.exit(f"some numbers of epochs were never told: {set(range(EPOCHS + 1)) - told}")
-    print(f"a feed of {EPOCHS} epochs stopped at each of its {met // len(FILLS)} writes and syncs, {met} crashes: nothing acknowledged was lost, and each was fed on to the whole")
+    if told != set(range(len(feed.epochs) + 1)):
+        sys.exit(f"some numbers of epochs were never told: {set(range(len(feed.epochs) + 1)) - told}")
+    print(f"a feed of {len(feed.epochs)} epochs stopped at each of its {met // len(FILLS)} writes and syncs, {met} crashes: "
+          "nothing acknowledged was lost, and each was fed on to the whole")
+
+
+def main():
+    for program in (TD, STEPS):
+        if not program.exists():
+            sys.exit(f"{program} is not there: cd {program.parent.parent} && rt run")
+    stop_each(Feed(FOLDS, "3 3 6", made_epochs()))
+    stop_each(Feed(TOTAL, "4 2 3", TOTAL_EPOCHS, TOTAL_STATES))
 
 
 main()

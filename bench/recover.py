@@ -2,6 +2,7 @@
 """Asks td_keeper what it recovers of many disks, and compares each answer with a reading of the format in this file.
 
     bench/recover.py [PROGRAM]          needs the kit, or a PROGRAM that an earlier run built
+    bench/recover.py --steps            needs crates/engine_steps/out/engine_steps (see the README)
 
 It builds bench/recover.rattle in a copy of the repository's crates below it, which is proved on the way: that takes minutes,
 and all that comes after it half a minute. With `--keep FOLDER` the copy is made there and stays. The reading shares nothing
@@ -16,11 +17,15 @@ with the crates. The disks are:
 Last, with a C compiler: one disk is recovered with each allocation refused in turn, alone and with all that follow, and the
 answer is what is told, or `memory`; and a file is formatted and recovered with each read, write and sync failing in turn:
 the answer is then `device`, and the disk that comes back is of use, but after a sync that failed. The last line says what was
-compared; at a difference the status is 1."""
+compared; at a difference the status is 1.
+
+With `--steps` no program is built: `engine_steps` recovers the disks, each byte is changed to one value alone, and there are
+fewer crafted ones. It tells neither versions nor requests, but refuses a disk for them as the other program does; no call fails."""
 
 import os
 import pathlib
 import random
+import re
 import shutil
 import struct
 import subprocess
@@ -36,6 +41,8 @@ M, N, K = 4, 2, 3
 OPEN = 0xA5
 CHANGED = (0x00, 0x01, 0x5A, 0xA5, 0xFF)
 CRAFTED = 4000
+STEPS = ROOT / "crates/engine_steps/out/engine_steps"
+CRAFTED_BY_STEPS = 500
 TOP = 1 << 63
 # So many runs in a row that meet no refusal end the count.
 UNTOUCHED = 40
@@ -381,21 +388,64 @@ def asked(program, lines):
     return done.stdout.splitlines()
 
 
-def compare(program, name, lines, images, wanted=None):
-    """What the program tells of each image, of which a line asks, against what is told here, or wanted."""
-    wanted = wanted or [told(image) for image in images]
+def compare(program, name, lines, images):
+    """What the program tells of each image, of which a line asks, against what is told here."""
+    wanted = [told(image) for image in images]
     got = asked(program, lines)
     if len(got) != len(wanted):
         sys.exit(f"{name}: {len(got)} answers to {len(wanted)} images")
     for line, mine, theirs in zip(lines[-len(wanted):], wanted, got):
         if mine != theirs:
             sys.exit(f"{name}: {line[:60]}: told {mine}, and td_keeper answers {theirs}")
+    return print_compared(name, wanted)
+
+
+def print_compared(name, wanted):
     kinds = {}
     for answer in wanted:
         kind = answer if answer[0].isalpha() else "told"
         kinds[kind] = kinds.get(kind, 0) + 1
     print(f"{name}: {len(wanted)} images, no difference;", ", ".join(f"{kinds[kind]} {kind}" for kind in sorted(kinds)))
     return len(wanted)
+
+
+# By `engine_steps`
+
+
+def steps_to(image, before):
+    """The commands that make one image of another, and recover it."""
+    size, same = len(image), min(len(image), len(before))
+    differs = int.from_bytes(image, "little") ^ int.from_bytes(before[:same], "little")
+    changed = re.finditer(rb"[^\0]", differs.to_bytes(size, "little"))
+    return [f"size {size}"] * (size != len(before)) + [f"byte {it.start()} {image[it.start()]:02x}" for it in changed] + ["recover"]
+
+
+def as_steps(answer):
+    """What `recover` prints where this is told."""
+    if answer[0].isalpha():
+        return [f"refused: {answer}"]
+    head, states, batches = answer.split("|")
+    epoch = int(head.split()[1])
+    lists = [states, *[batch.split(":")[1] for batch in batches.split(";") if batch]]
+    return [f"{f'epoch {epoch + i}' if i else f'kept {epoch}'}:" + "".join(f" ({each})" for each in members.split(",") if each)
+            for i, members in enumerate(lists)]
+
+
+def compare_steps(name, images):
+    """What `engine_steps` recovers of each image against what is told here."""
+    wanted, commands, before = [told(image) for image in images], ["blank 0"], b""
+    for image in images:
+        commands += steps_to(image, before)
+        before = image
+    text = TOTAL.decode() + "--\n" + "\n".join(commands) + "\n"
+    done = subprocess.run([STEPS], input=text, capture_output=True, text=True)
+    answers = re.split(r"\n(?=kept |refused: )", done.stdout.removesuffix("\n"))
+    if done.returncode != 0 or len(answers) != len(images):
+        sys.exit(f"{name}: status {done.returncode}, {len(answers)} answers to {len(images)} images: {done.stderr}")
+    for number, (mine, theirs) in enumerate(zip(wanted, answers)):
+        if "\n".join(as_steps(mine)) != theirs:
+            sys.exit(f"{name}: image {number}: told {mine}, and td_keeper answers {theirs}")
+    return print_compared(name, wanted)
 
 
 def library_of(folder, source):
@@ -457,11 +507,45 @@ def ask_file(program, words, file, more):
     return done.stdout.rstrip("\n")
 
 
+def compare_all(program):
+    """Compares all images, and answers how many they are."""
+    cases = [image for _, image, _ in named_cases()]
+    images = compare(program, "named", [f"image {image.hex()}" for image in cases], cases)
+    for version in (1, 2):
+        full, _ = disks(version)
+        base = bytes(full.bytes)
+        beginnings = range(len(base) + 1)
+        images += compare(program, f"version {version}, beginnings", [f"base {base.hex()}", *[f"cut {n}" for n in beginnings]],
+                          [base[:n] for n in beginnings])
+        changes = [(at, value) for at in range(len(base)) for value in CHANGED]
+        images += compare(program, f"version {version}, single bytes", [f"base {base.hex()}", *[f"set {at} {value}" for at, value in changes]],
+                          [full.changed(change) for change in changes])
+    crafts = [crafted(seed) for seed in range(1, CRAFTED + 1)]
+    return images + compare(program, "crafted", [f"image {image.hex()}" for image in crafts], crafts)
+
+
+def compare_by_steps():
+    """Compares fewer images by `engine_steps`."""
+    if not STEPS.exists():
+        sys.exit(f"{STEPS} is not there: cd crates/engine_steps && rt run")
+    images = compare_steps("named", [image for _, image, _ in named_cases()])
+    for version in (1, 2):
+        full, _ = disks(version)
+        base = bytes(full.bytes)
+        images += compare_steps(f"version {version}, beginnings", [base[:n] for n in range(len(base), -1, -1)])
+        changed = [full.changed((at, CHANGED[(at + version) % len(CHANGED)])) for at in range(len(base))]
+        images += compare_steps(f"version {version}, single bytes", changed)
+    images += compare_steps("crafted", [crafted(seed) for seed in range(1, CRAFTED_BY_STEPS + 1)])
+    print(f"{images} images read alike by engine_steps")
+
+
 def main():
     for name, image, wanted in named_cases():
         if told(image) != wanted:
             sys.exit(f"{name}: wanted {wanted}, and this file tells {told(image)}")
     words = sys.argv[1:]
+    if words == ["--steps"]:
+        return compare_by_steps()
     if len(words) > 2 or words[:1] == ["--keep"] and len(words) != 2:
         sys.exit(__doc__)
     with tempfile.TemporaryDirectory() as folder:
@@ -474,19 +558,7 @@ def main():
         made = asked(program, ["make"])
         if made != [bytes(full.bytes).hex()]:
             sys.exit("the keeper writes other bytes")
-        cases = list(named_cases())
-        images = compare(program, "named", [f"image {image.hex()}" for _, image, _ in cases], [], [wanted for _, _, wanted in cases])
-        for version in (1, 2):
-            full, _ = disks(version)
-            base = bytes(full.bytes)
-            beginnings = range(len(base) + 1)
-            images += compare(program, f"version {version}, beginnings", [f"base {base.hex()}", *[f"cut {n}" for n in beginnings]],
-                              [base[:n] for n in beginnings])
-            changes = [(at, value) for at in range(len(base)) for value in CHANGED]
-            images += compare(program, f"version {version}, single bytes", [f"base {base.hex()}", *[f"set {at} {value}" for at, value in changes]],
-                              [full.changed(change) for change in changes])
-        crafts = [crafted(seed) for seed in range(1, CRAFTED + 1)]
-        images += compare(program, "crafted", [f"image {image.hex()}" for image in crafts], crafts)
+        images = compare_all(program)
         image = bytes(disks(2)[0].bytes)
         refused, failed = refuse_each(program, pathlib.Path(folder), image), fail_each(program, pathlib.Path(folder), image)
         print(f"{images} images read alike; {refused} allocations refused and {failed} calls failed in turn; "

@@ -4,6 +4,9 @@ use crate::gate::Passage;
 use crate::hall_command::{HallCall, hall_call_of};
 use crate::keeper_command::{KeeperCall, keeper_call_of};
 use crate::pool_command::passage_of;
+use crate::region_command::{RegionCall, region_call_of};
+use crate::ring_command::{RingCall, ring_call_of};
+use crate::table_command::{TableCall, table_call_of};
 use td_stamp::{Entry, Rec, State};
 
 /// What a line asks for.
@@ -21,6 +24,14 @@ pub(crate) enum Command<'a> {
     Disk(DiskCall),
     /// A call of the keeper.
     Keeper(KeeperCall<'a>),
+    /// `region ..`: a call of a gated region.
+    Region(RegionCall<'a>),
+    /// `ring ..`: a call of a ring of cells.
+    Ring(RingCall<'a>),
+    /// `table ..`: a call of a table of active pointstamps.
+    Table(TableCall<'a>),
+    /// `could POINTSTAMP to POINTSTAMP`: whether the first could result in the second.
+    Could(&'a str),
     /// `feed WORKERS`, with the lines that follow up to a line `end`.
     Feed(u8, &'a str),
     /// `meet WORKERS`, with the lines that follow up to a line `end`.
@@ -57,6 +68,10 @@ fn command_of<'a>(name: &str, words: &'a str) -> Option<Command<'a>> {
         "open" => open_of(words),
         "other" => Some(Command::Other),
         "closures" => Some(Command::Closures(words == "all")),
+        "region" => Some(Command::Region(region_call_of(words)?)),
+        "ring" => Some(Command::Ring(ring_call_of(words)?)),
+        "table" => Some(Command::Table(table_call_of(words)?)),
+        "could" => Some(Command::Could(words)),
         _ => call_of(name, words),
     }
 }

@@ -3,6 +3,8 @@ use std::alloc::{AllocError, AllocFailed};
 use std::io;
 use td_core::HallError;
 use td_disk::{Fault, MakeError};
+use td_progress::ProgressError;
+use td_reach::ReachError;
 use td_stamp::StampError;
 use td_standing::KeeperError;
 use td_task::TaskError;
@@ -21,6 +23,10 @@ pub(crate) enum StepError {
     NoDisk,
     /// No keeper has the disk.
     NoKeeper,
+    /// No ring was opened.
+    NoRing,
+    /// No table was opened.
+    NoTable,
     /// One of many calls was refused.
     Refused,
     /// Standard input or standard output failed.
@@ -75,6 +81,18 @@ impl From<KeeperError> for StepError {
 /// A disk in memory that was made for this fails where its record of calls may not grow.
 impl From<Fault> for StepError {
     fn from(_fault: Fault) -> StepError {
+        StepError::Memory
+    }
+}
+
+impl From<ReachError> for StepError {
+    fn from(_error: ReachError) -> StepError {
+        StepError::Memory
+    }
+}
+
+impl From<ProgressError> for StepError {
+    fn from(_error: ProgressError) -> StepError {
         StepError::Memory
     }
 }

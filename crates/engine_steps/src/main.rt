@@ -1,6 +1,7 @@
 //! Halls and a keeper driven step by step: a plan and then commands come on standard input, and each command has its answer on
-//! standard output. So rows of data test the calls of a hall, and those of a keeper on a disk in memory that stops, fails and
-//! crashes (`rows/README.md` has the commands). A command to which memory was refused says so, and is done once more.
+//! standard output. So rows of data test the calls of a hall, those of a keeper on a disk in memory that stops, fails and
+//! crashes, and those of parts of which they are made: gated regions, rings of cells and tables of pointstamps (`rows/README.md`
+//! has the commands). A command to which memory was refused says so, and is done once more.
 #![tactic(auto)]
 
 mod catalogue;
@@ -12,16 +13,24 @@ mod error;
 mod gate;
 mod hall_command;
 mod hands;
+mod inputs;
 mod keeper_calls;
 mod keeper_command;
 mod keeper_lines;
 mod lines;
 mod meeting;
 mod pool_command;
+mod region_calls;
+mod region_command;
 mod release;
 mod replies;
+mod ring_calls;
+mod ring_command;
 mod stage;
+mod stamp_words;
 mod store;
+mod table_calls;
+mod table_command;
 mod watch;
 mod worker;
 

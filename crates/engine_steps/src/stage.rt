@@ -15,8 +15,11 @@ use crate::lines::{
 };
 use crate::meeting::Meeting;
 use crate::pool_command::commands_of;
+use crate::region_calls::region_call;
 use crate::release::release;
+use crate::ring_calls::ring_call;
 use crate::store::{Store, print_fault};
+use crate::table_calls::{could, table_call};
 use crate::watch::{attach, detach, read};
 use std::alloc::Global;
 use std::sync::Wait;
@@ -27,14 +30,17 @@ use td_calls::{Closures, Stock};
 use td_console::StdWriter;
 use td_core::Hall;
 use td_core::laws::each_is_sound;
+use td_journal::Journal;
 use td_plan::Plan;
+use td_progress::Table;
 use td_stamp::States;
 use td_watch::Reader;
 
 /// Epochs are numbered up to this.
 const LAST: u64 = (1 << 63) - 1;
 
-/// Two halls of a plan, the states with which the next begins, the tasks that are out, and a disk.
+/// Two halls of a plan, the states with which the next begins, the tasks that are out, a disk, and parts of which halls and keepers
+/// are made: a ring of cells and a table.
 #[derive(Drop)]
 pub(crate) struct Stage {
     alloc: Global,
@@ -46,6 +52,8 @@ pub(crate) struct Stage {
     hands: Hands,
     store: Store,
     reader: Option<Reader>,
+    ring: Option<Journal>,
+    table: Option<Table>,
 }
 
 impl Stage {
@@ -61,6 +69,8 @@ impl Stage {
             hands: Hands::new(alloc),
             store: Store::Empty,
             reader: None,
+            ring: None,
+            table: None,
         }
     }
 
@@ -83,6 +93,15 @@ impl Stage {
             }
             Command::Disk(call) => self.store.call(rt, self.alloc, &self.plan, call),
             Command::Keeper(call) => self.keeper_call(rt, call),
+            Command::Region(call) => region_call(rt, self.alloc, self.store.device()?, call),
+            Command::Ring(call) => {
+                let device = self.store.device()?;
+                ring_call(rt, self.alloc, &self.plan, device, &mut self.ring, call)
+            }
+            Command::Table(call) => {
+                table_call(rt, self.alloc, &self.plan, &mut self.table, call)
+            }
+            Command::Could(stamps) => could(rt, self.alloc, &self.plan, stamps),
             Command::Feed(workers, input) => self.feed(rt, workers, input),
             Command::Meet(workers, input) => self.meet(rt, workers, input),
             Command::Drive(passage, lines) => self.drive(rt, passage, lines),

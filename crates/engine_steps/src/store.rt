@@ -52,6 +52,15 @@ impl Store {
         }
     }
 
+    /// The disk, in its place. No keeper has it any more.
+    pub(crate) fn device(&mut self) -> Result<&mut Device, StepError> {
+        self.into_disk()?;
+        match self {
+            Store::Disk(device) => Ok(device),
+            Store::Kept(_) | Store::Empty => Err(StepError::NoDisk),
+        }
+    }
+
     /// The disk. No keeper has it any more.
     pub(crate) fn take(&mut self) -> Result<Device, StepError> {
         match mem::replace(self, Store::Empty) {

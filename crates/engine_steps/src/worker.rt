@@ -91,7 +91,7 @@ fn drive_and_join<K: Crew, R: Threads + Wait>(
         pool.stop(rt);
         return Err(StepError::Memory);
     };
-    let replies = keeper.drive(rt, alloc, pool, commands);
+    let replies = keeper.drive(rt, pool, commands);
     pool.stop(rt);
     Ok((replies, join_each(rt, alloc, workers)?))
 }

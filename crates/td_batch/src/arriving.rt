@@ -22,8 +22,9 @@ pub(crate) fn arriving<'b, 'a>(
     ensures { IfOk result (λ arrived. arrived.items ≡
         arrivals (map (emitted (bags_read vertex.now.vertex.kind before.now bags.now)) vertex.now.vertex.sources)) }
 {
-    let kind = vertex.kind();
+    // Read for its contract alone.
     let _few = vertex.source_count();
+    let kind = vertex.kind();
     let mut arrived = Vec::new(alloc);
     let mut port = 0;
     let mut left = vertex.sources();

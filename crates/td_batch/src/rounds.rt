@@ -1,5 +1,6 @@
 //! The turns of a loop.
-ghost use Rattle.std.specs.Prelude.{ℕ, ◌≡◌, ◌==◌, ◌+◌, ◌^◌, ◌≤◌, ◌<◌, ◌∷◌, ◌++◌, [], None, List, true, false, IfOk, OnOk, is_none, length, map};
+ghost use Rattle.std.specs.Prelude.{ℕ, ◌≡◌, ◌==◌, ◌+◌, ◌^◌, ◌≤◌, ◌<◌, ◌∷◌, ◌++◌, [], None, List, true, false, IfOk};
+ghost use Rattle.std.specs.Prelude.{OnOk, is_none, length, map};
 ghost use Rattle.std.specs.List.{list_any};
 ghost use Rattle.td_stamp.specs.Orders.{rec_cmp};
 ghost use Rattle.td_stamp.specs.Bag.{bag_of};

@@ -1,5 +1,6 @@
 //! The answer text of a plan and batches, by a hall whose shards take turns.
-ghost use Rattle.std.specs.Prelude.{◌≡◌, ◌⊎◌, ◌++◌, ◌+◌, ◌==◌, ◌≤◌, ◌<◌, ◌^◌, if◌then◌else◌, ℕ, [], Some, None, false, IfOk, IfErr, OnOk, IsTrue, All, true, reverse};
+ghost use Rattle.std.specs.Prelude.{◌≡◌, ◌⊎◌, ◌++◌, ◌+◌, ◌==◌, ◌≤◌, ◌<◌, ◌^◌, if◌then◌else◌, ℕ, [], Some, None, false};
+ghost use Rattle.std.specs.Prelude.{IfOk, IfErr, OnOk, IsTrue, All, true, reverse};
 ghost use Rattle.std.specs.Prelude.{length, string_bytes};
 ghost use Rattle.std.specs.Bool.{OnTrue};
 ghost use Rattle.std.specs.List.{list_all};
@@ -45,6 +46,7 @@ pub(crate) fn sim_text<L: Law, C: Closures<L>>(
     ensures err { IfErr result (λ f. (f ≡ Fault.Memory) ⊎ (f ≡ Fault.Spent)) }
 {
     never_stuck::<L>();
+    // Read for its contract alone.
     let _lawful = plan.vertices();
     let mut hall = released::<L>(alloc, plan, batches, workers)?;
     let mut text = String::new(alloc);

@@ -16,6 +16,11 @@ use Rattle.td_core.specs.Cuts.{IsCutAt, states_after}
 use Rattle.td_core.specs.Refusals.{IsRefused}
 use Rattle.td_core.proofs.CollectSteps.{ReachedByStep}
 
+-- what is known wherever a call fails
+pub at_err : {X Y : Type 0} {P : Type 0} (Q : Y → Type 0) → P → (r : Result X Y) → IfErr r (λ e. Q e → P)
+at_err Q known (Ok x) = tt
+at_err Q known (Err e) = λ why. known
+
 drop_suc : {X : Type 0} (n : ℕ) (xs : List X) → drop 1 (drop n xs) ≡ drop (suc n) xs
 drop_suc zero [] = refl
 drop_suc zero (x ∷ xs) = refl

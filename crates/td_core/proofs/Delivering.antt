@@ -30,7 +30,7 @@ use Rattle.td_shard.specs.declared.shard.Shard.{Shard}
 use Rattle.td_core.specs.declared.floor.Floor.{Floor}
 use Rattle.td_core.specs.Floor.{state_of, IsHall, asked_in, asked_of_shard}
 use Rattle.td_core.specs.Posted.{mails_with, waits}
-use Rattle.td_core.specs.Delivered.{IsDelivered, IsSent, IsKept, CanSend, added_by, waiting_with, waiting_at_shard, asked_now}
+use Rattle.td_core.specs.Delivered.{IsDelivered, IsSent, IsNoted, CanSend, added_by, waiting_with, waiting_at_shard, asked_now}
 use Rattle.td_core.proofs.CloseSteps.{CountsAppend}
 use Rattle.td_core.proofs.PostingSteps.{none_posted}
 use Rattle.td_core.proofs.OutTasks.{of_one}
@@ -127,7 +127,7 @@ module _ (answers : Answers) (append : CountsAppend) (task : Task) (port : ℕ) 
       by true = refl
       by false = refl
 
-  pub kept_delivered : SetLaws notification_cmp → is_notified task.kind ≡ true → task.shard < length old.shards.items → IsKept task.shard v t (more task port recs) old new
+  pub kept_delivered : SetLaws notification_cmp → is_notified task.kind ≡ true → task.shard < length old.shards.items → IsNoted task.shard v t (more task port recs) old new
       → added.sent ≡ [] → added.seen ≡ [] → comes_out_at_once task.kind v t recs ≡ []
       → IsDelivered answers task port recs old new
   kept_delivered sets noted within is sent_is seen_is outputs_is = record {
@@ -167,7 +167,7 @@ module _ (answers : Answers) (append : CountsAppend) (task : Task) (port : ℕ) 
 
   -- those that keep them
   pub kept_as : SetLaws notification_cmp → ((code : ℕ) × (task.kind ≡ Group code)) ⊎ ((code : ℕ) × (task.kind ≡ Fold code)) → task.shard < length old.shards.items
-      → IsKept task.shard v t (more task port recs) old new → IsDelivered answers task port recs old new
+      → IsNoted task.shard v t (more task port recs) old new → IsDelivered answers task port recs old new
   kept_as sets (inl (code, e)) within is =
       kept_delivered sets (ap is_notified e) within is (ap (λ k. (added_as k).sent) e) (ap (λ k. (added_as k).seen) e) (ap (λ k. comes_out_at_once k v t recs) e)
   kept_as sets (inr (code, e)) within is =

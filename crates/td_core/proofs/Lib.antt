@@ -37,6 +37,7 @@ pub mod Held
 pub mod TakeLists
 pub mod TakeSteps
 pub mod TakenHall
+pub mod PickNamed
 pub mod DrainSteps
 pub mod DrainFloors
 pub mod Advance

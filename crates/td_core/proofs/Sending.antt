@@ -16,7 +16,6 @@ use Rattle.td_machine.specs.State.{stamped_cmp, shard_of_key}
 use Rattle.td_machine.specs.Steps.{posts, posted, stamped, sending_times, edges_from, on_edge}
 use Rattle.td_machine.specs.AtOnce.{fresh, stamped_at}
 use Rattle.td_machine.specs.ByEdge.{times_from, stamps_by_edge, stamp_on}
-use Rattle.td_shard.specs.Seen as shards
 use Rattle.td_shard.specs.declared.shard.Shard.{Shard}
 use Rattle.td_core.specs.declared.floor.Floor.{Floor}
 use Rattle.td_core.specs.declared.sites.Outlet.{Outlet}
@@ -74,38 +73,26 @@ module _ (plan : List Line) (v : ℕ) (t : Timestamp) where
 pub looked_up : (plan : List Line) (sites : Sites) → IsSites plan sites → (v : ℕ) (t : Timestamp) → sending_times (kind_in sites v) (bound_in sites v) t ≡ times_from plan v t
 looked_up plan sites is v t = λ i. sending_times (is.kind v i) (is.bound v i) t
 
--- NEW RECORDS are told the same way by a shard's definition and by the machine's
-pub same_fresh : (seen : List Stamped) (v : ℕ) (t : Timestamp) (recs : List Rec) → shards.fresh seen v t recs ≡ fresh seen v t recs
-same_fresh seen v t [] = refl
-same_fresh seen v t (r ∷ rs) = by (has stamped_cmp (stamped_at v t r) seen) (same_fresh seen v t rs) (same_fresh (bag_insert stamped_cmp (stamped_at v t r) seen) v t rs)
-  where
-    by : (b : Bool) → shards.fresh seen v t rs ≡ fresh seen v t rs
-        → shards.fresh (bag_insert stamped_cmp (stamped_at v t r) seen) v t rs ≡ fresh (bag_insert stamped_cmp (stamped_at v t r) seen) v t rs
-        → cond b (shards.fresh seen v t rs) (r ∷ shards.fresh (bag_insert stamped_cmp (stamped_at v t r) seen) v t rs)
-        ≡ elim b [ true ↦ fresh seen v t rs | false ↦ r ∷ fresh (bag_insert stamped_cmp (stamped_at v t r) seen) v t rs ]
-    by true there new = there
-    by false there new = ap (λ l. r ∷ l) new
-
--- they are no more than all, and of each shard no more
-pub fewer : (seen : List Stamped) (v : ℕ) (t : Timestamp) (recs : List Rec) → length (shards.fresh seen v t recs) ≤ length recs
+-- NEW RECORDS are no more than all, and of each shard no more
+pub fewer : (seen : List Stamped) (v : ℕ) (t : Timestamp) (recs : List Rec) → length (fresh seen v t recs) ≤ length recs
 fewer seen v t [] = omega arith
-fewer seen v t (r ∷ rs) = by (has stamped_cmp (shards.at v t r) seen) (fewer seen v t rs) (fewer (bag_insert stamped_cmp (shards.at v t r) seen) v t rs)
+fewer seen v t (r ∷ rs) = by (has stamped_cmp (stamped_at v t r) seen) (fewer seen v t rs) (fewer (bag_insert stamped_cmp (stamped_at v t r) seen) v t rs)
   where
-    by : (b : Bool) → length (shards.fresh seen v t rs) ≤ length rs → length (shards.fresh (bag_insert stamped_cmp (shards.at v t r) seen) v t rs) ≤ length rs
-        → length (cond b (shards.fresh seen v t rs) (r ∷ shards.fresh (bag_insert stamped_cmp (shards.at v t r) seen) v t rs)) ≤ length (r ∷ rs)
+    by : (b : Bool) → length (fresh seen v t rs) ≤ length rs → length (fresh (bag_insert stamped_cmp (stamped_at v t r) seen) v t rs) ≤ length rs
+        → length {A = Rec} (elim b [ true ↦ fresh seen v t rs | false ↦ r ∷ fresh (bag_insert stamped_cmp (stamped_at v t r) seen) v t rs ]) ≤ length (r ∷ rs)
     by true there new = omega (arith, there)
     by false there new = omega (arith, new)
 
-fewer_of : (workers s : ℕ) (seen : List Stamped) (v : ℕ) (t : Timestamp) (recs : List Rec) → count_of workers (shards.fresh seen v t recs) s ≤ count_of workers recs s
+fewer_of : (workers s : ℕ) (seen : List Stamped) (v : ℕ) (t : Timestamp) (recs : List Rec) → count_of workers (fresh seen v t recs) s ≤ count_of workers recs s
 fewer_of workers s seen v t [] = omega arith
 fewer_of workers s seen v t (r ∷ rs) =
-    by (has stamped_cmp (shards.at v t r) seen) (fewer_of workers s seen v t rs) (fewer_of workers s (bag_insert stamped_cmp (shards.at v t r) seen) v t rs)
+    by (has stamped_cmp (stamped_at v t r) seen) (fewer_of workers s seen v t rs) (fewer_of workers s (bag_insert stamped_cmp (stamped_at v t r) seen) v t rs)
   where
     mine : List Rec → List Rec
     mine xs = filter (λ x. shard_of_key workers x.key == s) xs
 
     after : List Rec
-    after = shards.fresh (bag_insert stamped_cmp (shards.at v t r) seen) v t rs
+    after = fresh (bag_insert stamped_cmp (stamped_at v t r) seen) v t rs
 
     first : (here : Bool) (xs ys : List Rec) → length xs ≤ length ys → length (cond here (r ∷ xs) xs) ≤ length (cond here (r ∷ ys) ys)
     first true xs ys l = omega (arith, l)
@@ -115,17 +102,17 @@ fewer_of workers s seen v t (r ∷ rs) =
     more true xs ys l = omega (arith, l)
     more false xs ys l = l
 
-    by : (b : Bool) → count_of workers (shards.fresh seen v t rs) s ≤ count_of workers rs s
-        → count_of workers (shards.fresh (bag_insert stamped_cmp (shards.at v t r) seen) v t rs) s ≤ count_of workers rs s
-        → length (filter (λ x. shard_of_key workers x.key == s) (cond b (shards.fresh seen v t rs) (r ∷ shards.fresh (bag_insert stamped_cmp (shards.at v t r) seen) v t rs)))
+    by : (b : Bool) → count_of workers (fresh seen v t rs) s ≤ count_of workers rs s
+        → count_of workers (fresh (bag_insert stamped_cmp (stamped_at v t r) seen) v t rs) s ≤ count_of workers rs s
+        → length (filter (λ x. shard_of_key workers x.key == s) (elim b [ true ↦ fresh seen v t rs | false ↦ r ∷ fresh (bag_insert stamped_cmp (stamped_at v t r) seen) v t rs ]))
         ≤ length (filter (λ x. shard_of_key workers x.key == s) (r ∷ rs))
-    by true there new = more (shard_of_key workers r.key == s) (mine (shards.fresh seen v t rs)) (mine rs) there
+    by true there new = more (shard_of_key workers r.key == s) (mine (fresh seen v t rs)) (mine rs) there
     by false there new = first (shard_of_key workers r.key == s) (mine after) (mine rs) new
 
 -- room for all of them is room for those that are new
-pub room_for_new : (seen : List Stamped) (v : ℕ) (t : Timestamp) (recs : List Rec) (edges : ℕ) (ss : List Shard) → HaveRoom recs edges ss → HaveRoom (shards.fresh seen v t recs) edges ss
+pub room_for_new : (seen : List Stamped) (v : ℕ) (t : Timestamp) (recs : List Rec) (edges : ℕ) (ss : List Shard) → HaveRoom recs edges ss → HaveRoom (fresh seen v t recs) edges ss
 room_for_new seen v t recs edges ss h =
-    weaker (λ p. HasRoom (count_of (length ss) recs p.0 * edges) p.1) (λ p. HasRoom (count_of (length ss) (shards.fresh seen v t recs) p.0 * edges) p.1)
+    weaker (λ p. HasRoom (count_of (length ss) recs p.0 * edges) p.1) (λ p. HasRoom (count_of (length ss) (fresh seen v t recs) p.0 * edges) p.1)
     (λ p k.
     let less = mul-le-mul_right edges (fewer_of (length ss) p.0 seen v t recs) in
     let room = k.0 in

@@ -179,7 +179,7 @@ at_own workers k (m ∷ ms) (suc i) l h =
     let there : k + suc i ≡ k + 1 + i = omega arith in
     subst (λ n. AllByRecursion (λ c. IsKeyOf workers n c) (get_or ms i [])) (sym there) (at_own workers (k + 1) ms i (omega (arith, l)) h.1)
 
-not_before : (workers k s : ℕ) (ms : List (List Message)) → s < k → AllByRecursion (IsMail workers) (enumerate_from k ms) → AllByRecursion (λ c. IsKeyOf workers s c → ⊥) (flat ms)
+pub not_before : (workers k s : ℕ) (ms : List (List Message)) → s < k → AllByRecursion (IsMail workers) (enumerate_from k ms) → AllByRecursion (λ c. IsKeyOf workers s c → ⊥) (flat ms)
 not_before workers k s [] l h = tt
 not_before workers k s (m ∷ ms) l h =
     of_two (λ c. IsKeyOf workers s c → ⊥) m (flat ms) (weaker (λ c. IsKeyOf workers k c) (λ c. IsKeyOf workers s c → ⊥) (λ c is other. absurd (let same : k ≡ s = sym is ∙ other in omega (arith, l, same))) m h.0)

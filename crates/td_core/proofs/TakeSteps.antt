@@ -290,7 +290,7 @@ module _ (answers : Answers) (floor : Floor) (inv : IsHall answers floor) (bags 
       come [] h = tt
       come (r ∷ rs) h = (λ e. other (sym h.0 ∙ e), come rs h.1)
 
-  tasks_none : (s : ℕ) (out : List Task) → AllByRecursion (StillThere S) out → list_any (λ t. t.shard == s) out ≡ false → AllByRecursion (λ c. shard_of_key W c.rec.key ≡ s → ⊥) (with_tasks out)
+  pub tasks_none : (s : ℕ) (out : List Task) → AllByRecursion (StillThere S) out → list_any (λ t. t.shard == s) out ≡ false → AllByRecursion (λ c. shard_of_key W c.rec.key ≡ s → ⊥) (with_tasks out)
   tasks_none s [] h e = tt
   tasks_none s (t ∷ ts) h e =
       let two = neither (t.shard == s) (list_any (λ t. t.shard == s) ts) e in

@@ -31,6 +31,7 @@ use Rattle.td_machine.specs.Steps.Refusal.{spent}
 use Rattle.td_machine.specs.NoneLeft.{NoneToTake}
 use Rattle.std.proofs.lemmas.Option.{slice_get-get_or}
 use Rattle.td_core.specs.declared.error.HallError.{HallError}
+use Rattle.td_core.specs.declared.error.HallError.TheVariants.{Memory}
 use Rattle.td_machine.specs.Waits.{WaitsByPlace, WhatWaits}
 use Rattle.td_shard.specs.declared.noted.Noted.{Noted}
 use Rattle.td_shard.specs.declared.shard.Shard.{Shard}
@@ -89,7 +90,7 @@ keys_of_coming : (workers s v port : ℕ) (t : Timestamp) (recs : List Rec) → 
 keys_of_coming workers s v port t [] h = tt
 keys_of_coming workers s v port t (r ∷ rs) h = (h.0, keys_of_coming workers s v port t rs h.1)
 
-some_of : {X : Type 0} (o : Option X) → is_some o ≡ true → (x : X) × (o ≡ Some x)
+pub some_of : {X : Type 0} (o : Option X) → is_some o ≡ true → (x : X) × (o ≡ Some x)
 some_of None e = absurd (cc)
 some_of (Some x) e = (x, refl)
 
@@ -336,8 +337,14 @@ module _ (answers : Answers) (floor : Floor) (inv : IsHall answers floor) (bags 
 
     pub refused_so : (r : Result (Option Task) HallError) → IfErr r (IsPickRefused s pick floor) → IfErr r (IsTakeRefused S s)
     refused_so (Ok task) h = tt
-    refused_so (Err why) (inl m) = inl m
+    refused_so (Err why) (inl m) = inl m.0
     refused_so (Err why) (inr h) = let one = some_task h.2.0 (h.2.1 empty_shard) in inr (spent, h.0, is_spent free one.0 one.1 h.1)
+
+    -- want of memory comes last
+    pub memory_last : (r : Result (Option Task) HallError) → IfErr r (IsPickRefused s pick floor) → IfErr r (λ e. e ≡ Memory → (is_out S s ≡ false) × (S.taken < ends))
+    memory_last (Ok task) h = tt
+    memory_last (Err why) (inl m) = λ is. (free, m.1)
+    memory_last (Err why) (inr h) = λ is. absurd (let other = h.0 in cc)
 
 -- PUT BACK
 last_of : {X : Type 0} (xs ys : List X) (x y : X) → xs ++ x ∷ [] ≡ ys ++ y ∷ [] → (xs ≡ ys) × (x ≡ y)

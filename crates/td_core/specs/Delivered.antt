@@ -94,7 +94,7 @@ asked_now v t true = []
 asked_now v t false = stamp_at v t ∷ []
 
 -- Items wait in a shard, and their notification is active
-pub record IsKept (s v : ℕ) (t : Timestamp) (more : List Arrival) (old new : Floor) : Type 0 where
+pub record IsNoted (s v : ℕ) (t : Timestamp) (more : List Arrival) (old new : Floor) : Type 0 where
   pub parts : new ≡ record old { table = new.table; shards = new.shards }
   pub plan : new.table.plan ≡ old.table.plan
   pub stamps : IsSameBag new.table.stamps (asked_now v t (is_some (items_at (waiting_at_shard s old) v t)) ++ old.table.stamps)

@@ -8,6 +8,7 @@ pub mod Collected
 pub mod Cuts
 pub mod Meant
 pub mod Taking
+pub mod Picks
 pub mod Given
 pub mod Released
 pub mod Drained

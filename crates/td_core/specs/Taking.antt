@@ -167,4 +167,4 @@ IsPickTaken shard pick old new (Some task) = (candidate : Candidate) × HoldsAt 
 -- or why it was not
 abbrev pub IsPickRefused : ℕ → ℕ → Floor → HallError → Type 0
 IsPickRefused shard pick old error =
-    (error ≡ Memory) ⊎ ((error ≡ Spent) × (old.taken ≡ ends) × ((candidate : Candidate) × HoldsAt (λ s. IsPicked old.table s pick (Some candidate)) old.shards.items shard))
+    ((error ≡ Memory) × (old.taken < ends)) ⊎ ((error ≡ Spent) × (old.taken ≡ ends) × ((candidate : Candidate) × HoldsAt (λ s. IsPicked old.table s pick (Some candidate)) old.shards.items shard))

@@ -1,5 +1,5 @@
 //! Cutting: the states after an epoch become the base, and what belongs to the epochs up to it is let go.
-ghost use Rattle.std.specs.Prelude.{◌≡◌, ◌-◌, ◌≤◌, ◌<◌, drop, IfOk, IfErr, OnOk, OnErr};
+ghost use Rattle.std.specs.Prelude.{◌≡◌, ◌-◌, ◌≤◌, ◌<◌, true, None, drop, IfOk, IfErr, OnOk, OnErr};
 ghost use Rattle.td_machine.specs.Active.{has_passed, unpassed};
 ghost use Rattle.td_machine.specs.Sound.{run_states};
 ghost use Rattle.td_machine.specs.Steps.{cut_by, cut_at_by};
@@ -27,11 +27,13 @@ pub struct Cut {
 impl<L: Law> Hall<L> {
     /// Cuts at the last released epoch: the states after it become the base, and the batches, what folds left and what
     /// distincts have seen in the epochs up to it are let go (Naiad, section 3.4, Checkpoint). The states are those of the
-    /// batch meaning of the batches that were released since the old base. It costs them, twice copied. Refusals, with nothing changed: `NotPassed` with the least released epoch that has not passed, and `Memory`.
+    /// batch meaning of the batches that were released since the old base. It costs them, twice copied. Refusals, with nothing
+    /// changed: `NotPassed` with the least released epoch that has not passed, and `Memory`.
     pub fn cut(&mut self) -> Result<Cut, HallError>
         ensures cut { IfOk result (λ cut. cut_by self.old (unpassed self.old) (self.old.next - 1) ≡ (has_cut cut.epoch cut.states, self.new)) }
         ensures meaning { IfOk result (λ cut. cut.states ≡ run_states L.answers self.old cut.epoch) }
         ensures refused { IfErr result (IsRefused (cut_by self.old (unpassed self.old) (self.old.next - 1)) self.old) }
+        ensures memory_last { IfErr result (λ e. e ≡ Memory → unpassed self.old ≡ None) }
         ensures err { OnErr result (self.new ≡ self.old) }
     {
         reached::<L>();
@@ -54,6 +56,7 @@ impl<L: Law> Hall<L> {
         ensures cut { IfOk result (λ cut. cut_at_by self.old (has_passed self.old epoch) epoch ≡ (has_cut cut.epoch cut.states, self.new)) }
         ensures meaning { IfOk result (λ cut. cut.states ≡ run_states L.answers self.old cut.epoch) }
         ensures refused { IfErr result (IsRefused (cut_at_by self.old (has_passed self.old epoch) epoch) self.old) }
+        ensures memory_last { IfErr result (λ e. e ≡ Memory → has_passed self.old epoch ≡ true) }
         ensures err { OnErr result (self.new ≡ self.old) }
     {
         reached::<L>();

@@ -9,7 +9,7 @@ ghost use Rattle.td_machine.specs.Active.{stamp_at};
 ghost use Rattle.td_machine.specs.ByEdge.{times_from};
 ghost use Rattle.td_machine.specs.State.Content.{messages};
 ghost use Rattle.td_core.specs.Floor.{IsHall};
-ghost use Rattle.td_core.specs.Delivered.{IsDelivered, IsSentOn, IsSentNew, IsComeOut, IsKept, CanSend};
+ghost use Rattle.td_core.specs.Delivered.{IsDelivered, IsSentOn, IsSentNew, IsComeOut, IsNoted, CanSend};
 ghost use Rattle.td_core.specs.Given.{IsUntouched};
 ghost use Rattle.td_core.specs.Posted.{HaveRoom, IsRoomier, stamp_on_outlet, stamps_on};
 ghost use Rattle.td_core.specs.declared.error.HallError.TheVariants.{Memory};
@@ -164,7 +164,7 @@ fn keep(
     requires there { shard < length floor.old.shards.items }
     requires some { 0 < length recs.now }
     requires of_plan { IsOf floor.old.table.plan (stamp_at vertex time.now) }
-    ensures ok { OnOk result (IsKept shard vertex time.now (map (arrival_of port) recs.now) floor.old floor.new) }
+    ensures ok { OnOk result (IsNoted shard vertex time.now (map (arrival_of port) recs.now) floor.old floor.new) }
     ensures err { OnErr result (IsUntouched floor.old floor.new) }
     ensures memory { IfErr result (λ e. e ≡ Memory) }
 {

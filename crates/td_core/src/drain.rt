@@ -19,9 +19,10 @@ use crate::give::give_floor;
 use crate::hall::Hall;
 use crate::take::{put_back, take_floor};
 use td_calls::{Closures, Law};
+use td_machine::TASK_SIZE;
 use td_machine::laws::{exact_work_drained, never_stuck, plays_join, reached_in_order};
 use td_shard::Shard;
-use td_task::{TASK_SIZE, Task, TaskError, Work};
+use td_task::{Task, TaskError, Work};
 
 /// What a drain delivered.
 #[derive(Clone, Copy, Debug, PartialEq, Eq)]

@@ -40,6 +40,7 @@ impl<L: Law> Hall<L> {
     pub fn give(&mut self, done: Done<L>) -> Result<(), (HallError, Done<L>)>
         ensures given { OnOk result (Gives L.answers self.old done has_given self.new) }
         ensures refused { IfErr result (λ e. (e.0 ≡ Memory) ⊎ ((r : Refusal) × (e.0 ≡ error_of r) × Gives L.answers self.old done (refused r) self.old)) }
+        ensures memory_last { IfErr result (λ e. e.0 ≡ Memory → Contains self.old.out done) }
         ensures err { OnErr result (self.new ≡ self.old) }
         ensures back { IfErr result (λ e. e.1 ≡ done) }
     {

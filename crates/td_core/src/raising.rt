@@ -1,4 +1,3 @@
-// FOUNDER TO POST: another helper (branch `raise`) proves this file; leave it out, merge branch `raise` when it is there. Drop this line.
 //! Raising the occurrences of several pointstamps, all or none.
 ghost use Rattle.std.specs.Prelude.{◌≡◌, ◌≤◌, ◌++◌, map, replicate, IfOk, IfErr, OnOk, OnErr};
 ghost use Rattle.std.specs.List.{AllByRecursion};

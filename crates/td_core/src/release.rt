@@ -2,7 +2,7 @@
 ghost use Rattle.std.specs.Prelude.{◌≡◌, ◌+◌, ◌^◌, ◌<◌, ◌≤◌, ◌++◌, false, true, map, flat_map, length, IfOk, IfErr, OnOk, OnErr};
 ghost use Rattle.td_stamp.specs.Batch.{records_for};
 ghost use Rattle.td_progress.specs.Bag.{input_stamp};
-ghost use Rattle.td_machine.specs.Steps.{accepts, release_step};
+ghost use Rattle.td_machine.specs.Steps.{accepts, ends, release_step};
 ghost use Rattle.td_machine.specs.Steps.Answer.{has_released};
 ghost use Rattle.td_core.specs.Floor.{IsHall};
 ghost use Rattle.td_core.specs.Posted.{IsPosted, IsRoomier, HaveRoom};
@@ -27,10 +27,7 @@ use td_progress::laws::counted;
 use td_reach::{Place, Stamp};
 use td_shard::Shard;
 use td_stamp::laws::bags_by_any_order;
-use td_stamp::{Batch, Entry, Rec, Time};
-
-/// Epochs are numbered below this.
-const ENDS: u64 = 1 << 63;
+use td_stamp::{Batch, EPOCHS_END, Entry, Rec, Time};
 
 /// The records that a batch gives an input.
 #[derive(Drop)]
@@ -49,6 +46,7 @@ impl<L: Law> Hall<L> {
         requires { accepts self.old.plan batch ≡ true }
         ensures released { IfOk result (λ epoch. release_step self.old batch ≡ (has_released epoch, self.new)) }
         ensures refused { IfErr result (λ e. IsRefused (release_step self.old batch) self.old e.0) }
+        ensures memory_last { IfErr result (λ e. e.0 ≡ Memory → (self.old.closed ≡ false) × (self.old.next < ends)) }
         ensures err { OnErr result (self.new ≡ self.old) }
         ensures back { IfErr result (λ e. e.1 ≡ batch) }
     {
@@ -60,7 +58,7 @@ impl<L: Law> Hall<L> {
         if self.floor.closed {
             return Err((HallError::Closed, batch));
         }
-        if self.floor.next == ENDS {
+        if self.floor.next == EPOCHS_END {
             return Err((HallError::Epochs, batch));
         }
         match bring_in::<L>(&mut self.floor, &batch) {

@@ -1,5 +1,6 @@
 //! Taking tasks.
-ghost use Rattle.std.specs.Prelude.{◌≡◌, ◌<◌, ◌≤◌, ◌+◌, ◌-◌, ◌++◌, ◌∷◌, [], ◌↔◌, IsTrue, ℕ, List, HoldsAt, IfOk, IfErr, OnErr, Some, filter, map, length, nat_le, ◌==◌, ◌⊎◌, get_or, false, true};
+ghost use Rattle.std.specs.Prelude.{◌≡◌, ◌<◌, ◌≤◌, ◌+◌, ◌-◌, ◌++◌, ◌∷◌, [], ◌↔◌, IsTrue, ℕ, List, HoldsAt, IfOk, IfErr};
+ghost use Rattle.std.specs.Prelude.{IfSome, OnErr, Some, filter, map, length, nat_le, ◌==◌, ◌⊎◌, get_or, false, true};
 ghost use Rattle.std.specs.List.{list_all, list_any};
 ghost use Rattle.td_stamp.specs.Groups.{groups};
 ghost use Rattle.td_stamp.specs.States.{state_of as kept_of};
@@ -7,7 +8,7 @@ ghost use Rattle.td_stamp.specs.declared.values.Arrival.{Arrival as AnyArrival};
 ghost use Rattle.td_shard.specs.declared.noted.Noted.{Noted as AnyNoted};
 ghost use Rattle.td_calls.specs.Callbacks.{is_notified as is_notified_kind};
 ghost use Rattle.td_reach.specs.Paths.{IsOf};
-ghost use Rattle.td_machine.specs.State.{HallState, Task as AnyTask, with_left};
+ghost use Rattle.td_machine.specs.State.{HallState, Task as AnyTask, is_out, with_left};
 ghost use Rattle.td_machine.specs.Steps.{Takes, with_state_of, ends};
 ghost use Rattle.td_machine.specs.Steps.Answer.{has_taken};
 ghost use Rattle.td_task.specs.KeyLists.{with_state, without_state};
@@ -15,7 +16,11 @@ ghost use Rattle.td_shard.specs.Asked.{items_at};
 ghost use Rattle.td_core.specs.Floor.{state_of, taken_up, IsHall};
 ghost use Rattle.td_core.specs.Sites.{IsSites};
 ghost use Rattle.td_core.specs.Posted.{mails, waits};
-ghost use Rattle.td_core.specs.Taking.{changed_at, IsThere, IsTakeRefused, IsSame, IsTakenIf, HasRoomBack, IsLastTake, stamp_of_noted, asked_at, AreAsked, IsFirstTurn, AreAllHeld, IsReady, AreReady, IsReadyAt, IsPlaceOf, IsPicked, IsTaskFor, mails_without, room_of, IsTakenFor, IsPickTaken, IsChosen, IsPickRefused};
+ghost use Rattle.td_core.specs.Picks.{IsPick};
+ghost use Rattle.td_core.specs.Taking.{changed_at, IsThere, IsTakeRefused, IsSame, IsTakenIf, HasRoomBack, IsLastTake};
+ghost use Rattle.td_core.specs.Taking.{stamp_of_noted, asked_at, AreAsked, IsFirstTurn, AreAllHeld, IsReady, AreReady};
+ghost use Rattle.td_core.specs.Taking.{IsReadyAt, IsPlaceOf, IsPicked, IsTaskFor, mails_without, room_of, IsTakenFor};
+ghost use Rattle.td_core.specs.Taking.{IsPickTaken, IsChosen, IsPickRefused};
 ghost use Rattle.td_core.specs.declared.take.Candidate.TheVariants.{Message, Notification};
 ghost use Rattle.td_core.specs.declared.error.HallError.TheVariants.{Memory};
 
@@ -43,7 +48,7 @@ use td_task::{KeyedItems, Task, Work};
 /// Tasks are numbered up to this.
 const MOST_TASKS: u64 = 1 << 63;
 
-/// The numbers of vertices are below this.
+/// How many numbers a `u8` has, so that each vertex has a place in a list of so many.
 const NUMBERS: usize = 256;
 
 /// What may be taken of a shard.
@@ -66,7 +71,9 @@ impl<L: Law> Hall<L> {
     /// numbers of tasks are used; and `Memory`.
     pub fn take(&mut self, shard: u8, pick: u64) -> Result<Option<Task>, HallError>
         ensures taken { IfOk result (λ task. Takes self.old shard (has_taken task) self.new) }
+        ensures picked { IfOk result (λ task. IfSome task (IsPick self.old shard pick)) }
         ensures refused { IfErr result (IsTakeRefused self.old shard) }
+        ensures memory_last { IfErr result (λ e. e ≡ Memory → (is_out self.old shard ≡ false) × (self.old.taken < ends)) }
         ensures err { OnErr result (self.new ≡ self.old) }
     {
         take_floor::<L>(&mut self.floor, shard, pick)
@@ -81,7 +88,9 @@ pub(crate) fn take_floor<L: Law>(
 ) -> Result<Option<Task>, HallError>
     requires hall { IsHall L.answers floor.old }
     ensures taken { IfOk result (λ task. Takes (state_of floor.old) shard (has_taken task) (state_of floor.new)) }
+    ensures picked { IfOk result (λ task. IfSome task (IsPick (state_of floor.old) shard pick)) }
     ensures refused { IfErr result (IsTakeRefused (state_of floor.old) shard) }
+    ensures memory_last { IfErr result (λ e. e ≡ Memory → (is_out (state_of floor.old) shard ≡ false) × (floor.old.taken < ends)) }
     ensures hall { IsHall L.answers floor.new }
     ensures parts { IfOk result (IsTakenIf floor.old floor.new) }
     ensures err { OnErr result (IsSame floor.old floor.new) }

@@ -1,5 +1,5 @@
 -- What a disk holds at a moment, what a crash may leave of it, and what a call does to that.
-use Rattle.std.specs.Prelude.{◌≡◌, ◌⊎◌, ℕ, ◌+◌, ◌-◌, ◌^◌, ◌<◌, ◌≤◌, min, List, length, take, drop, slice_index, Result, OnErr}
+use Rattle.std.specs.Prelude.{◌≡◌, ◌⊎◌, ℕ, ◌+◌, ◌-◌, ◌^◌, ◌<◌, ◌≤◌, min, List, length, take, drop, slice_index, Result, OnOk, OnErr, IsErrOf}
 
 -- a disk at one moment
 pub record DiskState : Type 1 where
@@ -44,7 +44,14 @@ pub record TimePasses (old new : DiskState) : Type 0 where
 abbrev pub Rises : ℕ → ℕ → Type 0
 Rises old new = min (old + 1) (2 ^ 64 - 1) ≤ new
 
--- The count of failures never falls, and a failure is answered only where it rose.
+-- The count of failures never falls: it rose where a failure is answered, and stays as it was where none is.
 pub record CountsFailures {T E : Type 0} (result : Result T E) (old new : ℕ) : Type 0 where
   pub later : old ≤ new
   pub rises : OnErr result (Rises old new)
+  pub stays : OnOk result (new ≡ old)
+
+-- The same of a call that has other refusals too: the count rose where this one is answered, and stays as it was with any other answer.
+pub record CountsDevice {T E : Type 0} (result : Result T E) (device : E) (old new : ℕ) : Type 0 where
+  pub later : old ≤ new
+  pub rises : IsErrOf result device → Rises old new
+  pub stays : IsErrOf result device ⊎ (new ≡ old)

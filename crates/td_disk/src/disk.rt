@@ -40,7 +40,7 @@ pub trait Disk {
         ensures size { capacity self.new ≡ capacity self.old }
         ensures lawful { is_lawful self.old ↔ is_lawful self.new }
 
-        // A failure is counted, and where the count stands at its top each call fails.
+        // A failure is counted, and nothing else is; where the count stands at its top each call fails.
         ensures cause { CountsFailures result (failures self.old) (failures self.new) }
         ensures bound { failures self.new < 2 ^ 64 }
         ensures top { failures self.old ≡ 2 ^ 64 - 1 → IsErr result }

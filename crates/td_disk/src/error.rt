@@ -1,9 +1,11 @@
 // The refusals of a disk's calls and of making one.
 ghost use Rattle.std.specs.Prelude.{◌≡◌};
-ghost use Rattle.td_disk.specs.MakeError.{number_of};
+ghost use Rattle.std.specs.IoError.{error_kind};
+ghost use Rattle.td_disk.specs.MakeError.{number_of, refusal_of};
 ghost use Rattle.td_disk.specs.declared.error.MakeError.TheVariants.{Memory};
 
 use std::alloc::AllocError;
+use std::io;
 use thiserror::Error;
 
 /// Why a call of a disk failed.
@@ -53,5 +55,23 @@ impl From<AllocError> for MakeError {
 
     fn from(_error: AllocError) -> MakeError {
         MakeError::Memory
+    }
+}
+
+/// What an error of the operating system of this kind is here.
+fn of_kind(kind: io::ErrorKind) -> MakeError
+    ensures { result ≡ refusal_of kind }
+{
+    match kind {
+        io::ErrorKind::OutOfMemory => MakeError::Memory,
+        _ => MakeError::File,
+    }
+}
+
+impl From<io::Error> for MakeError {
+    ghost from_gives = { λ e made. made ≡ refusal_of (error_kind e) };
+
+    fn from(error: io::Error) -> MakeError {
+        of_kind(error.kind())
     }
 }

@@ -1,9 +1,10 @@
 // A file as a disk. It claims no law.
-ghost use Rattle.std.specs.Prelude.{◌≡◌, ◌-◌, ◌^◌, ◌<◌, ◌≤◌, ◌↔◌, [], ℕ, IfOk, IsTrue, false};
+ghost use Rattle.std.specs.Prelude.{◌≡◌, ◌-◌, ◌^◌, ◌<◌, ◌≤◌, ◌↔◌, [], ℕ, IfOk, IsErr, IsTrue, false};
+ghost use Rattle.std.specs.Fs.{metadata_len};
 ghost use Rattle.td_disk.specs.Disk.{Rises};
 
 use crate::{Disk, Fault, MakeError};
-use std::fs::{File, OpenOptions};
+use std::fs::{File, Metadata, OpenOptions};
 use std::io;
 use std::os::unix::fs::FileExt;
 use std::path::Path;
@@ -21,24 +22,14 @@ pub struct FileDisk {
     has_failed_sync: bool,
 }
 
-/// What an error of the operating system is here.
-fn make_error(error: &io::Error) -> MakeError {
-    if error.kind() == io::ErrorKind::OutOfMemory {
-        MakeError::Memory
-    } else {
-        MakeError::File
-    }
-}
-
 /// Opens a file as it stands to be read and written, and locks it.
 fn open_locked<R: Files<File = File>>(
     rt: &R,
     path: &str,
     options: &OpenOptions,
 ) -> Result<File, MakeError> {
-    let file = options.open(rt, path).map_err(|e| make_error(&e))?;
-    file.try_lock()
-        .map_err(|e| make_error(&io::Error::from(e)))?;
+    let file = options.open(rt, path)?;
+    file.try_lock().map_err(io::Error::from)?;
     Ok(file)
 }
 
@@ -48,8 +39,8 @@ fn sync_folder<R: Files<File = File>>(rt: &R, path: &str) -> Result<(), MakeErro
         Some(folder) if !folder.as_os_str().is_empty() => folder,
         _ => Path::new("."),
     };
-    let folder = File::open(rt, folder).map_err(|e| make_error(&e))?;
-    folder.sync_all().map_err(|e| make_error(&e))
+    File::open(rt, folder)?.sync_all()?;
+    Ok(())
 }
 
 impl FileDisk {
@@ -64,15 +55,16 @@ impl FileDisk {
         size: u64,
     ) -> Result<FileDisk, MakeError>
         ensures size { IfOk result (λ d. ⟦<FileDisk as Disk>⟧.capacity d ≡ size) }
+        ensures too_large { 2 ^ 63 ≤ size → IsErr result }
         ensures failures { IfOk result (λ d. ⟦<FileDisk as Disk>⟧.failures d ≡ 0) }
         ensures no_failed_sync { IfOk result (λ d. has_failed_sync d ≡ false) }
     {
         let mut options = OpenOptions::new();
         options.read(true).write(true).create(true);
         let file = open_locked(rt, path, &options)?;
-        file.set_len(0).map_err(|e| make_error(&e))?;
-        file.set_len(size).map_err(|e| make_error(&e))?;
-        file.sync_all().map_err(|e| make_error(&e))?;
+        file.set_len(0)?;
+        file.set_len(size)?;
+        file.sync_all()?;
         sync_folder(rt, path)?;
         Ok(FileDisk::new(file, size))
     }
@@ -87,8 +79,17 @@ impl FileDisk {
         let mut options = OpenOptions::new();
         options.read(true).write(true);
         let file = open_locked(rt, path, &options)?;
-        let size = file.metadata().map_err(|e| make_error(&e))?.len();
-        Ok(FileDisk::new(file, size))
+        let measured = file.metadata()?;
+        Ok(FileDisk::of_measured(file, &measured))
+    }
+
+    // A disk of this file, as large as it was measured.
+    fn of_measured(file: File, measured: &Metadata) -> FileDisk
+        ensures size { result.size ≡ metadata_len measured.now }
+        ensures failures { result.failures ≡ 0 }
+        ensures no_failed_sync { result.has_failed_sync ≡ false }
+    {
+        FileDisk::new(file, measured.len())
     }
 
     // A disk of this file, no call of which has failed.

@@ -4,7 +4,8 @@ ghost use Rattle.std.specs.Prelude.{OnOk, OnErr, IfOk, IsErr, IsOk, IsOkUnless};
 ghost use Rattle.std.specs.declared.alloc.Global.{Global as AnyGlobal};
 ghost use Rattle.std.proofs.Common.{◌∙◌, ap, sym};
 ghost use Rattle.td_disk.specs.Disk.{IsDurable};
-ghost use Rattle.td_disk.specs.Record.{Contents, overwritten, after_call, replay, synced, IsImage, state_after, written, crash_image, Reads, Writes, Syncs};
+ghost use Rattle.td_disk.specs.Record.{Contents, overwritten, after_call, replay, synced, IsImage, state_after};
+ghost use Rattle.td_disk.specs.Record.{written, crash_image, Reads, Writes, Syncs};
 ghost use Rattle.td_disk.specs.RecordProofs.{reads, image_size, counts, only};
 
 use crate::{Disk, Fault, MakeError};

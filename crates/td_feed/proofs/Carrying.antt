@@ -42,6 +42,14 @@ pub at_err : {T E P : Type 0} (r : Result T E) → P → OnErr r P
 at_err (Ok x) p = tt
 at_err (Err e) p = p
 
+pub err_weaker : {T E : Type 0} (P Q : Type 0) (r : Result T E) → (P → Q) → OnErr r P → OnErr r Q
+err_weaker P Q (Ok x) step p = tt
+err_weaker P Q (Err e) step p = step p
+
+pub ok_only : {T E : Type 0} (P Q : Type 0) (r : Result T E) → OnOk r (P × Q) → OnOk r P
+ok_only P Q (Ok x) both = both.0
+ok_only P Q (Err e) both = tt
+
 pub at_ok : {T E P : Type 0} (r : Result T E) → P → OnOk r P
 at_ok (Ok x) p = p
 at_ok (Err e) p = tt

@@ -5,3 +5,5 @@ pub mod Accepted
 pub mod Printable
 pub mod Narrowed
 pub mod Refused
+pub mod Lines
+pub mod Counting

@@ -15,8 +15,7 @@ use Rattle.td_keeper.specs.declared.command.Command.TheVariants.{Submit, Release
 use Rattle.td_keeper.specs.declared.command.Reply.{Reply}
 use Rattle.td_keeper.specs.declared.command.Reply.TheVariants.{Submitted, Released, Settled, Collected, Out, CutTaken, Written, Refused}
 use Rattle.td_keeper.specs.Keeping.{Keeping, IsKeeping}
-use Rattle.td_keeper.specs.Driven.{submitted_in, submitted_by, is_device, Obeys, Driven}
-use Rattle.td_keeper.proofs.Driving.{Rests, releases, settles, collects, hands_out, cuts}
+use Rattle.td_keeper.specs.Driven.{submitted_in, submitted_by, may_write, Obeys, Driven, Rests}
 use Rattle.td_feed.specs.Carried.{Carries, Stopped, Leaves, batch_in, is_refused, is_resting}
 use Rattle.td_feed.proofs.Carrying.{Stands-on, Cuts-on, unmoved, submitted, checkpointed, leaves_none, stopped_one, stopped_none}
 
@@ -47,65 +46,99 @@ pub ok_of : {E : Type 0} (result : Result Reply E) (reply : Reply) (P : Reply �
 ok_of (Ok r) reply P is holds = subst P (sym is.0) (holds is.1)
 ok_of (Err e) reply P is holds = tt
 
-pub err_of : {E : Type 0} (result : Result Reply E) (reply : Reply) (P : Type 0) → IfErr result (λ _. is_refused reply ≡ true) → (is_refused reply ≡ true → P) → OnErr result P
-err_of (Ok r) reply P is holds = tt
-err_of (Err e) reply P is holds = holds is
+pub err_of : {E : Type 0} (result : Result Reply E) (reply : Reply) (P : Type 0) (F : E → Type 0) → IfErr result (λ f. (is_refused reply ≡ true) × F f) → (is_refused reply ≡ true → P) → OnErr result P
+err_of (Ok r) reply P F is holds = tt
+err_of (Err e) reply P F is holds = holds is.0
 
-module _ {D : Type 0} (is_lawful : D → Type 0) (state : D → DiskState) (answers : Answers) where
+-- the law, as it is handed in: a command that does not write leaves a keeper's disk, and what it stands for
+abbrev pub Others-rest : {D : Type 0} → (D → Type 0) → (D → DiskState) → (D → ℕ) → Answers → Type 0
+Others-rest {D} is_lawful state failures answers = (command : Command) (reply : Reply) (old new : Keeping D) → may_write command ≡ false
+    → Obeys is_lawful state failures answers command reply old new → Rests old new
+
+module _ {D : Type 0} (is_lawful : D → Type 0) (state : D → DiskState) (failures : D → ℕ) (answers : Answers) where
   -- one command has one reply
-  pub one_reply : (c : Command) (r : Reply) (rest : List Reply) (old new : Keeping D) → Driven is_lawful state answers (c ∷ []) (rest ++ r ∷ []) old new
-      → Obeys is_lawful state answers c r old new × (submitted_by (c ∷ []) (rest ++ r ∷ []) ≡ submitted_in c r)
-  one_reply c r [] old new d = (subst (λ (k : Keeping D). Obeys is_lawful state answers c r old k) (sym d.3) d.2, append-nil (submitted_in c r))
+  pub one_reply : (c : Command) (r : Reply) (rest : List Reply) (old new : Keeping D) → Driven is_lawful state failures answers (c ∷ []) (rest ++ r ∷ []) old new
+      → Obeys is_lawful state failures answers c r old new × (submitted_by (c ∷ []) (rest ++ r ∷ []) ≡ submitted_in c r)
+  one_reply c r [] old new d = (subst (λ (k : Keeping D). Obeys is_lawful state failures answers c r old k) (sym d.3) d.2, append-nil (submitted_in c r))
   one_reply c r (x ∷ []) old new d = absurd d.3
   one_reply c r (x ∷ y ∷ ys) old new d = absurd d.3
 
-  pub some_reply : (c : Command) (replies : List Reply) (old new : Keeping D) → Driven is_lawful state answers (c ∷ []) replies old new → replies ≡ [] → ⊥
+  pub one_driven : (c : Command) (r : Reply) (rest : List Reply) (old new : Keeping D) → Driven is_lawful state failures answers (c ∷ []) (rest ++ r ∷ []) old new
+      → Driven is_lawful state failures answers (c ∷ []) (r ∷ []) old new
+  one_driven c r [] old new d = d
+  one_driven c r (x ∷ []) old new d = absurd d.3
+  one_driven c r (x ∷ y ∷ ys) old new d = absurd d.3
+
+  -- and it is the one
+  pub one_alone : (c : Command) (r : Reply) (rest : List Reply) (old new : Keeping D) → Driven is_lawful state failures answers (c ∷ []) (rest ++ r ∷ []) old new → rest ≡ []
+  one_alone c r [] old new d = refl
+  one_alone c r (x ∷ []) old new d = absurd d.3
+  one_alone c r (x ∷ y ∷ ys) old new d = absurd d.3
+
+  pub some_reply : (c : Command) (replies : List Reply) (old new : Keeping D) → Driven is_lawful state failures answers (c ∷ []) replies old new → replies ≡ [] → ⊥
   some_reply c [] old new d is = d
   some_reply c (r ∷ rs) old new d is = absurd (let no : r ∷ rs ≡ [] = is in cc)
+
+  -- what a command that was not refused submitted
+  pub submitted_is : (c : Command) (r : Reply) (old new : Keeping D) → Obeys is_lawful state failures answers c r old new → is_refused r ≡ false → submitted_in c r ≡ batch_in c
+  submitted_is (Submit batch) (Submitted n) old new obeys done = refl
+  submitted_is (Submit batch) (Refused e b) old new obeys done = absurd (let no : true ≡ false = done in cc)
+  submitted_is (Submit batch) (Released n) old new obeys done = absurd obeys.0
+  submitted_is (Submit batch) Settled old new obeys done = absurd obeys.0
+  submitted_is (Submit batch) (Collected n) old new obeys done = absurd obeys.0
+  submitted_is (Submit batch) (Out o) old new obeys done = absurd obeys.0
+  submitted_is (Submit batch) (CutTaken n) old new obeys done = absurd obeys.0
+  submitted_is (Submit batch) (Written w) old new obeys done = absurd obeys.0
+  submitted_is Release r old new obeys done = refl
+  submitted_is Settle r old new obeys done = refl
+  submitted_is Collect r old new obeys done = refl
+  submitted_is NextOut r old new obeys done = refl
+  submitted_is Cut r old new obeys done = refl
+  submitted_is WriteCut r old new obeys done = refl
 
   rests_carry : (old new : Keeping D) → Rests old new → old.broken ≡ false → Carries answers old new []
   rests_carry old new rests whole = unmoved answers old new rests.plan rests.standing (rests.broken ∙ whole)
 
   -- A COMMAND THAT WRITES NOTHING, whatever its reply is
-  pub rest : (c : Command) (r : Reply) (old new : Keeping D) → Obeys is_lawful state answers c r old new → old.broken ≡ false → is_resting c ≡ true → Carries answers old new []
-  rest (Submit batch) r old new obeys whole is = absurd (let no : false ≡ true = is in cc)
-  rest Release r old new obeys whole is = rests_carry old new (releases is_lawful state answers r old new obeys) whole
-  rest Settle r old new obeys whole is = rests_carry old new (settles is_lawful state answers r old new obeys) whole
-  rest Collect r old new obeys whole is = rests_carry old new (collects is_lawful state answers r old new obeys) whole
-  rest NextOut r old new obeys whole is = rests_carry old new (hands_out is_lawful state answers r old new obeys) whole
-  rest Cut r old new obeys whole is = rests_carry old new (cuts is_lawful state answers r old new obeys) whole
-  rest WriteCut r old new obeys whole is = absurd (let no : false ≡ true = is in cc)
+  pub rest : Others-rest is_lawful state failures answers → (c : Command) (r : Reply) (old new : Keeping D) → Obeys is_lawful state failures answers c r old new → old.broken ≡ false → is_resting c ≡ true → Carries answers old new []
+  rest others (Submit batch) r old new obeys whole is = absurd (let no : false ≡ true = is in cc)
+  rest others Release r old new obeys whole is = rests_carry old new (others Release r old new refl obeys) whole
+  rest others Settle r old new obeys whole is = rests_carry old new (others Settle r old new refl obeys) whole
+  rest others Collect r old new obeys whole is = rests_carry old new (others Collect r old new refl obeys) whole
+  rest others NextOut r old new obeys whole is = rests_carry old new (others NextOut r old new refl obeys) whole
+  rest others Cut r old new obeys whole is = rests_carry old new (others Cut r old new refl obeys) whole
+  rest others WriteCut r old new obeys whole is = absurd (let no : false ≡ true = is in cc)
 
   -- A COMMAND THAT WAS NOT REFUSED: the keeper goes on with what it submitted
-  pub carry : Stands-on answers → Cuts-on answers → (c : Command) (r : Reply) (old new : Keeping D) → IsKeeping old answers → Obeys is_lawful state answers c r old new
+  pub carry : Others-rest is_lawful state failures answers → Stands-on answers → Cuts-on answers → (c : Command) (r : Reply) (old new : Keeping D) → IsKeeping old answers → Obeys is_lawful state failures answers c r old new
       → old.broken ≡ false → is_refused r ≡ false → Carries answers old new (submitted_in c r)
-  carry stands_on cuts_on (Submit batch) (Submitted n) old new kept obeys whole done = submitted answers old new new.device batch whole obeys.0.1
-  carry stands_on cuts_on (Submit batch) (Refused e b) old new kept obeys whole done = absurd (let no : true ≡ false = done in cc)
-  carry stands_on cuts_on (Submit batch) (Released n) old new kept obeys whole done = absurd obeys.0
-  carry stands_on cuts_on (Submit batch) Settled old new kept obeys whole done = absurd obeys.0
-  carry stands_on cuts_on (Submit batch) (Collected n) old new kept obeys whole done = absurd obeys.0
-  carry stands_on cuts_on (Submit batch) (Out o) old new kept obeys whole done = absurd obeys.0
-  carry stands_on cuts_on (Submit batch) (CutTaken n) old new kept obeys whole done = absurd obeys.0
-  carry stands_on cuts_on (Submit batch) (Written w) old new kept obeys whole done = absurd obeys.0
-  carry stands_on cuts_on Release r old new kept obeys whole done = rests_carry old new (releases is_lawful state answers r old new obeys) whole
-  carry stands_on cuts_on Settle r old new kept obeys whole done = rests_carry old new (settles is_lawful state answers r old new obeys) whole
-  carry stands_on cuts_on Collect r old new kept obeys whole done = rests_carry old new (collects is_lawful state answers r old new obeys) whole
-  carry stands_on cuts_on NextOut r old new kept obeys whole done = rests_carry old new (hands_out is_lawful state answers r old new obeys) whole
-  carry stands_on cuts_on Cut r old new kept obeys whole done = rests_carry old new (cuts is_lawful state answers r old new obeys) whole
-  carry stands_on cuts_on WriteCut (Written w) old new kept obeys whole done =
+  carry others stands_on cuts_on (Submit batch) (Submitted n) old new kept obeys whole done = submitted answers old new new.device batch whole obeys.0.submitted
+  carry others stands_on cuts_on (Submit batch) (Refused e b) old new kept obeys whole done = absurd (let no : true ≡ false = done in cc)
+  carry others stands_on cuts_on (Submit batch) (Released n) old new kept obeys whole done = absurd obeys.0
+  carry others stands_on cuts_on (Submit batch) Settled old new kept obeys whole done = absurd obeys.0
+  carry others stands_on cuts_on (Submit batch) (Collected n) old new kept obeys whole done = absurd obeys.0
+  carry others stands_on cuts_on (Submit batch) (Out o) old new kept obeys whole done = absurd obeys.0
+  carry others stands_on cuts_on (Submit batch) (CutTaken n) old new kept obeys whole done = absurd obeys.0
+  carry others stands_on cuts_on (Submit batch) (Written w) old new kept obeys whole done = absurd obeys.0
+  carry others stands_on cuts_on Release r old new kept obeys whole done = rests_carry old new (others Release r old new refl obeys) whole
+  carry others stands_on cuts_on Settle r old new kept obeys whole done = rests_carry old new (others Settle r old new refl obeys) whole
+  carry others stands_on cuts_on Collect r old new kept obeys whole done = rests_carry old new (others Collect r old new refl obeys) whole
+  carry others stands_on cuts_on NextOut r old new kept obeys whole done = rests_carry old new (others NextOut r old new refl obeys) whole
+  carry others stands_on cuts_on Cut r old new kept obeys whole done = rests_carry old new (others Cut r old new refl obeys) whole
+  carry others stands_on cuts_on WriteCut (Written w) old new kept obeys whole done =
       ⊎_elim
       (λ none. unmoved answers old new (ap (λ (k : Keeping D). k.plan) none.2) (ap (λ (k : Keeping D). k.standing) none.2) (ap (λ (k : Keeping D). k.broken) none.2 ∙ whole))
       (λ written. checkpointed answers stands_on cuts_on old new new.device whole kept written.1)
-      obeys.0.1
-  carry stands_on cuts_on WriteCut (Refused e b) old new kept obeys whole done = absurd (let no : true ≡ false = done in cc)
-  carry stands_on cuts_on WriteCut (Submitted n) old new kept obeys whole done = absurd obeys.0
-  carry stands_on cuts_on WriteCut (Released n) old new kept obeys whole done = absurd obeys.0
-  carry stands_on cuts_on WriteCut Settled old new kept obeys whole done = absurd obeys.0
-  carry stands_on cuts_on WriteCut (Collected n) old new kept obeys whole done = absurd obeys.0
-  carry stands_on cuts_on WriteCut (Out o) old new kept obeys whole done = absurd obeys.0
-  carry stands_on cuts_on WriteCut (CutTaken n) old new kept obeys whole done = absurd obeys.0
+      obeys.0.cut
+  carry others stands_on cuts_on WriteCut (Refused e b) old new kept obeys whole done = absurd (let no : true ≡ false = done in cc)
+  carry others stands_on cuts_on WriteCut (Submitted n) old new kept obeys whole done = absurd obeys.0
+  carry others stands_on cuts_on WriteCut (Released n) old new kept obeys whole done = absurd obeys.0
+  carry others stands_on cuts_on WriteCut Settled old new kept obeys whole done = absurd obeys.0
+  carry others stands_on cuts_on WriteCut (Collected n) old new kept obeys whole done = absurd obeys.0
+  carry others stands_on cuts_on WriteCut (Out o) old new kept obeys whole done = absurd obeys.0
+  carry others stands_on cuts_on WriteCut (CutTaken n) old new kept obeys whole done = absurd obeys.0
 
-module _ {D : Type 0} (is_lawful : D → Type 0) (state : D → DiskState) (answers : Answers) (stands_on : Stands-on answers) (old new : Keeping D) (whole : old.broken ≡ false)
+module _ {D : Type 0} (is_lawful : D → Type 0) (state : D → DiskState) (failures : D → ℕ) (answers : Answers) (stands_on : Stands-on answers) (old new : Keeping D) (whole : old.broken ≡ false)
     (before : is_lawful new.device → is_lawful old.device)
     (counts : is_lawful new.device → (c : List ℕ) → (state new.device).images c → (state new.device).since (state old.device).moment c) where
   none_left : (more : List AnySubmitted) (other : Keeping D) → new ≡ other → other.plan ≡ old.plan → other.standing ≡ old.standing → other.broken ≡ false → Leaves is_lawful state answers old new more
@@ -114,13 +147,13 @@ module _ {D : Type 0} (is_lawful : D → Type 0) (state : D → DiskState) (answ
       (unmoved answers old new (ap (λ (k : Keeping D). k.plan) is ∙ plan) (ap (λ (k : Keeping D). k.standing) is ∙ standing) (ap (λ (k : Keeping D). k.broken) is ∙ same))
 
   rests_left : (more : List AnySubmitted) → Rests old new → Leaves is_lawful state answers old new more
-  rests_left more rests = leaves_none is_lawful state answers old new more (rests_carry is_lawful state answers old new rests whole)
+  rests_left more rests = leaves_none is_lawful state answers old new more (rests_carry is_lawful state failures answers old new rests whole)
 
   -- A COMMAND THAT WAS REFUSED: nothing was submitted; or the device failed, and its batch stands on the disk or not
-  pub refused : (c : Command) (e : KeeperError) (b : _) → Obeys is_lawful state answers c (Refused e b) old new
+  pub refused : Others-rest is_lawful state failures answers → (c : Command) (e : KeeperError) (b : _) → Obeys is_lawful state failures answers c (Refused e b) old new
       → (is_lawful old.device → SinceAdvance answers old.plan old.standing (submitted_in c (Refused e b)) (last_epoch old.standing) (state old.device).moment (state new.device))
       → Leaves is_lawful state answers old new (batch_in c)
-  refused (Submit batch) e b obeys since =
+  refused others (Submit batch) e b obeys since =
       ⊎_elim
       (λ is. none_left (submission 0 batch ∷ []) old is refl refl whole)
       (λ other. ⊎_elim
@@ -134,13 +167,13 @@ module _ {D : Type 0} (is_lawful : D → Type 0) (state : D → DiskState) (answ
             (since lawful)));
       })
       other)
-      obeys.0.3
-  refused Release e b obeys since = rests_left [] (releases is_lawful state answers (Refused e b) old new obeys)
-  refused Settle e b obeys since = rests_left [] (settles is_lawful state answers (Refused e b) old new obeys)
-  refused Collect e b obeys since = rests_left [] (collects is_lawful state answers (Refused e b) old new obeys)
-  refused NextOut e b obeys since = rests_left [] (hands_out is_lawful state answers (Refused e b) old new obeys)
-  refused Cut e b obeys since = rests_left [] (cuts is_lawful state answers (Refused e b) old new obeys)
-  refused WriteCut e b obeys since =
+      obeys.0.unchanged
+  refused others Release e b obeys since = rests_left [] (others Release (Refused e b) old new refl obeys)
+  refused others Settle e b obeys since = rests_left [] (others Settle (Refused e b) old new refl obeys)
+  refused others Collect e b obeys since = rests_left [] (others Collect (Refused e b) old new refl obeys)
+  refused others NextOut e b obeys since = rests_left [] (others NextOut (Refused e b) old new refl obeys)
+  refused others Cut e b obeys since = rests_left [] (others Cut (Refused e b) old new refl obeys)
+  refused others WriteCut e b obeys since =
       ⊎_elim
       (λ many. none_left [] (record old { waiting = false }) many.1 refl refl whole)
       (λ other. ⊎_elim
@@ -151,4 +184,4 @@ module _ {D : Type 0} (is_lawful : D → Type 0) (state : D → DiskState) (answ
       })
       (λ is. none_left [] old is refl refl whole)
       other)
-      obeys.0.2
+      obeys.0.unchanged

@@ -3,3 +3,4 @@ pub mod Narrowed
 pub mod Shown
 pub mod Fed
 pub mod Carried
+pub mod Said

@@ -1,5 +1,5 @@
 -- What the input of a feed asks for, or its first fault.
-use Rattle.std.specs.Prelude.{◌≡◌, ◌⊎◌, ℕ, ◌+◌, Bool, false, IsTrue, if◌then◌else◌, List, [], ◌∷◌, ◌++◌, codes, Option, Some, None, option_map, Result, Ok, Err}
+use Rattle.std.specs.Prelude.{◌≡◌, ◌⊎◌, ℕ, ◌+◌, Bool, true, false, IsTrue, if◌then◌else◌, List, [], ◌∷◌, ◌++◌, codes, Option, Some, None, option_map, Result, Ok, Err}
 use Rattle.std.specs.List.{list_all}
 use Rattle.std.specs.Str.{bytes_eq}
 use Rattle.std.specs.Char.{is_ascii}
@@ -93,6 +93,12 @@ submitted_by (Err fault) = []
 abbrev pub IsAccepted : List PlanLine → Order → Type 0
 IsAccepted plan (order.Submit batch) = IsTrue (list_all (λ e. is_input_of plan e.input) batch)
 IsAccepted plan order.Cut = Unit {0}
+
+-- a fault of an input: of a line, or for want of memory
+abbrev pub is_of_input : Fault → Bool
+is_of_input (Line n fault) = true
+is_of_input Memory = true
+is_of_input _ = false
 
 -- a call gave this answer, or was refused a growth
 abbrev pub Gives : Result Orders Fault → Result Orders Fault → Type 0

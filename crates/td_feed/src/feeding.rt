@@ -1,12 +1,15 @@
 //! Feeding epochs to a disk.
-ghost use Rattle.std.specs.Prelude.{◌≡◌, ◌↔◌, ◌++◌, ◌≤◌, List, false, None, OnOk, OnErr, IfOk, IfErr, IfSome, IsErr, Ok, Err};
+ghost use Rattle.std.specs.Prelude.{◌≡◌, ◌⊎◌, ◌↔◌, ◌++◌, ◌≤◌, List, false, None, OnOk, OnErr, IfOk, IfErr, IfSome, IsErr, IsErrOf, Ok, Err};
 ghost use Rattle.td_plan.specs.Blocks.{vertices};
 ghost use Rattle.td_calls.specs.Fits.{first_lack};
+ghost use Rattle.td_disk.specs.Disk.{CountsDevice, Rises};
+ghost use Rattle.td_standing.specs.declared.error.KeeperError.TheVariants.{Device};
 ghost use Rattle.td_journal.specs.declared.submitted.Submitted.{Submitted as AnySubmitted};
 ghost use Rattle.td_console.specs.Answer.{lack_fault};
 ghost use Rattle.td_feed.specs.Orders.{orders_of, submissions, submitted_by};
 ghost use Rattle.td_feed.specs.Fed.{EachTellsHistory, EachTellsSome};
 ghost use Rattle.td_feed.specs.Carried.{Carries, Leaves};
+ghost use Rattle.td_feed.specs.Said.{SaysBy, SaysFed};
 
 use crate::order::{Order, read_orders};
 use crate::under_way::{Feeding, open};
@@ -74,6 +77,15 @@ pub fn feed<
     ensures safe { IfSome (I.remaining reader.old) (λ input. D.is_lawful disk → (history : List AnySubmitted)
         → EachTellsHistory L.answers plan.now history (D.state disk)
         → EachTellsSome L.answers plan.now history (submitted_by (orders_of plan.now input)) (D.state result.0)) }
+
+    // What is written are the lines of what the keeper of the disk replied, one after another: all of them after Ok, and a
+    // beginning of them at a refusal, where the writer did not fail.
+    ensures said { IfSome (I.remaining reader.old) (λ input.
+        SaysFed D.is_lawful D.state D.failures L.answers result.1 plan.now disk result.0 (W.contents writer.old) (W.contents writer.new) (submitted_by (orders_of plan.now input))) }
+
+    // The device is told to have failed only where its count of failures rose, and with any other answer that stays.
+    ensures device { IsErrOf result.1 (Fault.Keeper Device) → Rises (D.failures disk) (D.failures result.0) }
+    ensures stays { IsErrOf result.1 (Fault.Keeper Device) ⊎ (D.failures result.0 ≡ D.failures disk) }
 {
     laws::told_in_parts();
     if let Err(lack) = calls.fits(plan) {
@@ -116,6 +128,9 @@ fn obey<
         Carries L.answers keeper result.0 (submitted_by (orders_of plan.now input)))) }
     ensures left { OnErr result.1 (IfSome (I.remaining reader.old) (λ input.
         Leaves D.is_lawful D.state L.answers keeper result.0 (submitted_by (orders_of plan.now input)))) }
+    ensures said { IfSome (I.remaining reader.old) (λ input.
+        SaysBy D.is_lawful D.state D.failures L.answers result.1 (W.contents writer.old) (W.contents writer.new) keeper result.0 (submitted_by (orders_of plan.now input))) }
+    ensures failures { CountsDevice result.1 (Fault.Keeper Device) (D.failures keeper.device) (D.failures result.0.device) }
 {
     match prepared(alloc, &keeper, plan, workers, reader) {
         Ok((orders, hall, feeding)) => {
@@ -141,6 +156,7 @@ fn prepared<D: Disk, I: Source, L: Law>(
     requires most { workers ≤ 16 }
     ensures orders { IfOk result (λ made. IfSome (I.remaining reader.old) (λ input. orders_of plan.now input ≡ Ok made.0.items)) }
     ensures fault { IfSome (I.remaining reader.old) (λ input. IfErr (orders_of plan.now input) (λ _. IsErr result)) }
+    ensures no_device { IsErrOf result (Fault.Keeper Device) → ⊥ }
 {
     let input = read_all(alloc, reader)?;
     let orders = read_orders(alloc, plan, &input)?;

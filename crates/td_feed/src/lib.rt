@@ -7,6 +7,7 @@ mod feeding;
 mod formatting;
 mod order;
 mod plan_text;
+mod saying;
 mod showing;
 mod telling;
 mod under_way;

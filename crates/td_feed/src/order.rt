@@ -1,7 +1,7 @@
 //! What the input of a feed asks for, line by line.
-ghost use Rattle.std.specs.Prelude.{◌≡◌, ◌⊎◌, ◌<◌, ◌^◌, [], All, IfOk, IfErr, Some, Ok, Err, length};
+ghost use Rattle.std.specs.Prelude.{◌≡◌, ◌⊎◌, ◌<◌, ◌^◌, [], true, All, IfOk, IfErr, Some, Ok, Err, length};
 ghost use Rattle.td_plan.specs.Text.{words};
-ghost use Rattle.td_feed.specs.Orders.{is_cut, feed_line_of, with_cut, with_line, orders_of, IsAccepted, Gives};
+ghost use Rattle.td_feed.specs.Orders.{is_cut, feed_line_of, with_cut, with_line, orders_of, is_of_input, IsAccepted, Gives};
 
 use std::alloc::Global;
 use std::marker::Model;
@@ -50,6 +50,7 @@ pub fn read_orders(alloc: Global, plan: &Plan, input: &[u8]) -> Result<Vec<Order
     ensures ok { IfOk result (λ orders. orders_of plan.now input.now ≡ Ok orders.items) }
     ensures accepted { IfOk result (λ orders. All (IsAccepted plan.now) orders.items) }
     ensures err { IfErr result (λ f. (f ≡ Fault.Memory) ⊎ (orders_of plan.now input.now ≡ Err f)) }
+    ensures of_input { IfErr result (λ f. is_of_input f ≡ true) }
 {
     let mut read = Orders {
         orders: Vec::new(alloc),
@@ -78,6 +79,7 @@ fn with_line(
     line: &[u8],
 ) -> Result<Orders, Fault>
     ensures gives { Gives result (with_line plan.now number read (feed_line_of line.now)) }
+    ensures of_input { IfErr result (λ f. is_of_input f ≡ true) }
 {
     let said = match read_feed_line(line) {
         Some(FeedLine::Data(said)) => said,
@@ -94,6 +96,7 @@ fn with_line(
 /// With a cut. Refusals: `Syntax` where a record stands in the current epoch; `Memory`.
 fn with_cut(read: Orders, number: u64) -> Result<Orders, Fault>
     ensures gives { Gives result (with_cut number read read.current) }
+    ensures of_input { IfErr result (λ f. is_of_input f ≡ true) }
 {
     let Orders {
         mut orders,
@@ -131,6 +134,7 @@ fn with_record(
     rec: Rec,
 ) -> Result<Orders, Fault>
     ensures gives { Gives result (with_line plan.now number read (Some (FeedLine.Data (DataLine.Record input rec)))) }
+    ensures of_input { IfErr result (λ f. is_of_input f ≡ true) }
 {
     if !is_input(plan, input) {
         return Err(Fault::Line(number, LineFault::NoSuchInput));

@@ -7,7 +7,8 @@ ghost use Rattle.td_standing.specs.Standing.{Standing, standing_from};
 ghost use Rattle.td_standing.specs.Read.{standing_of, Refused};
 ghost use Rattle.td_standing.specs.Told.{Told};
 ghost use Rattle.td_standing.specs.declared.error.KeeperError.TheVariants.{Device};
-ghost use Rattle.td_feed.specs.Shown.{shown, head_lines, last_line, state_line, state_lines, epoch_line, epoch_lines, ShowsTold, IsRefusedAs};
+ghost use Rattle.td_feed.specs.Shown.{shown, head_lines, last_line, state_line, state_lines, epoch_line, epoch_lines};
+ghost use Rattle.td_feed.specs.Shown.{ShowsTold, IsRefusedAs};
 
 use std::alloc::Global;
 use std::fmt::Write;

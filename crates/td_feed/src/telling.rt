@@ -1,14 +1,19 @@
 //! What a feed tells its keeper beside the workers.
-ghost use Rattle.std.specs.Prelude.{◌≡◌, ◌↔◌, [], true, false, IfOk, IfErr, OnErr};
-ghost use Rattle.td_keeper.specs.Driven.{submitted_in, Obeys};
+ghost use Rattle.std.specs.Prelude.{◌≡◌, ◌⊎◌, ◌↔◌, [], ◌∷◌, true, false, IfOk, IfErr, OnOk, OnErr};
+ghost use Rattle.td_disk.specs.Disk.{CountsDevice};
+ghost use Rattle.td_standing.specs.declared.error.KeeperError.TheVariants.{Device};
+ghost use Rattle.td_keeper.specs.declared.command.Reply.{Reply as AnyReply};
+ghost use Rattle.td_keeper.specs.Driven.{submitted_in, Obeys, Driven};
 ghost use Rattle.td_feed.specs.Carried.{batch_in, is_refused, is_resting, Carries, Leaves};
+ghost use Rattle.td_feed.specs.Said.{fault_in, Refuses, SaysBy};
 
+use crate::saying::say;
 use std::alloc::Global;
 use std::sync::Wait;
 use td_calls::Law;
-use td_console::Fault;
+use td_console::{Fault, Sink};
 use td_disk::Disk;
-use td_keeper::laws::each_is_kept;
+use td_keeper::laws::{each_is_kept, others_rest};
 use td_keeper::{Command, Keeper, Reply};
 use td_pool::{Crew, Pool};
 use td_standing::laws;
@@ -22,8 +27,11 @@ pub(crate) fn tell<D: Disk, L: Law, K: Crew, R: Wait>(
     command: Command,
 ) -> Result<Reply, Fault>
     requires whole { keeper.old.broken ≡ false }
-    ensures obeyed { IfOk result (λ reply. Obeys D.is_lawful D.state L.answers command reply keeper.old keeper.new) }
+    ensures obeyed { IfOk result (λ reply. Obeys D.is_lawful D.state D.failures L.answers command reply keeper.old keeper.new) }
+    ensures driven { IfOk result (λ reply. Driven D.is_lawful D.state D.failures L.answers (command ∷ []) (reply ∷ []) keeper.old keeper.new) }
     ensures done { IfOk result (λ reply. is_refused reply ≡ false) }
+    ensures refused { OnErr result (Refuses D.is_lawful D.state D.failures L.answers command keeper.old keeper.new) }
+    ensures failures { CountsDevice result (Fault.Keeper Device) (D.failures keeper.old.device) (D.failures keeper.new.device) }
     ensures size { D.capacity keeper.new.device ≡ D.capacity keeper.old.device }
     ensures lawful { D.is_lawful keeper.old.device ↔ D.is_lawful keeper.new.device }
     ensures carried { IfOk result (λ reply. Carries L.answers keeper.old keeper.new (submitted_in command reply)) }
@@ -32,10 +40,11 @@ pub(crate) fn tell<D: Disk, L: Law, K: Crew, R: Wait>(
 {
     laws::advance_stands::<L>();
     laws::standings_advance::<L>();
+    others_rest::<D, L>();
     each_is_kept(keeper);
     let mut commands = Vec::with_capacity(alloc, 1)?;
     commands.push_reserved(command);
-    match keeper.drive(rt, alloc, pool, commands) {
+    match keeper.drive(rt, pool, commands) {
         Ok(mut replies) => match replies.pop() {
             Some(reply) => unless_refused(reply),
             None => unreachable!(),
@@ -44,10 +53,36 @@ pub(crate) fn tell<D: Disk, L: Law, K: Crew, R: Wait>(
     }
 }
 
+/// Tells a keeper one command, and writes the lines of its reply. Refusals: those of `tell`; `Memory`, where there was no room for
+/// the lines; and `Output`.
+pub(crate) fn tell_aloud<D: Disk, L: Law, K: Crew, R: Wait, W: Sink>(
+    rt: &R,
+    alloc: Global,
+    keeper: &mut Keeper<D, L>,
+    pool: &Pool<K, L>,
+    command: Command,
+    writer: &mut W,
+) -> Result<(), Fault>
+    requires whole { keeper.old.broken ≡ false }
+    ensures obeyed { OnOk result ((reply : AnyReply) × Obeys D.is_lawful D.state D.failures L.answers command reply keeper.old keeper.new × (is_refused reply ≡ false)) }
+    ensures size { D.capacity keeper.new.device ≡ D.capacity keeper.old.device }
+    ensures lawful { D.is_lawful keeper.old.device ↔ D.is_lawful keeper.new.device }
+    ensures carried { OnOk result (Carries L.answers keeper.old keeper.new (batch_in command)) }
+    ensures left { OnErr result (Leaves D.is_lawful D.state L.answers keeper.old keeper.new (batch_in command)) }
+
+    // Nothing is written but for a command that was obeyed.
+    ensures acknowledged { (writer.new ≡ writer.old) ⊎ Carries L.answers keeper.old keeper.new (batch_in command) }
+    ensures said { SaysBy D.is_lawful D.state D.failures L.answers result (W.contents writer.old) (W.contents writer.new) keeper.old keeper.new (batch_in command) }
+    ensures failures { CountsDevice result (Fault.Keeper Device) (D.failures keeper.old.device) (D.failures keeper.new.device) }
+{
+    let reply = tell(rt, alloc, keeper, pool, command)?;
+    say(alloc, &reply, writer)
+}
+
 /// A reply that is no refusal; else the fault for that.
 fn unless_refused(reply: Reply) -> Result<Reply, Fault>
     ensures ok { IfOk result (λ r. (r ≡ reply) × (is_refused reply ≡ false)) }
-    ensures refused { IfErr result (λ _. is_refused reply ≡ true) }
+    ensures refused { IfErr result (λ f. (is_refused reply ≡ true) × (f ≡ fault_in reply)) }
 {
     match reply {
         Reply::Refused { error, batch: _ } => Err(Fault::from(error)),

@@ -1,12 +1,19 @@
 //! A feed under way.
-ghost use Rattle.std.specs.Prelude.{◌≡◌, ◌⊎◌, ◌↔◌, ◌≤◌, [], ◌∷◌, false, IfOk, IfSome, IfNone, OnOk, OnErr};
+ghost use Rattle.std.specs.Prelude.{◌≡◌, ◌⊎◌, ◌↔◌, ◌+◌, ◌^◌, ◌<◌, ◌≤◌, ℕ, List, Option, [], ◌∷◌, false, IfOk, IfErr, IfSome, IfNone, OnOk, OnErr, string_bytes};
+ghost use Rattle.std.specs.Io.KnownBytes.{Appends};
+ghost use Rattle.td_disk.specs.Disk.{CountsDevice};
 ghost use Rattle.td_standing.specs.Standing.{submission};
+ghost use Rattle.td_standing.specs.declared.error.KeeperError.TheVariants.{Device, Epochs};
+ghost use Rattle.td_keeper.specs.declared.command.Command.TheVariants.{NextOut};
+ghost use Rattle.td_keeper.specs.declared.command.Reply.TheVariants.{Out};
+ghost use Rattle.td_keeper.specs.Driven.{Driven};
 ghost use Rattle.td_feed.specs.Orders.{submissions};
 ghost use Rattle.td_feed.specs.Fed.{hall_fault};
 ghost use Rattle.td_feed.specs.Carried.{Carries, Leaves};
+ghost use Rattle.td_feed.specs.Said.{Refuses, SaysBy};
 
 use crate::order::Order;
-use crate::telling::tell;
+use crate::telling::{tell, tell_aloud};
 use std::alloc::Global;
 use std::sync::Wait;
 use td_calls::Law;
@@ -16,14 +23,11 @@ use td_disk::Disk;
 use td_keeper::{Command, Keeper, Reply};
 use td_plan::Plan;
 use td_pool::{Crew, Pool};
-use td_stamp::{Batch, EpochOut};
+use td_stamp::{Batch, EPOCHS_END, EpochOut};
 use td_standing::KeeperError;
 
 /// Output lines are written where they have so many bytes.
 const PIECE: usize = 65_536;
-
-/// Epochs are numbered below this.
-const ENDS: u64 = 1 << 63;
 
 /// How much the pool's hall has since its base, and how much the keeper has beyond that, each epoch and each record counted as
 /// one. A release compares all that the hall has, so it waits until as much is new.
@@ -45,9 +49,11 @@ pub(crate) fn open<D: Disk, L: Law>(
     requires most { workers ≤ 16 }
     ensures plan { IfOk result (λ o. o.0.plan ≡ plan.now) }
     ensures workers { IfOk result (λ o. o.0.workers ≡ workers) }
+    ensures room { IfOk result (λ _. keeper.now.standing.epoch + 1 < 2 ^ 63) }
+    ensures refused { IfErr result (λ f. (f ≡ Fault.Memory) ⊎ ((f ≡ Fault.Keeper Epochs) × (2 ^ 63 ≤ keeper.now.standing.epoch + 1))) }
 {
     let (epoch, states, batches) = keeper.opening()?;
-    if ENDS - 1 <= epoch {
+    if EPOCHS_END - 1 <= epoch {
         return Err(Fault::Keeper(KeeperError::Epochs));
     }
     let waiting = batches
@@ -74,6 +80,8 @@ impl Feeding {
         ensures lawful { D.is_lawful keeper.old.device ↔ D.is_lawful keeper.new.device }
         ensures carried { OnOk result (Carries L.answers keeper.old keeper.new (submissions (order ∷ []))) }
         ensures left { OnErr result (Leaves D.is_lawful D.state L.answers keeper.old keeper.new (submissions (order ∷ []))) }
+        ensures said { SaysBy D.is_lawful D.state D.failures L.answers result (W.contents writer.old) (W.contents writer.new) keeper.old keeper.new (submissions (order ∷ [])) }
+        ensures failures { CountsDevice result (Fault.Keeper Device) (D.failures keeper.old.device) (D.failures keeper.new.device) }
     {
         match order {
             Order::Submit(batch) => self.submit(rt, alloc, keeper, pool, batch, writer),
@@ -99,13 +107,11 @@ impl Feeding {
         // Nothing is written but for a batch that is on the disk.
         ensures acknowledged { (writer.new ≡ writer.old) ⊎ Carries L.answers keeper.old keeper.new (submission 0 batch ∷ []) }
         ensures left { OnErr result (Leaves D.is_lawful D.state L.answers keeper.old keeper.new (submission 0 batch ∷ [])) }
+        ensures said { SaysBy D.is_lawful D.state D.failures L.answers result (W.contents writer.old) (W.contents writer.new) keeper.old keeper.new (submission 0 batch ∷ []) }
+        ensures failures { CountsDevice result (Fault.Keeper Device) (D.failures keeper.old.device) (D.failures keeper.new.device) }
     {
         self.waiting = self.waiting.saturating_add(weight(&batch));
-        let Reply::Submitted(epoch) = tell(rt, alloc, keeper, pool, Command::Submit(batch))? else {
-            unreachable!()
-        };
-        let line = format!(in alloc; "ack {epoch}\n")?;
-        write_answer(writer, line.as_str())?;
+        tell_aloud(rt, alloc, keeper, pool, Command::Submit(batch), writer)?;
         if self.waiting < self.held {
             return Ok(());
         }
@@ -124,6 +130,10 @@ impl Feeding {
         ensures size { D.capacity keeper.new.device ≡ D.capacity keeper.old.device }
         ensures lawful { D.is_lawful keeper.old.device ↔ D.is_lawful keeper.new.device }
         ensures carried { Carries L.answers keeper.old keeper.new [] }
+
+        // Nothing is written, whatever the writer is.
+        ensures said { (held : Option (List ℕ)) → SaysBy D.is_lawful D.state D.failures L.answers result held held keeper.old keeper.new [] }
+        ensures failures { CountsDevice result (Fault.Keeper Device) (D.failures keeper.old.device) (D.failures keeper.new.device) }
     {
         tell(rt, alloc, keeper, pool, Command::Release)?;
         self.held = self.held.saturating_add(self.waiting);
@@ -145,6 +155,8 @@ impl Feeding {
         ensures lawful { D.is_lawful keeper.old.device ↔ D.is_lawful keeper.new.device }
         ensures carried { Carries L.answers keeper.old keeper.new [] }
         ensures none_left { OnOk result (keeper.new.queue ≡ []) }
+        ensures said { SaysBy D.is_lawful D.state D.failures L.answers result (W.contents writer.old) (W.contents writer.new) keeper.old keeper.new [] }
+        ensures failures { CountsDevice result (Fault.Keeper Device) (D.failures keeper.old.device) (D.failures keeper.new.device) }
     {
         self.release(rt, alloc, keeper, pool)?;
         tell(rt, alloc, keeper, pool, Command::Settle)?;
@@ -167,15 +179,13 @@ impl Feeding {
         ensures written { OnOk result (keeper.new.waiting ≡ false) }
         ensures carried { OnOk result (Carries L.answers keeper.old keeper.new []) }
         ensures left { OnErr result (Leaves D.is_lawful D.state L.answers keeper.old keeper.new []) }
+        ensures said { SaysBy D.is_lawful D.state D.failures L.answers result (W.contents writer.old) (W.contents writer.new) keeper.old keeper.new [] }
+        ensures failures { CountsDevice result (Fault.Keeper Device) (D.failures keeper.old.device) (D.failures keeper.new.device) }
     {
         self.settle(rt, alloc, keeper, pool, writer)?;
-        let Reply::CutTaken(epoch) = tell(rt, alloc, keeper, pool, Command::Cut)? else {
-            unreachable!()
-        };
+        tell(rt, alloc, keeper, pool, Command::Cut)?;
         self.held = 0;
-        tell(rt, alloc, keeper, pool, Command::WriteCut)?;
-        let line = format!(in alloc; "cut {epoch}\n")?;
-        write_answer(writer, line.as_str())
+        tell_aloud(rt, alloc, keeper, pool, Command::WriteCut, writer)
     }
 }
 
@@ -192,19 +202,32 @@ fn write_outs<D: Disk, L: Law, K: Crew, R: Wait, W: Sink>(
     ensures lawful { D.is_lawful keeper.old.device ↔ D.is_lawful keeper.new.device }
     ensures carried { Carries L.answers keeper.old keeper.new [] }
     ensures none_left { OnOk result (keeper.new.queue ≡ []) }
+    ensures said { SaysBy D.is_lawful D.state D.failures L.answers result (W.contents writer.old) (W.contents writer.new) keeper.old keeper.new [] }
+    ensures failures { CountsDevice result (Fault.Keeper Device) (D.failures keeper.old.device) (D.failures keeper.new.device) }
 {
     let mut text = String::new(alloc);
     while let Some(out) = next_out(rt, alloc, keeper, pool)? {
         print_epoch(&mut text, &out)?;
-        if text.len() >= PIECE {
-            write_answer(writer, text.as_str())?;
-            text.clear();
-        }
+        write_piece(writer, &mut text)?;
     }
     if text.is_empty() {
         return Ok(());
     }
     write_answer(writer, text.as_str())
+}
+
+/// Writes the lines that are held, where they are long enough, and lets them go.
+fn write_piece<W: Sink>(writer: &mut W, text: &mut String) -> Result<(), Fault>
+    ensures ok { OnOk result ((Appends (W.contents writer.old) (W.contents writer.new) (string_bytes text.old) × (string_bytes text.new ≡ []))
+        ⊎ ((writer.new ≡ writer.old) × (text.new ≡ text.old))) }
+    ensures err { IfErr result (λ f. f ≡ Fault.Output) }
+{
+    if text.len() < PIECE {
+        return Ok(());
+    }
+    write_answer(writer, text.as_str())?;
+    text.clear();
+    Ok(())
 }
 
 /// The outputs of the first epoch of those that were collected; None where there is none.
@@ -220,6 +243,9 @@ fn next_out<D: Disk, L: Law, K: Crew, R: Wait>(
     ensures carried { Carries L.answers keeper.old keeper.new [] }
     ensures some { IfOk result (λ o. IfSome o (λ out. keeper.old.queue ≡ out ∷ keeper.new.queue)) }
     ensures none { IfOk result (λ o. IfNone o (keeper.new.queue ≡ [])) }
+    ensures driven { IfOk result (λ o. Driven D.is_lawful D.state D.failures L.answers (NextOut ∷ []) (Out o ∷ []) keeper.old keeper.new) }
+    ensures refused { OnErr result (Refuses D.is_lawful D.state D.failures L.answers NextOut keeper.old keeper.new) }
+    ensures failures { CountsDevice result (Fault.Keeper Device) (D.failures keeper.old.device) (D.failures keeper.new.device) }
 {
     let Reply::Out(out) = tell(rt, alloc, keeper, pool, Command::NextOut)? else {
         unreachable!()

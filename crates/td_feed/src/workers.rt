@@ -1,8 +1,12 @@
 //! A feed beside the workers, each in a thread of its own.
-ghost use Rattle.std.specs.Prelude.{◌≡◌, ◌↔◌, false, Ok, OnOk, OnErr};
+ghost use Rattle.std.specs.Prelude.{◌≡◌, ◌⊎◌, ◌↔◌, ℕ, false, Ok, Err, IfErr, OnOk, OnErr};
+ghost use Rattle.td_disk.specs.Disk.{CountsDevice};
+ghost use Rattle.td_pool.specs.declared.error.PoolError.{PoolError as AnyPoolError};
+ghost use Rattle.td_standing.specs.declared.error.KeeperError.TheVariants.{Device, NotPassed};
 ghost use Rattle.td_feed.specs.Orders.{submissions};
 ghost use Rattle.td_feed.specs.Fed.{pool_fault};
 ghost use Rattle.td_feed.specs.Carried.{Carries, Leaves};
+ghost use Rattle.td_feed.specs.Said.{SaysBy};
 
 use crate::order::Order;
 use crate::under_way::Feeding;
@@ -47,6 +51,8 @@ pub(crate) fn obey_by_workers<
     ensures lawful { D.is_lawful keeper.device ↔ D.is_lawful result.0.device }
     ensures fed { OnOk result.1 (Carries L.answers keeper result.0 (submissions orders.items)) }
     ensures left { OnErr result.1 (Leaves D.is_lawful D.state L.answers keeper result.0 (submissions orders.items)) }
+    ensures said { SaysBy D.is_lawful D.state D.failures L.answers result.1 (W.contents writer.old) (W.contents writer.new) keeper result.0 (submissions orders.items) }
+    ensures failures { CountsDevice result.1 (Fault.Keeper Device) (D.failures keeper.device) (D.failures result.0.device) }
 {
     match Pool::<K, L>::new(alloc, hall, blank) {
         Ok((pool, seats)) => beside(
@@ -80,29 +86,34 @@ fn beside<
     ensures lawful { D.is_lawful keeper.device ↔ D.is_lawful result.0.device }
     ensures fed { OnOk result.1 (Carries L.answers keeper result.0 (submissions orders.items)) }
     ensures left { OnErr result.1 (Leaves D.is_lawful D.state L.answers keeper result.0 (submissions orders.items)) }
+    ensures said { SaysBy D.is_lawful D.state D.failures L.answers result.1 (W.contents writer.old) (W.contents writer.new) keeper result.0 (submissions orders.items) }
+    ensures failures { CountsDevice result.1 (Fault.Keeper Device) (D.failures keeper.device) (D.failures result.0.device) }
 {
-    thread::scope(
+    let (ended, _writer) = thread::scope(
         thread::scope_env(),
         rt,
-        |scope| -> (Keeper<D, L>, Result<(), Fault>)
+        move |scope| -> ((Keeper<D, L>, Result<(), Fault>), &mut W)
             requires { keeper.broken ≡ false }
-            ensures size { D.capacity result.0.device ≡ D.capacity keeper.device }
-            ensures lawful { D.is_lawful keeper.device ↔ D.is_lawful result.0.device }
-            ensures fed { OnOk result.1 (Carries L.answers keeper result.0 (submissions orders.items)) }
-            ensures left { OnErr result.1 (Leaves D.is_lawful D.state L.answers keeper result.0 (submissions orders.items)) }
+            ensures same_writer { result.1.ghost_name ≡ writer.entry.ghost_name }
+            ensures size { D.capacity result.0.0.device ≡ D.capacity keeper.device }
+            ensures lawful { D.is_lawful keeper.device ↔ D.is_lawful result.0.0.device }
+            ensures fed { OnOk result.0.1 (Carries L.answers keeper result.0.0 (submissions orders.items)) }
+            ensures left { OnErr result.0.1 (Leaves D.is_lawful D.state L.answers keeper result.0.0 (submissions orders.items)) }
+            ensures said { SaysBy D.is_lawful D.state D.failures L.answers result.0.1 (W.contents writer.entry.now) (W.contents result.1.now) keeper result.0.0 (submissions orders.items) }
+            ensures failures { CountsDevice result.0.1 (Fault.Keeper Device) (D.failures keeper.device) (D.failures result.0.0.device) }
         {
             let mut keeper = keeper;
             let mut workers = Vec::new(alloc);
-            let mut started = Ok(());
+            let mut is_refused = false;
             for seat in seats {
                 if workers.reserve(1).is_err() {
-                    started = Err(Fault::Memory);
+                    is_refused = true;
                     break;
                 }
                 match scope.spawn(move || serve(rt, alloc, pool, seat, calls)) {
                     Ok(worker) => workers.push_reserved(worker),
                     Err(_) => {
-                        started = Err(Fault::Memory);
+                        is_refused = true;
                         break;
                     }
                 }
@@ -112,7 +123,7 @@ fn beside<
                 alloc,
                 &mut keeper,
                 pool,
-                started,
+                is_refused,
                 feeding,
                 orders,
                 writer,
@@ -122,9 +133,10 @@ fn beside<
             for worker in workers {
                 worked = worked.and(worker.join(rt));
             }
-            (keeper, ended_as(obeyed, worked))
+            ((keeper, ended_as(obeyed, worked)), writer)
         },
-    )
+    );
+    ended
 }
 
 /// Works from a seat until the pool is stopped. Where the work ends by a refusal, it stops the pool.
@@ -142,14 +154,14 @@ fn serve<L: Law, C: Closures<L>, K: Crew, R: Wait>(
     worked
 }
 
-/// Obeys each order in turn, and settles, where the workers were started. Refusals: why they were not; those of the keeper and of
-/// the writer.
+/// Obeys each order in turn, and settles. Refusals: `Memory`, before anything else, where a worker was refused a thread; those of the
+/// keeper and of the writer.
 fn obey_each<D: Disk, W: Sink, L: Law, K: Crew, R: Wait>(
     rt: &R,
     alloc: Global,
     keeper: &mut Keeper<D, L>,
     pool: &Pool<K, L>,
-    started: Result<(), Fault>,
+    is_refused: bool,
     mut feeding: Feeding,
     orders: Vec<Order>,
     writer: &mut W,
@@ -159,8 +171,12 @@ fn obey_each<D: Disk, W: Sink, L: Law, K: Crew, R: Wait>(
     ensures lawful { D.is_lawful keeper.old.device ↔ D.is_lawful keeper.new.device }
     ensures fed { OnOk result (Carries L.answers keeper.old keeper.new (submissions orders.items)) }
     ensures left { OnErr result (Leaves D.is_lawful D.state L.answers keeper.old keeper.new (submissions orders.items)) }
+    ensures said { SaysBy D.is_lawful D.state D.failures L.answers result (W.contents writer.old) (W.contents writer.new) keeper.old keeper.new (submissions orders.items) }
+    ensures failures { CountsDevice result (Fault.Keeper Device) (D.failures keeper.old.device) (D.failures keeper.new.device) }
 {
-    started?;
+    if is_refused {
+        return Err(Fault::Memory);
+    }
     feeding.release(rt, alloc, keeper, pool)?;
     for order in orders {
         feeding.obey(rt, alloc, keeper, pool, order, writer)?;
@@ -170,7 +186,8 @@ fn obey_each<D: Disk, W: Sink, L: Law, K: Crew, R: Wait>(
 
 /// How a feed ended: as a worker's refusal says, in place of epochs that did not pass for it.
 fn ended_as(obeyed: Result<(), Fault>, worked: Result<(), PoolError>) -> Result<(), Fault>
-    ensures { OnOk result (obeyed ≡ Ok tt) }
+    ensures ok { OnOk result ((obeyed ≡ Ok tt) × (worked ≡ Ok tt)) }
+    ensures err { IfErr result (λ f. (obeyed ≡ Err f) ⊎ (((obeyed ≡ Ok tt) ⊎ ((e : ℕ) × (obeyed ≡ Err (Fault.Keeper (NotPassed e))))) × ((r : AnyPoolError) × (worked ≡ Err r) × (f ≡ pool_fault r)))) }
 {
     match (obeyed, worked) {
         (Ok(()) | Err(Fault::Keeper(KeeperError::NotPassed(_))), Err(refusal)) => {

@@ -2,3 +2,4 @@ mod CrashSafety
 mod Frame
 mod Images
 mod Steps
+mod OnlyReads

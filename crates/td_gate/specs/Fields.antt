@@ -2,6 +2,7 @@
 use Rattle.std.specs.Prelude.{ℕ, zero, suc, ℤ, ◌<◌, ◌^◌, Bool, true, ◌&&◌, ◌==◌, nat_le, List, [], ◌∷◌, ◌++◌, drop}
 use Rattle.std.specs.Int.{cast_signed, cast_unsigned, w64}
 use Rattle.byteorder.specs.Endian.{big_bytes, big_number}
+use Rattle.td_gate.specs.declared.fields.Front.{Front}
 
 -- the number in the n bytes from a place on
 unfoldable pub number_at : ℕ → ℕ → List ℕ → ℕ
@@ -18,13 +19,7 @@ signed_at at bytes = cast_signed w64 (number_at 8 at bytes)
 abbrev pub signed_bytes : ℤ → List ℕ
 signed_bytes z = number_bytes 8 (cast_unsigned w64 z)
 
--- What a list of entries on a disk begins with: the epoch, a request number (0 for none), how many entries follow, and zeros
-pub record Front : Type 0 where
-  pub epoch : ℕ
-  pub request : ℕ
-  pub count : ℕ
-  pub zeros : ℕ
-
+-- the front of a list of entries: the epoch, a request number (0 for none), how many entries follow, and zeros
 abbrev pub front_bytes : Front → List ℕ
 front_bytes f = number_bytes 8 f.epoch ++ (number_bytes 8 f.request ++ (number_bytes 4 f.count ++ number_bytes 4 f.zeros))
 

@@ -6,7 +6,8 @@ use Rattle.std.proofs.lemmas.List.{append_assoc, drop_at, drop-drop, length-appe
 use Rattle.std.proofs.lemmas.Int.{to_z-of_z}
 use Rattle.byteorder.specs.Endian.{big_number}
 use Rattle.byteorder.specs.Numbers.{big_from-take, big_number-reads_back, length-bytes_high_first}
-use Rattle.td_gate.specs.Fields.{Front, FitsFront, front_bytes, front_in, front_len, number_at, number_bytes, signed_at, signed_bytes, each_in}
+use Rattle.td_gate.specs.declared.fields.Front.{Front}
+use Rattle.td_gate.specs.Fields.{FitsFront, front_bytes, front_in, front_len, number_at, number_bytes, signed_at, signed_bytes, each_in}
 
 -- a number behind a first part
 pub number_behind : (n at x : ℕ) (p rest : List ℕ) → length p ≡ at → x < 256 ^ n → number_at n at (p ++ (number_bytes n x ++ rest)) ≡ x

@@ -1,7 +1,7 @@
 // Reading a region.
-ghost use Rattle.std.specs.Prelude.{◌≡◌, ◌+◌, ◌≤◌, ◌↔◌, List, ℕ, IfOk, IsErrOf};
-ghost use Rattle.td_disk.specs.Disk.{IsDurable, Rises};
-ghost use Rattle.td_gate.specs.CrashSafe.{CrashSafe, Unchanged};
+ghost use Rattle.std.specs.Prelude.{◌≡◌, ◌+◌, ◌≤◌, List, ℕ, IfOk};
+ghost use Rattle.td_disk.specs.Disk.{CountsDevice};
+ghost use Rattle.td_gate.specs.Reads.{IsRead};
 ghost use Rattle.td_gate.specs.Region.{opened, start_of, payload_of, HasLength, IsSettled};
 
 use crate::region::OPEN;
@@ -22,16 +22,8 @@ impl Region {
         ensures every { IfOk result (λ found. D.is_lawful device.old
             → IsSettled self.now (D.state device.old) → (c : List ℕ) → (D.state device.old).images c
             → payload_of found ≡ opened self.now c) }
-        ensures device { IsErrOf result GateError.Device
-            → Rises (D.failures device.old) (D.failures device.new) }
-        ensures later { D.failures device.old ≤ D.failures device.new }
-        ensures size { D.capacity device.new ≡ D.capacity device.old }
-        ensures lawful { D.is_lawful device.old ↔ D.is_lawful device.new }
-        ensures same { D.is_lawful device.old
-            → (D.state device.new).bytes ≡ (D.state device.old).bytes }
-        ensures durable { D.is_lawful device.old → IsDurable (D.state device.old) → IsDurable (D.state device.new) }
-        ensures crash_safe { D.is_lawful device.old
-            → CrashSafe Unchanged (D.state device.old) (D.state device.new) }
+        ensures failures { CountsDevice result GateError.Device (D.failures device.old) (D.failures device.new) }
+        ensures read { IsRead D.capacity D.is_lawful D.state device.old device.new }
     {
         self.start_if_open(alloc, device, self.len)
     }
@@ -52,16 +44,8 @@ impl Region {
         ensures every { IfOk result (λ found. D.is_lawful device.old
             → IsSettled self.now (D.state device.old) → (c : List ℕ) → (D.state device.old).images c
             → payload_of found ≡ start_of count (opened self.now c)) }
-        ensures device { IsErrOf result GateError.Device
-            → Rises (D.failures device.old) (D.failures device.new) }
-        ensures later { D.failures device.old ≤ D.failures device.new }
-        ensures size { D.capacity device.new ≡ D.capacity device.old }
-        ensures lawful { D.is_lawful device.old ↔ D.is_lawful device.new }
-        ensures same { D.is_lawful device.old
-            → (D.state device.new).bytes ≡ (D.state device.old).bytes }
-        ensures durable { D.is_lawful device.old → IsDurable (D.state device.old) → IsDurable (D.state device.new) }
-        ensures crash_safe { D.is_lawful device.old
-            → CrashSafe Unchanged (D.state device.old) (D.state device.new) }
+        ensures failures { CountsDevice result GateError.Device (D.failures device.old) (D.failures device.new) }
+        ensures read { IsRead D.capacity D.is_lawful D.state device.old device.new }
     {
         self.start_if_open(alloc, device, count)
     }
@@ -79,14 +63,8 @@ impl Region {
         ensures found { IfOk result (λ found. D.is_lawful device.old
             → payload_of found ≡ start_of count (opened self.now (D.state device.old).bytes)) }
         ensures len { IfOk result (λ found. HasLength found count) }
-        ensures device { IsErrOf result GateError.Device → Rises (D.failures device.old) (D.failures device.new) }
-        ensures later { D.failures device.old ≤ D.failures device.new }
-        ensures size { D.capacity device.new ≡ D.capacity device.old }
-        ensures lawful { D.is_lawful device.old ↔ D.is_lawful device.new }
-        ensures same { D.is_lawful device.old → (D.state device.new).bytes ≡ (D.state device.old).bytes }
-        ensures durable { D.is_lawful device.old → IsDurable (D.state device.old) → IsDurable (D.state device.new) }
-        ensures crash_safe { D.is_lawful device.old
-            → CrashSafe Unchanged (D.state device.old) (D.state device.new) }
+        ensures failures { CountsDevice result GateError.Device (D.failures device.old) (D.failures device.new) }
+        ensures read { IsRead D.capacity D.is_lawful D.state device.old device.new }
     {
         // The answer fits a u64, and so each sum of places on the disk does.
         let _size = device.size();

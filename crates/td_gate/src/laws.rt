@@ -5,7 +5,10 @@ ghost use Rattle.std.specs.Int.{w64};
 ghost use Rattle.td_disk.specs.Disk.{ImagesFollow, NoNewImages, TimePasses, IsDurable};
 ghost use Rattle.td_gate.specs.declared.region.Region.{Region as AnyRegion};
 ghost use Rattle.td_gate.specs.CrashSafe.{CrashSafe, Unchanged};
-ghost use Rattle.td_gate.specs.Fields.{Front, FitsFront, front_bytes, front_in, front_len, number_at, number_bytes, signed_at, signed_bytes};
+ghost use Rattle.td_gate.specs.declared.fields.Front.{Front as AnyFront};
+ghost use Rattle.td_gate.specs.Fields.{FitsFront, front_bytes, front_in, front_len, number_at, number_bytes};
+ghost use Rattle.td_gate.specs.Fields.{signed_at, signed_bytes};
+ghost use Rattle.td_gate.specs.Reads.{IsRead};
 ghost use Rattle.td_gate.specs.Region.{opened, IsSettled, IsOpen, Closes, Fills, Opens, Puts};
 ghost use Rattle.td_gate.specs.Regions.{Apart, ApartFromAll, KeepsRegion, Put, PutsDone, PutsInTurn};
 
@@ -74,13 +77,18 @@ pub fn unchanged<D: Disk>()
         → IsDurable (D.state new) }
 {}
 
-/// Runs of calls that change no image, one after another.
+/// Runs of calls that change no image, and of calls that only read, one after another.
 pub fn reads_in_turn<D: Disk>()
-    ensures { (old mid new : D)
+    ensures unchanged { (old mid new : D)
         → D.is_lawful mid
         → CrashSafe Unchanged (D.state old) (D.state mid)
         → CrashSafe Unchanged (D.state mid) (D.state new)
         → CrashSafe Unchanged (D.state old) (D.state new) }
+    ensures none { (d : D) → IsRead D.capacity D.is_lawful D.state d d }
+    ensures read { (old mid new : D)
+        → IsRead D.capacity D.is_lawful D.state old mid
+        → IsRead D.capacity D.is_lawful D.state mid new
+        → IsRead D.capacity D.is_lawful D.state old new }
 {}
 
 /// One put is a sequence of one.
@@ -137,7 +145,7 @@ pub fn puts_keep_others<D: Disk>()
 pub fn read_back()
     ensures number { (n x : ℕ) (rest : List ℕ) → x < 256 ^ n → number_at n 0 (number_bytes n x ++ rest) ≡ x }
     ensures signed { (z : ℤ) (rest : List ℕ) → FitsSigned w64 z → signed_at 0 (signed_bytes z ++ rest) ≡ z }
-    ensures front { (f : Front) (rest : List ℕ) → FitsFront f → front_in (front_bytes f ++ rest) ≡ f }
-    ensures past { (f : Front) (rest : List ℕ) → drop front_len (front_bytes f ++ rest) ≡ rest }
-    ensures size { (f : Front) → length (front_bytes f) ≡ front_len }
+    ensures front { (f : AnyFront) (rest : List ℕ) → FitsFront f → front_in (front_bytes f ++ rest) ≡ f }
+    ensures past { (f : AnyFront) (rest : List ℕ) → drop front_len (front_bytes f ++ rest) ≡ rest }
+    ensures size { (f : AnyFront) → length (front_bytes f) ≡ front_len }
 {}

@@ -11,4 +11,4 @@ mod region;
 mod write_and_sync;
 
 pub use error::GateError;
-pub use region::{Closed, Filled, Region};
+pub use region::{Closed, Filled, OPEN, Region};

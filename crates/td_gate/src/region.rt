@@ -5,13 +5,14 @@ ghost use Rattle.td_gate.specs.CrashSafe.{CrashSafe};
 ghost use Rattle.td_gate.specs.declared.region.Region.{Region as AnyRegion};
 ghost use Rattle.td_gate.specs.Regions.{Apart, KeepsRegion};
 ghost use Rattle.td_gate.specs.States.{closed_region, closed_disk, filled_region, filled_disk};
-ghost use Rattle.td_gate.specs.Region.{opened, gate_of, closed_byte, KeepsDisk, IsSettled, IsClosed, IsFilled, IsOpen, Closes, Fills, Opens, Puts};
+ghost use Rattle.td_gate.specs.Region.{opened, gate_of, closed_byte, KeepsDisk, IsSettled, IsClosed, IsFilled, IsOpen};
+ghost use Rattle.td_gate.specs.Region.{Closes, Fills, Opens, Puts};
 
 use crate::write_and_sync::write_and_sync;
 use td_disk::{Disk, Fault};
 
 /// The gate byte of an open region. Any other value is closed.
-pub(crate) const OPEN: u8 = 0xA5;
+pub const OPEN: u8 = 0xA5;
 
 /// What is written to a gate to close it.
 const CLOSED: u8 = 0;
@@ -108,6 +109,7 @@ impl Region {
         ensures step { IfOk result (λ closed. KeepsDisk D.capacity D.failures D.is_lawful device.old (closed_disk closed).now) }
         ensures step_back { IfErr result (λ back. KeepsDisk D.capacity D.failures D.is_lawful device.old back.1.now) }
         ensures device { IfErr result (λ back. Rises (D.failures device.old) (D.failures back.1.now)) }
+        ensures no_failure { IfOk result (λ closed. D.failures (closed_disk closed).now ≡ D.failures device.old) }
         ensures crash_safe { IfOk result (λ closed. D.is_lawful device.old
             → IsSettled self.now (D.state device.old)
             → CrashSafe (Closes self.now) (D.state device.old) (D.state (closed_disk closed).now)) }
@@ -220,6 +222,7 @@ impl<'a, D: Disk> Closed<'a, D> {
         ensures step { IfOk result (λ filled. KeepsDisk D.capacity D.failures D.is_lawful (closed_disk self.entry).now (filled_disk filled).now) }
         ensures step_back { IfErr result (λ back. KeepsDisk D.capacity D.failures D.is_lawful (closed_disk self.entry).now back.1.now) }
         ensures device { IfErr result (λ back. Rises (D.failures (closed_disk self.entry).now) (D.failures back.1.now)) }
+        ensures no_failure { IfOk result (λ filled. D.failures (filled_disk filled).now ≡ D.failures (closed_disk self.entry).now) }
         ensures crash_safe { IfOk result (λ filled. D.is_lawful (closed_disk self.entry).now
             → IsClosed (closed_region self.entry) (D.state (closed_disk self.entry).now)
             → CrashSafe (Fills (closed_region self.entry)) (D.state (closed_disk self.entry).now) (D.state (filled_disk filled).now)) }
@@ -247,6 +250,7 @@ impl<'a, D: Disk> Filled<'a, D> {
         ensures step { IfOk result (λ back. KeepsDisk D.capacity D.failures D.is_lawful (filled_disk self.entry).now back.now) }
         ensures step_back { IfErr result (λ back. KeepsDisk D.capacity D.failures D.is_lawful (filled_disk self.entry).now back.1.now) }
         ensures device { IfErr result (λ back. Rises (D.failures (filled_disk self.entry).now) (D.failures back.1.now)) }
+        ensures no_failure { IfOk result (λ back. D.failures back.now ≡ D.failures (filled_disk self.entry).now) }
         ensures crash_safe { IfOk result (λ back. D.is_lawful (filled_disk self.entry).now
             → (payload : List ℕ)
             → IsFilled (filled_region self.entry) payload (D.state (filled_disk self.entry).now)

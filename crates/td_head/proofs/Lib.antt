@@ -5,3 +5,4 @@ mod Zeros
 mod Ascii
 mod Canonical
 mod Told
+mod Raised

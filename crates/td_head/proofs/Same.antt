@@ -25,7 +25,7 @@ pub same_text : (canonical : Bool) (old new : List ℕ) → SameHeads old new �
 same_text canonical old new same tells = subst (λ (h : Option Fields). Decides canonical (IsCanonical (text_in h))) (sym (same_head old new same)) tells
 
 -- a test that came before an answer
-when_ok : (t : Bool) (x : Result Head HeadError) (e : HeadError) (s : Head) → where_so t x e ≡ Ok s → (t ≡ true) × (x ≡ Ok s)
+pub when_ok : (t : Bool) (x : Result Head HeadError) (e : HeadError) (s : Head) → where_so t x e ≡ Ok s → (t ≡ true) × (x ≡ Ok s)
 when_ok true x e s is = (refl, is)
 when_ok false x e s is = absurd cc
 

@@ -1,5 +1,5 @@
 -- What the heads of a disk tell.
-use Rattle.std.specs.Prelude.{◌≡◌, ℕ, ◌-◌, Bool, true, false, ◌&&◌, ◌||◌, ◌==◌, nat_lt, nat_le, List, [], ◌++◌, length, drop, take, replicate, codes, bytes_eq, Option, Some, None, Result, Ok, Err, Decides}
+use Rattle.std.specs.Prelude.{◌≡◌, ℕ, ◌+◌, ◌-◌, Bool, true, false, ◌&&◌, ◌||◌, ◌==◌, nat_lt, nat_le, List, [], ◌++◌, length, drop, take, replicate, codes, bytes_eq, Option, Some, None, Result, Ok, Err, Decides}
 use Rattle.td_gate.specs.Fields.{number_bytes, number_at}
 use Rattle.td_gate.specs.Region.{opened}
 use Rattle.td_plan.specs.Lines.{Line, text_of}
@@ -99,3 +99,11 @@ pub record IsHeaded (plan : List Line) (image : List ℕ) (answer : Result Head 
   pub canonical : Bool
   pub text : TellsCanonical canonical image
   pub head : headed canonical plan image ≡ answer
+
+-- THE HEAD THAT AN UPGRADE PUTS beside this one: in the other place, of version 2, with the next generation and the same shape
+abbrev pub raised : Head → Head
+raised h = record { version = 2; side = 1 - h.side; generation = h.generation + 1; shape = h.shape }
+
+-- what is written for it and a plan
+abbrev pub raised_bytes : Head → List Line → List ℕ
+raised_bytes h plan = head_bytes 2 (h.generation + 1) h.shape (text_of plan)

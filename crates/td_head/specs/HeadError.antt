@@ -3,7 +3,7 @@ use Rattle.std.specs.Prelude.{ℕ}
 use Rattle.td_gate.specs.declared.error.GateError.{GateError}
 use Rattle.td_gate.specs.declared.error.GateError.TheVariants as gate
 use Rattle.td_head.specs.declared.error.HeadError.{HeadError}
-use Rattle.td_head.specs.declared.error.HeadError.TheVariants.{NotFormatted, Damaged, WrongPlan, Device, Memory}
+use Rattle.td_head.specs.declared.error.HeadError.TheVariants.{NotFormatted, Damaged, WrongPlan, Device, Memory, LastGeneration}
 
 -- the number of a refusal
 abbrev pub number_of : HeadError → ℕ
@@ -12,6 +12,7 @@ number_of Damaged = 2
 number_of WrongPlan = 3
 number_of Device = 4
 number_of Memory = 5
+number_of LastGeneration = 6
 
 -- a refusal of a region, as the heads give it
 abbrev pub of_gate : GateError → HeadError

@@ -26,6 +26,9 @@ pub enum HeadError {
     /// Memory ran out.
     #[error("memory")]
     Memory,
+    /// No generation follows that of the head, which is 2^64 - 1.
+    #[error("last generation")]
+    LastGeneration,
 }
 
 impl HeadError {
@@ -39,6 +42,7 @@ impl HeadError {
             HeadError::WrongPlan => 3,
             HeadError::Device => 4,
             HeadError::Memory => 5,
+            HeadError::LastGeneration => 6,
         }
     }
 }

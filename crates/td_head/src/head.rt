@@ -1,17 +1,16 @@
 // Reading the heads of a disk.
-ghost use Rattle.std.specs.Prelude.{◌≡◌, ◌⊎◌, ◌↔◌, ◌+◌, ◌≤◌, length, IfOk, IfErr, IfSome, IsErrOf, Decides};
-ghost use Rattle.td_disk.specs.Disk.{IsDurable, Rises};
-ghost use Rattle.td_gate.specs.CrashSafe.{CrashSafe, Unchanged};
+ghost use Rattle.std.specs.Prelude.{◌≡◌, ◌⊎◌, ◌≤◌, length, IfOk, IfErr, IfSome, Decides};
+ghost use Rattle.td_disk.specs.Disk.{CountsDevice};
+ghost use Rattle.td_gate.specs.Reads.{IsRead};
 ghost use Rattle.td_gate.specs.Region.{opened, HasLength};
 ghost use Rattle.td_head.specs.Head.{candidate, greater, fields_in, is_version, IsCanonical, IsHeaded};
 ghost use Rattle.td_head.specs.Layout.{head, size_of};
 ghost use Rattle.td_head.specs.Read.{Headed, Refused, IsFieldsTold, fields_of, chosen_of};
 
 use crate::error::HeadError;
-use crate::shape::Shape;
+use crate::shape::{HEADS_LEN, Shape, head_region};
 use std::alloc::Global;
 use td_disk::Disk;
-use td_gate::Region;
 use td_gate::fields::{u32_at, u64_at};
 use td_plan::{Plan, PlanError};
 
@@ -113,18 +112,10 @@ fn counted<D: Disk>(alloc: Global, device: &mut D, side: u8) -> Result<Option<Ve
         → candidate side (opened (head side) (D.state device.old).bytes) ≡ fields_of side p) }
     ensures len { IfOk result (λ p. HasLength p 4128) }
     ensures refusals { IfErr result (λ e. (e ≡ HeadError.Device) ⊎ (e ≡ HeadError.Memory)) }
-    ensures device { IsErrOf result HeadError.Device → Rises (D.failures device.old) (D.failures device.new) }
-    ensures later { D.failures device.old ≤ D.failures device.new }
-    ensures size { D.capacity device.new ≡ D.capacity device.old }
-    ensures lawful { D.is_lawful device.old ↔ D.is_lawful device.new }
-    ensures same { D.is_lawful device.old → (D.state device.new).bytes ≡ (D.state device.old).bytes }
-    ensures durable { D.is_lawful device.old → IsDurable (D.state device.old) → IsDurable (D.state device.new) }
-    ensures crash_safe { D.is_lawful device.old → CrashSafe Unchanged (D.state device.old) (D.state device.new) }
+    ensures failures { CountsDevice result HeadError.Device (D.failures device.old) (D.failures device.new) }
+    ensures read { IsRead D.capacity D.is_lawful D.state device.old device.new }
 {
-    let head = Region {
-        at: 4_129 * u64::from(side),
-        len: 4_128,
-    };
+    let head = head_region(side);
     let Some(payload) = head.get(alloc, device)? else {
         return Ok(None);
     };
@@ -162,18 +153,13 @@ pub fn read<D: Disk>(alloc: Global, device: &mut D, plan: &Plan) -> Result<Head,
     ensures fits { IfOk result (λ h. size_of h.shape ≤ D.capacity device.old) }
     ensures refused { IfErr result (λ e. (e ≡ HeadError.Device) ⊎ ((e ≡ HeadError.Memory) ⊎ (D.is_lawful device.old
         → IsHeaded plan.now (D.state device.old).bytes (Refused e)))) }
-    ensures device { IsErrOf result HeadError.Device → Rises (D.failures device.old) (D.failures device.new) }
-    ensures later { D.failures device.old ≤ D.failures device.new }
-    ensures size { D.capacity device.new ≡ D.capacity device.old }
-    ensures lawful { D.is_lawful device.old ↔ D.is_lawful device.new }
-    ensures same { D.is_lawful device.old → (D.state device.new).bytes ≡ (D.state device.old).bytes }
-    ensures durable { D.is_lawful device.old → IsDurable (D.state device.old) → IsDurable (D.state device.new) }
-    ensures crash_safe { D.is_lawful device.old → CrashSafe Unchanged (D.state device.old) (D.state device.new) }
+    ensures failures { CountsDevice result HeadError.Device (D.failures device.old) (D.failures device.new) }
+    ensures read { IsRead D.capacity D.is_lawful D.state device.old device.new }
 {
     td_plan::laws::one_answer();
     td_gate::laws::reads_in_turn::<D>();
     let size = device.size();
-    if size < 8_258 {
+    if size < HEADS_LEN {
         return Err(HeadError::NotFormatted);
     }
     let first = counted(alloc, device, 0)?;

@@ -1,9 +1,10 @@
 //! Laws of the definitions. Each is the contract of a function that does nothing.
-ghost use Rattle.std.specs.Prelude.{◌≡◌, ◌<◌, ◌≤◌, ◌^◌, Bool, true, List, ℕ, length, Some, Result, Ok};
+ghost use Rattle.std.specs.Prelude.{◌≡◌, ◌⊎◌, ◌+◌, ◌-◌, ◌<◌, ◌≤◌, ◌^◌, Bool, true, List, ℕ, length, Some, Result, Ok};
 ghost use Rattle.td_plan.specs.Lines.{Line};
-ghost use Rattle.td_gate.specs.Regions.{Apart};
-ghost use Rattle.td_head.specs.Layout.{Sizes, head_len, head_a, head_b, is_shape, size_of};
-ghost use Rattle.td_head.specs.Head.{headed, TellsCanonical, IsHeaded, head_bytes, candidate};
+ghost use Rattle.td_gate.specs.Region.{Puts};
+ghost use Rattle.td_gate.specs.Regions.{Apart, Replaces};
+ghost use Rattle.td_head.specs.Layout.{Sizes, head_len, head, head_a, head_b, is_shape, size_of};
+ghost use Rattle.td_head.specs.Head.{headed, is_version, TellsCanonical, IsHeaded, head_bytes, candidate, raised, raised_bytes};
 ghost use Rattle.td_head.specs.declared.head.Head.{Head as AnyHead};
 ghost use Rattle.td_head.specs.declared.error.HeadError.{HeadError as AnyHeadError};
 ghost use Rattle.td_head.specs.Images.{SameHeads, IsFirstHead};
@@ -22,6 +23,8 @@ pub fn heads_tell()
         → SameHeads old new → TellsCanonical canonical old → TellsCanonical canonical new }
     ensures limits { (canonical : Bool) (plan : List Line) (image : List ℕ) (h : AnyHead)
         → headed canonical plan image ≡ Ok h → (is_shape h.shape ≡ true) × (size_of h.shape ≤ length image) }
+    ensures version { (canonical : Bool) (plan : List Line) (image : List ℕ) (h : AnyHead)
+        → headed canonical plan image ≡ Ok h → is_version h.version ≡ true }
     ensures one { (plan : List Line) (image : List ℕ) (x y : Result AnyHead AnyHeadError)
         → IsHeaded plan image x → IsHeaded plan image y → x ≡ y }
 {}
@@ -51,4 +54,21 @@ pub fn first_head_tells()
         × TellsCanonical true image }
 {
     td_plan::laws::canonical_text();
+}
+
+/// While the head that follows one is put beside it, the heads tell what they told or the head that follows, whatever
+/// stood in that place; once it is put, the head that follows.
+pub fn other_head_is_put()
+    ensures begun { (canonical : Bool) (plan : List Line) (old new : List ℕ) (h : AnyHead)
+        → IsPlan plan → headed canonical plan old ≡ Ok h → TellsCanonical canonical old → h.generation + 1 < 2 ^ 64
+        → Puts (head (1 - h.side)) (raised_bytes h plan) old new
+        → ((headed canonical plan new ≡ Ok h) × TellsCanonical canonical new)
+        ⊎ ((headed canonical plan new ≡ Ok (raised h)) × TellsCanonical canonical new) }
+    ensures done { (canonical : Bool) (plan : List Line) (old new : List ℕ) (h : AnyHead)
+        → IsPlan plan → headed canonical plan old ≡ Ok h → TellsCanonical canonical old → h.generation + 1 < 2 ^ 64
+        → Replaces (head (1 - h.side)) (raised_bytes h plan) old new
+        → (headed canonical plan new ≡ Ok (raised h)) × TellsCanonical canonical new }
+{
+    td_plan::laws::canonical_text();
+    td_gate::laws::put_leaves_others();
 }

@@ -6,9 +6,11 @@ mod error;
 mod format;
 mod head;
 pub mod laws;
+mod put;
 mod shape;
 
 pub use error::HeadError;
-pub use format::{put_first, wipe};
+pub use format::wipe;
 pub use head::{Head, read};
-pub use shape::Shape;
+pub use put::{put_first, raise};
+pub use shape::{Shape, head_region};

@@ -5,7 +5,8 @@ use Rattle.std.specs.Int.{w64, cast_unsigned}
 use Rattle.std.proofs.lemmas.Bool.{cases_Bool, and_parts, and_from, eqb-true, lt-ltb, le-leb, eq-eqb}
 use Rattle.std.proofs.lemmas.List.{append_assoc, length-append, length-replicate}
 use Rattle.td_stamp.specs.declared.values.Entry.{Entry}
-use Rattle.td_gate.specs.Fields.{number_bytes, number_at, signed_at, signed_bytes, Front, front_bytes, front_in, front_len, front_of, is_plain, each_in}
+use Rattle.td_gate.specs.declared.fields.Front.{Front}
+use Rattle.td_gate.specs.Fields.{number_bytes, number_at, signed_at, signed_bytes, front_bytes, front_in, front_len, front_of, is_plain, each_in}
 use Rattle.td_gate.specs.Reading.{number_behind, signed_behind, length_bytes, front_back, front_past, front_size, each_back, each_size}
 use Rattle.td_gate.specs.Region.{opened}
 use Rattle.td_journal.specs.declared.journal.Journal.{Journal}

@@ -4,7 +4,7 @@ use Rattle.std.specs.List.{list_all, list_any, slice_get}
 use Rattle.std.specs.Ordering.{is_le}
 use Rattle.std.proofs.lemmas.List.{append_assoc, drop-drop}
 use Rattle.std.proofs.lemmas.List.Folds.{list_all-append}
-use Rattle.std.proofs.lemmas.Bool.{and_from, and_parts, and_left, and_right, le-leb, lt-leb, eq-eqb, ne_eqb}
+use Rattle.std.proofs.lemmas.Bool.{and_from, and_parts, and_left, and_right, le-leb, eq-eqb}
 use Rattle.td_stamp.specs.declared.values.Entry.{Entry}
 use Rattle.td_stamp.specs.Orders.{entry_cmp}
 use Rattle.td_stamp.specs.ProvedOrders.{entry_total}
@@ -115,8 +115,5 @@ module _ (inputs : List ℕ) (floor : Option ℕ) (m : ℕ) (bytes : List ℕ) w
   pub bad_request : may ≡ false → is_cell inputs floor m bytes ≡ false
   bad_request not_ = and_right (is_plain m (front_in bytes)) (may && of_batch) (and_left may of_batch not_)
 
-  pub bad_zeros : (zeros ≡ 0 → ⊥) → is_cell inputs floor m bytes ≡ false
-  bad_zeros not_ = and_left (is_plain m (front_in bytes)) (may && of_batch) (and_left (zeros == 0) (nat_le counted m) (ne_eqb zeros 0 not_))
-
-  pub bad_count : m < counted → is_cell inputs floor m bytes ≡ false
-  bad_count lt = and_left (is_plain m (front_in bytes)) (may && of_batch) (and_right (zeros == 0) (nat_le counted m) (lt-leb counted m lt))
+  pub not_plain : is_plain m (front_in bytes) ≡ false → is_cell inputs floor m bytes ≡ false
+  not_plain not_ = and_left (is_plain m (front_in bytes)) (may && of_batch) not_

@@ -1,7 +1,8 @@
 //! A ring of cells.
 ghost use Rattle.std.specs.Prelude.{◌≡◌, ◌⊎◌, ◌↔◌, ◌+◌, ◌-◌, ◌^◌, ◌<◌, ◌≤◌, length, true, All, OnOk, IfOk, IfErr, IfSome, IsErrOf, IsTrue};
-ghost use Rattle.td_disk.specs.Disk.{IsDurable, Rises};
+ghost use Rattle.td_disk.specs.Disk.{CountsDevice, IsDurable};
 ghost use Rattle.td_gate.specs.CrashSafe.{CrashSafe, Unchanged};
+ghost use Rattle.td_gate.specs.Reads.{IsRead};
 ghost use Rattle.td_gate.specs.Reading.{Each};
 ghost use Rattle.td_gate.specs.Region.{IsSettled, IsOpen, Puts};
 ghost use Rattle.td_journal.specs.Cell.{cell_of, ring_len, cell_bytes, is_batch, FitsEntry};
@@ -12,13 +13,13 @@ ghost use Rattle.td_journal.specs.Parsed.{found_by, IsDamage, Told, Refused};
 use crate::error::JournalError;
 use crate::numbers::floor_past;
 use crate::parse::submitted_by;
-use crate::payload::cell_payload;
+use crate::payload::{ENTRY_LEN, cell_payload};
 use crate::submitted::Submitted;
 use std::alloc::Global;
 use td_disk::Disk;
 use td_gate::Region;
-use td_gate::fields::u64_at;
-use td_stamp::Batch;
+use td_gate::fields::{FRONT_LEN, u64_at};
+use td_stamp::{Batch, EPOCHS_END};
 
 /// `n` cells from the offset `at` on, each for a batch of at most `m` records. Epoch e stands in cell `e mod n`. The
 /// epochs up to `kept` may be overwritten.
@@ -31,7 +32,7 @@ pub struct Journal {
 }
 
 impl Journal {
-    /// From now on the epochs up to this one may be overwritten.
+    /// From now on the epochs up to this one may be overwritten, by `append`.
     pub fn keep(&mut self, epoch: u64)
         requires { self.old.kept ≤ epoch }
         ensures { self.new ≡ record self.old { kept = epoch } }
@@ -47,7 +48,7 @@ impl Journal {
         ensures region { result ≡ cell_of self.now epoch }
         ensures within { result.at + result.len + 1 ≤ self.now.at + ring_len self.now.m self.now.n }
     {
-        let len = 24 + 24 * u64::from(self.m);
+        let len = (FRONT_LEN + ENTRY_LEN * self.m as usize) as u64;
         Region {
             at: self.at + epoch % u64::from(self.n) * (len + 1),
             len,
@@ -84,8 +85,7 @@ impl Journal {
         requires records { self.now.m ≤ 65536 }
         requires room { self.now.at + ring_len self.now.m self.now.n ≤ D.capacity device.old }
         ensures refusals { IfErr result (λ e. (e ≡ JournalError.Memory) ⊎ (e ≡ JournalError.Device)) }
-        ensures device { IsErrOf result JournalError.Device → Rises (D.failures device.old) (D.failures device.new) }
-        ensures later { D.failures device.old ≤ D.failures device.new }
+        ensures failures { CountsDevice result JournalError.Device (D.failures device.old) (D.failures device.new) }
         ensures size { D.capacity device.new ≡ D.capacity device.old }
         ensures lawful { D.is_lawful device.old ↔ D.is_lawful device.new }
         ensures crash_safe { D.is_lawful device.old → IsSettled (cell_of self.now epoch) (D.state device.old)
@@ -99,7 +99,7 @@ impl Journal {
         ensures gone { OnOk result (D.is_lawful device.old → IsSettled (cell_of self.now epoch) (D.state device.old)
             → IsGone self.now epoch (D.state device.new)) }
     {
-        if 1 << 63 <= epoch {
+        if EPOCHS_END <= epoch {
             return Ok(());
         }
         let _size = device.size();
@@ -132,15 +132,10 @@ impl Journal {
         ensures small { IfOk result (λ found. IfSome found (λ _. epoch < 2 ^ 63)) }
         ensures refused { IfErr result (λ e. (e ≡ JournalError.Device) ⊎ ((e ≡ JournalError.Memory) ⊎ (D.is_lawful device.old
             → IsDamage e (found inputs.now self.now (D.state device.old).bytes floor epoch)))) }
-        ensures device { IsErrOf result JournalError.Device → Rises (D.failures device.old) (D.failures device.new) }
-        ensures later { D.failures device.old ≤ D.failures device.new }
-        ensures size { D.capacity device.new ≡ D.capacity device.old }
-        ensures lawful { D.is_lawful device.old ↔ D.is_lawful device.new }
-        ensures same { D.is_lawful device.old → (D.state device.new).bytes ≡ (D.state device.old).bytes }
-        ensures durable { D.is_lawful device.old → IsDurable (D.state device.old) → IsDurable (D.state device.new) }
-        ensures crash_safe { D.is_lawful device.old → CrashSafe Unchanged (D.state device.old) (D.state device.new) }
+        ensures failures { CountsDevice result JournalError.Device (D.failures device.old) (D.failures device.new) }
+        ensures read { IsRead D.capacity D.is_lawful D.state device.old device.new }
     {
-        if 1 << 63 <= epoch {
+        if EPOCHS_END <= epoch {
             return Ok(None);
         }
         let _size = device.size();
@@ -186,15 +181,9 @@ impl Journal {
         ensures below { IfOk result (λ w. checkpoint + length w.items < 2 ^ 63) }
         ensures refused { IfErr result (λ e. (e ≡ JournalError.Device) ⊎ ((e ≡ JournalError.Memory) ⊎ (D.is_lawful device.old
             → told_after inputs.now self.now (D.state device.old).bytes floor checkpoint ≡ Refused e))) }
-        ensures device { IsErrOf result JournalError.Device → Rises (D.failures device.old) (D.failures device.new) }
-        ensures later { D.failures device.old ≤ D.failures device.new }
-        ensures size { D.capacity device.new ≡ D.capacity device.old }
-        ensures lawful { D.is_lawful device.old ↔ D.is_lawful device.new }
-        ensures same { D.is_lawful device.old → (D.state device.new).bytes ≡ (D.state device.old).bytes }
-        ensures durable { D.is_lawful device.old → IsDurable (D.state device.old) → IsDurable (D.state device.new) }
-        ensures crash_safe { D.is_lawful device.old → CrashSafe Unchanged (D.state device.old) (D.state device.new) }
+        ensures failures { CountsDevice result JournalError.Device (D.failures device.old) (D.failures device.new) }
+        ensures read { IsRead D.capacity D.is_lawful D.state device.old device.new }
     {
-        td_gate::laws::unchanged::<D>();
         td_gate::laws::reads_in_turn::<D>();
         let mut told = Vec::new(alloc);
         let mut greatest = floor;
@@ -223,6 +212,9 @@ impl Journal {
     /// Puts an epoch's request number (0 for none) and batch into its cell. It refuses `Full` where as many epochs as
     /// there are cells stand after the kept one, then `TooManyRecords` where the batch has more than `m`, then
     /// `Memory`, and in these cases has not called the disk; then `Device`.
+    ///
+    /// It stands for one who keeps a ring alone. A keeper weighs `Full` and `TooManyRecords` itself, and calls
+    /// `payload`, `clear` and `Region::put` in turn, since the cell behind is to be closed between the first and the last.
     pub fn append<D: Disk>(
         &self,
         alloc: Global,
@@ -240,8 +232,7 @@ impl Journal {
         ensures too_many { IsErrOf result JournalError.TooManyRecords ↔ ((epoch - self.now.kept ≤ self.now.n) × (self.now.m < length batch.now)) }
         ensures refusals { IfErr result (λ e. (e ≡ JournalError.Full) ⊎ (e ≡ JournalError.TooManyRecords) ⊎ (e ≡ JournalError.Memory) ⊎ (e ≡ JournalError.Device)) }
         ensures untouched { IfErr result (λ e. (e ≡ JournalError.Device) ⊎ (device.new ≡ device.old)) }
-        ensures device { IsErrOf result JournalError.Device → Rises (D.failures device.old) (D.failures device.new) }
-        ensures later { D.failures device.old ≤ D.failures device.new }
+        ensures failures { CountsDevice result JournalError.Device (D.failures device.old) (D.failures device.new) }
         ensures size { D.capacity device.new ≡ D.capacity device.old }
         ensures lawful { D.is_lawful device.old ↔ D.is_lawful device.new }
         ensures few { OnOk result (length batch.now ≤ self.now.m) }

@@ -1,5 +1,6 @@
 //! Laws of the definitions. Each is the contract of a function that does nothing.
-ghost use Rattle.std.specs.Prelude.{◌≡◌, ◌≢◌, ◌⊎◌, ◌+◌, ◌^◌, ◌<◌, ◌≤◌, ◌&&◌, ℕ, suc, true, ◌==◌, All, List, [], ◌∷◌, ◌++◌, length, take, drop, Option, Some, None, Ok};
+ghost use Rattle.std.specs.Prelude.{◌≡◌, ◌≢◌, ◌⊎◌, ◌+◌, ◌^◌, ◌<◌, ◌≤◌, ◌&&◌, ℕ, suc, true, ◌==◌, All, List, [], ◌∷◌};
+ghost use Rattle.std.specs.Prelude.{◌++◌, length, take, drop, Option, Some, None, Ok};
 ghost use Rattle.std.specs.List.{list_all, list_any};
 ghost use Rattle.td_stamp.specs.declared.values.Entry.{Entry as AnyEntry};
 ghost use Rattle.td_stamp.specs.Bag.{IsBag};
@@ -92,4 +93,10 @@ pub fn numbers()
     ensures joined { (q : ℕ) (v w : List AnySubmitted) → greatest q (v ++ w) ≡ greatest (greatest q v) w }
     ensures at_least { (q : ℕ) (w : List AnySubmitted) → q ≤ greatest q w }
     ensures each { (q : ℕ) (w : List AnySubmitted) → All (λ s. s.request ≤ greatest q w) w }
+{}
+
+/// What a ring tells where there are no numbers, it tells after the number 0, and each of its numbers is 0.
+pub fn version_is_raised()
+    ensures { (inputs : List ℕ) (j : AnyJournal) (image : List ℕ) (checkpoint : ℕ) (w : List AnySubmitted)
+        → told_after inputs j image None checkpoint ≡ Ok w → told_after inputs j image (Some 0) checkpoint ≡ Ok w }
 {}

@@ -13,4 +13,5 @@ mod submitted;
 
 pub use error::JournalError;
 pub use journal::Journal;
+pub use numbers::greatest_request;
 pub use submitted::Submitted;

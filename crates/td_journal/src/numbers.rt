@@ -1,6 +1,8 @@
 //! Request numbers.
 ghost use Rattle.std.specs.Prelude.{◌≡◌};
-ghost use Rattle.td_journal.specs.Numbers.{may_come, raised};
+ghost use Rattle.td_journal.specs.Numbers.{greatest, may_come, raised};
+
+use crate::submitted::Submitted;
 
 /// Whether a cell may bear a request number after those of the epochs before it: any number 0, and in version 2 of the
 /// format, which gives a floor, one above it.
@@ -21,4 +23,15 @@ pub(crate) fn floor_past(floor: Option<u64>, request: u64) -> Option<u64>
         Some(greatest) => Some(greatest.max(request)),
         None => None,
     }
+}
+
+/// The greatest of a request number and those of some epochs.
+pub fn greatest_request(last: u64, submitted: &[Submitted]) -> u64
+    ensures { result ≡ greatest last submitted.now }
+{
+    let mut most = last;
+    for each in submitted {
+        most = most.max(each.request);
+    }
+    most
 }

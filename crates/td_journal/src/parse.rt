@@ -5,24 +5,11 @@ ghost use Rattle.td_journal.specs.Cell.{entry_in, cell_len};
 ghost use Rattle.td_journal.specs.Parsed.{may_follow, IsSubmittedBy};
 
 use crate::numbers::is_allowed;
+use crate::payload::ENTRY_LEN;
 use crate::submitted::Submitted;
 use std::alloc::{AllocError, Global};
-use td_gate::fields::{i64_at, u32_at, u64_at};
+use td_gate::fields::{FRONT_LEN, Front, i64_at, named, u64_at};
 use td_stamp::{Bag, Entry, Rec};
-
-/// The input of this number, if it is one of them.
-fn named(inputs: &[u8], number: u64) -> Option<u8>
-    ensures some { IfSome result (λ input. input ≡ number) }
-    ensures named { IfSome result (λ input. list_any (λ v. v == number) inputs.now ≡ true) }
-    ensures none { IfNone result (list_any (λ v. v == number) inputs.now ≡ false) }
-{
-    for input in inputs {
-        if u64::from(*input) == number {
-            return Some(*input);
-        }
-    }
-    None
-}
 
 /// The record at a place of a payload, if it names an input.
 fn entry_at(inputs: &[u8], payload: &[u8], at: usize) -> Option<Entry>
@@ -64,21 +51,17 @@ pub(crate) fn submitted_by(
     requires len { length payload.now ≡ cell_len m }
     ensures { IfOk result (λ found. IsSubmittedBy inputs.now floor m payload.now found) }
 {
-    let request = u64_at(payload, 8);
-    let count = u32_at(payload, 16);
-    let zeros = u32_at(payload, 20);
-    if !is_allowed(floor, request) {
+    let front = Front::read(payload);
+    if !is_allowed(floor, front.request) {
         return Ok(None);
     }
-    if zeros != 0 {
+    if !front.is_plain(m) {
         return Ok(None);
     }
-    if m < count {
-        return Ok(None);
-    }
+    let Front { request, count, .. } = front;
     let mut entries = Vec::with_capacity(alloc, count as usize)?;
     for i in 0..count {
-        let at = 24 + 24 * i as usize;
+        let at = FRONT_LEN + ENTRY_LEN * i as usize;
         let Some(entry) = entry_at(inputs, payload, at) else {
             return Ok(None);
         };

@@ -4,8 +4,11 @@ ghost use Rattle.td_gate.specs.Reading.{Each};
 ghost use Rattle.td_journal.specs.Cell.{entry_bytes, cell_bytes, FitsEntry};
 
 use std::alloc::{AllocError, Global};
-use td_gate::fields::{push_i64, push_u32, push_u64};
+use td_gate::fields::{FRONT_LEN, Front, push_i64, push_u64};
 use td_stamp::{Batch, Entry};
+
+/// How many bytes a record has.
+pub(crate) const ENTRY_LEN: usize = 24;
 
 /// Puts a record at the end.
 fn push_entry(payload: &mut Vec<u8>, entry: Entry) -> Result<(), AllocError>
@@ -41,12 +44,15 @@ pub(crate) fn cell_payload(
     ensures ok { IfOk result (λ payload. payload.items ≡ cell_bytes m epoch request batch.now) }
     ensures fits { IfOk result (λ _. Each FitsEntry batch.now) }
 {
-    let len = 24 + 24 * m as usize;
+    let len = FRONT_LEN + ENTRY_LEN * m as usize;
     let mut payload = Vec::with_capacity(alloc, len)?;
-    push_u64(&mut payload, epoch)?;
-    push_u64(&mut payload, request)?;
-    push_u32(&mut payload, batch.len() as u32)?;
-    push_u32(&mut payload, 0)?;
+    let front = Front {
+        epoch,
+        request,
+        count: batch.len() as u32,
+        zeros: 0,
+    };
+    front.push(&mut payload)?;
     push_entries(&mut payload, batch)?;
     payload.resize(len, 0)?;
     Ok(payload)

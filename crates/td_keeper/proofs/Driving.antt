@@ -20,8 +20,8 @@ use Rattle.td_keeper.specs.declared.command.Reply.{Reply}
 use Rattle.td_keeper.specs.declared.command.Reply.TheVariants.{Submitted, Released, Settled, Collected, Out, CutTaken, Written, Refused}
 use Rattle.td_keeper.specs.Keeping.{Keeping, IsKeeping, with_checkpoint}
 use Rattle.td_keeper.specs.Refused.{submit_refusal, write_refusal}
-use Rattle.td_keeper.specs.Halls.{with_collected, with_cut}
-use Rattle.td_keeper.specs.Driven.{is_device, submitted_in, submitted_by, Advances, Submits, Releases, Settles, Collects, HandsOut, Cuts, Writes, Obeys, Driven}
+use Rattle.td_keeper.specs.Halls.{with_collected, with_cut, collected_hall, cut_hall}
+use Rattle.td_keeper.specs.Driven.{is_device, may_write, submitted_in, submitted_by, Advances, Submits, Releases, Settles, Collects, HandsOut, Cuts, Writes, Obeys, Driven, Rests}
 
 -- whether the device failed, both ways
 pub is_device_is : (e : KeeperError) → is_device e ≡ true → e ≡ error.Device
@@ -39,6 +39,8 @@ is_device_is error.TooManyKeys is = absurd (cc)
 is_device_is error.Broken is = absurd (cc)
 is_device_is error.Memory is = absurd (cc)
 is_device_is error.Epochs is = absurd (cc)
+is_device_is error.OldVersion is = absurd (cc)
+is_device_is error.LastGeneration is = absurd (cc)
 
 device_is : (e : KeeperError) → e ≡ error.Device → is_device e ≡ true
 device_is e is = ap is_device is
@@ -90,35 +92,28 @@ Later answers = (nodes : Nodes) (s u : Standing) (y : List AnySubmitted)
 abbrev pub Last : Type 0
 Last = (s : Standing) (k : ℕ) (states : StateList) → k ≤ length s.submitted → last_epoch (cut_at s k states) ≡ last_epoch s
 
-module _ {D : Type 0} (is_lawful : D → Type 0) (state : D → DiskState) (answers : Answers) where
+module _ {D : Type 0} (is_lawful : D → Type 0) (state : D → DiskState) (failures : D → ℕ) (answers : Answers) where
   -- with one command more
   pub driven_more : (commands : List Command) (replies : List Reply) (command : Command) (reply : Reply) (old mid new : Keeping D)
-      → Driven is_lawful state answers commands replies old mid → Obeys is_lawful state answers command reply mid new → IsKeeping new answers
-      → Driven is_lawful state answers (commands ++ command ∷ []) (replies ++ reply ∷ []) old new
-  driven_more [] [] command reply old mid new e obeys kept = (new, kept, subst (λ k. Obeys is_lawful state answers command reply k new) e obeys, refl)
+      → Driven is_lawful state failures answers commands replies old mid → Obeys is_lawful state failures answers command reply mid new → IsKeeping new answers
+      → Driven is_lawful state failures answers (commands ++ command ∷ []) (replies ++ reply ∷ []) old new
+  driven_more [] [] command reply old mid new e obeys kept = (new, kept, subst (λ k. Obeys is_lawful state failures answers command reply k new) e obeys, refl)
   driven_more [] (r ∷ rs) command reply old mid new none obeys kept = absurd none
   driven_more (c ∷ cs) [] command reply old mid new none obeys kept = absurd none
   driven_more (c ∷ cs) (r ∷ rs) command reply old mid new driven obeys kept =
       (driven.0, driven.1, driven.2, driven_more cs rs command reply driven.0 mid new driven.3 obeys kept)
 
--- what a command leaves as it was, where it writes nothing
-pub record Rests {D : Type 0} (old new : Keeping D) : Type 0 where
-  pub device : new.device ≡ old.device
-  pub plan : new.plan ≡ old.plan
-  pub standing : new.standing ≡ old.standing
-  pub broken : new.broken ≡ old.broken
-
 module _ {D : Type 0} where
-  pub same : (old : Keeping D) → Rests old old
+  same : (old : Keeping D) → Rests old old
   same old = record { device = refl; plan = refl; standing = refl; broken = refl }
 
-  pub by : (old other new : Keeping D) → new ≡ other → Rests old other → Rests old new
+  by : (old other new : Keeping D) → new ≡ other → Rests old other → Rests old new
   by old other new is rests = subst (λ (k : Keeping D). Rests old k) (sym is) rests
 
-module _ {D : Type 0} (is_lawful : D → Type 0) (state : D → DiskState) (answers : Answers) where
-  pub releases : (reply : Reply) (old new : Keeping D) → Releases is_lawful state answers reply old new → Rests old new
-  releases (Released n) old new r = by old old new r.0 (same old)
-  releases (Refused e b) old new r = by old old new r.1 (same old)
+module _ {D : Type 0} (is_lawful : D → Type 0) (state : D → DiskState) (failures : D → ℕ) (answers : Answers) where
+  releases : (reply : Reply) (old new : Keeping D) → Releases is_lawful state failures answers reply old new → Rests old new
+  releases (Released n) old new r = by old old new r.same (same old)
+  releases (Refused e b) old new r = ⊎_elim (λ foreign. by old old new foreign.1.same (same old)) (λ memory. by old old new memory.1.same (same old)) r.1
   releases (Submitted n) old new r = absurd r
   releases Settled old new r = absurd r
   releases (Collected n) old new r = absurd r
@@ -126,9 +121,9 @@ module _ {D : Type 0} (is_lawful : D → Type 0) (state : D → DiskState) (answ
   releases (CutTaken n) old new r = absurd r
   releases (Written n) old new r = absurd r
 
-  pub settles : (reply : Reply) (old new : Keeping D) → Settles is_lawful state answers reply old new → Rests old new
-  settles Settled old new r = by old old new r (same old)
-  settles (Refused e b) old new r = by old old new r.1 (same old)
+  settles : (reply : Reply) (old new : Keeping D) → Settles is_lawful state failures answers reply old new → Rests old new
+  settles Settled old new r = by old old new r.same (same old)
+  settles (Refused e b) old new r = by old old new r.1.2.same (same old)
   settles (Submitted n) old new r = absurd r
   settles (Released n) old new r = absurd r
   settles (Collected n) old new r = absurd r
@@ -136,9 +131,9 @@ module _ {D : Type 0} (is_lawful : D → Type 0) (state : D → DiskState) (answ
   settles (CutTaken n) old new r = absurd r
   settles (Written n) old new r = absurd r
 
-  pub collects : (reply : Reply) (old new : Keeping D) → Collects is_lawful state answers reply old new → Rests old new
-  collects (Collected n) old new r = by old (with_collected old r.0) new r.2 (record { device = refl; plan = refl; standing = refl; broken = refl })
-  collects (Refused e b) old new r = by old old new r.1 (same old)
+  collects : (reply : Reply) (old new : Keeping D) → Collects is_lawful state failures answers reply old new → Rests old new
+  collects (Collected n) old new r = by old (with_collected old r.hall) new r.collected (record { device = refl; plan = refl; standing = refl; broken = refl })
+  collects (Refused e b) old new r = ⊎_elim (λ foreign. by old old new foreign.1.same (same old)) (λ memory. by old old new memory.1.same (same old)) r.1
   collects (Submitted n) old new r = absurd r
   collects (Released n) old new r = absurd r
   collects Settled old new r = absurd r
@@ -146,12 +141,9 @@ module _ {D : Type 0} (is_lawful : D → Type 0) (state : D → DiskState) (answ
   collects (CutTaken n) old new r = absurd r
   collects (Written n) old new r = absurd r
 
-  pub hands_out : (reply : Reply) (old new : Keeping D) → HandsOut is_lawful state answers reply old new → Rests old new
-  hands_out (Out o) old new r =
-      ⊎_elim
-      (λ none. by old old new none.2 (same old))
-      (λ one. by old (record old { queue = new.queue }) new one.3 (record { device = refl; plan = refl; standing = refl; broken = refl }))
-      r
+  hands_out : (reply : Reply) (old new : Keeping D) → HandsOut is_lawful state failures answers reply old new → Rests old new
+  hands_out (Out None) old new r = by old old new r.1 (same old)
+  hands_out (Out (Some out)) old new r = by old (record old { queue = new.queue }) new r.1 (record { device = refl; plan = refl; standing = refl; broken = refl })
   hands_out (Refused e b) old new r = absurd r
   hands_out (Submitted n) old new r = absurd r
   hands_out (Released n) old new r = absurd r
@@ -160,12 +152,15 @@ module _ {D : Type 0} (is_lawful : D → Type 0) (state : D → DiskState) (answ
   hands_out (CutTaken n) old new r = absurd r
   hands_out (Written n) old new r = absurd r
 
-  pub cuts : (reply : Reply) (old new : Keeping D) → Cuts is_lawful state answers reply old new → Rests old new
-  cuts (CutTaken n) old new r = by old (with_cut (with_collected old r.0) r.1) new r.5 (record { device = refl; plan = refl; standing = refl; broken = refl })
+  cuts : (reply : Reply) (old new : Keeping D) → Cuts is_lawful state failures answers reply old new → Rests old new
+  cuts (CutTaken n) old new r = by old (with_cut (with_collected old r.hall) (cut_hall (collected_hall r.hall))) new r.cut (record { device = refl; plan = refl; standing = refl; broken = refl })
   cuts (Refused e b) old new r =
       ⊎_elim
-      (λ none. by old old new none.0 (same old))
-      (λ some. by old (with_collected old some.0) new some.3 (record { device = refl; plan = refl; standing = refl; broken = refl }))
+      (λ foreign. by old old new foreign.1.same (same old))
+      (λ other. ⊎_elim
+      (λ memory. by old old new memory.1.same (same old))
+      (λ some. by old (with_collected old some.hall) new some.collected (record { device = refl; plan = refl; standing = refl; broken = refl }))
+      other)
       r.1
   cuts (Submitted n) old new r = absurd r
   cuts (Released n) old new r = absurd r
@@ -174,16 +169,26 @@ module _ {D : Type 0} (is_lawful : D → Type 0) (state : D → DiskState) (answ
   cuts (Out o) old new r = absurd r
   cuts (Written n) old new r = absurd r
 
+  -- WHAT A COMMAND THAT DOES NOT WRITE leaves
+  pub rests : (command : Command) (reply : Reply) (old new : Keeping D) → may_write command ≡ false → Obeys is_lawful state failures answers command reply old new → Rests old new
+  rests (Submit batch) reply old new quiet obeys = absurd (cc)
+  rests Release reply old new quiet obeys = releases reply old new obeys
+  rests Settle reply old new quiet obeys = settles reply old new obeys
+  rests Collect reply old new quiet obeys = collects reply old new obeys
+  rests NextOut reply old new quiet obeys = hands_out reply old new obeys
+  rests Cut reply old new quiet obeys = cuts reply old new obeys
+  rests WriteCut reply old new quiet obeys = absurd (cc)
+
 -- WHAT ONE COMMAND DOES to a whole keeper of a lawful disk, with what it submitted
-record Goes {D : Type 0} (is_lawful : D → Type 0) (state : D → DiskState) (answers : Answers) (old new : Keeping D) (x : List AnySubmitted) : Type 0 where
+record Goes {D : Type 0} (is_lawful : D → Type 0) (state : D → DiskState) (failures : D → ℕ) (answers : Answers) (old new : Keeping D) (x : List AnySubmitted) : Type 0 where
   plan : new.plan ≡ old.plan
-  advances : Advances is_lawful state answers old new x
+  advances : Advances is_lawful state failures answers old new x
   far : last_epoch old.standing ≤ last_epoch new.standing
   on : new.broken ≡ false → (u : Standing) (y : List AnySubmitted) → Advance (states_by answers old.plan) (with_more new.standing y) u → Advance (states_by answers old.plan) (with_more old.standing (x ++ y)) u
 
-module _ {D : Type 0} (is_lawful : D → Type 0) (state : D → DiskState) (answers : Answers) (submit_on : Submit-on answers) (cut_on : Cut-on answers) (last : Last) where
+module _ {D : Type 0} (is_lawful : D → Type 0) (state : D → DiskState) (failures : D → ℕ) (answers : Answers) (submit_on : Submit-on answers) (cut_on : Cut-on answers) (last : Last) where
   -- where it writes nothing
-  goes_rests : (old new : Keeping D) → Rests old new → is_lawful old.device → Goes is_lawful state answers old new []
+  goes_rests : (old new : Keeping D) → Rests old new → is_lawful old.device → Goes is_lawful state failures answers old new []
   goes_rests old new rests lawful = record {
     plan = rests.plan;
     advances = record {
@@ -196,7 +201,7 @@ module _ {D : Type 0} (is_lawful : D → Type 0) (state : D → DiskState) (answ
   }
 
   -- where its plan and standing stay, with nothing submitted, or with the device broken
-  goes_same : (old new : Keeping D) (x : List AnySubmitted) → new.plan ≡ old.plan → new.standing ≡ old.standing → (new.broken ≡ false → x ≡ []) → Advances is_lawful state answers old new x → Goes is_lawful state answers old new x
+  goes_same : (old new : Keeping D) (x : List AnySubmitted) → new.plan ≡ old.plan → new.standing ≡ old.standing → (new.broken ≡ false → x ≡ []) → Advances is_lawful state failures answers old new x → Goes is_lawful state failures answers old new x
   goes_same old new x plan standing none advances = record {
     plan = plan;
     advances = advances;
@@ -214,12 +219,12 @@ module _ {D : Type 0} (is_lawful : D → Type 0) (state : D → DiskState) (answ
       ⊎_elim (λ is. (ap (λ k. k.plan) is, ap (λ k. k.standing) is))
       (λ other. ⊎_elim (λ is. (ap (λ k. k.plan) is.1, ap (λ k. k.standing) is.1)) (λ is. (ap (λ k. k.plan) is.1, ap (λ k. k.standing) is.1)) other) left
 
-  submits : (batch : List Entry) (reply : Reply) (old new : Keeping D) → Submits is_lawful state answers batch reply old new
-      → Advances is_lawful state answers old new (submitted_in (Submit batch) reply) → Goes is_lawful state answers old new (submitted_in (Submit batch) reply)
+  submits : (batch : List Entry) (reply : Reply) (old new : Keeping D) → Submits is_lawful state failures answers batch reply old new
+      → Advances is_lawful state failures answers old new (submitted_in (Submit batch) reply) → Goes is_lawful state failures answers old new (submitted_in (Submit batch) reply)
   submits batch (Submitted n) old new r advances =
-      let standing : new.standing ≡ with_more old.standing (submission 0 batch ∷ []) = ap (λ k. k.standing) r.1 in
+      let standing : new.standing ≡ with_more old.standing (submission 0 batch ∷ []) = ap (λ k. k.standing) r.submitted in
       let count = length-append old.standing.submitted (submission 0 batch ∷ []) in record {
-        plan = ap (λ k. k.plan) r.1;
+        plan = ap (λ k. k.plan) r.submitted;
         advances = advances;
         far = subst (λ (s : Standing). last_epoch old.standing ≤ last_epoch s) (sym standing) (omega (arith, count));
         on = λ whole u y step.
@@ -227,11 +232,11 @@ module _ {D : Type 0} (is_lawful : D → Type 0) (state : D → DiskState) (answ
             (subst (λ (s : Standing). Advance (states_by answers old.plan) (with_more s y) u) standing step);
       }
   submits batch (Refused e back) old new r advances =
-      let stays = kept_plan old new (e ≡ error.Memory) (e ≡ error.Device) r.3 in
+      let stays = kept_plan old new (e ≡ error.Memory) (e ≡ error.Device) r.unchanged in
       goes_same old new (submitted_in (Submit batch) (Refused e back)) stays.0 stays.1 (λ whole. none (is_device e) refl whole) advances
     where
       none : (b : Bool) → is_device e ≡ b → new.broken ≡ false → (if b then submission 0 batch ∷ [] else []) ≡ []
-      none true is whole = absurd (let no : true ≡ false = sym (r.1 (is_device_is e is)) ∙ whole in cc)
+      none true is whole = absurd (let no : true ≡ false = sym (r.device (is_device_is e is)).broken ∙ whole in cc)
       none false is whole = refl
   submits batch (Released n) old new r advances = absurd r
   submits batch Settled old new r advances = absurd r
@@ -240,12 +245,12 @@ module _ {D : Type 0} (is_lawful : D → Type 0) (state : D → DiskState) (answ
   submits batch (CutTaken n) old new r advances = absurd r
   submits batch (Written n) old new r advances = absurd r
 
-  writes : (reply : Reply) (old new : Keeping D) → IsKeeping old answers → Writes is_lawful state answers reply old new
-      → Advances is_lawful state answers old new [] → Goes is_lawful state answers old new []
+  writes : (reply : Reply) (old new : Keeping D) → IsKeeping old answers → Writes is_lawful state failures answers reply old new
+      → Advances is_lawful state failures answers old new [] → Goes is_lawful state failures answers old new []
   writes (Written w) old new kept r advances =
-      ⊎_elim (λ none. goes_same old new [] (ap (λ k. k.plan) none.2) (ap (λ k. k.standing) none.2) (λ whole. refl) advances) (λ some. by_cut some.1) r.1
+      ⊎_elim (λ none. goes_same old new [] (ap (λ k. k.plan) none.2) (ap (λ k. k.standing) none.2) (λ whole. refl) advances) (λ some. by_cut some.1) r.cut
     where
-      by_cut : new ≡ with_checkpoint old new.device → Goes is_lawful state answers old new []
+      by_cut : new ≡ with_checkpoint old new.device → Goes is_lawful state failures answers old new []
       by_cut is =
           let s = old.standing in
           let n = old.base - s.epoch in
@@ -264,7 +269,7 @@ module _ {D : Type 0} (is_lawful : D → Type 0) (state : D → DiskState) (answ
   writes (Refused e back) old new kept r advances =
       ⊎_elim (λ many. goes_same old new [] (ap (λ k. k.plan) many.1) (ap (λ k. k.standing) many.1) (λ whole. refl) advances)
       (λ other. ⊎_elim (λ failed. goes_same old new [] (ap (λ k. k.plan) failed.1) (ap (λ k. k.standing) failed.1) (λ whole. refl) advances)
-      (λ is. goes_same old new [] (ap (λ k. k.plan) is) (ap (λ k. k.standing) is) (λ whole. refl) advances) other) r.2
+      (λ is. goes_same old new [] (ap (λ k. k.plan) is) (ap (λ k. k.standing) is) (λ whole. refl) advances) other) r.unchanged
   writes (Submitted n) old new kept r advances = absurd r
   writes (Released n) old new kept r advances = absurd r
   writes Settled old new kept r advances = absurd r
@@ -272,17 +277,17 @@ module _ {D : Type 0} (is_lawful : D → Type 0) (state : D → DiskState) (answ
   writes (Out o) old new kept r advances = absurd r
   writes (CutTaken n) old new kept r advances = absurd r
 
-  one : (command : Command) (reply : Reply) (old new : Keeping D) → IsKeeping old answers → Obeys is_lawful state answers command reply old new
-      → is_lawful old.device → Goes is_lawful state answers old new (submitted_in command reply)
-  one (Submit batch) reply old new kept obeys lawful = submits batch reply old new obeys.0 (obeys.1 lawful)
-  one Release reply old new kept obeys lawful = goes_rests old new (releases is_lawful state answers reply old new obeys) lawful
-  one Settle reply old new kept obeys lawful = goes_rests old new (settles is_lawful state answers reply old new obeys) lawful
-  one Collect reply old new kept obeys lawful = goes_rests old new (collects is_lawful state answers reply old new obeys) lawful
-  one NextOut reply old new kept obeys lawful = goes_rests old new (hands_out is_lawful state answers reply old new obeys) lawful
-  one Cut reply old new kept obeys lawful = goes_rests old new (cuts is_lawful state answers reply old new obeys) lawful
-  one WriteCut reply old new kept obeys lawful = writes reply old new kept obeys.0 (obeys.1 lawful)
+  one : (command : Command) (reply : Reply) (old new : Keeping D) → IsKeeping old answers → Obeys is_lawful state failures answers command reply old new
+      → is_lawful old.device → Goes is_lawful state failures answers old new (submitted_in command reply)
+  one (Submit batch) reply old new kept obeys lawful = submits batch reply old new obeys.0 (obeys.1.advances lawful)
+  one Release reply old new kept obeys lawful = goes_rests old new (rests is_lawful state failures answers Release reply old new refl obeys) lawful
+  one Settle reply old new kept obeys lawful = goes_rests old new (rests is_lawful state failures answers Settle reply old new refl obeys) lawful
+  one Collect reply old new kept obeys lawful = goes_rests old new (rests is_lawful state failures answers Collect reply old new refl obeys) lawful
+  one NextOut reply old new kept obeys lawful = goes_rests old new (rests is_lawful state failures answers NextOut reply old new refl obeys) lawful
+  one Cut reply old new kept obeys lawful = goes_rests old new (rests is_lawful state failures answers Cut reply old new refl obeys) lawful
+  one WriteCut reply old new kept obeys lawful = writes reply old new kept obeys.0 (obeys.1.advances lawful)
 
-module _ {D : Type 0} (is_lawful : D → Type 0) (state : D → DiskState) (answers : Answers) where
+module _ {D : Type 0} (is_lawful : D → Type 0) (state : D → DiskState) (failures : D → ℕ) (answers : Answers) where
   -- a broken keeper writes nothing, and stays broken
   record StaysBroken (old new : Keeping D) : Type 0 where
     device : new.device ≡ old.device
@@ -291,14 +296,14 @@ module _ {D : Type 0} (is_lawful : D → Type 0) (state : D → DiskState) (answ
   rests_broken : (old new : Keeping D) → Rests old new → old.broken ≡ true → StaysBroken old new
   rests_broken old new rests is = record { device = rests.device; broken = rests.broken ∙ is }
 
-  broken_submits : (batch : List Entry) (reply : Reply) (old new : Keeping D) → Submits is_lawful state answers batch reply old new → old.broken ≡ true
+  broken_submits : (batch : List Entry) (reply : Reply) (old new : Keeping D) → Submits is_lawful state failures answers batch reply old new → old.broken ≡ true
       → StaysBroken old new × (submitted_in (Submit batch) reply ≡ [])
-  broken_submits batch (Submitted n) old new r is = absurd (none_is_broken (submit_refusal old batch) (submit_broken old batch is) r.0)
+  broken_submits batch (Submitted n) old new r is = absurd (none_is_broken (submit_refusal old batch) (submit_broken old batch is) r.accepted)
   broken_submits batch (Refused e back) old new r is =
-      let named : e ≡ error.Broken = is_broken (submit_refusal old batch) e ((e ≡ error.Memory) ⊎ (e ≡ error.Device)) (submit_broken old batch is) r.2 in
+      let named : e ≡ error.Broken = is_broken (submit_refusal old batch) e ((e ≡ error.Memory) ⊎ (e ≡ error.Device)) (submit_broken old batch is) r.cause in
       let none : (if is_device e then submission 0 batch ∷ [] else []) ≡ [] = ap (λ (f : KeeperError). if is_device f then submission 0 batch ∷ [] else []) named in (
         ⊎_elim (λ old_is. rests_broken old new (by old old new old_is (same old)) is)
-            (λ other. ⊎_elim (λ memory. absurd (let no : error.Broken ≡ error.Memory = sym named ∙ memory.0 in cc)) (λ device. absurd (let no : error.Broken ≡ error.Device = sym named ∙ device.0 in cc)) other) r.3,
+            (λ other. ⊎_elim (λ memory. absurd (let no : error.Broken ≡ error.Memory = sym named ∙ memory.0 in cc)) (λ device. absurd (let no : error.Broken ≡ error.Device = sym named ∙ device.0 in cc)) other) r.unchanged,
         none,
       )
   broken_submits batch (Released n) old new r is = absurd r
@@ -308,12 +313,12 @@ module _ {D : Type 0} (is_lawful : D → Type 0) (state : D → DiskState) (answ
   broken_submits batch (CutTaken n) old new r is = absurd r
   broken_submits batch (Written n) old new r is = absurd r
 
-  broken_writes : (reply : Reply) (old new : Keeping D) → Writes is_lawful state answers reply old new → old.broken ≡ true → StaysBroken old new
-  broken_writes (Written w) old new r is = absurd (none_is_broken (write_refusal old) (write_broken old is) r.0)
+  broken_writes : (reply : Reply) (old new : Keeping D) → Writes is_lawful state failures answers reply old new → old.broken ≡ true → StaysBroken old new
+  broken_writes (Written w) old new r is = absurd (none_is_broken (write_refusal old) (write_broken old is) r.accepted)
   broken_writes (Refused e back) old new r is =
-      let named : e ≡ error.Broken = is_broken (write_refusal old) e ((e ≡ error.Memory) ⊎ (e ≡ error.Device)) (write_broken old is) r.1 in
+      let named : e ≡ error.Broken = is_broken (write_refusal old) e ((e ≡ error.Memory) ⊎ (e ≡ error.Device)) (write_broken old is) r.cause in
       ⊎_elim (λ many. absurd (let no : error.Broken ≡ error.TooManyKeys = sym named ∙ many.0 in cc))
-      (λ other. ⊎_elim (λ failed. absurd (let no : error.Broken ≡ error.Device = sym named ∙ failed.0 in cc)) (λ old_is. rests_broken old new (by old old new old_is (same old)) is) other) r.2
+      (λ other. ⊎_elim (λ failed. absurd (let no : error.Broken ≡ error.Device = sym named ∙ failed.0 in cc)) (λ old_is. rests_broken old new (by old old new old_is (same old)) is) other) r.unchanged
   broken_writes (Submitted n) old new r is = absurd r
   broken_writes (Released n) old new r is = absurd r
   broken_writes Settled old new r is = absurd r
@@ -321,31 +326,31 @@ module _ {D : Type 0} (is_lawful : D → Type 0) (state : D → DiskState) (answ
   broken_writes (Out o) old new r is = absurd r
   broken_writes (CutTaken n) old new r is = absurd r
 
-  broken_one : (command : Command) (reply : Reply) (old new : Keeping D) → Obeys is_lawful state answers command reply old new → old.broken ≡ true
+  broken_one : (command : Command) (reply : Reply) (old new : Keeping D) → Obeys is_lawful state failures answers command reply old new → old.broken ≡ true
       → StaysBroken old new × (submitted_in command reply ≡ [])
   broken_one (Submit batch) reply old new obeys is = broken_submits batch reply old new obeys.0 is
-  broken_one Release reply old new obeys is = (rests_broken old new (releases is_lawful state answers reply old new obeys) is, refl)
-  broken_one Settle reply old new obeys is = (rests_broken old new (settles is_lawful state answers reply old new obeys) is, refl)
-  broken_one Collect reply old new obeys is = (rests_broken old new (collects is_lawful state answers reply old new obeys) is, refl)
-  broken_one NextOut reply old new obeys is = (rests_broken old new (hands_out is_lawful state answers reply old new obeys) is, refl)
-  broken_one Cut reply old new obeys is = (rests_broken old new (cuts is_lawful state answers reply old new obeys) is, refl)
+  broken_one Release reply old new obeys is = (rests_broken old new (rests is_lawful state failures answers Release reply old new refl obeys) is, refl)
+  broken_one Settle reply old new obeys is = (rests_broken old new (rests is_lawful state failures answers Settle reply old new refl obeys) is, refl)
+  broken_one Collect reply old new obeys is = (rests_broken old new (rests is_lawful state failures answers Collect reply old new refl obeys) is, refl)
+  broken_one NextOut reply old new obeys is = (rests_broken old new (rests is_lawful state failures answers NextOut reply old new refl obeys) is, refl)
+  broken_one Cut reply old new obeys is = (rests_broken old new (rests is_lawful state failures answers Cut reply old new refl obeys) is, refl)
   broken_one WriteCut reply old new obeys is = (broken_writes reply old new obeys.0 is, refl)
 
   -- A BROKEN KEEPER WRITES NOTHING, whatever it is told
-  pub driven_broken : (commands : List Command) (replies : List Reply) (old new : Keeping D) → Driven is_lawful state answers commands replies old new → old.broken ≡ true
-      → (new.device ≡ old.device) × (submitted_by commands replies ≡ [])
-  driven_broken [] [] old new e is = (ap (λ k. k.device) e, refl)
+  pub driven_broken : (commands : List Command) (replies : List Reply) (old new : Keeping D) → Driven is_lawful state failures answers commands replies old new → old.broken ≡ true
+      → (new.device ≡ old.device) × (submitted_by commands replies ≡ []) × (new.broken ≡ true)
+  driven_broken [] [] old new e is = (ap (λ k. k.device) e, refl, ap (λ k. k.broken) e ∙ is)
   driven_broken [] (r ∷ rs) old new none is = absurd none
   driven_broken (c ∷ cs) [] old new none is = absurd none
   driven_broken (c ∷ cs) (r ∷ rs) old new driven is =
       let first = broken_one c r old driven.0 driven.2 is in
       let rest = driven_broken cs rs driven.0 new driven.3 first.0.broken in
-      (rest.0 ∙ first.0.device, ap (λ (l : List AnySubmitted). l ++ submitted_by cs rs) first.1 ∙ rest.1)
+      (rest.0 ∙ first.0.device, ap (λ (l : List AnySubmitted). l ++ submitted_by cs rs) first.1 ∙ rest.1, rest.2)
 
-module _ {D : Type 0} (is_lawful : D → Type 0) (state : D → DiskState) (answers : Answers) (submit_on : Submit-on answers) (cut_on : Cut-on answers) (later : Later answers) (last : Last) where
+module _ {D : Type 0} (is_lawful : D → Type 0) (state : D → DiskState) (failures : D → ℕ) (answers : Answers) (submit_on : Submit-on answers) (cut_on : Cut-on answers) (later : Later answers) (last : Last) where
   -- one command, and then others of a whole keeper
-  then_goes : (old mid new : Keeping D) (x y : List AnySubmitted) → Goes is_lawful state answers old mid x → old.broken ≡ false → mid.broken ≡ false
-      → Advances is_lawful state answers mid new y → Advances is_lawful state answers old new (x ++ y)
+  then_goes : (old mid new : Keeping D) (x y : List AnySubmitted) → Goes is_lawful state failures answers old mid x → old.broken ≡ false → mid.broken ≡ false
+      → Advances is_lawful state failures answers mid new y → Advances is_lawful state failures answers old new (x ++ y)
   then_goes old mid new x y first whole goes_on rest = record {
     lawful = rest.lawful;
     later = omega (arith, first.advances.later, rest.later);
@@ -376,7 +381,7 @@ module _ {D : Type 0} (is_lawful : D → Type 0) (state : D → DiskState) (answ
       joined c told = of_old c (subst (λ p. TellsAdvance answers p mid.standing y (last_epoch mid.standing) c) first.plan told)
 
   -- or, where it broke, nothing more
-  then_broken : (old mid new : Keeping D) (x : List AnySubmitted) → Advances is_lawful state answers old mid x → new.device ≡ mid.device → Advances is_lawful state answers old new x
+  then_broken : (old mid new : Keeping D) (x : List AnySubmitted) → Advances is_lawful state failures answers old mid x → new.device ≡ mid.device → Advances is_lawful state failures answers old new x
   then_broken old mid new x first device = record {
     lawful = subst is_lawful (sym device) first.lawful;
     later = subst (λ (d : D). (state old.device).moment ≤ (state d).moment) (sym device) first.later;
@@ -384,9 +389,9 @@ module _ {D : Type 0} (is_lawful : D → Type 0) (state : D → DiskState) (answ
   }
 
   -- WHAT THE IMAGES TELL since an earlier moment: an advance of the standing with all that the commands submitted
-  pub driven_advances : (commands : List Command) (replies : List Reply) (old new : Keeping D) → IsKeeping old answers → Driven is_lawful state answers commands replies old new
-      → is_lawful old.device → old.broken ≡ false → Advances is_lawful state answers old new (submitted_by commands replies)
-  driven_advances [] [] old new kept e lawful whole = (goes_rests is_lawful state answers submit_on cut_on last old new (by old old new e (same old)) lawful).advances
+  pub driven_advances : (commands : List Command) (replies : List Reply) (old new : Keeping D) → IsKeeping old answers → Driven is_lawful state failures answers commands replies old new
+      → is_lawful old.device → old.broken ≡ false → Advances is_lawful state failures answers old new (submitted_by commands replies)
+  driven_advances [] [] old new kept e lawful whole = (goes_rests is_lawful state failures answers submit_on cut_on last old new (by old old new e (same old)) lawful).advances
   driven_advances [] (r ∷ rs) old new kept none lawful whole = absurd none
   driven_advances (c ∷ cs) [] old new kept none lawful whole = absurd none
   driven_advances (c ∷ cs) (r ∷ rs) old new kept driven lawful whole =
@@ -395,13 +400,13 @@ module _ {D : Type 0} (is_lawful : D → Type 0) (state : D → DiskState) (answ
       mid : Keeping D
       mid = driven.0
 
-      first : Goes is_lawful state answers old mid (submitted_in c r)
-      first = one is_lawful state answers submit_on cut_on last c r old mid kept driven.2 lawful
+      first : Goes is_lawful state failures answers old mid (submitted_in c r)
+      first = one is_lawful state failures answers submit_on cut_on last c r old mid kept driven.2 lawful
 
-      next : (b : Bool) → mid.broken ≡ b → (mid.broken ≡ false → Advances is_lawful state answers mid new (submitted_by cs rs)) → Advances is_lawful state answers old new (submitted_in c r ++ submitted_by cs rs)
+      next : (b : Bool) → mid.broken ≡ b → (mid.broken ≡ false → Advances is_lawful state failures answers mid new (submitted_by cs rs)) → Advances is_lawful state failures answers old new (submitted_in c r ++ submitted_by cs rs)
       next false goes_on rest = then_goes old mid new (submitted_in c r) (submitted_by cs rs) first whole goes_on (rest goes_on)
       next true broke rest =
-          let last = driven_broken is_lawful state answers cs rs mid new driven.3 broke in
-          subst (λ (l : List AnySubmitted). Advances is_lawful state answers old new (submitted_in c r ++ l)) (sym last.1)
-          (subst (λ (l : List AnySubmitted). Advances is_lawful state answers old new l) (sym (append-nil (submitted_in c r)))
+          let last = driven_broken is_lawful state failures answers cs rs mid new driven.3 broke in
+          subst (λ (l : List AnySubmitted). Advances is_lawful state failures answers old new (submitted_in c r ++ l)) (sym last.1)
+          (subst (λ (l : List AnySubmitted). Advances is_lawful state failures answers old new l) (sym (append-nil (submitted_in c r)))
           (then_broken old mid new (submitted_in c r) first.advances last.0))

@@ -1,6 +1,6 @@
 -- What commands hand out, and what is left in the queue, is what the batch meaning has.
 use Rattle.std.proofs.Common.{◌≡◌, ⊎_elim, ℕ, zero, suc, ◌+◌, ◌-◌, ◌≤◌, Bool, true, false, List, [], ◌∷◌, ◌++◌, length, take, drop, refl, sym, ap, ◌∙◌, subst, arith}
-use Rattle.std.specs.Prelude.{Option, if◌then◌else◌}
+use Rattle.std.specs.Prelude.{Some, None, if◌then◌else◌}
 use Rattle.std.proofs.lemmas.List.{append-nil, append_assoc, length-append, length-map, length-drop, map-append, take-append-le, drop-append-le, drop-drop, length-take-le, take-append-drop, take-map}
 use Rattle.td_stamp.specs.declared.values.Entry.{Entry}
 use Rattle.td_stamp.specs.declared.values.Output.{Output}
@@ -21,7 +21,7 @@ use Rattle.td_keeper.specs.declared.command.Command.TheVariants.{Submit, Release
 use Rattle.td_keeper.specs.declared.command.Reply.{Reply}
 use Rattle.td_keeper.specs.declared.command.Reply.TheVariants.{Submitted, Released, Settled, Collected, Out, CutTaken, Written, Refused}
 use Rattle.td_keeper.specs.Keeping.{Keeping, IsKeeping}
-use Rattle.td_keeper.specs.Halls.{meant_outs}
+use Rattle.td_keeper.specs.Halls.{IsOwn, meant_outs, with_collected}
 use Rattle.td_keeper.specs.Driven.{is_device, submitted_in, submitted_by, handed_in, handed_out, outs_beyond, HandsOn, Obeys, Driven}
 use Rattle.td_keeper.proofs.Collecting.{OutsJoin}
 use Rattle.td_keeper.proofs.Runs.{out_at, length_outs, take_on}
@@ -215,15 +215,43 @@ abbrev pub Last : Type 0
 Last = (s : Standing) (k : ℕ) (states : StateList) → k ≤ length s.submitted → last_epoch (cut_at s k states) ≡ last_epoch s
 
 -- so many were collected
-collected_count : (S : HallState) → (collect_step S).1.collected ≡ S.collected + length (outs_by (collect_step S).0)
+pub collected_count : (S : HallState) → (collect_step S).1.collected ≡ S.collected + length (outs_by (collect_step S).0)
 collected_count S = ap (λ (n : ℕ). S.collected + n) (sym (length-map (to_collect S) (λ e. out_at e (outputs_at S e))))
 
-module _ {D : Type 0} (is_lawful : D → Type 0) (state : D → DiskState) (answers : Answers) (outs_join : OutsJoin answers) (last : Last) where
+module _ {D : Type 0} (answers : Answers) (outs_join : OutsJoin answers) where
+  -- the keeper is as it was
+  as_it_was : (old mid new : Keeping D) (y : List AnySubmitted) (hs : List EpochOut) → mid ≡ old → HandsOn answers mid new y hs → HandsOn answers old new y hs
+  as_it_was old mid new y hs is rest = subst (λ (k : Keeping D). HandsOn answers k new y hs) is rest
+
+  -- what a hall of this keeper's had was collected
+  collected_from : (old mid new : Keeping D) (y : List AnySubmitted) (hs : List EpochOut) → IsKeeping old answers → IsKeeping mid answers → (S : HallState) → IsOwn old S
+      → outs_by (collect_step S).0 ≡ meant_outs old answers old.collected (collect_step S).1.collected → mid ≡ with_collected old S
+      → HandsOn answers mid new y hs → HandsOn answers old new y hs
+  collected_from old mid new y hs kept kept_mid S own outs is rest =
+      let so_many : mid.collected ≡ (collect_step S).1.collected = ap (λ k. k.collected) is in
+      let count = collected_count S in
+      brought answers outs_join old mid new y hs (outs_by (collect_step S).0) kept kept_mid (ap (λ k. k.plan) is) (ap (λ k. k.standing) is) (ap (λ k. k.queue) is)
+      (outs ∙ ap (λ m. meant_outs old answers old.collected m) (sym so_many)) (omega (arith, so_many, count, own.collected)) rest
+
+  -- the first of the queue was handed out
+  handed_first : (old mid new : Keeping D) (y : List AnySubmitted) (hs : List EpochOut) (f : EpochOut) → old.queue ≡ f ∷ mid.queue → mid ≡ record old { queue = mid.queue }
+      → HandsOn answers mid new y hs → HandsOn answers old new y (f ∷ hs)
+  handed_first old mid new y hs f queue is rest =
+      let plan : mid.plan ≡ old.plan = ap (λ k. k.plan) is in
+      let standing : mid.standing ≡ old.standing = ap (λ k. k.standing) is in
+      let collected : mid.collected ≡ old.collected = ap (λ k. k.collected) is in record {
+        on = omega (arith, rest.on, collected);
+        within = subst (λ (s : Standing). new.collected ≤ last_epoch s + length y) standing rest.within;
+        outs = ap (λ (l : List EpochOut). f ∷ l) (rest.outs ∙ (λ i. mid.queue ++ beyond answers (plan i) (standing i) (collected i) y new.collected))
+            ∙ ap (λ (l : List EpochOut). l ++ outs_beyond old answers y new.collected) (sym queue);
+      }
+
+module _ {D : Type 0} (is_lawful : D → Type 0) (state : D → DiskState) (failures : D → ℕ) (answers : Answers) (outs_join : OutsJoin answers) (last : Last) where
   -- ONE COMMAND, and then others
   hands : (c : Command) (r : Reply) (old mid new : Keeping D) (y : List AnySubmitted) (hs : List EpochOut) → IsKeeping old answers → IsKeeping mid answers
-      → Obeys is_lawful state answers c r old mid → (mid.broken ≡ true → y ≡ []) → HandsOn answers mid new y hs → HandsOn answers old new (submitted_in c r ++ y) (handed_in r ++ hs)
+      → Obeys is_lawful state failures answers c r old mid → (mid.broken ≡ true → y ≡ []) → HandsOn answers mid new y hs → HandsOn answers old new (submitted_in c r ++ y) (handed_in r ++ hs)
   hands (Submit batch) (Submitted n) old mid new y hs kept kept_mid obeys none rest =
-      let is = obeys.0.1 in
+      let is = obeys.0.submitted in
       one_more answers outs_join old mid new (submission 0 batch ∷ []) y hs (ap (λ k. k.plan) is) (ap (λ k. k.standing) is) (ap (λ k. k.collected) is) (ap (λ k. k.queue) is) rest
   hands (Submit batch) (Refused e b) old mid new y hs kept kept_mid obeys none rest = by (is_device e) refl
     where
@@ -231,7 +259,7 @@ module _ {D : Type 0} (is_lawful : D → Type 0) (state : D → DiskState) (answ
       alike =
           ⊎_elim (λ is. (ap (λ k. k.plan) is, ap (λ k. k.standing) is, ap (λ k. k.collected) is, ap (λ k. k.queue) is))
           (λ other. ⊎_elim (λ is. (ap (λ k. k.plan) is.1, ap (λ k. k.standing) is.1, ap (λ k. k.collected) is.1, ap (λ k. k.queue) is.1))
-          (λ is. (ap (λ k. k.plan) is.1, ap (λ k. k.standing) is.1, ap (λ k. k.collected) is.1, ap (λ k. k.queue) is.1)) other) obeys.0.3
+          (λ is. (ap (λ k. k.plan) is.1, ap (λ k. k.standing) is.1, ap (λ k. k.collected) is.1, ap (λ k. k.queue) is.1)) other) obeys.0.unchanged
 
       on : HandsOn answers old new y hs
       on = same_all answers outs_join old mid new y hs alike.0 alike.1 alike.2 alike.3 rest
@@ -239,7 +267,7 @@ module _ {D : Type 0} (is_lawful : D → Type 0) (state : D → DiskState) (answ
       by : (d : Bool) → is_device e ≡ d → HandsOn answers old new ((if d then submission 0 batch ∷ [] else []) ++ y) hs
       by false is = on
       by true is =
-          let no : y ≡ [] = none (obeys.0.1 (is_device_is e is)) in
+          let no : y ≡ [] = none (obeys.0.device (is_device_is e is)).broken in
           subst (λ (l : List AnySubmitted). HandsOn answers old new ((submission 0 batch ∷ []) ++ l) hs) (sym no)
           (perhaps answers outs_join old new (submission 0 batch ∷ []) hs kept (subst (λ (l : List AnySubmitted). HandsOn answers old new l hs) no on))
   hands (Submit batch) (Released n) old mid new y hs kept kept_mid obeys none rest = absurd obeys.0
@@ -248,52 +276,34 @@ module _ {D : Type 0} (is_lawful : D → Type 0) (state : D → DiskState) (answ
   hands (Submit batch) (Out o) old mid new y hs kept kept_mid obeys none rest = absurd obeys.0
   hands (Submit batch) (CutTaken n) old mid new y hs kept kept_mid obeys none rest = absurd obeys.0
   hands (Submit batch) (Written w) old mid new y hs kept kept_mid obeys none rest = absurd obeys.0
-  hands Release (Released n) old mid new y hs kept kept_mid obeys none rest = same_all answers outs_join old mid new y hs (ap (λ k. k.plan) obeys.0) (ap (λ k. k.standing) obeys.0) (ap (λ k. k.collected) obeys.0) (ap (λ k. k.queue) obeys.0) rest
-  hands Release (Refused e b) old mid new y hs kept kept_mid obeys none rest = same_all answers outs_join old mid new y hs (ap (λ k. k.plan) obeys.1) (ap (λ k. k.standing) obeys.1) (ap (λ k. k.collected) obeys.1) (ap (λ k. k.queue) obeys.1) rest
+  hands Release (Released n) old mid new y hs kept kept_mid obeys none rest = as_it_was answers outs_join old mid new y hs obeys.same rest
+  hands Release (Refused e b) old mid new y hs kept kept_mid obeys none rest =
+      ⊎_elim (λ foreign. as_it_was answers outs_join old mid new y hs foreign.1.same rest) (λ memory. as_it_was answers outs_join old mid new y hs memory.1.same rest) obeys.1
   hands Release (Submitted n) old mid new y hs kept kept_mid obeys none rest = absurd obeys
   hands Release Settled old mid new y hs kept kept_mid obeys none rest = absurd obeys
   hands Release (Collected n) old mid new y hs kept kept_mid obeys none rest = absurd obeys
   hands Release (Out o) old mid new y hs kept kept_mid obeys none rest = absurd obeys
   hands Release (CutTaken n) old mid new y hs kept kept_mid obeys none rest = absurd obeys
   hands Release (Written w) old mid new y hs kept kept_mid obeys none rest = absurd obeys
-  hands Settle Settled old mid new y hs kept kept_mid obeys none rest = same_all answers outs_join old mid new y hs (ap (λ k. k.plan) obeys) (ap (λ k. k.standing) obeys) (ap (λ k. k.collected) obeys) (ap (λ k. k.queue) obeys) rest
-  hands Settle (Refused e b) old mid new y hs kept kept_mid obeys none rest = same_all answers outs_join old mid new y hs (ap (λ k. k.plan) obeys.1) (ap (λ k. k.standing) obeys.1) (ap (λ k. k.collected) obeys.1) (ap (λ k. k.queue) obeys.1) rest
+  hands Settle Settled old mid new y hs kept kept_mid obeys none rest = as_it_was answers outs_join old mid new y hs obeys.same rest
+  hands Settle (Refused e b) old mid new y hs kept kept_mid obeys none rest = as_it_was answers outs_join old mid new y hs obeys.1.2.same rest
   hands Settle (Submitted n) old mid new y hs kept kept_mid obeys none rest = absurd obeys
   hands Settle (Released n) old mid new y hs kept kept_mid obeys none rest = absurd obeys
   hands Settle (Collected n) old mid new y hs kept kept_mid obeys none rest = absurd obeys
   hands Settle (Out o) old mid new y hs kept kept_mid obeys none rest = absurd obeys
   hands Settle (CutTaken n) old mid new y hs kept kept_mid obeys none rest = absurd obeys
   hands Settle (Written w) old mid new y hs kept kept_mid obeys none rest = absurd obeys
-  hands Collect (Collected n) old mid new y hs kept kept_mid obeys none rest =
-      let is = obeys.2 in
-      let so_many : mid.collected ≡ old.collected + n = ap (λ k. k.collected) is ∙ (collected_count obeys.0 ∙ (λ i. obeys.1.collected i + sym obeys.3 i)) in
-      brought answers outs_join old mid new y hs (outs_by (collect_step obeys.0).0) kept kept_mid (ap (λ k. k.plan) is) (ap (λ k. k.standing) is) (ap (λ k. k.queue) is)
-      (obeys.4 ∙ ap (λ m. meant_outs old answers old.collected m) (sym so_many)) (omega (arith, so_many)) rest
-  hands Collect (Refused e b) old mid new y hs kept kept_mid obeys none rest = same_all answers outs_join old mid new y hs (ap (λ k. k.plan) obeys.1) (ap (λ k. k.standing) obeys.1) (ap (λ k. k.collected) obeys.1) (ap (λ k. k.queue) obeys.1) rest
+  hands Collect (Collected n) old mid new y hs kept kept_mid obeys none rest = collected_from answers outs_join old mid new y hs kept kept_mid obeys.hall (obeys.brings.own) obeys.brings.outs obeys.collected rest
+  hands Collect (Refused e b) old mid new y hs kept kept_mid obeys none rest =
+      ⊎_elim (λ foreign. as_it_was answers outs_join old mid new y hs foreign.1.same rest) (λ memory. as_it_was answers outs_join old mid new y hs memory.1.same rest) obeys.1
   hands Collect (Submitted n) old mid new y hs kept kept_mid obeys none rest = absurd obeys
   hands Collect (Released n) old mid new y hs kept kept_mid obeys none rest = absurd obeys
   hands Collect Settled old mid new y hs kept kept_mid obeys none rest = absurd obeys
   hands Collect (Out o) old mid new y hs kept kept_mid obeys none rest = absurd obeys
   hands Collect (CutTaken n) old mid new y hs kept kept_mid obeys none rest = absurd obeys
   hands Collect (Written w) old mid new y hs kept kept_mid obeys none rest = absurd obeys
-  hands NextOut (Out o) old mid new y hs kept kept_mid obeys none rest =
-      ⊎_elim
-      (λ no.
-      subst (λ (p : Option EpochOut). HandsOn answers old new y (handed_in (Out p) ++ hs)) (sym no.0)
-      (same_all answers outs_join old mid new y hs (ap (λ k. k.plan) no.2) (ap (λ k. k.standing) no.2) (ap (λ k. k.collected) no.2) (ap (λ k. k.queue) no.2) rest))
-      (λ one. subst (λ (p : Option EpochOut). HandsOn answers old new y (handed_in (Out p) ++ hs)) (sym one.1) (first_out one.0 one.2 one.3))
-      obeys
-    where
-      first_out : (f : EpochOut) → old.queue ≡ f ∷ mid.queue → mid ≡ record old { queue = mid.queue } → HandsOn answers old new y (f ∷ hs)
-      first_out f queue is =
-          let plan : mid.plan ≡ old.plan = ap (λ k. k.plan) is in
-          let standing : mid.standing ≡ old.standing = ap (λ k. k.standing) is in
-          let collected : mid.collected ≡ old.collected = ap (λ k. k.collected) is in record {
-            on = omega (arith, rest.on, collected);
-            within = subst (λ (s : Standing). new.collected ≤ last_epoch s + length y) standing rest.within;
-            outs = ap (λ (l : List EpochOut). f ∷ l) (rest.outs ∙ (λ i. mid.queue ++ beyond answers (plan i) (standing i) (collected i) y new.collected))
-                ∙ ap (λ (l : List EpochOut). l ++ outs_beyond old answers y new.collected) (sym queue);
-          }
+  hands NextOut (Out None) old mid new y hs kept kept_mid obeys none rest = as_it_was answers outs_join old mid new y hs obeys.1 rest
+  hands NextOut (Out (Some out)) old mid new y hs kept kept_mid obeys none rest = handed_first answers outs_join old mid new y hs out obeys.0 obeys.1 rest
   hands NextOut (Refused e b) old mid new y hs kept kept_mid obeys none rest = absurd obeys
   hands NextOut (Submitted n) old mid new y hs kept kept_mid obeys none rest = absurd obeys
   hands NextOut (Released n) old mid new y hs kept kept_mid obeys none rest = absurd obeys
@@ -302,20 +312,19 @@ module _ {D : Type 0} (is_lawful : D → Type 0) (state : D → DiskState) (answ
   hands NextOut (CutTaken n) old mid new y hs kept kept_mid obeys none rest = absurd obeys
   hands NextOut (Written w) old mid new y hs kept kept_mid obeys none rest = absurd obeys
   hands Cut (CutTaken n) old mid new y hs kept kept_mid obeys none rest =
-      let is = obeys.5 in
-      let so_many : mid.collected ≡ (collect_step obeys.0).1.collected = ap (λ k. k.collected) is in
-      let count = collected_count obeys.0 in
-      brought answers outs_join old mid new y hs (outs_by (collect_step obeys.0).0) kept kept_mid (ap (λ k. k.plan) is) (ap (λ k. k.standing) is) (ap (λ k. k.queue) is)
-      (obeys.7 ∙ ap (λ m. meant_outs old answers old.collected m) (sym so_many)) (omega (arith, so_many, count, obeys.2.collected)) rest
+      let is = obeys.cut in
+      let S = obeys.hall in
+      let so_many : mid.collected ≡ (collect_step S).1.collected = ap (λ k. k.collected) is in
+      let count = collected_count S in
+      brought answers outs_join old mid new y hs (outs_by (collect_step S).0) kept kept_mid (ap (λ k. k.plan) is) (ap (λ k. k.standing) is) (ap (λ k. k.queue) is)
+      (obeys.brings.outs ∙ ap (λ m. meant_outs old answers old.collected m) (sym so_many)) (omega (arith, so_many, count, obeys.brings.own.collected)) rest
   hands Cut (Refused e b) old mid new y hs kept kept_mid obeys none rest =
       ⊎_elim
-      (λ few. same_all answers outs_join old mid new y hs (ap (λ k. k.plan) few.0) (ap (λ k. k.standing) few.0) (ap (λ k. k.collected) few.0) (ap (λ k. k.queue) few.0) rest)
-      (λ some.
-      let is = some.3 in
-      let so_many : mid.collected ≡ (collect_step some.0).1.collected = ap (λ k. k.collected) is in
-      let count = collected_count some.0 in
-      brought answers outs_join old mid new y hs (outs_by (collect_step some.0).0) kept kept_mid (ap (λ k. k.plan) is) (ap (λ k. k.standing) is) (ap (λ k. k.queue) is)
-      (some.4 ∙ ap (λ m. meant_outs old answers old.collected m) (sym so_many)) (omega (arith, so_many, count, some.1.collected)) rest)
+      (λ foreign. as_it_was answers outs_join old mid new y hs foreign.1.same rest)
+      (λ other. ⊎_elim
+      (λ memory. as_it_was answers outs_join old mid new y hs memory.1.same rest)
+      (λ some. collected_from answers outs_join old mid new y hs kept kept_mid some.hall some.brings.own some.brings.outs some.collected rest)
+      other)
       obeys.1
   hands Cut (Submitted n) old mid new y hs kept kept_mid obeys none rest = absurd obeys
   hands Cut (Released n) old mid new y hs kept kept_mid obeys none rest = absurd obeys
@@ -330,7 +339,7 @@ module _ {D : Type 0} (is_lawful : D → Type 0) (state : D → DiskState) (answ
       let is = some.1 in
       cut_off answers outs_join old mid new y hs kept (ap (λ k. k.plan) is) (ap (λ k. k.standing) is) (ap (λ k. k.collected) is) (ap (λ k. k.queue) is)
       (last old.standing (old.base - old.standing.epoch) old.base_states (omega (arith, kept.released, kept.from_checkpoint))) rest)
-      obeys.0.1
+      obeys.0.cut
   hands WriteCut (Refused e b) old mid new y hs kept kept_mid obeys none rest =
       ⊎_elim
       (λ few. same_all answers outs_join old mid new y hs (ap (λ k. k.plan) few.1) (ap (λ k. k.standing) few.1) (ap (λ k. k.collected) few.1) (ap (λ k. k.queue) few.1) rest)
@@ -338,7 +347,7 @@ module _ {D : Type 0} (is_lawful : D → Type 0) (state : D → DiskState) (answ
       (λ few. same_all answers outs_join old mid new y hs (ap (λ k. k.plan) few.1) (ap (λ k. k.standing) few.1) (ap (λ k. k.collected) few.1) (ap (λ k. k.queue) few.1) rest)
       (λ is. same_all answers outs_join old mid new y hs (ap (λ k. k.plan) is) (ap (λ k. k.standing) is) (ap (λ k. k.collected) is) (ap (λ k. k.queue) is) rest)
       other)
-      obeys.0.2
+      obeys.0.unchanged
   hands WriteCut (Submitted n) old mid new y hs kept kept_mid obeys none rest = absurd obeys.0
   hands WriteCut (Released n) old mid new y hs kept kept_mid obeys none rest = absurd obeys.0
   hands WriteCut Settled old mid new y hs kept kept_mid obeys none rest = absurd obeys.0
@@ -347,7 +356,7 @@ module _ {D : Type 0} (is_lawful : D → Type 0) (state : D → DiskState) (answ
   hands WriteCut (CutTaken n) old mid new y hs kept kept_mid obeys none rest = absurd obeys.0
 
   -- WHAT COMMANDS HAND OUT
-  pub driven_hands : (commands : List Command) (replies : List Reply) (old new : Keeping D) → IsKeeping old answers → Driven is_lawful state answers commands replies old new
+  pub driven_hands : (commands : List Command) (replies : List Reply) (old new : Keeping D) → IsKeeping old answers → Driven is_lawful state failures answers commands replies old new
       → HandsOn answers old new (submitted_by commands replies) (handed_out replies)
   driven_hands [] [] old new kept e =
       subst (λ (k : Keeping D). HandsOn answers old k [] []) (sym e) (record {
@@ -362,5 +371,5 @@ module _ {D : Type 0} (is_lawful : D → Type 0) (state : D → DiskState) (answ
   driven_hands (c ∷ cs) [] old new kept none = absurd none
   driven_hands (c ∷ cs) (r ∷ rs) old new kept driven =
       hands c r old driven.0 new (submitted_by cs rs) (handed_out rs) kept driven.1 driven.2
-      (λ broke. (driven_broken is_lawful state answers cs rs driven.0 new driven.3 broke).1)
+      (λ broke. (driven_broken is_lawful state failures answers cs rs driven.0 new driven.3 broke).1)
       (driven_hands cs rs driven.0 new driven.1 driven.3)

@@ -10,5 +10,6 @@ mod Rows
 mod Runs
 mod Since
 mod Submitting
-pub mod Driving
+mod Driving
+mod Failing
 mod Handing

@@ -1,14 +1,18 @@
 -- What a keeper does beside workers: the hall under their lock is any hall at each command.
-use Rattle.std.specs.Prelude.{◌≡◌, ◌⊎◌, ℕ, ◌+◌, ◌-◌, ◌≤◌, Bool, true, false, List, [], ◌∷◌, ◌++◌, length, take, drop, Some, None, if◌then◌else◌}
+use Rattle.std.specs.Prelude.{◌≡◌, ◌⊎◌, ℕ, ◌+◌, ◌-◌, ◌≤◌, Bool, true, false, ◌||◌, List, [], ◌∷◌, ◌++◌, length, take, drop, Option, Some, None}
+use Rattle.std.specs.Prelude.{if◌then◌else◌}
 use Rattle.td_stamp.specs.declared.values.Entry.{Entry}
 use Rattle.td_stamp.specs.declared.epoch_out.EpochOut.{EpochOut}
 use Rattle.td_plan.specs.Tree.{tree_of}
 use Rattle.td_calls.specs.Answers.{Answers}
 use Rattle.td_batch.specs.Meaning.{run, states_after, numbered}
 use Rattle.td_machine.specs.State.{HallState}
+use Rattle.td_machine.specs.Active.{unpassed}
 use Rattle.td_machine.specs.Steps.{collect_step}
+use Rattle.td_machine.specs.Reached.{IsReached}
 use Rattle.td_machine.specs.Sound.{outs_by}
-use Rattle.td_disk.specs.Disk.{DiskState}
+use Rattle.td_disk.specs.Disk.{DiskState, Rises}
+use Rattle.td_gate.specs.CrashSafe.{CrashSafe, Unchanged}
 use Rattle.td_standing.specs.declared.error.KeeperError.{KeeperError}
 use Rattle.td_standing.specs.declared.error.KeeperError.TheVariants.{Foreign, NotPassed, TooManyKeys, Device, Memory}
 use Rattle.td_journal.specs.declared.submitted.Submitted.{Submitted as AnySubmitted}
@@ -20,12 +24,27 @@ use Rattle.td_keeper.specs.declared.command.Reply.{Reply}
 use Rattle.td_keeper.specs.declared.command.Reply.TheVariants.{Submitted, Released, Settled, Collected, Out, CutTaken, Written, Refused}
 use Rattle.td_keeper.specs.Keeping.{Keeping, IsKeeping, since_base, with_batch, with_checkpoint}
 use Rattle.td_keeper.specs.Refused.{submit_refusal, write_refusal, cut_refusal}
-use Rattle.td_keeper.specs.Halls.{IsOwn, lacking, with_released, with_collected, with_cut, last_passed, meant_outs}
+use Rattle.td_keeper.specs.Halls.{IsOwn, lacking, with_released, with_collected, with_cut, collected_hall, cut_hall, last_passed, meant_outs}
 
 -- whether the device failed
 abbrev pub is_device : KeeperError → Bool
 is_device Device = true
 is_device _ = false
+
+-- whether a reply says so, and whether one of some does
+abbrev pub is_failed : Reply → Bool
+is_failed (Refused error back) = is_device error
+is_failed _ = false
+
+abbrev pub some_failed : List Reply → Bool
+some_failed [] = false
+some_failed (reply ∷ replies) = is_failed reply || some_failed replies
+
+-- whether a command may write to the disk
+abbrev pub may_write : Command → Bool
+may_write (Submit batch) = true
+may_write WriteCut = true
+may_write _ = false
 
 -- WHAT A COMMAND SUBMITTED, by its reply: its batch, where it was acknowledged, or where the device failed in it
 abbrev pub submitted_in : Command → Reply → List AnySubmitted
@@ -59,7 +78,7 @@ pub record HandsOn {D : Type 0} (answers : Answers) (old new : Keeping D) (x : L
   pub within : new.collected ≤ last_epoch old.standing + length x
   pub outs : handed ++ new.queue ≡ old.queue ++ outs_beyond old answers x new.collected
 
-module _ {D : Type 0} (is_lawful : D → Type 0) (state : D → DiskState) (answers : Answers) where
+module _ {D : Type 0} (is_lawful : D → Type 0) (state : D → DiskState) (failures : D → ℕ) (answers : Answers) where
   -- time goes on, and each image since a moment up to the start was one by then, or the disk tells an advance in it of the
   -- standing with what was submitted, which holds every epoch of the standing
   pub record Advances (old new : Keeping D) (x : List AnySubmitted) : Type 0 where
@@ -67,72 +86,138 @@ module _ {D : Type 0} (is_lawful : D → Type 0) (state : D → DiskState) (answ
     pub later : (state old.device).moment ≤ (state new.device).moment
     pub since : old.broken ≡ false → AdvancesSince answers old.plan old.standing x (last_epoch old.standing) (state old.device) (state new.device)
 
-  -- TO SUBMIT: the batch is acknowledged; or it comes back, and what was kept in memory is as it was
+  -- A COMMAND THAT MAY WRITE, with this reply: the count of failures never falls, and stays where the device did not fail; and so
+  -- the images, where the disk is lawful
+  pub record MayWrite (reply : Reply) (old new : Keeping D) (x : List AnySubmitted) : Type 0 where
+    pub counted : failures old.device ≤ failures new.device
+    pub stays : is_failed reply ≡ false → failures new.device ≡ failures old.device
+    pub advances : is_lawful old.device → Advances old new x
+
+  -- nothing was written: what a crash may leave, it might have left before
+  abbrev pub Unwritten : Keeping D → Keeping D → Type 0
+  Unwritten old new = is_lawful old.device → CrashSafe Unchanged (state old.device) (state new.device)
+
+  -- THE DEVICE FAILED: the keeper is broken, and the count of failures rose
+  pub record Fails (old new : Keeping D) : Type 0 where
+    pub broken : new.broken ≡ true
+    pub risen : Rises (failures old.device) (failures new.device)
+
+  -- TO SUBMIT: the batch is acknowledged as the last epoch
+  pub record IsSubmitted (batch : List Entry) (epoch : ℕ) (old new : Keeping D) : Type 0 where
+    pub accepted : submit_refusal old batch ≡ None
+    pub submitted : new ≡ with_batch old new.device 0 batch
+    pub last : epoch ≡ last_epoch new.standing
+
+  -- or it comes back, and what was kept in memory is as it was
+  pub record IsNotSubmitted (batch : List Entry) (error : KeeperError) (back : Option (List Entry)) (old new : Keeping D) : Type 0 where
+    pub batch_back : back ≡ Some batch
+    pub cause : (submit_refusal old batch ≡ Some error) ⊎ ((submit_refusal old batch ≡ None) × ((error ≡ Memory) ⊎ (error ≡ Device)))
+    pub unchanged : (new ≡ old) ⊎ ((error ≡ Memory) × (new ≡ record old { device = new.device })) ⊎ ((error ≡ Device) × (new ≡ record old { device = new.device; broken = true }))
+    pub memory : error ≡ Memory → Unwritten old new
+    pub device : error ≡ Device → Fails old new
+
   abbrev pub Submits : List Entry → Reply → Keeping D → Keeping D → Type 0
-  Submits batch (Submitted epoch) old new = (submit_refusal old batch ≡ None) × (new ≡ with_batch old new.device 0 batch) × (epoch ≡ last_epoch new.standing)
-  Submits batch (Refused error back) old new = (back ≡ Some batch) × (error ≡ Device → new.broken ≡ true)
-      × ((submit_refusal old batch ≡ Some error) ⊎ ((submit_refusal old batch ≡ None) × ((error ≡ Memory) ⊎ (error ≡ Device))))
-      × ((new ≡ old) ⊎ ((error ≡ Memory) × (new ≡ record old { device = new.device }))
-      ⊎ ((error ≡ Device) × (new ≡ record old { device = new.device; broken = true })))
+  Submits batch (Submitted epoch) old new = IsSubmitted batch epoch old new
+  Submits batch (Refused error back) old new = IsNotSubmitted batch error back old new
   Submits batch _ old new = ⊥
 
-  -- TO RELEASE: a hall of this keeper's had all its batches since the base after it
+  -- A HALL UNDER THE LOCK, one to which plays lead, was found so, and the keeper is as it was
+  pub record Finds (found : HallState → Type 0) (old new : Keeping D) : Type 0 where
+    pub hall : HallState
+    pub reached : IsReached answers hall
+    pub is : found hall
+    pub same : new ≡ old
+
+  -- TO RELEASE: a hall of this keeper's had all its batches since the base after it; refused is one that is not, or is closed
+  abbrev pub IsReleased : Keeping D → ℕ → HallState → Type 0
+  IsReleased k n S = IsOwn k S × (S.closed ≡ false) × (n ≡ length (lacking k S)) × ((with_released S (lacking k S)).batches ≡ since_base k)
+
   abbrev pub Releases : Reply → Keeping D → Keeping D → Type 0
-  Releases (Released n) old new = (new ≡ old) × ((S T : HallState) × IsOwn old S × (S.closed ≡ false) × (n ≡ length (lacking old S))
-      × (T ≡ with_released S (lacking old S)) × (T.batches ≡ since_base old))
-  Releases (Refused error back) old new = (back ≡ None) × (new ≡ old) × ((error ≡ Foreign) ⊎ (error ≡ Memory))
+  Releases (Released n) old new = Finds (IsReleased old n) old new
+  Releases (Refused error back) old new = (back ≡ None)
+      × (((error ≡ Foreign) × Finds (λ S. IsOwn old S → S.closed ≡ false → ⊥) old new) ⊎ ((error ≡ Memory) × Finds (λ S. IsOwn old S × (S.closed ≡ false)) old new))
   Releases _ old new = ⊥
 
-  -- TO SETTLE
+  -- TO SETTLE: every released epoch has passed in the hall, or this is the first that has not
   abbrev pub Settles : Reply → Keeping D → Keeping D → Type 0
-  Settles Settled old new = new ≡ old
-  Settles (Refused error back) old new = (back ≡ None) × (new ≡ old) × ((e : ℕ) × (error ≡ NotPassed e))
+  Settles Settled old new = Finds (λ S. unpassed S ≡ None) old new
+  Settles (Refused error back) old new = (back ≡ None) × ((e : ℕ) × (error ≡ NotPassed e) × Finds (λ S. unpassed S ≡ Some e) old new)
   Settles _ old new = ⊥
 
-  -- TO COLLECT: what a hall of this keeper's had is in the queue, and is the batch meaning's
+  -- WHAT A HALL OF THIS KEEPER'S HAD is in the queue, and is the batch meaning's
+  pub record BringsIn (old : Keeping D) (S : HallState) : Type 0 where
+    pub reached : IsReached answers S
+    pub own : IsOwn old S
+    pub outs : outs_by (collect_step S).0 ≡ meant_outs old answers old.collected (collect_step S).1.collected
+
+  -- TO COLLECT
+  pub record IsCollected (n : ℕ) (old new : Keeping D) : Type 0 where
+    pub hall : HallState
+    pub brings : BringsIn old hall
+    pub count : n ≡ length (outs_by (collect_step hall).0)
+    pub collected : new ≡ with_collected old hall
+
   abbrev pub Collects : Reply → Keeping D → Keeping D → Type 0
-  Collects (Collected n) old new = (S : HallState) × IsOwn old S × (new ≡ with_collected old S) × (n ≡ length (outs_by (collect_step S).0))
-      × (outs_by (collect_step S).0 ≡ meant_outs old answers old.collected (old.collected + n))
-  Collects (Refused error back) old new = (back ≡ None) × (new ≡ old) × ((error ≡ Foreign) ⊎ (error ≡ Memory))
+  Collects (Collected n) old new = IsCollected n old new
+  Collects (Refused error back) old new = (back ≡ None)
+      × (((error ≡ Foreign) × Finds (λ S. IsOwn old S → ⊥) old new) ⊎ ((error ≡ Memory) × Finds (IsOwn old) old new))
   Collects _ old new = ⊥
 
   -- TO HAND OUT the first of the queue
   abbrev pub HandsOut : Reply → Keeping D → Keeping D → Type 0
-  HandsOut (Out out) old new = ((out ≡ None) × (old.queue ≡ []) × (new ≡ old))
-      ⊎ ((first : EpochOut) × (out ≡ Some first) × (old.queue ≡ first ∷ new.queue) × (new ≡ record old { queue = new.queue }))
+  HandsOut (Out None) old new = (old.queue ≡ []) × (new ≡ old)
+  HandsOut (Out (Some out)) old new = (old.queue ≡ out ∷ new.queue) × (new ≡ record old { queue = new.queue })
   HandsOut _ old new = ⊥
 
-  -- TO CUT: what a hall of this keeper's had is collected, and its cut, with the batch meaning's states, is the base and waits
+  -- TO CUT: the cut of a hall of this keeper's, with the batch meaning's states, is the base and waits
+  pub record IsCut (e : ℕ) (old new : Keeping D) : Type 0 where
+    pub hall : HallState
+    pub brings : BringsIn old hall
+    pub accepted : cut_refusal old hall ≡ None
+    pub last : e ≡ last_passed hall
+    pub base : new.base ≡ e
+    pub cut : new ≡ with_cut (with_collected old hall) (cut_hall (collected_hall hall))
+    pub states : new.base_states ≡ states_after answers (tree_of old.plan) old.standing.states (batches_of old.standing.submitted) (e - old.standing.epoch)
+
+  -- or what it had was collected, and it is not cut
+  pub record IsNotCut (error : KeeperError) (old new : Keeping D) : Type 0 where
+    pub hall : HallState
+    pub brings : BringsIn old hall
+    pub cause : (cut_refusal old hall ≡ Some error) ⊎ (error ≡ Memory)
+    pub collected : new ≡ with_collected old hall
+
   abbrev pub Cuts : Reply → Keeping D → Keeping D → Type 0
-  Cuts (CutTaken e) old new = (S T : HallState) × IsOwn old S × (cut_refusal old S ≡ None) × (e ≡ last_passed S)
-      × (new ≡ with_cut (with_collected old S) T)
-      × (new.base_states ≡ states_after answers (tree_of old.plan) old.standing.states (batches_of old.standing.submitted) (e - old.standing.epoch))
-      × (outs_by (collect_step S).0 ≡ meant_outs old answers old.collected (collect_step S).1.collected)
+  Cuts (CutTaken e) old new = IsCut e old new
   Cuts (Refused error back) old new = (back ≡ None)
-      × (((new ≡ old) × ((error ≡ Foreign) ⊎ (error ≡ Memory)))
-      ⊎ ((S : HallState) × IsOwn old S × ((cut_refusal old S ≡ Some error) ⊎ (error ≡ Memory)) × (new ≡ with_collected old S)
-      × (outs_by (collect_step S).0 ≡ meant_outs old answers old.collected (collect_step S).1.collected)))
+      × (((error ≡ Foreign) × Finds (λ S. IsOwn old S → ⊥) old new) ⊎ ((error ≡ Memory) × Finds (IsOwn old) old new) ⊎ IsNotCut error old new)
   Cuts _ old new = ⊥
 
   -- TO WRITE THE CUT that waits: it is the checkpoint
+  pub record IsWritten (written : Option ℕ) (old new : Keeping D) : Type 0 where
+    pub accepted : write_refusal old ≡ None
+    pub cut : ((written ≡ None) × (old.waiting ≡ false) × (new ≡ old)) ⊎ ((written ≡ Some old.base) × (new ≡ with_checkpoint old new.device))
+
+  -- or it is refused, and waits still where memory ran out
+  pub record IsNotWritten (error : KeeperError) (back : Option (List Entry)) (old new : Keeping D) : Type 0 where
+    pub no_batch : back ≡ None
+    pub cause : (write_refusal old ≡ Some error) ⊎ ((write_refusal old ≡ None) × ((error ≡ Memory) ⊎ (error ≡ Device)))
+    pub unchanged : ((error ≡ TooManyKeys) × (new ≡ record old { waiting = false })) ⊎ ((error ≡ Device) × (new ≡ record old { device = new.device; broken = true; waiting = false })) ⊎ (new ≡ old)
+    pub device : error ≡ Device → Fails old new
+
   abbrev pub Writes : Reply → Keeping D → Keeping D → Type 0
-  Writes (Written written) old new = (write_refusal old ≡ None) × (((written ≡ None) × (old.waiting ≡ false) × (new ≡ old))
-      ⊎ ((written ≡ Some old.base) × (new ≡ with_checkpoint old new.device)))
-  Writes (Refused error back) old new = (back ≡ None)
-      × ((write_refusal old ≡ Some error) ⊎ ((write_refusal old ≡ None) × ((error ≡ Memory) ⊎ (error ≡ Device))))
-      × (((error ≡ TooManyKeys) × (new ≡ record old { waiting = false }))
-      ⊎ (((error ≡ Device) × (new ≡ record old { device = new.device; broken = true; waiting = false })) ⊎ (new ≡ old)))
+  Writes (Written written) old new = IsWritten written old new
+  Writes (Refused error back) old new = IsNotWritten error back old new
   Writes _ old new = ⊥
 
-  -- ONE COMMAND, with its reply; the images since an earlier moment, where it writes
+  -- ONE COMMAND, with its reply; and the images since an earlier moment, where it writes
   abbrev pub Obeys : Command → Reply → Keeping D → Keeping D → Type 0
-  Obeys (Submit batch) reply old new = Submits batch reply old new × (is_lawful old.device → Advances old new (submitted_in (Submit batch) reply))
+  Obeys (Submit batch) reply old new = Submits batch reply old new × MayWrite reply old new (submitted_in (Submit batch) reply)
   Obeys Release reply old new = Releases reply old new
   Obeys Settle reply old new = Settles reply old new
   Obeys Collect reply old new = Collects reply old new
   Obeys NextOut reply old new = HandsOut reply old new
   Obeys Cut reply old new = Cuts reply old new
-  Obeys WriteCut reply old new = Writes reply old new × (is_lawful old.device → Advances old new [])
+  Obeys WriteCut reply old new = Writes reply old new × MayWrite reply old new []
 
   -- COMMANDS, one after another, with their replies; between them stands a keeper whose memory is right
   abbrev pub Driven : List Command → List Reply → Keeping D → Keeping D → Type 0
@@ -140,3 +225,10 @@ module _ {D : Type 0} (is_lawful : D → Type 0) (state : D → DiskState) (answ
   Driven [] (reply ∷ replies) old new = ⊥
   Driven (command ∷ commands) [] old new = ⊥
   Driven (command ∷ commands) (reply ∷ replies) old new = (mid : Keeping D) × IsKeeping mid answers × Obeys command reply old mid × Driven commands replies mid new
+
+-- WHAT A COMMAND THAT DOES NOT WRITE leaves as it was
+pub record Rests {D : Type 0} (old new : Keeping D) : Type 0 where
+  pub device : new.device ≡ old.device
+  pub plan : new.plan ≡ old.plan
+  pub standing : new.standing ≡ old.standing
+  pub broken : new.broken ≡ old.broken

@@ -1,13 +1,20 @@
 -- Where a keeper refuses a call, the device and memory aside.
-use Rattle.std.specs.Prelude.{ℕ, ◌+◌, ◌^◌, nat_lt, nat_le, not, List, length, Option, Some, None, if◌then◌else◌}
+use Rattle.std.specs.Prelude.{ℕ, ◌+◌, ◌^◌, Bool, true, false, nat_lt, nat_le, not, List, length, Option, Some, None, if◌then◌else◌}
 use Rattle.td_stamp.specs.declared.values.Entry.{Entry}
 use Rattle.td_machine.specs.State.{HallState}
 use Rattle.td_machine.specs.Active.{unpassed}
 use Rattle.td_machine.specs.Steps.{accepts}
+use Rattle.td_slots.specs.declared.error.SlotsError.{SlotsError}
+use Rattle.td_slots.specs.declared.error.SlotsError.TheVariants.{Memory as OutOfMemory}
 use Rattle.td_standing.specs.declared.error.KeeperError.{KeeperError}
 use Rattle.td_standing.specs.declared.error.KeeperError.TheVariants.{Broken, NoSuchInput, TooManyRecords, Epochs, Full, NotPassed, CutWaiting, TooManyKeys}
 use Rattle.td_standing.specs.Standing.{last_epoch}
 use Rattle.td_keeper.specs.Keeping.{Keeping}
+
+-- whether a cut waits on after its write was refused so
+abbrev pub waits_after : SlotsError → Bool
+waits_after OutOfMemory = true
+waits_after _ = false
 
 module _ {D : Type 0} (k : Keeping D) where
   -- A SUBMIT: the first of these that holds

@@ -2,6 +2,7 @@
 ghost use Rattle.std.specs.Prelude.{◌≡◌, ◌⊎◌, ◌+◌, ◌∷◌, ◌++◌, ◌≤◌, length, Some, None, [], IfOk, IfErr, IfSome, IfNone, OnErr};
 ghost use Rattle.std.specs.VecDeque.{deque_len, deque_capacity};
 ghost use Rattle.td_machine.specs.Steps.{collect_step};
+ghost use Rattle.td_machine.specs.Reached.{IsReached};
 ghost use Rattle.td_machine.specs.Sound.{outs_by};
 ghost use Rattle.td_keeper.specs.Halls.{IsOwn, with_collected, collected_hall, meant_outs};
 ghost use Rattle.td_standing.specs.declared.error.KeeperError.TheVariants.{Foreign, Memory};
@@ -38,6 +39,7 @@ impl<D: Disk, L: Law> Keeper<D, L> {
 
     /// As `collect`, of a hall that is lent.
     pub(crate) fn collect_lent<H: AnyHall<L>>(&mut self, hall: &mut H) -> Result<u64, KeeperError>
+        ensures reached { IsReached L.answers (H.state hall.old) }
         ensures own { IfOk result (λ _. IsOwn self.old (H.state hall.old)) }
         ensures collected { IfOk result (λ n. (self.new ≡ with_collected self.old (H.state hall.old)) × (H.state hall.new ≡ collected_hall (H.state hall.old))
             × (n ≡ length (outs_by (collect_step (H.state hall.old)).0))) }
@@ -46,6 +48,7 @@ impl<D: Disk, L: Law> Keeper<D, L> {
         ensures refused { IfErr result (λ e. (e ≡ Foreign) ⊎ ((e ≡ Memory) × IsOwn self.old (H.state hall.old))) }
         ensures unchanged { OnErr result ((self.new ≡ self.old) × (H.state hall.new ≡ H.state hall.old)) }
     {
+        each_is_sound(hall);
         if self.owns(hall) {
             self.bring_in(hall)
         } else {

@@ -3,6 +3,7 @@ ghost use Rattle.std.specs.Prelude.{◌≡◌, ◌⊎◌, ◌-◌, ◌≤◌, So
 ghost use Rattle.td_plan.specs.Tree.{tree_of};
 ghost use Rattle.td_batch.specs.Meaning.{states_after};
 ghost use Rattle.td_machine.specs.Steps.{collect_step};
+ghost use Rattle.td_machine.specs.Reached.{IsReached};
 ghost use Rattle.td_machine.specs.Sound.{outs_by};
 ghost use Rattle.td_standing.specs.Standing.{batches_of};
 ghost use Rattle.td_keeper.specs.Refused.{cut_refusal};
@@ -32,6 +33,7 @@ impl<D: Disk, L: Law> Keeper<D, L> {
         ensures own { IfOk result (λ _. IsOwn self.old hall.old × (cut_refusal self.old hall.old ≡ None)) }
         ensures cut { IfOk result (λ epoch. (epoch ≡ last_passed hall.old) × (hall.new ≡ cut_hall (collected_hall hall.old))
             × (self.new ≡ with_cut (with_collected self.old hall.old) hall.new)) }
+        ensures base { IfOk result (λ epoch. self.new.base ≡ epoch) }
         ensures meaning { IfOk result (λ epoch. self.new.base_states ≡ states_after L.answers (tree_of self.old.plan) self.old.standing.states (batches_of self.old.standing.submitted) (epoch - self.old.standing.epoch)) }
         ensures foreign { IfErr result (λ e. e ≡ Foreign → (IsOwn self.old hall.old → ⊥) × (self.new ≡ self.old) × (hall.new ≡ hall.old)) }
         ensures refused { IfErr result (λ e. (e ≡ Foreign)
@@ -47,9 +49,11 @@ impl<D: Disk, L: Law> Keeper<D, L> {
 
     /// As `cut`, of a hall that is lent.
     pub(crate) fn cut_lent<H: AnyHall<L>>(&mut self, hall: &mut H) -> Result<u64, KeeperError>
+        ensures reached { IsReached L.answers (H.state hall.old) }
         ensures own { IfOk result (λ _. IsOwn self.old (H.state hall.old) × (cut_refusal self.old (H.state hall.old) ≡ None)) }
         ensures cut { IfOk result (λ epoch. (epoch ≡ last_passed (H.state hall.old)) × (H.state hall.new ≡ cut_hall (collected_hall (H.state hall.old)))
             × (self.new ≡ with_cut (with_collected self.old (H.state hall.old)) (H.state hall.new))) }
+        ensures base { IfOk result (λ epoch. self.new.base ≡ epoch) }
         ensures meaning { IfOk result (λ epoch. self.new.base_states ≡ states_after L.answers (tree_of self.old.plan) self.old.standing.states (batches_of self.old.standing.submitted) (epoch - self.old.standing.epoch)) }
         ensures foreign { IfErr result (λ e. e ≡ Foreign → (IsOwn self.old (H.state hall.old) → ⊥) × (self.new ≡ self.old) × (H.state hall.new ≡ H.state hall.old)) }
         ensures refused { IfErr result (λ e. (e ≡ Foreign)
@@ -62,6 +66,7 @@ impl<D: Disk, L: Law> Keeper<D, L> {
     {
         run_joins::<L>();
         base_has_passed::<L>();
+        each_is_sound(hall);
         if !self.owns(hall) {
             return Err(KeeperError::Foreign);
         }
@@ -92,6 +97,7 @@ impl<D: Disk, L: Law> Keeper<D, L> {
         run_joins::<L>();
         base_has_passed::<L>();
         each_is_sound(hall);
+        // Read for its contract alone.
         let _collected = self.collected;
     }
 

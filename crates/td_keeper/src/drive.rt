@@ -1,19 +1,22 @@
 //! A keeper beside the workers of a pool.
-ghost use Rattle.std.specs.Prelude.{◌≡◌, ◌↔◌, true, false, IfOk, IfErr};
+ghost use Rattle.std.specs.Prelude.{◌≡◌, ◌↔◌, ◌≤◌, true, false, IfOk, IfErr};
+ghost use Rattle.td_disk.specs.Disk.{Rises};
+ghost use Rattle.td_machine.specs.Active.{unpassed};
+ghost use Rattle.td_machine.specs.Reached.{IsReached};
 ghost use Rattle.td_standing.specs.Standing.{last_epoch};
 ghost use Rattle.td_standing.specs.Advanced.{SinceAdvance};
 ghost use Rattle.td_keeper.specs.Keeping.{IsKeeping};
-ghost use Rattle.td_keeper.specs.Driven.{submitted_by, handed_out, HandsOn, Advances, Obeys, Driven};
+ghost use Rattle.td_keeper.specs.Driven.{submitted_by, handed_out, some_failed, HandsOn, Advances, Obeys, Driven};
 ghost use Rattle.td_standing.specs.declared.error.KeeperError.TheVariants.{Memory};
 
 use crate::command::{Command, Reply};
 use crate::keeper::Keeper;
 use crate::laws::{each_disk_holds, each_is_kept};
-use std::alloc::Global;
 use std::sync::Wait;
 use td_calls::Law;
 use td_disk::Disk;
-use td_pool::{Crew, Pool};
+use td_pool::laws::each_is_sound;
+use td_pool::{AnyHall, Crew, Pool};
 use td_stamp::Batch;
 use td_standing::{KeeperError, laws};
 
@@ -28,14 +31,19 @@ impl<D: Disk, L: Law> Keeper<D, L> {
     pub fn drive<K: Crew, R: Wait>(
         &mut self,
         rt: &R,
-        alloc: Global,
         pool: &Pool<K, L>,
         commands: Vec<Command>,
     ) -> Result<Vec<Reply>, (KeeperError, Vec<Command>)>
-        ensures driven { IfOk result (λ replies. Driven D.is_lawful D.state L.answers commands.items replies.items self.old self.new) }
+        ensures driven { IfOk result (λ replies. Driven D.is_lawful D.state D.failures L.answers commands.items replies.items self.old self.new) }
         ensures refused { IfErr result (λ e. (e.0 ≡ Memory) × (e.1 ≡ commands) × (self.new ≡ self.old)) }
         ensures size { D.capacity self.new.device ≡ D.capacity self.old.device }
         ensures lawful { D.is_lawful self.old.device ↔ D.is_lawful self.new.device }
+
+        // The device failed in one of the commands exactly where a reply says so: then the keeper is broken, and the count of
+        // failures rose; else the keeper is as whole as it was, and the count stays.
+        ensures device { IfOk result (λ replies. some_failed replies.items ≡ true → (self.new.broken ≡ true) × Rises (D.failures self.old.device) (D.failures self.new.device)) }
+        ensures whole { IfOk result (λ replies. some_failed replies.items ≡ false → (self.new.broken ≡ self.old.broken) × (D.failures self.new.device ≡ D.failures self.old.device)) }
+        ensures counted { D.failures self.old.device ≤ D.failures self.new.device }
 
         // A keeper that is broken writes nothing, whatever it is told.
         ensures broken { self.old.broken ≡ true → self.new.device ≡ self.old.device }
@@ -51,7 +59,7 @@ impl<D: Disk, L: Law> Keeper<D, L> {
 
         // Each image since an earlier moment was one by the start of the call, or the disk tells such an advance in it.
         ensures further { IfOk result (λ replies. D.is_lawful self.old.device → self.old.broken ≡ false
-            → Advances D.is_lawful D.state L.answers self.old self.new (submitted_by commands.items replies.items)) }
+            → Advances D.is_lawful D.state D.failures L.answers self.old self.new (submitted_by commands.items replies.items)) }
     {
         laws::told_in_parts();
         laws::standings_advance::<L>();
@@ -59,7 +67,7 @@ impl<D: Disk, L: Law> Keeper<D, L> {
         td_batch::laws::run_joins::<L>();
         each_is_kept(self);
         each_disk_holds(self);
-        let Ok(mut replies) = Vec::with_capacity(alloc, commands.len()) else {
+        let Ok(mut replies) = Vec::with_capacity(self.alloc, commands.len()) else {
             return Err((KeeperError::Memory, commands));
         };
         for command in commands {
@@ -71,7 +79,7 @@ impl<D: Disk, L: Law> Keeper<D, L> {
 
     /// Obeys one command.
     fn obey<K: Crew, R: Wait>(&mut self, rt: &R, pool: &Pool<K, L>, command: Command) -> Reply
-        ensures obeyed { Obeys D.is_lawful D.state L.answers command result self.old self.new }
+        ensures obeyed { Obeys D.is_lawful D.state D.failures L.answers command result self.old self.new }
         ensures size { D.capacity self.new.device ≡ D.capacity self.old.device }
         ensures lawful { D.is_lawful self.old.device ↔ D.is_lawful self.new.device }
     {
@@ -90,7 +98,7 @@ impl<D: Disk, L: Law> Keeper<D, L> {
                     Err(error) => refused(error, None),
                 }
             }
-            Command::Settle => match pool.settle(rt).hall().unpassed() {
+            Command::Settle => match unpassed_in(&*pool.settle(rt)) {
                 None => Reply::Settled,
                 Some(epoch) => refused(KeeperError::NotPassed(epoch), None),
             },
@@ -109,6 +117,15 @@ impl<D: Disk, L: Law> Keeper<D, L> {
             },
         }
     }
+}
+
+/// The first released epoch that has not passed in a hall that is lent, if there is one.
+fn unpassed_in<L: Law, H: AnyHall<L>>(hall: &H) -> Option<u64>
+    ensures reached { IsReached L.answers (H.state hall.now) }
+    ensures unpassed { result ≡ unpassed (H.state hall.now) }
+{
+    each_is_sound(hall);
+    hall.hall().unpassed()
 }
 
 /// A refusal, with the batch that was to be submitted.

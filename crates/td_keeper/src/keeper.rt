@@ -90,6 +90,8 @@ impl<D: Disk, L: Law> Keeper<D, L> {
             → Keeps plan.now (first_head shape) 0 nothing_told (D.state k.device)) }
         ensures refusals { IfErr result (λ e. (e.0 ≡ KeeperError.Memory) ⊎ (e.0 ≡ KeeperError.Device)) }
         ensures device { IfErr result (λ e. e.0 ≡ KeeperError.Device → Rises (D.failures disk) (D.failures e.1)) }
+        ensures stays { IfOk result (λ k. D.failures k.device ≡ D.failures disk) }
+        ensures stays_back { IfErr result (λ e. (e.0 ≡ KeeperError.Device) ⊎ (D.failures e.1 ≡ D.failures disk)) }
     {
         let mut device = disk;
         match format_device(alloc, &mut device, plan, shape) {
@@ -135,6 +137,10 @@ impl<D: Disk, L: Law> Keeper<D, L> {
             ⊎ (D.is_lawful disk
             → IsDurable (D.state e.1) × Told plan.now (D.state e.1).bytes (Refused e.0)))) }
         ensures device { IfErr result (λ e. e.0 ≡ KeeperError.Device → Rises (D.failures disk) (D.failures e.1)) }
+
+        // A call of the disk that failed is never told as want of memory: with another answer the count of failures stays.
+        ensures stays { IfOk result (λ k. D.failures k.device ≡ D.failures disk) }
+        ensures stays_back { IfErr result (λ e. (e.0 ≡ KeeperError.Device) ⊎ (D.failures e.1 ≡ D.failures disk)) }
 
         // What a crash may leave since the start of the call, it might have left then.
         ensures crash_safe { IfOk result (λ k. D.is_lawful disk

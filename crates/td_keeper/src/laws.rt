@@ -1,6 +1,10 @@
 //! Laws of keepers. Each is the contract of a function that does nothing.
+ghost use Rattle.std.specs.Prelude.{◌≡◌, false};
 ghost use Rattle.td_standing.specs.Advanced.{HeldWhere};
-ghost use Rattle.td_keeper.specs.Keeping.{IsKeeping};
+ghost use Rattle.td_keeper.specs.Keeping.{Keeping, IsKeeping};
+ghost use Rattle.td_keeper.specs.declared.command.Command.{Command as AnyCommand};
+ghost use Rattle.td_keeper.specs.declared.command.Reply.{Reply as AnyReply};
+ghost use Rattle.td_keeper.specs.Driven.{may_write, Obeys, Rests};
 
 use crate::keeper::Keeper;
 use td_calls::Law;
@@ -11,6 +15,7 @@ use td_disk::Disk;
 pub fn each_is_kept<D: Disk, L: Law>(keeper: &Keeper<D, L>)
     ensures { IsKeeping keeper.now L.answers }
 {
+    // Read for its contract alone.
     let _collected = keeper.collected;
 }
 
@@ -20,5 +25,12 @@ pub fn each_disk_holds<D: Disk, L: Law>(keeper: &Keeper<D, L>)
     ensures { D.is_lawful keeper.now.device
         → HeldWhere keeper.now.broken L.answers keeper.now.plan keeper.now.head keeper.now.side keeper.now.standing (D.state keeper.now.device) }
 {
+    // Read for its contract alone.
     let _collected = keeper.collected;
 }
+
+/// A command that does not write leaves the disk, and what a keeper stands for, as it was, whatever the reply is.
+pub fn others_rest<D: Disk, L: Law>()
+    ensures { (command : AnyCommand) (reply : AnyReply) (old new : Keeping D) → may_write command ≡ false
+        → Obeys D.is_lawful D.state D.failures L.answers command reply old new → Rests old new }
+{}

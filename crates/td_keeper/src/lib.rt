@@ -10,6 +10,7 @@ mod drive;
 mod keeper;
 pub mod laws;
 mod own;
+mod readers;
 mod release;
 mod submit;
 mod watch;
@@ -17,3 +18,4 @@ mod write_cut;
 
 pub use command::{Command, Reply};
 pub use keeper::Keeper;
+pub use td_standing::{KeeperError, Part};

@@ -3,6 +3,7 @@ ghost use Rattle.std.specs.Prelude.{◌≡◌, ◌⊎◌, ◌+◌, ◌^◌, ◌�
 ghost use Rattle.td_journal.specs.Cell.{is_batch};
 ghost use Rattle.td_standing.specs.Standing.{batches_of};
 ghost use Rattle.td_standing.specs.Told.{inputs_of};
+ghost use Rattle.td_machine.specs.Reached.{IsReached};
 ghost use Rattle.td_keeper.specs.Keeping.{since_base};
 ghost use Rattle.td_keeper.specs.Halls.{IsOwn, lacking, with_released};
 ghost use Rattle.td_standing.specs.declared.error.KeeperError.TheVariants.{Foreign, Memory};
@@ -39,6 +40,7 @@ impl<D: Disk, L: Law> Keeper<D, L> {
 
     /// As `release`, of a hall that is lent.
     pub(crate) fn release_lent<H: AnyHall<L>>(&self, hall: &mut H) -> Result<u64, KeeperError>
+        ensures reached { IsReached L.answers (H.state hall.old) }
         ensures own { IfOk result (λ _. IsOwn self.now (H.state hall.old) × ((H.state hall.old).closed ≡ false)) }
         ensures released { IfOk result (λ n. (n ≡ length (lacking self.now (H.state hall.old))) × (H.state hall.new ≡ with_released (H.state hall.old) (lacking self.now (H.state hall.old)))) }
         ensures all { IfOk result (λ _. (H.state hall.new).batches ≡ since_base self.now) }
@@ -47,10 +49,10 @@ impl<D: Disk, L: Law> Keeper<D, L> {
             ⊎ ((e ≡ Memory) × (IsOwn self.now (H.state hall.old) × ((H.state hall.old).closed ≡ false)))) }
         ensures some { IfErr result (λ e. (n : ℕ) × (H.state hall.new ≡ with_released (H.state hall.old) (take n (lacking self.now (H.state hall.old))))) }
     {
+        each_is_sound(hall);
         if hall.hall().is_closed() || !self.owns(hall) {
             return Err(KeeperError::Foreign);
         }
-        each_is_sound(hall);
         let submitted = &self.submitted;
         let has = self.past() + hall.hall().inputs().len();
         release_after::<L, H>(hall, submitted, has)

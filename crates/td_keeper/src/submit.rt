@@ -1,9 +1,8 @@
 //! Submitting batches.
-ghost use Rattle.std.specs.Prelude.{◌≡◌, ◌⊎◌, ◌↔◌, ◌+◌, ◌≤◌, [], ◌∷◌, false, true, Some, None, IfOk, IfErr};
+ghost use Rattle.std.specs.Prelude.{◌≡◌, ◌⊎◌, ◌↔◌, ◌+◌, ◌≤◌, [], ◌∷◌, false, true, Some, None, IfOk, IfErr, OnOk};
 ghost use Rattle.td_disk.specs.Disk.{Rises};
 ghost use Rattle.td_gate.specs.CrashSafe.{CrashSafe, Unchanged};
 ghost use Rattle.td_standing.specs.Standing.{last_epoch, submission};
-ghost use Rattle.td_standing.specs.Told.{ring_of};
 ghost use Rattle.td_standing.specs.Advanced.{SinceAdvance, AdvancesSince};
 ghost use Rattle.td_keeper.specs.Keeping.{with_batch};
 ghost use Rattle.td_keeper.specs.Refused.{submit_refusal};
@@ -13,12 +12,9 @@ use crate::keeper::Keeper;
 use crate::watch::{publish, words_at};
 use td_calls::Law;
 use td_disk::Disk;
-use td_journal::{Journal, JournalError, Submitted};
-use td_stamp::Batch;
-use td_standing::{KeeperError, laws, submit_batch};
-
-/// Epochs are numbered below this.
-const ENDS: u64 = 1 << 63;
+use td_journal::{JournalError, Submitted};
+use td_stamp::{Batch, EPOCHS_END};
+use td_standing::{KeeperError, laws, ring_of, submit_batch};
 
 impl<D: Disk, L: Law> Keeper<D, L> {
     /// Puts a batch on the journal as the next epoch, and answers its number: from then on it is acknowledged, and whatever a
@@ -40,6 +36,9 @@ impl<D: Disk, L: Law> Keeper<D, L> {
             ⊎ ((e.0 ≡ Device) × (self.new ≡ record self.old { device = self.new.device; broken = true }))) }
         ensures device { IfErr result (λ e. e.0 ≡ Device → Rises (D.failures self.old.device) (D.failures self.new.device)) }
         ensures broken { IfErr result (λ e. e.0 ≡ Device → self.new.broken ≡ true) }
+        ensures counted { D.failures self.old.device ≤ D.failures self.new.device }
+        ensures stays { OnOk result (D.failures self.new.device ≡ D.failures self.old.device) }
+        ensures stays_back { IfErr result (λ e. (e.0 ≡ Device) ⊎ (D.failures self.new.device ≡ D.failures self.old.device)) }
         ensures size { D.capacity self.new.device ≡ D.capacity self.old.device }
         ensures lawful { D.is_lawful self.old.device ↔ D.is_lawful self.new.device }
         ensures unwritten { IfErr result (λ e. e.0 ≡ Memory → D.is_lawful self.old.device
@@ -66,14 +65,14 @@ impl<D: Disk, L: Law> Keeper<D, L> {
         laws::inputs_are_accepted();
         td_journal::laws::batches_are_in_order();
         td_gate::laws::unchanged::<D>();
+        // Read for their contracts alone.
+        let _plan = self.plan.vertices();
+        let _in_order = batch.list();
         if let Some(refusal) = self.refusal_of(&batch) {
             return Err((refusal, batch));
         }
-        let _plan = self.plan.vertices();
-        let _in_order = batch.list();
-        let _sizes = self.head.shape.bytes();
         let epoch = self.last_epoch() + 1;
-        let journal = self.journal();
+        let journal = ring_of(&self.head.shape, self.checkpoint.epoch);
         if self.submitted.reserve(1).is_err() {
             return Err((KeeperError::Memory, batch));
         }
@@ -90,7 +89,10 @@ impl<D: Disk, L: Law> Keeper<D, L> {
                     self.broken = true;
                     Err((KeeperError::Device, batch))
                 }
-                _ => Err((KeeperError::Memory, batch)),
+                JournalError::Memory => Err((KeeperError::Memory, batch)),
+                JournalError::Full | JournalError::TooManyRecords | JournalError::Damaged(_) => {
+                    unreachable!()
+                }
             },
         }
     }
@@ -106,32 +108,12 @@ impl<D: Disk, L: Law> Keeper<D, L> {
             Some(KeeperError::NoSuchInput)
         } else if (shape.records() as usize) < batch.len() {
             Some(KeeperError::TooManyRecords)
-        } else if self.last_epoch() + 1 >= ENDS {
+        } else if self.last_epoch() + 1 >= EPOCHS_END {
             Some(KeeperError::Epochs)
         } else if self.submitted.len() >= shape.cells() as usize {
             Some(KeeperError::Full)
         } else {
             None
-        }
-    }
-
-    /// The last epoch that stands on the disk.
-    pub(crate) fn last_epoch(&self) -> u64
-        ensures { result ≡ last_epoch self.now.standing }
-    {
-        self.checkpoint.epoch + self.submitted.len() as u64
-    }
-
-    /// The journal of the epochs after the checkpoint.
-    fn journal(&self) -> Journal
-        ensures { result ≡ ring_of self.now.head.shape self.now.standing.epoch }
-    {
-        let shape = &self.head.shape;
-        Journal {
-            at: 8_308 + 64 * u64::from(shape.states()),
-            m: shape.records(),
-            n: shape.cells(),
-            kept: self.checkpoint.epoch,
         }
     }
 }

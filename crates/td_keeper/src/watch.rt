@@ -22,6 +22,7 @@ impl<D: Disk, L: Law> Keeper<D, L> {
         ensures before { result ≡ self.old.watch }
         ensures attached { self.new ≡ record self.old { watch = Some writer } }
     {
+        // Read for its contract alone.
         let _last = self.last_epoch();
         mem::replace(&mut self.watch, Some(writer))
     }
@@ -34,6 +35,7 @@ impl<D: Disk, L: Law> Keeper<D, L> {
         ensures held { IfSome result (λ w. acked w.words ≤ last_epoch self.old.standing) }
         ensures detached { self.new ≡ record self.old { watch = None } }
     {
+        // Read for its contract alone.
         let _last = self.last_epoch();
         mem::take(&mut self.watch)
     }

@@ -1,13 +1,13 @@
 //! Writing cuts.
-ghost use Rattle.std.specs.Prelude.{◌≡◌, ◌⊎◌, ◌↔◌, ◌≤◌, [], false, true, length, take, drop, Some, None, Ok, IfOk, IfErr, IfSome, IfNone, IsErrOf};
+ghost use Rattle.std.specs.Prelude.{◌≡◌, ◌⊎◌, ◌↔◌, ◌≤◌, [], false, true, length, take, drop, Some, None, Ok, IfOk};
+ghost use Rattle.std.specs.Prelude.{IfErr, IfSome, IfNone, IsErrOf};
 ghost use Rattle.td_disk.specs.Disk.{Rises};
 ghost use Rattle.td_standing.specs.Standing.{last_epoch};
 ghost use Rattle.td_journal.specs.Numbers.{greatest};
-ghost use Rattle.td_standing.specs.Told.{slots_of};
 ghost use Rattle.td_standing.specs.Tells.{side_after};
 ghost use Rattle.td_standing.specs.Advanced.{SinceAdvance, AdvancesSince};
 ghost use Rattle.td_keeper.specs.Keeping.{is_waiting, with_checkpoint};
-ghost use Rattle.td_keeper.specs.Refused.{write_refusal};
+ghost use Rattle.td_keeper.specs.Refused.{write_refusal, waits_after};
 ghost use Rattle.td_standing.specs.declared.error.KeeperError.TheVariants.{Memory, Device, TooManyKeys};
 
 use crate::keeper::{Keeper, Taken};
@@ -16,8 +16,8 @@ use std::collections::VecDeque;
 use td_calls::Law;
 use td_disk::Disk;
 use td_journal::Submitted;
-use td_slots::{Checkpoint, Slots, SlotsError};
-use td_standing::{KeeperError, laws, write_states};
+use td_slots::{Checkpoint, SlotsError};
+use td_standing::{KeeperError, laws, slots_of, write_states};
 
 impl<D: Disk, L: Law> Keeper<D, L> {
     /// Writes the cut that waits into the slot beside the checkpoint, and answers its epoch; None where none waits. From then on
@@ -37,6 +37,8 @@ impl<D: Disk, L: Law> Keeper<D, L> {
         ensures unchanged { IfErr result (λ e. (e ≡ TooManyKeys) ⊎ ((e ≡ Device) ⊎ (self.new ≡ self.old))) }
         ensures broken { IsErrOf result Device → self.new ≡ record self.old { device = self.new.device; broken = true; waiting = false } }
         ensures device { IsErrOf result Device → Rises (D.failures self.old.device) (D.failures self.new.device) }
+        ensures counted { D.failures self.old.device ≤ D.failures self.new.device }
+        ensures stays { IsErrOf result Device ⊎ (D.failures self.new.device ≡ D.failures self.old.device) }
         ensures size { D.capacity self.new.device ≡ D.capacity self.old.device }
         ensures lawful { D.is_lawful self.old.device ↔ D.is_lawful self.new.device }
 
@@ -55,14 +57,16 @@ impl<D: Disk, L: Law> Keeper<D, L> {
         laws::standings_advance::<L>();
         td_batch::laws::states_of_folds::<L>();
         td_slots::laws::states_are_in_order();
+        // Read for its contract alone.
+        let _plan = self.plan.vertices();
         if self.broken {
             return Err(KeeperError::Broken);
         }
-        let _plan = self.plan.vertices();
-        let slots = self.slots();
+        let slots = slots_of(&self.head.shape);
         let Some(cut) = take_waiting(&mut self.taken) else {
             return Ok(None);
         };
+        // Read for its contract alone.
         let _in_order = cut.states.list();
         let (newest, count) = (self.checkpoint.slot, cut.epoch - self.checkpoint.epoch);
         let last = last_of_first(&self.submitted, count, self.checkpoint.last);
@@ -82,40 +86,19 @@ impl<D: Disk, L: Law> Keeper<D, L> {
                 publish(&mut self.watch, words);
                 Ok(Some(self.checkpoint.epoch))
             }
-            Err(refusal) => match refusal {
-                SlotsError::Device => {
-                    self.broken = true;
-                    self.taken = Some(Taken {
-                        waits: false,
-                        ..cut
-                    });
-                    Err(KeeperError::Device)
+            Err(refusal) => {
+                let waits = waits_after(refusal);
+                self.taken = Some(Taken { waits, ..cut });
+                match refusal {
+                    SlotsError::Device => {
+                        self.broken = true;
+                        Err(KeeperError::Device)
+                    }
+                    SlotsError::TooManyKeys => Err(KeeperError::TooManyKeys),
+                    SlotsError::Memory => Err(KeeperError::Memory),
+                    SlotsError::Damaged(_) | SlotsError::NoSlot => unreachable!(),
                 }
-                SlotsError::TooManyKeys => {
-                    self.taken = Some(Taken {
-                        waits: false,
-                        ..cut
-                    });
-                    Err(KeeperError::TooManyKeys)
-                }
-                _ => {
-                    self.taken = Some(cut);
-                    Err(KeeperError::Memory)
-                }
-            },
-        }
-    }
-
-    /// The slots of the disk.
-    fn slots(&self) -> Slots
-        ensures slots { result ≡ slots_of self.now.head.shape }
-        ensures few { self.now.head.shape.k ≤ 1048576 }
-    {
-        let shape = self.head.shape;
-        let _bytes = shape.bytes();
-        Slots {
-            at: 8_258,
-            k: shape.states(),
+            }
         }
     }
 }
@@ -130,6 +113,13 @@ fn take_waiting(taken: &mut Option<Taken>) -> Option<Taken>
         None => false,
     };
     if waits { taken.take() } else { None }
+}
+
+/// Whether a cut waits on after its write was refused so.
+fn waits_after(refusal: SlotsError) -> bool
+    ensures { result ≡ waits_after refusal }
+{
+    matches!(refusal, SlotsError::Memory)
 }
 
 /// The greatest of a request number and those of the first so many epochs.

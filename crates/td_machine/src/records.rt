@@ -2,6 +2,9 @@
 
 use td_stamp::{Output, Rec, State, Time};
 
+/// The most records of a task.
+pub const TASK_SIZE: usize = 64;
+
 /// A record at a port of a vertex and a time: a message on the edge to that port, or an item that waits there for a
 /// notification (Naiad, section 2.2).
 #[derive(Debug, Drop, PartialEq, Eq)]

@@ -6,7 +6,8 @@ ghost use Rattle.td_plan.specs.Lines.Line.{vertex, loop, end};
 ghost use Rattle.td_plan.specs.Blocks.{scope_of, vertices};
 ghost use Rattle.td_plan.specs.Faults.{fault_of, has_ends, is_input, is_output};
 ghost use Rattle.td_plan.specs.Texts.{PlanText, PlanFault};
-ghost use Rattle.td_plan.specs.Steps.Reading.{Answers, error_of, no_draft, feedback_of, is_stray_at, line_or_fault, with_text, with_line, first_pass, second_pass, stray_line, answer_of};
+ghost use Rattle.td_plan.specs.Steps.Reading.{Answers, error_of, no_draft, feedback_of, is_stray_at, line_or_fault};
+ghost use Rattle.td_plan.specs.Steps.Reading.{with_text, with_line, first_pass, second_pass, stray_line, answer_of};
 ghost use Rattle.td_plan.specs.Steps.Written.{written_line};
 
 use crate::error::PlanError;

@@ -4,7 +4,8 @@ ghost use Rattle.std.specs.Option.{option_copied};
 ghost use Rattle.std.specs.List.{slice_get};
 ghost use Rattle.td_plan.specs.Lines.Line.{vertex, loop, end};
 ghost use Rattle.td_plan.specs.Blocks.{no_scope, scope_after, is_read_on, is_source_on};
-ghost use Rattle.td_plan.specs.Faults.{most_vertices, Fault, fault_of, has_fault, enters_from_within, reads_elsewhere, is_in_loop, is_stray_feedback};
+ghost use Rattle.td_plan.specs.Faults.{most_vertices, Fault, fault_of, has_fault, enters_from_within, reads_elsewhere};
+ghost use Rattle.td_plan.specs.Faults.{is_in_loop, is_stray_feedback};
 ghost use Rattle.td_plan.specs.Steps.Reading.{error_of, is_misplaced, is_stray_at};
 ghost use Rattle.td_plan.specs.Steps.Written.{written_line};
 

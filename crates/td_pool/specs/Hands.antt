@@ -1,5 +1,7 @@
 -- What a seat holds between a take and its give.
-use Rattle.std.specs.Prelude.{◌≡◌, ◌⊎◌, Bool, true, false}
+use Rattle.std.specs.Prelude.{◌≡◌, ◌⊎◌, ℕ, Bool, true, false, Option, Some, None}
+use Rattle.td_plan.specs.declared.vertex.Kind.{Kind}
+use Rattle.td_machine.specs.State.{Task}
 use Rattle.td_core.specs.declared.error.HallError.TheVariants.{Stranger, Busy, Spent}
 use Rattle.td_pool.specs.declared.hand.Hand.{Hand}
 use Rattle.td_pool.specs.declared.hand.Hand.TheVariants.{Empty, Taken, Ready}
@@ -12,12 +14,18 @@ module _ {X : Type 0} where
   is_empty (Taken task) = false
   is_empty (Ready done) = false
 
-  -- WHAT STAYS in a seat where work ends by a refusal: the task whose closure is lacking; at want of memory whatever it held, and at a
-  -- refusal of the hall nothing
-  abbrev pub Stays : PoolError → Hand X → Type 0
-  Stays NotAll hand = ⊥
-  Stays (NoCall vertex code) Empty = ⊥
-  Stays (NoCall vertex code) (Taken task) = task.vertex ≡ vertex
-  Stays (NoCall vertex code) (Ready done) = ⊥
-  Stays (OfHall error) hand = (is_empty hand ≡ true) × ((error ≡ Busy) ⊎ ((error ≡ Spent) ⊎ (error ≡ Stranger)))
-  Stays Memory hand = Unit {0}
+  -- the task that a hand holds, run or not
+  abbrev pub task_of : Hand X → Option Task
+  task_of Empty = None
+  task_of (Taken task) = Some task
+  task_of (Ready done) = Some done
+
+  -- WHAT STAYS in a seat where work ends by a refusal: the task whose closure is lacking, of which the refusal tells the vertex and the
+  -- code; at want of memory whatever it held, and at a refusal of the hall nothing
+  abbrev pub Stays : (Kind → Option ℕ) → PoolError → Hand X → Type 0
+  Stays lacks NotAll hand = ⊥
+  Stays lacks (NoCall vertex code) Empty = ⊥
+  Stays lacks (NoCall vertex code) (Taken task) = (task.vertex ≡ vertex) × (lacks task.kind ≡ Some code)
+  Stays lacks (NoCall vertex code) (Ready done) = ⊥
+  Stays lacks (OfHall error) hand = (is_empty hand ≡ true) × ((error ≡ Busy) ⊎ ((error ≡ Spent) ⊎ (error ≡ Stranger)))
+  Stays lacks Memory hand = Unit {0}

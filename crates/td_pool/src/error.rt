@@ -1,8 +1,9 @@
 //! The refusals.
 ghost use Rattle.std.specs.Prelude.{◌≡◌};
-ghost use Rattle.td_pool.specs.Refusals.{number_of};
+ghost use Rattle.td_pool.specs.Refusals.{number_of, of_run};
 
 use td_core::HallError;
+use td_task::TaskError;
 use thiserror::Error;
 
 /// Why a pool refused.
@@ -32,6 +33,17 @@ impl PoolError {
             PoolError::NoCall(..) => 2,
             PoolError::Hall(_) => 3,
             PoolError::Memory => 4,
+        }
+    }
+}
+
+impl From<TaskError> for PoolError {
+    ghost from_gives = { λ refused e. e ≡ of_run refused };
+
+    fn from(error: TaskError) -> PoolError {
+        match error {
+            TaskError::NoCall(vertex, code) => PoolError::NoCall(vertex, code),
+            TaskError::Memory => PoolError::Memory,
         }
     }
 }

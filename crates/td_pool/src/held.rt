@@ -1,12 +1,13 @@
 //! What lies under a pool's lock.
-ghost use Rattle.std.specs.Prelude.{◌≡◌, ◌⊎◌, ◌+◌, ◌-◌, ◌<◌, ◌≤◌, ◌^◌, true, false, IfOk, IfErr, OnOk, OnErr, None};
+ghost use Rattle.std.specs.Prelude.{◌≡◌, ◌⊎◌, ◌+◌, ◌-◌, ◌<◌, ◌≤◌, true, false, None, Contains, IfOk, IfSome, IfErr, OnOk, OnErr};
 ghost use Rattle.crossbeam_utils.specs.Padded.{padded_value};
 ghost use Rattle.td_machine.specs.Active.{has_passed, unpassed};
 ghost use Rattle.td_machine.specs.Sound.{run_states};
-ghost use Rattle.td_machine.specs.Steps.{Refusal, Gives, Takes, accepts, release_step, collect_step, cut_at_by, cut_by, close_step};
+ghost use Rattle.td_machine.specs.Steps.{Refusal, Gives, Takes, accepts, ends, release_step, collect_step, cut_at_by, cut_by, close_step};
 ghost use Rattle.td_machine.specs.Steps.Answer.{refused, has_released, has_taken, has_given, has_collected, has_cut, has_closed};
 ghost use Rattle.td_core.specs.Refusals.{IsRefused, error_of};
 ghost use Rattle.td_core.specs.Meant.{IsMeant};
+ghost use Rattle.td_core.specs.Picks.{IsPick};
 ghost use Rattle.td_core.specs.Taking.{IsTakeRefused};
 ghost use Rattle.td_core.specs.declared.error.HallError.TheVariants.{Memory};
 ghost use Rattle.td_pool.specs.Lents.{lent};
@@ -87,56 +88,10 @@ impl<K: Crew, L: Law> Held<K, L> {
         self.is_stopped
     }
 
-    /// Releases a batch, and answers its epoch, as `Hall::release` does. The workers are to be woken after it, by `Pool::wake`.
-    pub fn release(&mut self, batch: Batch) -> Result<u64, (HallError, Batch)>
-        requires { accepts self.old.hall.plan batch ≡ true }
-        ensures released { IfOk result (λ epoch. release_step self.old.hall batch ≡ (has_released epoch, self.new.hall)) }
-        ensures refused { IfErr result (λ e. IsRefused (release_step self.old.hall batch) self.old.hall e.0) }
-        ensures err { OnErr result (self.new ≡ self.old) }
-        ensures back { IfErr result (λ e. e.1 ≡ batch) }
-        ensures stopped { self.new.stopped ≡ self.old.stopped }
-    {
-        self.hall.release(batch)
-    }
-
-    /// The outputs of the epochs that have passed since the last that was collected, as `Hall::collect` answers them.
-    pub fn collect(&mut self) -> Result<Vec<EpochOut>, HallError>
-        ensures ok { IfOk result (λ outs. collect_step self.old.hall ≡ (has_collected outs.items, self.new.hall)) }
-        ensures meaning { IfOk result (λ outs. IsMeant L.answers self.old.hall outs.items) }
-        ensures err { OnErr result (self.new ≡ self.old) }
-        ensures memory { IfErr result (λ e. e ≡ Memory) }
-        ensures stopped { self.new.stopped ≡ self.old.stopped }
-    {
-        self.hall.collect()
-    }
-
-    /// Cuts at the last released epoch, as `Hall::cut` does.
-    pub fn cut(&mut self) -> Result<Cut, HallError>
-        ensures cut { IfOk result (λ cut. cut_by self.old.hall (unpassed self.old.hall) (self.old.hall.next - 1) ≡ (has_cut cut.epoch cut.states, self.new.hall)) }
-        ensures meaning { IfOk result (λ cut. cut.states ≡ run_states L.answers self.old.hall cut.epoch) }
-        ensures refused { IfErr result (IsRefused (cut_by self.old.hall (unpassed self.old.hall) (self.old.hall.next - 1)) self.old.hall) }
-        ensures err { OnErr result (self.new ≡ self.old) }
-        ensures stopped { self.new.stopped ≡ self.old.stopped }
-    {
-        self.hall.cut()
-    }
-
-    /// Cuts at an epoch, as `Hall::cut_at` does.
-    pub fn cut_at(&mut self, epoch: u64) -> Result<Cut, HallError>
-        requires after { self.old.hall.base ≤ epoch }
-        requires released { epoch < self.old.hall.next }
-        ensures cut { IfOk result (λ cut. cut_at_by self.old.hall (has_passed self.old.hall epoch) epoch ≡ (has_cut cut.epoch cut.states, self.new.hall)) }
-        ensures meaning { IfOk result (λ cut. cut.states ≡ run_states L.answers self.old.hall cut.epoch) }
-        ensures refused { IfErr result (IsRefused (cut_at_by self.old.hall (has_passed self.old.hall epoch) epoch) self.old.hall) }
-        ensures err { OnErr result (self.new ≡ self.old) }
-        ensures stopped { self.new.stopped ≡ self.old.stopped }
-    {
-        self.hall.cut_at(epoch)
-    }
-
     /// Takes a task of a shard, its first, if it has one.
     pub(crate) fn take(&mut self, shard: u8) -> Result<Option<Task>, HallError>
         ensures taken { IfOk result (λ task. Takes self.old.hall shard (has_taken task) self.new.hall) }
+        ensures first { IfOk result (λ task. IfSome task (IsPick self.old.hall shard 0)) }
         ensures refused { IfErr result (IsTakeRefused self.old.hall shard) }
         ensures err { OnErr result (self.new ≡ self.old) }
         ensures stopped { self.new.stopped ≡ self.old.stopped }
@@ -150,6 +105,7 @@ impl<K: Crew, L: Law> Held<K, L> {
         ensures given { OnOk result (Gives L.answers self.old.hall done has_given self.new.hall) }
         ensures counted { OnOk result (padded_value seat.new.gives ≡ padded_value seat.old.gives + 1) }
         ensures refused { IfErr result (λ e. (e.0 ≡ Memory) ⊎ ((r : Refusal) × (e.0 ≡ error_of r) × Gives L.answers self.old.hall done (refused r) self.old.hall)) }
+        ensures memory_last { IfErr result (λ e. e.0 ≡ Memory → Contains self.old.hall.out done) }
         ensures err { OnErr result ((self.new ≡ self.old) × (padded_value seat.new.gives ≡ padded_value seat.old.gives)) }
         ensures back { IfErr result (λ e. e.1 ≡ done) }
         ensures stopped { self.new.stopped ≡ self.old.stopped }
@@ -182,19 +138,29 @@ impl<K: Crew, L: Law> AnyHall<L> for Held<K, L> {
 
     ghost state = { λ h. h.hall };
 
+    ghost stopped = { λ h. h.stopped };
+
     fn hall(&self) -> &Hall<L> {
         self.hall()
     }
 
     fn release_batch(&mut self, batch: Batch) -> Result<u64, (HallError, Batch)> {
-        self.release(batch)
+        self.hall.release(batch)
     }
 
     fn collect_outputs(&mut self) -> Result<Vec<EpochOut>, HallError> {
-        self.collect()
+        self.hall.collect()
+    }
+
+    fn cut_at_last(&mut self) -> Result<Cut, HallError> {
+        self.hall.cut()
     }
 
     fn cut_at_epoch(&mut self, epoch: u64) -> Result<Cut, HallError> {
-        self.cut_at(epoch)
+        self.hall.cut_at(epoch)
+    }
+
+    fn close_inputs(&mut self) {
+        self.hall.close();
     }
 }

@@ -3,6 +3,7 @@ ghost use Rattle.std.specs.Prelude.{◌≡◌, ◌⊎◌, ◌+◌, ◌&&◌, ◌
 ghost use Rattle.std.specs.List.{list_all};
 ghost use Rattle.std.specs.Sync.Mutex.{mutex_guard_value};
 ghost use Rattle.crossbeam_utils.specs.Padded.{padded_value};
+ghost use Rattle.td_batch.specs.Flow.{numbers_from};
 ghost use Rattle.td_machine.specs.Active.{unpassed};
 ghost use Rattle.td_pool.specs.Hands.{is_empty};
 ghost use Rattle.td_pool.specs.declared.error.PoolError.TheVariants.{NotAll, Memory};
@@ -40,6 +41,7 @@ impl<K: Crew, L: Law> Pool<K, L> {
         requires parts { (blank.parts ≡ K.parts) × (K.parts ≡ K.shards) }
         requires hall { (hall.workers ≡ K.shards) × (hall.given ≡ K.start) }
         ensures seats { IfOk result (λ made. length made.1.items ≡ K.shards) }
+        ensures shards { IfOk result (λ made. map (λ s. s.shard) made.1.items ≡ numbers_from 0 K.shards) }
         ensures free { IfOk result (λ made. All (λ s. (is_empty s.hand ≡ true) × (padded_value s.gives ≡ 0)) made.1.items) }
         ensures back { IfErr result (λ e. (e.0 ≡ Memory) × (e.1 ≡ hall)) }
     {

@@ -1,8 +1,10 @@
 //! What a worker does.
-ghost use Rattle.std.specs.Prelude.{◌≡◌, ◌⊎◌, ◌+◌, ◌≤◌, true, OnOk, IfOk, IfErr};
+ghost use Rattle.std.specs.Prelude.{◌≡◌, ◌⊎◌, ◌+◌, ◌≤◌, ◌<◌, true, false, not, Some, OnOk, OnErr, IfOk, IfErr, IsErrAnd};
 ghost use Rattle.crossbeam_utils.specs.Padded.{padded_value};
+ghost use Rattle.td_calls.specs.Fits.{lacking_code};
+ghost use Rattle.td_machine.specs.State.{Task as AnyTask};
 ghost use Rattle.td_core.specs.declared.error.HallError.TheVariants.{Stranger, Busy, Spent};
-ghost use Rattle.td_pool.specs.Hands.{is_empty, Stays};
+ghost use Rattle.td_pool.specs.Hands.{is_empty, task_of, Stays};
 ghost use Rattle.td_pool.specs.declared.hand.Hand.TheVariants.{Ready};
 ghost use Rattle.td_pool.specs.declared.error.PoolError.TheVariants.{Hall as OfHall, Memory};
 
@@ -36,32 +38,40 @@ impl<K: Crew, L: Law> Pool<K, L> {
         ensures shard { seat.new.shard ≡ seat.old.shard }
         ensures rises { padded_value seat.old.gives ≤ padded_value seat.new.gives }
         ensures ok { OnOk result (is_empty seat.new.hand ≡ true) }
-        ensures stays { IfErr result (λ e. Stays e seat.new.hand) }
+        ensures stays { let lacks = lacking_code (C.has_map calls.now) (C.has_group calls.now) (C.has_fold calls.now) in IfErr result (λ e. Stays lacks e seat.new.hand) }
+        ensures kept { (held : AnyTask) → task_of seat.old.hand ≡ Some held
+            → (padded_value seat.old.gives < padded_value seat.new.gives) ⊎ (IsErrAnd result (λ e. e ≡ OfHall Stranger) ⊎ (task_of seat.new.hand ≡ Some held)) }
     {
         for _turn in rt.forever() {
-            match mem::replace(&mut seat.hand, Hand::Empty) {
-                Hand::Empty => {
-                    let Some(task) = self.next_task(rt, seat.shard)? else {
-                        return Ok(());
-                    };
-                    gate.enter(rt, task.shard(), task.number());
-                    seat.hand = Hand::Taken(task);
-                }
-                Hand::Taken(task) => match task.run::<L, C>(alloc, calls) {
-                    Ok(done) => seat.hand = Hand::Ready(done),
-                    Err((TaskError::NoCall(vertex, code), task)) => {
-                        seat.hand = Hand::Taken(task);
-                        return Err(PoolError::NoCall(vertex, code));
-                    }
-                    Err((TaskError::Memory, task)) => {
-                        seat.hand = Hand::Taken(task);
-                        return Err(PoolError::Memory);
-                    }
-                },
-                Hand::Ready(done) => self.give(rt, seat, done)?,
+            if !seat.hand().is_empty() {
+                self.finish(rt, alloc, seat, calls)?;
+            } else if !self.take(rt, seat, gate)? {
+                return Ok(());
             }
         }
         unreachable!()
+    }
+
+    /// Waits for a task of the seat's shard, passes the gate with it, and puts it into the seat. Answers false, with nothing taken,
+    /// where the pool is stopped. Refusals, with nothing taken: `Memory`, and `Hall` with `Busy` or `Spent`.
+    fn take<G: Gate<R>, R: Wait>(
+        &self,
+        rt: &R,
+        seat: &mut Seat<K, L>,
+        gate: &G,
+    ) -> Result<bool, PoolError>
+        requires { is_empty seat.old.hand ≡ true }
+        ensures same { (seat.new.shard ≡ seat.old.shard) × (padded_value seat.new.gives ≡ padded_value seat.old.gives) }
+        ensures taken { IfOk result (λ taken. is_empty seat.new.hand ≡ not taken) }
+        ensures err { OnErr result (is_empty seat.new.hand ≡ true) }
+        ensures refused { IfErr result (λ e. (e ≡ Memory) ⊎ ((e ≡ OfHall Busy) ⊎ (e ≡ OfHall Spent))) }
+    {
+        let Some(task) = self.next_task(rt, seat.shard)? else {
+            return Ok(false);
+        };
+        gate.enter(rt, task.shard(), task.number());
+        seat.hand = Hand::Taken(task);
+        Ok(true)
     }
 
     /// Waits for a task of a shard, and takes it; None where the pool is stopped. Refusals: `Memory`, and `Hall` with `Busy` or
@@ -86,16 +96,45 @@ impl<K: Crew, L: Law> Pool<K, L> {
         unreachable!()
     }
 
+    /// Runs the task that a seat holds, if it was not run yet, and gives it. Refusals: `NoCall` and `Memory`, with the task left in
+    /// the seat, and `Hall` with `Stranger`, with the task dropped.
+    fn finish<C: Closures<L>, R: Wait>(
+        &self,
+        rt: &R,
+        alloc: Global,
+        seat: &mut Seat<K, L>,
+        calls: &C,
+    ) -> Result<(), PoolError>
+        requires { is_empty seat.old.hand ≡ false }
+        ensures shard { seat.new.shard ≡ seat.old.shard }
+        ensures counted { OnOk result (padded_value seat.new.gives ≡ padded_value seat.old.gives + 1) }
+        ensures same { OnErr result (padded_value seat.new.gives ≡ padded_value seat.old.gives) }
+        ensures ok { OnOk result (is_empty seat.new.hand ≡ true) }
+        ensures stays { let lacks = lacking_code (C.has_map calls.now) (C.has_group calls.now) (C.has_fold calls.now) in IfErr result (λ e. Stays lacks e seat.new.hand) }
+        ensures kept { IfErr result (λ e. (e ≡ OfHall Stranger) ⊎ (task_of seat.new.hand ≡ task_of seat.old.hand)) }
+    {
+        match mem::replace(&mut seat.hand, Hand::Empty) {
+            Hand::Empty => unreachable!(),
+            Hand::Taken(task) => match task.run::<L, C>(alloc, calls) {
+                Ok(done) => self.give(rt, seat, done),
+                Err((error, task)) => {
+                    seat.hand = Hand::Taken(task);
+                    Err(PoolError::from(error))
+                }
+            },
+            Hand::Ready(done) => self.give(rt, seat, done),
+        }
+    }
+
     /// Gives a task, and wakes the workers. Refusals: `Memory`, with the task put back into the seat, and `Hall` with `Stranger`,
     /// with the task dropped.
     fn give<R: Wait>(&self, rt: &R, seat: &mut Seat<K, L>, done: Done<L>) -> Result<(), PoolError>
         requires { is_empty seat.old.hand ≡ true }
         ensures shard { seat.new.shard ≡ seat.old.shard }
         ensures counted { OnOk result (padded_value seat.new.gives ≡ padded_value seat.old.gives + 1) }
-        ensures same { IfErr result (λ e. padded_value seat.new.gives ≡ padded_value seat.old.gives) }
+        ensures same { OnErr result (padded_value seat.new.gives ≡ padded_value seat.old.gives) }
         ensures ok { OnOk result (is_empty seat.new.hand ≡ true) }
-        ensures stays { IfErr result (λ e. Stays e seat.new.hand) }
-        ensures back { IfErr result (λ e. e ≡ Memory → seat.new.hand ≡ Ready done) }
+        ensures refused { IfErr result (λ e. ((e ≡ Memory) × (seat.new.hand ≡ Ready done)) ⊎ ((e ≡ OfHall Stranger) × (is_empty seat.new.hand ≡ true))) }
     {
         let mut held = self.held.lock(rt);
         let given = held.give(seat, done);

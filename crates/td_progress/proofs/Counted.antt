@@ -14,7 +14,7 @@ use Rattle.td_progress.specs.Bag.{is_stamp, occurrences}
 use Rattle.td_progress.specs.Entries.{AreCounted}
 use Rattle.td_progress.proofs.Same.{Decides-is_stamp, is_stamp-self, is_stamp-equiv}
 
-abbrev one : Bool → ℕ
+abbrev pub one : Bool → ℕ
 one b = cond b 1 0
 
 -- b times n

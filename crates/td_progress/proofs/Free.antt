@@ -4,7 +4,6 @@ use Rattle.std.specs.List.{AllByRecursion}
 use Rattle.td_stamp.specs.Bag.{members}
 use Rattle.td_plan.specs.Lines.{Line}
 use Rattle.td_reach.specs.declared.stamp.Stamp.{Stamp}
-use Rattle.td_reach.specs.Paths.{Could}
 use Rattle.td_reach.specs.Frontier.{Frontier, has_passed}
 use Rattle.td_progress.specs.Bag.{IsSameBag}
 use Rattle.td_progress.proofs.Counted.{occurs, stands}
@@ -90,10 +89,3 @@ one_way xs ys epoch same h =
 
 pub same_passed : (xs ys : List Stamp) (epoch : ℕ) → IsSameBag xs ys → has_passed xs epoch ≡ has_passed ys epoch
 same_passed xs ys epoch same = same_either_way _ _ (one_way xs ys epoch same) (one_way ys xs epoch (λ r. sym (same r)))
-
--- Kept entries: none of them holds p back
-abbrev pub Leaves : List Line → Stamp → Stamp → Type 0
-Leaves plan p q = ((q ≡ p) → ⊥) → Could plan q p → ⊥
-
-abbrev pub LeaveFree : List Line → Stamp → List (Stamp × ℕ) → Type 0
-LeaveFree plan p es = AllByRecursion (λ e. Leaves plan p e.0) es

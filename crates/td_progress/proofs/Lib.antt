@@ -1,6 +1,15 @@
 pub mod Same
 pub mod Kept
 pub mod Counted
+pub mod Gaps
+pub mod ChainSteps
+pub mod Between
+pub mod HeldBags
+pub mod Could
+pub mod HeldCounts
+pub mod HeldSteps
+pub mod HeldMoves
+pub mod Marked
 pub mod Updates
 pub mod Epochs
 pub mod Passed

@@ -1,2 +1,4 @@
 pub mod Bag
 pub mod Entries
+pub mod Gaps
+pub mod Held

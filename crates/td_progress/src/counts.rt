@@ -1,14 +1,11 @@
 //! The active pointstamps of one epoch.
 ghost use Rattle.std.specs.Prelude.{◌≡◌, ◌+◌, ◌^◌, ◌<◌, ◌≤◌, ◌++◌, ◌↔◌, IsTrue, OnOk, OnErr, [], length, replicate};
-ghost use Rattle.std.specs.List.{AllByRecursion};
-ghost use Rattle.td_reach.specs.Paths.{IsOf, Could};
-ghost use Rattle.td_reach.specs.Frontier.{IsFree};
 ghost use Rattle.td_progress.specs.Bag.{occurrences, IsSameBag};
 
 use indexmap::IndexMap;
 use std::alloc::{AllocError, Global};
 use std::marker::Model;
-use td_reach::{Reach, Stamp};
+use td_reach::Stamp;
 
 /// Pointstamps, with how often each occurs. Contracts see a list in which each stands as often as it occurs.
 #[derive(Drop)]
@@ -81,27 +78,4 @@ impl Counts {
             None => {}
         }
     }
-
-    /// Whether none of them, other than `stamp` itself, could result in it.
-    pub(crate) fn leave_free(&self, reach: &Reach, stamp: &Stamp) -> bool
-        requires each { AllByRecursion (IsOf reach.now) self.now }
-        requires stamp { IsOf reach.now stamp.now }
-        ensures { IsTrue result ↔ IsFree reach.now self.now stamp.now }
-    {
-        for (other, _) in self.counts.iter() {
-            if holds_back(reach, other, stamp) {
-                return false;
-            }
-        }
-        true
-    }
-}
-
-/// Whether `other` is another pointstamp than `stamp`, and could result in it.
-fn holds_back(reach: &Reach, other: &Stamp, stamp: &Stamp) -> bool
-    requires other { IsOf reach.now other.now }
-    requires stamp { IsOf reach.now stamp.now }
-    ensures { IsTrue result ↔ (((other.now ≡ stamp.now) → ⊥) × Could reach.now other.now stamp.now) }
-{
-    *other != *stamp && reach.could(other, stamp)
 }

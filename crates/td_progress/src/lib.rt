@@ -1,10 +1,13 @@
 //! Which pointstamps are active, how often each, and which of them no other holds back.
 #![tactic(auto)]
 
+mod chain;
 mod counts;
 mod error;
+mod held;
 pub mod laws;
 mod table;
+mod tally;
 
 pub use error::ProgressError;
 pub use table::Table;

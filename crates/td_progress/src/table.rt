@@ -1,42 +1,45 @@
 //! The table of active pointstamps.
-ghost use Rattle.std.specs.Prelude.{◌≡◌, ◌+◌, ◌^◌, ◌<◌, ◌≤◌, ◌∷◌, ◌++◌, ◌↔◌, IsTrue, IfOk, OnOk, OnErr, map, replicate};
+ghost use Rattle.std.specs.Prelude.{◌≡◌, ◌+◌, ◌^◌, ◌<◌, ◌≤◌, ◌∷◌, ◌++◌, ◌↔◌, IsTrue, IfOk, IfSome, OnOk, OnErr, None, map, replicate};
 ghost use Rattle.std.specs.List.{AllByRecursion};
 ghost use Rattle.td_reach.specs.Paths.{IsOf};
-ghost use Rattle.td_reach.specs.Frontier.{Frontier, IsFree, has_passed};
+ghost use Rattle.td_reach.specs.Frontier.{Frontier, Precursors, has_passed};
 ghost use Rattle.td_progress.specs.Bag.{occurrences, IsSameBag, input_stamp};
 
-use crate::counts::Counts;
 use crate::error::ProgressError;
-use std::alloc::{AllocError, Global};
-use std::collections::BTreeMap;
+use crate::held::Held;
+use crate::tally::Tally;
+use std::alloc::Global;
 use std::marker::Model;
 use td_plan::Plan;
-use td_reach::laws::could_order;
+use td_reach::laws::{could_order, could_tested};
 use td_reach::{Place, Reach, Stamp};
 use td_stamp::Time;
 
-/// The active pointstamps of a plan, with how often each occurs (Naiad, section 2.3). Contracts see the plan, and a list in
-/// which each stands as often as it occurs.
+/// The active pointstamps of a plan, with how often each occurs and how many precursors each has (Naiad, section 2.3).
+/// Contracts see the plan, and a list in which each stands as often as it occurs.
 ///
-/// They are kept by epoch. A change costs O(log e) with e epochs open, and whether a pointstamp is in the frontier costs one
-/// could-result-in for each active pointstamp of an epoch that is not later.
+/// What is stored of a precursor count is its gap: what it has more than that of the same place and counters in the active epoch
+/// before, so that the gaps up to a pointstamp add up to its count. One field each with the whole count would have to change in
+/// all later epochs whenever a pointstamp comes or goes; a gap changes once in each place and counters downstream.
+///
+/// With e epochs open and c places and counters active, a change costs O(log e) where a pointstamp stays active, and else
+/// O(c log e), with a step for each precursor in the gap of one that comes between two others; whether a pointstamp is in the
+/// frontier costs O(log e).
 #[derive(Drop)]
 pub struct Table {
-    reach: Reach,
-    // Each epoch that has active pointstamps.
-    epochs: BTreeMap<u64, Counts>,
-    alloc: Global,
+    tally: Tally,
+    held: Held,
 }
 
 impl Model for Table {
     ghost use Rattle.td_progress.specs.Bag.{Active};
-    ghost use Rattle.td_progress.specs.Entries.{all_stamps, AreOpen};
+    ghost use Rattle.td_progress.specs.Held.{AreHeld, AreMarked};
 
     ghost Value = { Active };
 
-    ghost view = { λ t. record { plan = t.reach; stamps = all_stamps t.epochs.entries } };
+    ghost view = { λ t. t.tally };
 
-    ghost invariant = { λ t. AreOpen t.reach t.epochs.entries };
+    ghost invariant = { λ t. AreHeld t.tally.plan t.held × AreMarked t.held t.tally.stamps };
 }
 
 impl Table {
@@ -53,9 +56,8 @@ impl Table {
         ensures inputs { IfOk result (λ table. IsSameBag table.stamps (map (input_stamp first) inputs.now)) }
     {
         let mut table = Table {
-            reach,
-            epochs: BTreeMap::new(alloc),
-            alloc,
+            tally: Tally::new(alloc, reach),
+            held: Held::new(alloc),
         };
         for input in inputs {
             table.add(&Stamp {
@@ -71,25 +73,21 @@ impl Table {
         ensures plan { result.now ≡ self.now.plan }
         ensures each { AllByRecursion (IsOf self.now.plan) self.now.stamps }
     {
-        let _ = &self.epochs;
-        self.reach.plan()
+        self.tally.plan()
     }
 
     /// Whether the plan has the place of a pointstamp, and its time is in as many loops as are open there.
     pub fn has(&self, stamp: &Stamp) -> bool
         ensures { IsTrue result ↔ IsOf self.now.plan stamp.now }
     {
-        self.reach.has(stamp)
+        self.tally.has(stamp)
     }
 
     /// How often a pointstamp occurs, 0 where it is not active. It takes no memory.
     pub fn occurrences(&self, stamp: &Stamp) -> u128
         ensures { result ≡ occurrences stamp.now self.now.stamps }
     {
-        match self.epochs.get(&stamp.time.epoch()) {
-            Some(counts) => counts.occurrences(stamp),
-            None => 0,
-        }
+        self.tally.occurrences(stamp)
     }
 
     /// One pointstamp more. Refusal: `Memory`, with the table unchanged.
@@ -114,14 +112,14 @@ impl Table {
         if times == 0 {
             return Ok(());
         }
-        let epoch = stamp.time.epoch();
-        if let Some(counts) = self.epochs.get_mut(&epoch) {
-            counts.add(stamp, u128::from(times))?;
-            return Ok(());
+        if self.tally.occurrences(stamp) > 0 {
+            return self.tally.add_many(stamp, times);
         }
-        let mut counts = Counts::new(self.alloc);
-        counts.add(stamp, u128::from(times))?;
-        self.epochs.insert(epoch, counts)?;
+        self.held.come(self.tally.reach(), stamp)?;
+        if let Err(refused) = self.tally.add_many(stamp, times) {
+            self.held.go(self.tally.reach(), stamp);
+            return Err(refused);
+        }
         Ok(())
     }
 
@@ -140,13 +138,13 @@ impl Table {
         ensures plan { self.new.plan ≡ self.old.plan }
         ensures stamps { IsSameBag self.old.stamps (replicate times stamp.now ++ self.new.stamps) }
     {
-        let epoch = stamp.time.epoch();
-        let Some(counts) = self.epochs.get_mut(&epoch) else {
+        if times == 0 {
             return;
-        };
-        counts.take_off(stamp, u128::from(times));
-        if counts.is_empty() {
-            self.epochs.remove(&epoch);
+        }
+        self.tally.take_off_many(stamp, times);
+        if self.tally.occurrences(stamp) == 0 {
+            let reach = self.tally.reach();
+            self.held.go(reach, stamp);
         }
     }
 
@@ -155,7 +153,23 @@ impl Table {
         requires { IsOf self.now.plan stamp.now }
         ensures { IsTrue result ↔ Frontier self.now.plan self.now.stamps stamp.now }
     {
-        self.occurrences(stamp) > 0 && self.is_free(stamp)
+        could_tested();
+        could_order();
+        let _plan = self.tally.reach().plan().vertices();
+        self.held.is_first(stamp)
+    }
+
+    /// How many other active pointstamps could result in this one, None where it is not active. It takes no memory, and adds up
+    /// the gaps of its place and counters.
+    pub fn precursors(&self, stamp: &Stamp) -> Option<u64>
+        requires { IsOf self.now.plan stamp.now }
+        ensures none { result ≡ None ↔ (occurrences stamp.now self.now.stamps ≡ 0) }
+        ensures some { IfSome result (Precursors self.now.plan self.now.stamps stamp.now) }
+    {
+        could_tested();
+        could_order();
+        let _plan = self.tally.reach().plan().vertices();
+        self.held.count(stamp)
     }
 
     /// Whether an epoch has passed: no active pointstamp has an epoch that is not after it. It takes no memory, and O(log e)
@@ -163,26 +177,6 @@ impl Table {
     pub fn passed(&self, epoch: u64) -> bool
         ensures { result ≡ has_passed self.now.stamps epoch }
     {
-        match self.epochs.first_key_value() {
-            Some((least, _)) => epoch < *least,
-            None => true,
-        }
-    }
-
-    /// Whether no other active pointstamp could result in this one: none of an epoch that is not later.
-    fn is_free(&self, stamp: &Stamp) -> bool
-        requires { IsOf self.now.plan stamp.now }
-        ensures { IsTrue result ↔ IsFree self.now.plan self.now.stamps stamp.now }
-    {
-        could_order();
-        for (epoch, counts) in self.epochs.iter() {
-            if stamp.time.epoch() < *epoch {
-                break;
-            }
-            if !counts.leave_free(&self.reach, stamp) {
-                return false;
-            }
-        }
-        true
+        self.tally.passed(epoch)
     }
 }

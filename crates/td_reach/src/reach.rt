@@ -3,7 +3,8 @@ ghost use Rattle.std.specs.Prelude.{◌≡◌, ◌<◌, ◌↔◌, IsTrue, IfOk,
 ghost use Rattle.td_plan.specs.Blocks.{vertices, edges};
 ghost use Rattle.td_plan.specs.Faults.{IsPlan};
 ghost use Rattle.td_reach.specs.Paths.{HasPlace, IsOf, Leads, Could};
-ghost use Rattle.td_reach.specs.Tables.{least_effect, first_vertex, last_vertex, effect_to, is_same_edge, could_test, leads_test, reading_depth, is_of_test};
+ghost use Rattle.td_reach.specs.Tables.{least_effect, first_vertex, last_vertex, effect_to, is_same_edge, could_test};
+ghost use Rattle.td_reach.specs.Tables.{leads_test, reading_depth, is_of_test};
 
 use crate::error::ReachError;
 use crate::laws::could_tested;

@@ -23,7 +23,8 @@ use Rattle.td_machine.specs.State.{stamped_cmp}
 use Rattle.td_machine.specs.Steps.{stamped}
 use Rattle.td_shard.specs.declared.place.Place.{Place}
 use Rattle.td_shard.specs.ProvedOrders.{time_total, place_total}
-use Rattle.td_shard.specs.Seen.{at, fresh, fresh_recs, with_fresh, place_cmp, seen_at, seen_of}
+use Rattle.td_machine.specs.AtOnce.{stamped_at as at, fresh}
+use Rattle.td_shard.specs.Seen.{fresh_recs, with_fresh, place_cmp, seen_at, seen_of}
 use Rattle.td_shard.proofs.Orders.{time_apart}
 use Rattle.td_shard.proofs.Between.{Lower, Higher, has-lower, has-higher, insert-lower, insert-higher}
 
@@ -168,8 +169,13 @@ module _ (v : ℕ) (t : Timestamp) where
     pub fresh_around : (rs ks : List Rec) → fresh (around ks) v t rs ≡ fresh_recs ks rs
     fresh_around [] ks = refl
     fresh_around (r ∷ rs) ks =
-        (λ i. cond (has_around r ks i) (fresh_around rs ks i) (r ∷ fresh (insert_around r ks i) v t rs))
-        ∙ ap (λ l. cond (has rec_cmp r ks) (fresh_recs ks rs) (r ∷ l)) (fresh_around rs (bag_insert rec_cmp r ks))
+        (λ i. elim (has_around r ks i) [ true ↦ fresh_around rs ks i | false ↦ r ∷ fresh (insert_around r ks i) v t rs ])
+        ∙ by (has rec_cmp r ks) (fresh_around rs (bag_insert rec_cmp r ks))
+      where
+        by : (b : Bool) → fresh (around (bag_insert rec_cmp r ks)) v t rs ≡ fresh_recs (bag_insert rec_cmp r ks) rs
+            → elim b [ true ↦ fresh_recs ks rs | false ↦ r ∷ fresh (around (bag_insert rec_cmp r ks)) v t rs ] ≡ cond b (fresh_recs ks rs) (r ∷ fresh_recs (bag_insert rec_cmp r ks) rs)
+        by true e = refl
+        by false e = ap (λ l. r ∷ l) e
 
     pub join_around : (xs ks : List Rec) → join stamped_cmp (stamped v t xs) (around ks) ≡ around (join rec_cmp xs ks)
     join_around [] ks = refl

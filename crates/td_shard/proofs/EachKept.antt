@@ -11,7 +11,7 @@ use Rattle.td_stamp.specs.Orders.{state_key_cmp}
 use Rattle.td_stamp.specs.Bag.{bag_insert}
 use Rattle.td_stamp.specs.Rises.{Rises}
 use Rattle.td_shard.specs.declared.version.Version.{Version}
-use Rattle.td_shard.specs.Versions.{VersionList, IsKept, AreKept, version_cmp}
+use Rattle.td_shard.specs.Versions.{VersionList, AreVersions, AreKept, version_cmp}
 use Rattle.td_shard.proofs.LeftOrders.{version_total}
 use Rattle.td_shard.proofs.Rising.{rises-filter, rises-inserted}
 use Rattle.td_shard.proofs.Viewed.{insert-seen, lookup-seen, remove-seen}
@@ -27,19 +27,19 @@ some-inserted v (w ∷ vs) e = by (version_cmp v w) e
     by Equal f = cc
     by Greater f = cc
 
-pub kept-more : (v : Version) (vs : List Version) → IsKept vs → IsKept (bag_insert version_cmp v vs)
+pub kept-more : (v : Version) (vs : List Version) → AreVersions vs → AreVersions (bag_insert version_cmp v vs)
 kept-more v vs h = (some-inserted v vs, rises-inserted version_cmp version_total v vs h.1)
 
 -- those that are found
-kept-found : (test : ℕ × ℕ → Bool) (es : VersionList) (w : List Version) → AreKept es → lookup test es ≡ Some w → IsKept w
+kept-found : (test : ℕ × ℕ → Bool) (es : VersionList) (w : List Version) → AreKept es → lookup test es ≡ Some w → AreVersions w
 kept-found test [] w h e = cc
 kept-found test (d ∷ es) w h e = by (test d.0) e (kept-found test es w h.1)
   where
-    by : (b : Bool) → cond b (Some d.1) (lookup test es) ≡ Some w → (lookup test es ≡ Some w → IsKept w) → IsKept w
-    by true f rest = let same : d.1 ≡ w = cc in subst IsKept same h.0
+    by : (b : Bool) → cond b (Some d.1) (lookup test es) ≡ Some w → (lookup test es ≡ Some w → AreVersions w) → AreVersions w
+    by true f rest = let same : d.1 ≡ w = cc in subst AreVersions same h.0
     by false f rest = rest f
 
-kept-set : (test : ℕ × ℕ → Bool) (es : VersionList) (w : List Version) → IsKept w → AreKept es → AreKept (set_value test es w)
+kept-set : (test : ℕ × ℕ → Bool) (es : VersionList) (w : List Version) → AreVersions w → AreKept es → AreKept (set_value test es w)
 kept-set test [] w n h = tt
 kept-set test (e ∷ es) w n h = by (test e.0) (kept-set test es w n h.1)
   where
@@ -47,7 +47,7 @@ kept-set test (e ∷ es) w n h = by (test e.0) (kept-set test es w n h.1)
     by true r = (n, h.1)
     by false r = (h.0, r)
 
-kept-insert : (k : ℕ × ℕ) (es : VersionList) (w : List Version) → IsKept w → AreKept es → AreKept (insert_entry state_key_cmp es k w)
+kept-insert : (k : ℕ × ℕ) (es : VersionList) (w : List Version) → AreVersions w → AreKept es → AreKept (insert_entry state_key_cmp es k w)
 kept-insert k [] w n h = (n, tt)
 kept-insert k (e ∷ es) w n h = by (state_key_cmp k e.0) (kept-insert k es w n h.1)
   where
@@ -65,16 +65,16 @@ kept-removed test (e ∷ es) w h = by (test e.0) refl (kept-removed test es w h.
     by false f r = subst (λ b. AreKept (cond b (set_value test es w) (e ∷ remove_entry test (set_value test es w)))) (sym f) (h.0, r)
 
 -- those of one entry among all
-pub kept-among : {V : Type 0} (f : V → List Version) (es before after : List ((ℕ × ℕ) × V)) (k : ℕ × ℕ) (v : V) → AreKept (told f es) → es ≡ before ++ (k, v) ∷ after → IsKept (f v)
+pub kept-among : {V : Type 0} (f : V → List Version) (es before after : List ((ℕ × ℕ) × V)) (k : ℕ × ℕ) (v : V) → AreKept (told f es) → es ≡ before ++ (k, v) ∷ after → AreVersions (f v)
 kept-among {V} f es before after k v h e = in-middle before (subst (λ l. AreKept (told f l)) e h)
   where
-    in-middle : (ds : List ((ℕ × ℕ) × V)) → AreKept (told f (ds ++ (k, v) ∷ after)) → IsKept (f v)
+    in-middle : (ds : List ((ℕ × ℕ) × V)) → AreKept (told f (ds ++ (k, v) ∷ after)) → AreVersions (f v)
     in-middle [] g = g.0
     in-middle (d ∷ ds) g = in-middle ds g.1
 
 module _ {V : Type 0} (f : V → List Version) (place : ℕ × ℕ) (es es2 : List ((ℕ × ℕ) × V)) (had : AreKept (told f es)) where
   -- those of a place
-  pub kept-here : (x : V) → Some x ≡ lookup (is_at (state_key_cmp place)) es → IsKept (f x)
+  pub kept-here : (x : V) → Some x ≡ lookup (is_at (state_key_cmp place)) es → AreVersions (f x)
   kept-here x e = kept-found (is_at (state_key_cmp place)) (told f es) (f x) had (lookup-seen f (is_at (state_key_cmp place)) es ∙ ap (option_map f) (sym e))
 
   -- the same versions are written back
@@ -82,11 +82,11 @@ module _ {V : Type 0} (f : V → List Version) (place : ℕ × ℕ) (es es2 : Li
   kept-before x y e g h = subst AreKept (sym (told-as_before f place es es2 x y e g h)) had
 
   -- some are written back
-  pub kept-written : (y : V) → es2 ≡ set_value (is_at (state_key_cmp place)) es y → IsKept (f y) → AreKept (told f es2)
+  pub kept-written : (y : V) → es2 ≡ set_value (is_at (state_key_cmp place)) es y → AreVersions (f y) → AreKept (told f es2)
   kept-written y g n = subst AreKept (sym (told-written f place es es2 y g)) (kept-set (is_at (state_key_cmp place)) (told f es) (f y) n had)
 
   -- a place is put in with some
-  pub kept-put : (y : V) → es2 ≡ insert_entry state_key_cmp es place y → IsKept (f y) → AreKept (told f es2)
+  pub kept-put : (y : V) → es2 ≡ insert_entry state_key_cmp es place y → AreVersions (f y) → AreKept (told f es2)
   kept-put y g n = subst AreKept (sym (ap (told f) g ∙ sym (insert-seen f state_key_cmp es place y))) (kept-insert place (told f es) (f y) n had)
 
   -- a place without any is taken out

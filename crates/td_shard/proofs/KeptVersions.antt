@@ -17,7 +17,7 @@ use Rattle.td_stamp.specs.Bag.{bag_insert, bag_remove, join}
 use Rattle.td_stamp.specs.BagLaws.{BagLaws}
 use Rattle.td_machine.specs.State.{left_cmp}
 use Rattle.td_shard.specs.declared.version.Version.{Version}
-use Rattle.td_shard.specs.Versions.{VersionList, left_at, left_in, version_cmp}
+use Rattle.td_shard.specs.Versions.{VersionList, left_of, left_in, version_cmp}
 use Rattle.td_shard.proofs.Viewed.{seen, lookup-seen, set-seen, insert-seen, remove-seen, keys-seen}
 use Rattle.td_shard.proofs.LeftBags.{left_in-more, left_in-first, left_in-filter, left_in-not, left_in-out, left_in-emptied}
 
@@ -79,28 +79,28 @@ module _ {V : Type 0} (f : V → List Version) where
 
     module _ (laws : BagLaws left_cmp) (v : Version) where
       -- a place has one version more
-      pub one_more : (x y : V) → Some x ≡ lookup here es → es2 ≡ set_value here es y → f y ≡ bag_insert version_cmp v (f x) → left_in (told es2) ≡ bag_insert left_cmp (left_at place v) (left_in (told es))
+      pub one_more : (x y : V) → Some x ≡ lookup here es → es2 ≡ set_value here es y → f y ≡ bag_insert version_cmp v (f x) → left_in (told es2) ≡ bag_insert left_cmp (left_of place v) (left_in (told es))
       one_more x y e g h = ap left_in (told-written y g ∙ ap (set_value here (told es)) h) ∙ left_in-more laws place v (f x) (told es) (found x e)
 
       -- or its first
-      pub first_one : (y : V) → None ≡ lookup here es → es2 ≡ insert_entry state_key_cmp es place y → f y ≡ v ∷ [] → left_in (told es2) ≡ bag_insert left_cmp (left_at place v) (left_in (told es))
+      pub first_one : (y : V) → None ≡ lookup here es → es2 ≡ insert_entry state_key_cmp es place y → f y ≡ v ∷ [] → left_in (told es2) ≡ bag_insert left_cmp (left_of place v) (left_in (told es))
       first_one y e g h =
           ap left_in (ap told g ∙ (sym (insert-seen f state_key_cmp es place y) ∙ ap (insert_entry state_key_cmp (told es) place) h)) ∙ left_in-first laws place v (told es) (not_found e)
 
       -- a place without versions has none to be taken out
-      pub none_out : None ≡ lookup here es → es2 ≡ es → left_in (told es2) ≡ bag_remove left_cmp (left_at place v) (left_in (told es))
+      pub none_out : None ≡ lookup here es → es2 ≡ es → left_in (told es2) ≡ bag_remove left_cmp (left_of place v) (left_in (told es))
       none_out e g = ap (λ l. left_in (told l)) g ∙ sym (left_in-not laws place v (told es) (not_found e))
 
       -- one is taken out
       pub one_out : (x y : V) → IsStrictlySortedBy state_key_cmp (keys_of es) → Some x ≡ lookup here es → es2 ≡ set_value here es y → f y ≡ bag_remove version_cmp v (f x)
-          → left_in (told es2) ≡ bag_remove left_cmp (left_at place v) (left_in (told es))
+          → left_in (told es2) ≡ bag_remove left_cmp (left_of place v) (left_in (told es))
       one_out x y s e g h =
           ap left_in (told-written y g ∙ ap (set_value here (told es)) h)
           ∙ left_in-out laws place v (f x) (told es) (subst (IsStrictlySortedBy state_key_cmp) (sym (keys-seen f es)) s) (found x e)
 
       -- and the place with the last
       pub last_out : (x y : V) (es3 : List ((ℕ × ℕ) × V)) → IsStrictlySortedBy state_key_cmp (keys_of es) → Some x ≡ lookup here es → es2 ≡ set_value here es y → f y ≡ bag_remove version_cmp v (f x) → f y ≡ []
-          → es3 ≡ remove_entry here es2 → left_in (told es3) ≡ bag_remove left_cmp (left_at place v) (left_in (told es))
+          → es3 ≡ remove_entry here es2 → left_in (told es3) ≡ bag_remove left_cmp (left_of place v) (left_in (told es))
       last_out x y es3 s e g h none r =
           let emptied = told-written y g ∙ ap (set_value here (told es)) none in
           ap left_in (ap told r ∙ (sym (remove-seen f here es2) ∙ ap (remove_entry here) emptied))
@@ -113,15 +113,15 @@ module _ {V : Type 0} (f : V → List Version) where
         → left_in (told rest) ≡ filter (λ x. nat_lt epoch x.epoch) (left_in (told es)) → kept ≡ cond b ((e.0, w) ∷ rest) rest
         → left_in (told kept) ≡ filter (λ x. nat_lt epoch x.epoch) (left_in (told (e ∷ es)))
     later_left e es w kept rest b h some more is =
-        by b refl is ∙ ((λ i. join left_cmp (map (left_at e.0) (h i)) (more i)) ∙ sym (left_in-filter laws (λ x. nat_lt epoch x.epoch) (seen f e) (told es)))
+        by b refl is ∙ ((λ i. join left_cmp (map (left_of e.0) (h i)) (more i)) ∙ sym (left_in-filter laws (λ x. nat_lt epoch x.epoch) (seen f e) (told es)))
       where
         none : (xs : List Version) → f w ≡ xs → b ≡ false → f w ≡ []
         none [] g n = g
         none (x ∷ xs) g n = let yes : b ≡ true = some.1 (λ z. let no : x ∷ xs ≡ [] = sym g ∙ z in cc) in cc
 
-        by : (c : Bool) → b ≡ c → kept ≡ cond b ((e.0, w) ∷ rest) rest → left_in (told kept) ≡ join left_cmp (map (left_at e.0) (f w)) (left_in (told rest))
+        by : (c : Bool) → b ≡ c → kept ≡ cond b ((e.0, w) ∷ rest) rest → left_in (told kept) ≡ join left_cmp (map (left_of e.0) (f w)) (left_in (told rest))
         by true g k = ap (λ l. left_in (told l)) (k ∙ ap (λ c. cond c ((e.0, w) ∷ rest) rest) g)
-        by false g k = ap (λ l. left_in (told l)) (k ∙ ap (λ c. cond c ((e.0, w) ∷ rest) rest) g) ∙ ap (λ l. join left_cmp (map (left_at e.0) l) (left_in (told rest))) (sym (none (f w) refl g))
+        by false g k = ap (λ l. left_in (told l)) (k ∙ ap (λ c. cond c ((e.0, w) ∷ rest) rest) g) ∙ ap (λ l. join left_cmp (map (left_of e.0) l) (left_in (told rest))) (sym (none (f w) refl g))
 
     pub let_go-left : (es kept : List ((ℕ × ℕ) × V)) → RetainsPairs T call es kept → left_in (told kept) ≡ filter (λ x. nat_lt epoch x.epoch) (left_in (told es))
     let_go-left [] kept r = ap (λ l. left_in (told l)) r

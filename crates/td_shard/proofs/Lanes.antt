@@ -7,9 +7,9 @@ use Rattle.std.proofs.lemmas.Bool.{eqb-true}
 use Rattle.td_stamp.specs.Time.{Timestamp}
 use Rattle.td_shard.specs.declared.lane.Lane.{Lane}
 use Rattle.td_shard.specs.Slots.{lane_eq}
-use Rattle.td_shard.specs.Messages.{same_time}
+use Rattle.td_shard.specs.Messages.{equal_times}
 
-pub time_equiv : IsEquivalence same_time
+pub time_equiv : IsEquivalence equal_times
 time_equiv = and_equiv (on_equiv (λ t. t.epoch) nat_eq_equiv) (on_equiv (λ t. reverse t.turns) (lists_equiv nat_eq_equiv))
 
 pub lane_equiv : IsEquivalence lane_eq
@@ -33,8 +33,8 @@ same_list (x ∷ xs) (y ∷ ys) e =
     cc
 
 -- times that are found the same are the same
-pub same_time-sound : (t u : Timestamp) → same_time t u ≡ true → t ≡ u
-same_time-sound t u e =
+pub equal_times-sound : (t u : Timestamp) → equal_times t u ≡ true → t ≡ u
+equal_times-sound t u e =
     let both = and-both (t.epoch == u.epoch) (pointwise (λ i j. i == j) (reverse t.turns) (reverse u.turns)) e in
     let epochs : t.epoch ≡ u.epoch = same_nat t.epoch u.epoch both.0 in
     let turns : t.turns ≡ u.turns = sym (reverse-reverse t.turns) ∙ (ap reverse (same_list (reverse t.turns) (reverse u.turns) both.1) ∙ reverse-reverse u.turns) in
@@ -42,9 +42,9 @@ same_time-sound t u e =
 
 pub lane_eq-sound : (j k : Lane) → lane_eq j k ≡ true → j ≡ k
 lane_eq-sound j k e =
-    let outer = and-both (j.vertex == k.vertex) ((j.port == k.port) && same_time j.time k.time) e in
-    let inner = and-both (j.port == k.port) (same_time j.time k.time) outer.1 in
+    let outer = and-both (j.vertex == k.vertex) ((j.port == k.port) && equal_times j.time k.time) e in
+    let inner = and-both (j.port == k.port) (equal_times j.time k.time) outer.1 in
     let vertices : j.vertex ≡ k.vertex = same_nat j.vertex k.vertex outer.0 in
     let ports : j.port ≡ k.port = same_nat j.port k.port inner.0 in
-    let times : j.time ≡ k.time = same_time-sound j.time k.time inner.1 in
+    let times : j.time ≡ k.time = equal_times-sound j.time k.time inner.1 in
     λ i. record { vertex = vertices i; port = ports i; time = times i }

@@ -14,8 +14,8 @@ use Rattle.td_stamp.specs.BagLaws.{BagLaws}
 use Rattle.td_machine.specs.declared.records.StateLeft.{StateLeft}
 use Rattle.td_machine.specs.State.{left_cmp}
 use Rattle.td_shard.specs.declared.version.Version.{Version}
-use Rattle.td_shard.specs.Versions.{VersionList, left_at, left_in, version_cmp, taken_back}
-use Rattle.td_shard.proofs.LeftOrders.{left_apart, place_apart, left_at-cmp, places_tie}
+use Rattle.td_shard.specs.Versions.{VersionList, left_of, left_in, version_cmp, taken_back}
+use Rattle.td_shard.proofs.LeftOrders.{left_apart, place_apart, left_of-cmp, places_tie}
 
 pub tied : (o : Ordering) → is_eq o ≡ true → o ≡ Equal
 tied Less e = cc
@@ -23,18 +23,18 @@ tied Equal e = refl
 tied Greater e = cc
 
 -- one more version of a place, where it belongs
-put-part : (place : ℕ × ℕ) (v : Version) (vs : List Version) → map (left_at place) (bag_insert version_cmp v vs) ≡ bag_insert left_cmp (left_at place v) (map (left_at place) vs)
+put-part : (place : ℕ × ℕ) (v : Version) (vs : List Version) → map (left_of place) (bag_insert version_cmp v vs) ≡ bag_insert left_cmp (left_of place v) (map (left_of place) vs)
 put-part place v [] = refl
-put-part place v (w ∷ vs) = by (version_cmp v w) (put-part place v vs) ∙ ap chosen (sym (left_at-cmp place v w))
+put-part place v (w ∷ vs) = by (version_cmp v w) (put-part place v vs) ∙ ap chosen (sym (left_of-cmp place v w))
   where
     chosen : Ordering → List StateLeft
-    chosen o = elim o [ Greater ↦ left_at place w ∷ bag_insert left_cmp (left_at place v) (map (left_at place) vs) | _ ↦ left_at place v ∷ left_at place w ∷ map (left_at place) vs ]
+    chosen o = elim o [ Greater ↦ left_of place w ∷ bag_insert left_cmp (left_of place v) (map (left_of place) vs) | _ ↦ left_of place v ∷ left_of place w ∷ map (left_of place) vs ]
 
-    by : (o : Ordering) → map (left_at place) (bag_insert version_cmp v vs) ≡ bag_insert left_cmp (left_at place v) (map (left_at place) vs)
-        → map (left_at place) (elim o [ Greater ↦ w ∷ bag_insert version_cmp v vs | _ ↦ v ∷ w ∷ vs ]) ≡ chosen o
+    by : (o : Ordering) → map (left_of place) (bag_insert version_cmp v vs) ≡ bag_insert left_cmp (left_of place v) (map (left_of place) vs)
+        → map (left_of place) (elim o [ Greater ↦ w ∷ bag_insert version_cmp v vs | _ ↦ v ∷ w ∷ vs ]) ≡ chosen o
     by Less e = refl
     by Equal e = refl
-    by Greater e = ap (λ l. left_at place w ∷ l) e
+    by Greater e = ap (λ l. left_of place w ∷ l) e
 
 -- those that pass a test, where a place is told with them
 pub filter-map : {X Y : Type 0} (p : Y → Bool) (f : X → Y) (xs : List X) → filter p (map f xs) ≡ map f (filter (λ x. p (f x)) xs)
@@ -51,16 +51,16 @@ module _ (laws : BagLaws left_cmp) where
 
   pub left_in-bag : (es : VersionList) → IsBag left_cmp (left_in es)
   left_in-bag [] = refl
-  left_in-bag (e ∷ es) = join-bag (map (left_at e.0) e.1) (left_in es) (left_in-bag es)
+  left_in-bag (e ∷ es) = join-bag (map (left_of e.0) e.1) (left_in es) (left_in-bag es)
 
   -- one more in a part
   joined_more : (place : ℕ × ℕ) (vs : List Version) (v : Version) (rest : List StateLeft)
-      → join left_cmp (map (left_at place) (bag_insert version_cmp v vs)) rest ≡ bag_insert left_cmp (left_at place v) (join left_cmp (map (left_at place) vs) rest)
-  joined_more place vs v rest = ap (λ l. join left_cmp l rest) (put-part place v vs) ∙ laws.associative (left_at place v ∷ []) (map (left_at place) vs) rest
+      → join left_cmp (map (left_of place) (bag_insert version_cmp v vs)) rest ≡ bag_insert left_cmp (left_of place v) (join left_cmp (map (left_of place) vs) rest)
+  joined_more place vs v rest = ap (λ l. join left_cmp l rest) (put-part place v vs) ∙ laws.associative (left_of place v ∷ []) (map (left_of place) vs) rest
 
   -- ONE MORE VERSION, of a place that has some
   pub left_in-more : (place : ℕ × ℕ) (v : Version) (vs : List Version) (es : VersionList) → lookup (is_at (state_key_cmp place)) es ≡ Some vs
-      → left_in (set_value (is_at (state_key_cmp place)) es (bag_insert version_cmp v vs)) ≡ bag_insert left_cmp (left_at place v) (left_in es)
+      → left_in (set_value (is_at (state_key_cmp place)) es (bag_insert version_cmp v vs)) ≡ bag_insert left_cmp (left_of place v) (left_in es)
   left_in-more place v vs [] h = cc
   left_in-more place v vs (e ∷ es) h = by (state_key_cmp place e.0) refl h (left_in-more place v vs es)
     where
@@ -68,56 +68,56 @@ module _ (laws : BagLaws left_cmp) where
       ws = bag_insert version_cmp v vs
 
       by : (o : Ordering) → state_key_cmp place e.0 ≡ o → cond (is_eq o) (Some e.1) (lookup (is_at (state_key_cmp place)) es) ≡ Some vs
-          → (lookup (is_at (state_key_cmp place)) es ≡ Some vs → left_in (set_value (is_at (state_key_cmp place)) es ws) ≡ bag_insert left_cmp (left_at place v) (left_in es))
-          → left_in (cond (is_eq o) ((e.0, ws) ∷ es) (e ∷ set_value (is_at (state_key_cmp place)) es ws)) ≡ bag_insert left_cmp (left_at place v) (left_in (e ∷ es))
-      by Less f g rest = ap (join left_cmp (map (left_at e.0) e.1)) (rest g) ∙ laws.swaps (map (left_at e.0) e.1) (left_at place v ∷ []) (left_in es)
-      by Greater f g rest = ap (join left_cmp (map (left_at e.0) e.1)) (rest g) ∙ laws.swaps (map (left_at e.0) e.1) (left_at place v ∷ []) (left_in es)
+          → (lookup (is_at (state_key_cmp place)) es ≡ Some vs → left_in (set_value (is_at (state_key_cmp place)) es ws) ≡ bag_insert left_cmp (left_of place v) (left_in es))
+          → left_in (cond (is_eq o) ((e.0, ws) ∷ es) (e ∷ set_value (is_at (state_key_cmp place)) es ws)) ≡ bag_insert left_cmp (left_of place v) (left_in (e ∷ es))
+      by Less f g rest = ap (join left_cmp (map (left_of e.0) e.1)) (rest g) ∙ laws.swaps (map (left_of e.0) e.1) (left_of place v ∷ []) (left_in es)
+      by Greater f g rest = ap (join left_cmp (map (left_of e.0) e.1)) (rest g) ∙ laws.swaps (map (left_of e.0) e.1) (left_of place v ∷ []) (left_in es)
       by Equal f g rest =
           let here : place ≡ e.0 = place_apart place e.0 f in
           let same : e.1 ≡ vs = cc in
-          (λ i. join left_cmp (map (left_at (sym here i)) ws) (left_in es))
-          ∙ (joined_more place vs v (left_in es) ∙ (λ i. bag_insert left_cmp (left_at place v) (join left_cmp (map (left_at (here i)) (sym same i)) (left_in es))))
+          (λ i. join left_cmp (map (left_of (sym here i)) ws) (left_in es))
+          ∙ (joined_more place vs v (left_in es) ∙ (λ i. bag_insert left_cmp (left_of place v) (join left_cmp (map (left_of (here i)) (sym same i)) (left_in es))))
 
   -- and the first of a place
   pub left_in-first : (place : ℕ × ℕ) (v : Version) (es : VersionList) → lookup (is_at (state_key_cmp place)) es ≡ None
-      → left_in (insert_entry state_key_cmp es place (v ∷ [])) ≡ bag_insert left_cmp (left_at place v) (left_in es)
+      → left_in (insert_entry state_key_cmp es place (v ∷ [])) ≡ bag_insert left_cmp (left_of place v) (left_in es)
   left_in-first place v [] h = refl
   left_in-first place v (e ∷ es) h = by (state_key_cmp place e.0) h (left_in-first place v es)
     where
       by : (o : Ordering) → cond (is_eq o) (Some e.1) (lookup (is_at (state_key_cmp place)) es) ≡ None
-          → (lookup (is_at (state_key_cmp place)) es ≡ None → left_in (insert_entry state_key_cmp es place (v ∷ [])) ≡ bag_insert left_cmp (left_at place v) (left_in es))
-          → left_in (match_ordering o ((place, v ∷ []) ∷ e ∷ es) ((e.0, v ∷ []) ∷ es) (e ∷ insert_entry state_key_cmp es place (v ∷ []))) ≡ bag_insert left_cmp (left_at place v) (left_in (e ∷ es))
+          → (lookup (is_at (state_key_cmp place)) es ≡ None → left_in (insert_entry state_key_cmp es place (v ∷ [])) ≡ bag_insert left_cmp (left_of place v) (left_in es))
+          → left_in (match_ordering o ((place, v ∷ []) ∷ e ∷ es) ((e.0, v ∷ []) ∷ es) (e ∷ insert_entry state_key_cmp es place (v ∷ []))) ≡ bag_insert left_cmp (left_of place v) (left_in (e ∷ es))
       by Less g rest = refl
       by Equal g rest = cc
-      by Greater g rest = ap (join left_cmp (map (left_at e.0) e.1)) (rest g) ∙ laws.swaps (map (left_at e.0) e.1) (left_at place v ∷ []) (left_in es)
+      by Greater g rest = ap (join left_cmp (map (left_of e.0) e.1)) (rest g) ∙ laws.swaps (map (left_of e.0) e.1) (left_of place v ∷ []) (left_in es)
 
   -- WHAT IS LET GO: those that pass a test of what was left
   pub left_in-filter : (p : StateLeft → Bool) (e : (ℕ × ℕ) × List Version) (es : VersionList)
-      → filter p (left_in (e ∷ es)) ≡ join left_cmp (map (left_at e.0) (filter (λ v. p (left_at e.0 v)) e.1)) (filter p (left_in es))
+      → filter p (left_in (e ∷ es)) ≡ join left_cmp (map (left_of e.0) (filter (λ v. p (left_of e.0 v)) e.1)) (filter p (left_in es))
   left_in-filter p e es =
-      laws.filtered_join p (map (left_at e.0) e.1) (left_in es) (left_in-bag es)
-      ∙ ap (λ l. join left_cmp l (filter p (left_in es))) (filter-map p (left_at e.0) e.1)
+      laws.filtered_join p (map (left_of e.0) e.1) (left_in es) (left_in-bag es)
+      ∙ ap (λ l. join left_cmp l (filter p (left_in es))) (filter-map p (left_of e.0) e.1)
 
   -- ONE TAKEN OUT
   taken_part : (place : ℕ × ℕ) (v : Version) (vs : List Version) (rest : List StateLeft) → has version_cmp v vs ≡ true
-      → join left_cmp (map (left_at place) vs) rest ≡ bag_insert left_cmp (left_at place v) (join left_cmp (map (left_at place) (bag_remove version_cmp v vs)) rest)
+      → join left_cmp (map (left_of place) vs) rest ≡ bag_insert left_cmp (left_of place v) (join left_cmp (map (left_of place) (bag_remove version_cmp v vs)) rest)
   taken_part place v [] rest h = cc
   taken_part place v (w ∷ vs) rest h = by (version_cmp v w) refl h (taken_part place v vs rest)
     where
-      more : join left_cmp (map (left_at place) vs) rest ≡ bag_insert left_cmp (left_at place v) (join left_cmp (map (left_at place) (bag_remove version_cmp v vs)) rest)
-          → join left_cmp (map (left_at place) (w ∷ vs)) rest ≡ bag_insert left_cmp (left_at place v) (join left_cmp (map (left_at place) (w ∷ bag_remove version_cmp v vs)) rest)
-      more r = ap (bag_insert left_cmp (left_at place w)) r ∙ laws.swaps (left_at place w ∷ []) (left_at place v ∷ []) (join left_cmp (map (left_at place) (bag_remove version_cmp v vs)) rest)
+      more : join left_cmp (map (left_of place) vs) rest ≡ bag_insert left_cmp (left_of place v) (join left_cmp (map (left_of place) (bag_remove version_cmp v vs)) rest)
+          → join left_cmp (map (left_of place) (w ∷ vs)) rest ≡ bag_insert left_cmp (left_of place v) (join left_cmp (map (left_of place) (w ∷ bag_remove version_cmp v vs)) rest)
+      more r = ap (bag_insert left_cmp (left_of place w)) r ∙ laws.swaps (left_of place w ∷ []) (left_of place v ∷ []) (join left_cmp (map (left_of place) (bag_remove version_cmp v vs)) rest)
 
       by : (o : Ordering) → version_cmp v w ≡ o → (is_eq o || has version_cmp v vs) ≡ true
-          → (has version_cmp v vs ≡ true → join left_cmp (map (left_at place) vs) rest ≡ bag_insert left_cmp (left_at place v) (join left_cmp (map (left_at place) (bag_remove version_cmp v vs)) rest))
-          → join left_cmp (map (left_at place) (w ∷ vs)) rest ≡ bag_insert left_cmp (left_at place v) (join left_cmp (map (left_at place) (elim o [ Equal ↦ vs | _ ↦ w ∷ bag_remove version_cmp v vs ])) rest)
+          → (has version_cmp v vs ≡ true → join left_cmp (map (left_of place) vs) rest ≡ bag_insert left_cmp (left_of place v) (join left_cmp (map (left_of place) (bag_remove version_cmp v vs)) rest))
+          → join left_cmp (map (left_of place) (w ∷ vs)) rest ≡ bag_insert left_cmp (left_of place v) (join left_cmp (map (left_of place) (elim o [ Equal ↦ vs | _ ↦ w ∷ bag_remove version_cmp v vs ])) rest)
       by Less f g r = more (r g)
       by Greater f g r = more (r g)
-      by Equal f g r = ap (λ x. bag_insert left_cmp x (join left_cmp (map (left_at place) vs) rest)) (sym (left_apart (left_at place v) (left_at place w) (left_at-cmp place v w ∙ f)))
+      by Equal f g r = ap (λ x. bag_insert left_cmp x (join left_cmp (map (left_of place) vs) rest)) (sym (left_apart (left_of place v) (left_of place w) (left_of-cmp place v w ∙ f)))
 
   -- one that a place has
   pub left_in-taken : (place : ℕ × ℕ) (v : Version) (vs : List Version) (es : VersionList) → lookup (is_at (state_key_cmp place)) es ≡ Some vs → has version_cmp v vs ≡ true
-      → left_in es ≡ bag_insert left_cmp (left_at place v) (left_in (set_value (is_at (state_key_cmp place)) es (bag_remove version_cmp v vs)))
+      → left_in es ≡ bag_insert left_cmp (left_of place v) (left_in (set_value (is_at (state_key_cmp place)) es (bag_remove version_cmp v vs)))
   left_in-taken place v vs [] h t = cc
   left_in-taken place v vs (e ∷ es) h t = by (state_key_cmp place e.0) refl h (λ g. left_in-taken place v vs es g t)
     where
@@ -125,15 +125,15 @@ module _ (laws : BagLaws left_cmp) where
       ws = bag_remove version_cmp v vs
 
       by : (o : Ordering) → state_key_cmp place e.0 ≡ o → cond (is_eq o) (Some e.1) (lookup (is_at (state_key_cmp place)) es) ≡ Some vs
-          → (lookup (is_at (state_key_cmp place)) es ≡ Some vs → left_in es ≡ bag_insert left_cmp (left_at place v) (left_in (set_value (is_at (state_key_cmp place)) es ws)))
-          → left_in (e ∷ es) ≡ bag_insert left_cmp (left_at place v) (left_in (cond (is_eq o) ((e.0, ws) ∷ es) (e ∷ set_value (is_at (state_key_cmp place)) es ws)))
-      by Less f g r = ap (join left_cmp (map (left_at e.0) e.1)) (r g) ∙ laws.swaps (map (left_at e.0) e.1) (left_at place v ∷ []) (left_in (set_value (is_at (state_key_cmp place)) es ws))
-      by Greater f g r = ap (join left_cmp (map (left_at e.0) e.1)) (r g) ∙ laws.swaps (map (left_at e.0) e.1) (left_at place v ∷ []) (left_in (set_value (is_at (state_key_cmp place)) es ws))
+          → (lookup (is_at (state_key_cmp place)) es ≡ Some vs → left_in es ≡ bag_insert left_cmp (left_of place v) (left_in (set_value (is_at (state_key_cmp place)) es ws)))
+          → left_in (e ∷ es) ≡ bag_insert left_cmp (left_of place v) (left_in (cond (is_eq o) ((e.0, ws) ∷ es) (e ∷ set_value (is_at (state_key_cmp place)) es ws)))
+      by Less f g r = ap (join left_cmp (map (left_of e.0) e.1)) (r g) ∙ laws.swaps (map (left_of e.0) e.1) (left_of place v ∷ []) (left_in (set_value (is_at (state_key_cmp place)) es ws))
+      by Greater f g r = ap (join left_cmp (map (left_of e.0) e.1)) (r g) ∙ laws.swaps (map (left_of e.0) e.1) (left_of place v ∷ []) (left_in (set_value (is_at (state_key_cmp place)) es ws))
       by Equal f g r =
           let here : place ≡ e.0 = place_apart place e.0 f in
           let same : e.1 ≡ vs = cc in
-          (λ i. join left_cmp (map (left_at (sym here i)) (same i)) (left_in es))
-          ∙ (taken_part place v vs (left_in es) t ∙ (λ i. bag_insert left_cmp (left_at place v) (join left_cmp (map (left_at (here i)) ws) (left_in es))))
+          (λ i. join left_cmp (map (left_of (sym here i)) (same i)) (left_in es))
+          ∙ (taken_part place v vs (left_in es) t ∙ (λ i. bag_insert left_cmp (left_of place v) (join left_cmp (map (left_of (here i)) ws) (left_in es))))
 
   -- a place without versions tells nothing
   pub left_in-emptied : (place : ℕ × ℕ) (es : VersionList) → left_in (remove_entry (is_at (state_key_cmp place)) (set_value (is_at (state_key_cmp place)) es [])) ≡ left_in (set_value (is_at (state_key_cmp place)) es [])
@@ -143,7 +143,7 @@ module _ (laws : BagLaws left_cmp) where
       by : (b : Bool) → is_at (state_key_cmp place) e.0 ≡ b → left_in (remove_entry (is_at (state_key_cmp place)) (set_value (is_at (state_key_cmp place)) es [])) ≡ left_in (set_value (is_at (state_key_cmp place)) es [])
           → left_in (remove_entry (is_at (state_key_cmp place)) (cond b ((e.0, []) ∷ es) (e ∷ set_value (is_at (state_key_cmp place)) es []))) ≡ left_in (cond b ((e.0, []) ∷ es) (e ∷ set_value (is_at (state_key_cmp place)) es []))
       by true f r = ap (λ b. left_in (cond b es ((e.0, []) ∷ remove_entry (is_at (state_key_cmp place)) es))) f
-      by false f r = ap (λ b. left_in (cond b (set_value (is_at (state_key_cmp place)) es []) (e ∷ remove_entry (is_at (state_key_cmp place)) (set_value (is_at (state_key_cmp place)) es [])))) f ∙ ap (join left_cmp (map (left_at e.0) e.1)) r
+      by false f r = ap (λ b. left_in (cond b (set_value (is_at (state_key_cmp place)) es []) (e ∷ remove_entry (is_at (state_key_cmp place)) (set_value (is_at (state_key_cmp place)) es [])))) f ∙ ap (join left_cmp (map (left_of e.0) e.1)) r
 
   -- ONE THAT IS NOT THERE
   or-assoc : (a b c : Bool) → (a || (b || c)) ≡ ((a || b) || c)
@@ -154,28 +154,28 @@ module _ (laws : BagLaws left_cmp) where
   has-join x [] ys = refl
   has-join x (y ∷ xs) ys = laws.found x y (join left_cmp xs ys) ∙ (ap (λ b. is_eq (left_cmp x y) || b) (has-join x xs ys) ∙ or-assoc (is_eq (left_cmp x y)) (has left_cmp x xs) (has left_cmp x ys))
 
-  has-part : (place : ℕ × ℕ) (v : Version) (vs : List Version) → has left_cmp (left_at place v) (map (left_at place) vs) ≡ has version_cmp v vs
+  has-part : (place : ℕ × ℕ) (v : Version) (vs : List Version) → has left_cmp (left_of place v) (map (left_of place) vs) ≡ has version_cmp v vs
   has-part place v [] = refl
-  has-part place v (w ∷ vs) = λ i. is_eq (left_at-cmp place v w i) || has-part place v vs i
+  has-part place v (w ∷ vs) = λ i. is_eq (left_of-cmp place v w i) || has-part place v vs i
 
-  has_not-part : (p q : ℕ × ℕ) (v : Version) (vs : List Version) → is_eq (state_key_cmp p q) ≡ false → has left_cmp (left_at p v) (map (left_at q) vs) ≡ false
+  has_not-part : (p q : ℕ × ℕ) (v : Version) (vs : List Version) → is_eq (state_key_cmp p q) ≡ false → has left_cmp (left_of p v) (map (left_of q) vs) ≡ false
   has_not-part p q v [] h = refl
-  has_not-part p q v (w ∷ vs) h = λ i. by (left_cmp (left_at p v) (left_at q w)) refl i || has_not-part p q v vs h i
+  has_not-part p q v (w ∷ vs) h = λ i. by (left_cmp (left_of p v) (left_of q w)) refl i || has_not-part p q v vs h i
     where
-      by : (o : Ordering) → left_cmp (left_at p v) (left_at q w) ≡ o → is_eq o ≡ false
+      by : (o : Ordering) → left_cmp (left_of p v) (left_of q w) ≡ o → is_eq o ≡ false
       by Less e = refl
       by Greater e = refl
       by Equal e = let no : true ≡ false = sym (ap is_eq (places_tie p q v w e)) ∙ h in cc
 
   -- of places in order, none is at a place below the first, or at one that has no versions
-  has_not-none : (place : ℕ × ℕ) (v : Version) (es : VersionList) → lookup (is_at (state_key_cmp place)) es ≡ None → has left_cmp (left_at place v) (left_in es) ≡ false
+  has_not-none : (place : ℕ × ℕ) (v : Version) (es : VersionList) → lookup (is_at (state_key_cmp place)) es ≡ None → has left_cmp (left_of place v) (left_in es) ≡ false
   has_not-none place v [] h = refl
   has_not-none place v (e ∷ es) h = by (is_eq (state_key_cmp place e.0)) refl h (has_not-none place v es)
     where
       by : (b : Bool) → is_eq (state_key_cmp place e.0) ≡ b → cond b (Some e.1) (lookup (is_at (state_key_cmp place)) es) ≡ None
-          → (lookup (is_at (state_key_cmp place)) es ≡ None → has left_cmp (left_at place v) (left_in es) ≡ false) → has left_cmp (left_at place v) (left_in (e ∷ es)) ≡ false
+          → (lookup (is_at (state_key_cmp place)) es ≡ None → has left_cmp (left_of place v) (left_in es) ≡ false) → has left_cmp (left_of place v) (left_in (e ∷ es)) ≡ false
       by true f g r = cc
-      by false f g r = has-join (left_at place v) (map (left_at e.0) e.1) (left_in es) ∙ (λ i. has_not-part place e.0 v e.1 f i || r g i)
+      by false f g r = has-join (left_of place v) (map (left_of e.0) e.1) (left_in es) ∙ (λ i. has_not-part place e.0 v e.1 f i || r g i)
 
   remove_not : (x : StateLeft) (xs : List StateLeft) → has left_cmp x xs ≡ false → bag_remove left_cmp x xs ≡ xs
   remove_not x [] h = refl
@@ -186,8 +186,8 @@ module _ (laws : BagLaws left_cmp) where
       by Greater g r = ap (λ l. y ∷ l) (r g)
       by Equal g r = cc
 
-  pub left_in-not : (place : ℕ × ℕ) (v : Version) (es : VersionList) → lookup (is_at (state_key_cmp place)) es ≡ None → bag_remove left_cmp (left_at place v) (left_in es) ≡ left_in es
-  left_in-not place v es h = remove_not (left_at place v) (left_in es) (has_not-none place v es h)
+  pub left_in-not : (place : ℕ × ℕ) (v : Version) (es : VersionList) → lookup (is_at (state_key_cmp place)) es ≡ None → bag_remove left_cmp (left_of place v) (left_in es) ≡ left_in es
+  left_in-not place v es h = remove_not (left_of place v) (left_in es) (has_not-none place v es h)
 
 -- places in order: no later one is the first again
 pub none_again : (place : ℕ × ℕ) (e : (ℕ × ℕ) × List Version) (es : VersionList) → IsStrictlySortedBy state_key_cmp (keys_of (e ∷ es)) → place ≡ e.0 → lookup (is_at (state_key_cmp place)) es ≡ None
@@ -201,20 +201,20 @@ none_again place e es h here = none es h.0
 module _ (laws : BagLaws left_cmp) where
   -- one that its place does not have
   not_there : (place : ℕ × ℕ) (v : Version) (vs : List Version) (es : VersionList) → IsStrictlySortedBy state_key_cmp (keys_of es) → lookup (is_at (state_key_cmp place)) es ≡ Some vs → has version_cmp v vs ≡ false
-      → has left_cmp (left_at place v) (left_in es) ≡ false
+      → has left_cmp (left_of place v) (left_in es) ≡ false
   unfolding IsStrictlySortedBy
   not_there place v vs [] s h t = refl
   not_there place v vs (e ∷ es) s h t = by (state_key_cmp place e.0) refl h (λ g. not_there place v vs es s.1 g t)
     where
       by : (o : Ordering) → state_key_cmp place e.0 ≡ o → cond (is_eq o) (Some e.1) (lookup (is_at (state_key_cmp place)) es) ≡ Some vs
-          → (lookup (is_at (state_key_cmp place)) es ≡ Some vs → has left_cmp (left_at place v) (left_in es) ≡ false) → has left_cmp (left_at place v) (left_in (e ∷ es)) ≡ false
-      by Less f g r = has-join laws (left_at place v) (map (left_at e.0) e.1) (left_in es) ∙ (λ i. has_not-part laws place e.0 v e.1 (ap is_eq f) i || r g i)
-      by Greater f g r = has-join laws (left_at place v) (map (left_at e.0) e.1) (left_in es) ∙ (λ i. has_not-part laws place e.0 v e.1 (ap is_eq f) i || r g i)
+          → (lookup (is_at (state_key_cmp place)) es ≡ Some vs → has left_cmp (left_of place v) (left_in es) ≡ false) → has left_cmp (left_of place v) (left_in (e ∷ es)) ≡ false
+      by Less f g r = has-join laws (left_of place v) (map (left_of e.0) e.1) (left_in es) ∙ (λ i. has_not-part laws place e.0 v e.1 (ap is_eq f) i || r g i)
+      by Greater f g r = has-join laws (left_of place v) (map (left_of e.0) e.1) (left_in es) ∙ (λ i. has_not-part laws place e.0 v e.1 (ap is_eq f) i || r g i)
       by Equal f g r =
           let here : place ≡ e.0 = place_apart place e.0 f in
           let same : e.1 ≡ vs = cc in
-          has-join laws (left_at place v) (map (left_at e.0) e.1) (left_in es)
-          ∙ (λ i. has left_cmp (left_at place v) (map (left_at (sym here i)) (same i)) || has_not-none laws place v es (none_again place e es s here) i)
+          has-join laws (left_of place v) (map (left_of e.0) e.1) (left_in es)
+          ∙ (λ i. has left_cmp (left_of place v) (map (left_of (sym here i)) (same i)) || has_not-none laws place v es (none_again place e es s here) i)
           ∙ (λ i. (has-part laws place v vs ∙ t) i || false)
 
   remove_none : (v : Version) (vs : List Version) → has version_cmp v vs ≡ false → bag_remove version_cmp v vs ≡ vs
@@ -228,16 +228,16 @@ module _ (laws : BagLaws left_cmp) where
 
   -- ONE TAKEN OUT of a place that has some
   pub left_in-out : (place : ℕ × ℕ) (v : Version) (vs : List Version) (es : VersionList) → IsStrictlySortedBy state_key_cmp (keys_of es) → lookup (is_at (state_key_cmp place)) es ≡ Some vs
-      → left_in (set_value (is_at (state_key_cmp place)) es (bag_remove version_cmp v vs)) ≡ bag_remove left_cmp (left_at place v) (left_in es)
+      → left_in (set_value (is_at (state_key_cmp place)) es (bag_remove version_cmp v vs)) ≡ bag_remove left_cmp (left_of place v) (left_in es)
   left_in-out place v vs es s h = by (has version_cmp v vs) refl
     where
-      by : (b : Bool) → has version_cmp v vs ≡ b → left_in (set_value (is_at (state_key_cmp place)) es (bag_remove version_cmp v vs)) ≡ bag_remove left_cmp (left_at place v) (left_in es)
+      by : (b : Bool) → has version_cmp v vs ≡ b → left_in (set_value (is_at (state_key_cmp place)) es (bag_remove version_cmp v vs)) ≡ bag_remove left_cmp (left_of place v) (left_in es)
       by true t =
           let ws = set_value (is_at (state_key_cmp place)) es (bag_remove version_cmp v vs) in
-          sym (laws.removes (left_at place v) (left_in ws)) ∙ ap (bag_remove left_cmp (left_at place v)) (sym (left_in-taken laws place v vs es h t))
+          sym (laws.removes (left_of place v) (left_in ws)) ∙ ap (bag_remove left_cmp (left_of place v)) (sym (left_in-taken laws place v vs es h t))
       by false t =
           ap (λ l. left_in (set_value (is_at (state_key_cmp place)) es l)) (remove_none v vs t)
-          ∙ (ap left_in (set_value_same (is_at (state_key_cmp place)) es vs h) ∙ sym (remove_not laws (left_at place v) (left_in es) (not_there place v vs es s h t)))
+          ∙ (ap left_in (set_value_same (is_at (state_key_cmp place)) es vs h) ∙ sym (remove_not laws (left_of place v) (left_in es) (not_there place v vs es s h t)))
 
   -- ALL THAT WAS PUT IN is taken out again
   pub put_and_taken : (some left : List StateLeft) → taken_back (join left_cmp some left) some ≡ left

@@ -11,7 +11,7 @@ use Rattle.td_stamp.specs.ProvedOrders.{both_tie}
 use Rattle.td_stamp.specs.Orders.{state_key_cmp}
 use Rattle.td_machine.specs.State.{state_cmp, left_cmp}
 use Rattle.td_shard.specs.declared.version.Version.{Version}
-use Rattle.td_shard.specs.Versions.{left_at, version_cmp}
+use Rattle.td_shard.specs.Versions.{left_of, version_cmp}
 
 state_total : IsTotalOrder state_cmp
 state_total = then_total (on_total (λ c. c.a) int_cmp_total) (on_total (λ c. c.b) int_cmp_total)
@@ -43,13 +43,13 @@ pub place_apart : IsAntisymmetric state_key_cmp
 place_apart x y e = let t = both_tie (nat_cmp x.0 y.0) (nat_cmp x.1 y.1) e in λ i. (nat_cmp-IsAntisymmetric x.0 y.0 t.0 i, nat_cmp-IsAntisymmetric x.1 y.1 t.1 i)
 
 -- the versions of one place stand as they were left
-pub left_at-cmp : (place : ℕ × ℕ) (x y : Version) → left_cmp (left_at place x) (left_at place y) ≡ version_cmp x y
-left_at-cmp place x y =
+pub left_of-cmp : (place : ℕ × ℕ) (x y : Version) → left_cmp (left_of place x) (left_of place y) ≡ version_cmp x y
+left_of-cmp place x y =
     let states = option_cmp state_cmp x.state y.state in
     λ i. ordering_then (nat_cmp x.epoch y.epoch) (ordering_then (tied_itself nat_cmp_total place.0 i) (ordering_then (tied_itself nat_cmp_total place.1 i) states))
 
 -- what was left at two places differs
-pub places_tie : (p q : ℕ × ℕ) (x y : Version) → left_cmp (left_at p x) (left_at q y) ≡ Equal → state_key_cmp p q ≡ Equal
+pub places_tie : (p q : ℕ × ℕ) (x y : Version) → left_cmp (left_of p x) (left_of q y) ≡ Equal → state_key_cmp p q ≡ Equal
 places_tie p q x y e =
     let a = both_tie (nat_cmp x.epoch y.epoch) (ordering_then (nat_cmp p.0 q.0) (ordering_then (nat_cmp p.1 q.1) (option_cmp state_cmp x.state y.state))) e in
     let b = both_tie (nat_cmp p.0 q.0) (ordering_then (nat_cmp p.1 q.1) (option_cmp state_cmp x.state y.state)) a.1 in

@@ -18,8 +18,8 @@ use Rattle.td_batch.specs.Meaning.{with_kept}
 use Rattle.td_machine.specs.declared.records.StateLeft.{StateLeft}
 use Rattle.td_machine.specs.State.{left_cmp, with_left}
 use Rattle.td_shard.specs.declared.version.Version.{Version}
-use Rattle.td_shard.specs.Versions.{VersionList, left_at, left_in, version_cmp, later, latest, up_to, with_version, with_latest}
-use Rattle.td_shard.proofs.LeftOrders.{left_total, place_apart, left_at-cmp}
+use Rattle.td_shard.specs.Versions.{VersionList, left_of, left_in, version_cmp, later, latest, up_to, with_version, with_latest}
+use Rattle.td_shard.proofs.LeftOrders.{left_total, place_apart, left_of-cmp}
 use Rattle.td_shard.proofs.LeftBags.{left_in-bag, left_in-filter, join-bag, none_again}
 use Rattle.td_shard.proofs.KeptStates.{InOrder, kept_keeps, left_keeps, look_kept_same, look_kept_other, states_in_order, same_states}
 
@@ -115,17 +115,17 @@ last_more x (y ∷ ys) r = by (left_cmp x y) refl
     by Greater f = ap Some (last_insert x y ys f r)
 
 -- the last of the versions of a place
-later-left : (place : ℕ × ℕ) (o : Option Version) (v : Version) → above_of (option_map (left_at place) o) (left_at place v) ≡ option_map (left_at place) (later o v)
+later-left : (place : ℕ × ℕ) (o : Option Version) (v : Version) → above_of (option_map (left_of place) o) (left_of place v) ≡ option_map (left_of place) (later o v)
 later-left place None v = refl
-later-left place (Some x) v = ap (λ o. Some (cond (is_gt o) (left_at place v) (left_at place x))) (left_at-cmp place v x) ∙ by (is_gt (version_cmp v x))
+later-left place (Some x) v = ap (λ o. Some (cond (is_gt o) (left_of place v) (left_of place x))) (left_of-cmp place v x) ∙ by (is_gt (version_cmp v x))
   where
-    by : (b : Bool) → Some (cond b (left_at place v) (left_at place x)) ≡ Some (left_at place (cond b v x))
+    by : (b : Bool) → Some (cond b (left_of place v) (left_of place x)) ≡ Some (left_of place (cond b v x))
     by true = refl
     by false = refl
 
-fold-left : (place : ℕ × ℕ) (vs : List Version) (o : Option Version) → fold above_of (option_map (left_at place) o) (map (left_at place) vs) ≡ option_map (left_at place) (fold later o vs)
+fold-left : (place : ℕ × ℕ) (vs : List Version) (o : Option Version) → fold above_of (option_map (left_of place) o) (map (left_of place) vs) ≡ option_map (left_of place) (fold later o vs)
 fold-left place [] o = refl
-fold-left place (v ∷ vs) o = ap (λ l. fold above_of l (map (left_at place) vs)) (later-left place o v) ∙ fold-left place vs (later o v)
+fold-left place (v ∷ vs) o = ap (λ l. fold above_of l (map (left_of place) vs)) (later-left place o v) ∙ fold-left place vs (later o v)
 
 abbrev pub version_or : Option Version → Option State → Option State
 version_or None s = s
@@ -146,44 +146,44 @@ module _ (laws : BagLaws left_cmp) where
   -- what was left at a place, up to an epoch
   abbrev placed : ℕ → ℕ × ℕ → Option (List Version) → List StateLeft
   placed epoch place None = []
-  placed epoch place (Some vs) = map (left_at place) (up_to epoch vs)
+  placed epoch place (Some vs) = map (left_of place) (up_to epoch vs)
 
-  here-yes : (place other : ℕ × ℕ) (vs : List Version) → is_eq (state_key_cmp place other) ≡ true → filter (is_here place) (map (left_at other) vs) ≡ map (left_at other) vs
+  here-yes : (place other : ℕ × ℕ) (vs : List Version) → is_eq (state_key_cmp place other) ≡ true → filter (is_here place) (map (left_of other) vs) ≡ map (left_of other) vs
   here-yes place other [] h = refl
-  here-yes place other (v ∷ vs) h = λ i. cond (h i) (left_at other v ∷ here-yes place other vs h i) (here-yes place other vs h i)
+  here-yes place other (v ∷ vs) h = λ i. cond (h i) (left_of other v ∷ here-yes place other vs h i) (here-yes place other vs h i)
 
-  here-no : (place other : ℕ × ℕ) (vs : List Version) → is_eq (state_key_cmp place other) ≡ false → filter (is_here place) (map (left_at other) vs) ≡ []
+  here-no : (place other : ℕ × ℕ) (vs : List Version) → is_eq (state_key_cmp place other) ≡ false → filter (is_here place) (map (left_of other) vs) ≡ []
   here-no place other [] h = refl
-  here-no place other (v ∷ vs) h = λ i. cond (h i) (left_at other v ∷ here-no place other vs h i) (here-no place other vs h i)
+  here-no place other (v ∷ vs) h = λ i. cond (h i) (left_of other v ∷ here-no place other vs h i) (here-no place other vs h i)
 
   left_there : (epoch : ℕ) (place : ℕ × ℕ) (es : VersionList) → IsStrictlySortedBy state_key_cmp (keys_of es)
       → filter (is_here place) (filter (λ k. nat_le k.epoch epoch) (left_in es)) ≡ bag_of left_cmp (placed epoch place (lookup (is_at (state_key_cmp place)) es))
   unfolding IsStrictlySortedBy
   left_there epoch place [] s = refl
   left_there epoch place (e ∷ es) s =
-      let own = map (left_at e.0) (up_to epoch e.1) in
+      let own = map (left_of e.0) (up_to epoch e.1) in
       let rest = filter (λ k. nat_le k.epoch epoch) (left_in es) in
       ap (filter (is_here place)) (left_in-filter laws (λ k. nat_le k.epoch epoch) e es)
       ∙ (laws.filtered_join (is_here place) own rest (laws.filtered (λ k. nat_le k.epoch epoch) (left_in es) (left_in-bag laws es)) ∙ by (state_key_cmp place e.0) refl (left_there epoch place es s.1))
     where
       by : (o : Ordering) → state_key_cmp place e.0 ≡ o
           → filter (is_here place) (filter (λ k. nat_le k.epoch epoch) (left_in es)) ≡ bag_of left_cmp (placed epoch place (lookup (is_at (state_key_cmp place)) es))
-          → join left_cmp (filter (is_here place) (map (left_at e.0) (up_to epoch e.1))) (filter (is_here place) (filter (λ k. nat_le k.epoch epoch) (left_in es)))
+          → join left_cmp (filter (is_here place) (map (left_of e.0) (up_to epoch e.1))) (filter (is_here place) (filter (λ k. nat_le k.epoch epoch) (left_in es)))
           ≡ bag_of left_cmp (placed epoch place (cond (is_eq o) (Some e.1) (lookup (is_at (state_key_cmp place)) es)))
       by Less f r = λ i. join left_cmp (here-no place e.0 (up_to epoch e.1) (ap is_eq f) i) (r i)
       by Greater f r = λ i. join left_cmp (here-no place e.0 (up_to epoch e.1) (ap is_eq f) i) (r i)
       by Equal f r =
           let here : place ≡ e.0 = place_apart place e.0 f in
           (λ i. join left_cmp (here-yes place e.0 (up_to epoch e.1) (ap is_eq f) i) ((r ∙ ap (λ o. bag_of left_cmp (placed epoch place o)) (none_again place e es s here)) i))
-          ∙ (λ i. join left_cmp (map (left_at (sym here i)) (up_to epoch e.1)) [])
+          ∙ (λ i. join left_cmp (map (left_of (sym here i)) (up_to epoch e.1)) [])
 
   placed-last : (epoch : ℕ) (place : ℕ × ℕ) (o : Option (List Version)) (s : Option State) → ended (bag_of left_cmp (placed epoch place o)) s ≡ version_or (latest_at epoch o) s
   placed-last epoch place None s = refl
   placed-last epoch place (Some vs) s =
-      ended-last (bag_of left_cmp (map (left_at place) (up_to epoch vs))) s
-      ∙ (ap (λ o. stays o s) (last_joined (map (left_at place) (up_to epoch vs)) [] refl ∙ fold-left place (up_to epoch vs) None) ∙ by (latest (up_to epoch vs)))
+      ended-last (bag_of left_cmp (map (left_of place) (up_to epoch vs))) s
+      ∙ (ap (λ o. stays o s) (last_joined (map (left_of place) (up_to epoch vs)) [] refl ∙ fold-left place (up_to epoch vs) None) ∙ by (latest (up_to epoch vs)))
     where
-      by : (o : Option Version) → stays (option_map (left_at place) o) s ≡ version_or o s
+      by : (o : Option Version) → stays (option_map (left_of place) o) s ≡ version_or o s
       by None = refl
       by (Some v) = refl
 
@@ -211,7 +211,7 @@ module _ (laws : BagLaws left_cmp) where
       by : (b : Bool) → state_of states place.0 place.1 ≡ cond b (state_of states place.0 place.1) (state_of states place.0 place.1)
       by true = refl
       by false = refl
-  look_version place other (Some v) states h = look_kept place (left_at other v) states h
+  look_version place other (Some v) states h = look_kept place (left_of other v) states h
 
   look_latest : (epoch : ℕ) (place : ℕ × ℕ) (es : VersionList) (states : StateList) → IsStrictlySortedBy state_key_cmp (keys_of es) → InOrder states
       → state_of (with_latest epoch states es) place.0 place.1 ≡ version_or (latest_at epoch (lookup (is_at (state_key_cmp place)) es)) (state_of states place.0 place.1)

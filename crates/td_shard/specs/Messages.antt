@@ -1,9 +1,10 @@
 -- The messages of a shard, in the order in which they were posted, and the tasks that are taken of them.
-use Rattle.std.specs.Prelude.{◌≡◌, ℕ, zero, suc, ◌==◌, Bool, ◌&&◌, cond, List, [], ◌∷◌, filter, take, reverse, Option, Some, None}
+use Rattle.std.specs.Prelude.{◌≡◌, ℕ, zero, suc, ◌-◌, ◌==◌, Bool, ◌&&◌, cond, List, [], ◌∷◌, filter, take, reverse, Option, Some, None}
 use Rattle.std.specs.List.{remove, slice_get}
 use Rattle.std.specs.Cmp.Lexicographic.{pointwise}
 use Rattle.td_stamp.specs.Time.{Timestamp}
 use Rattle.td_machine.specs.declared.records.Message.{Message}
+use Rattle.td_machine.specs.Steps.{task_size}
 
 -- What a mailbox holds: how many more runs of messages, and how many more messages in all, may be posted without memory; and the
 -- messages that were posted and not taken, in the order posted
@@ -12,13 +13,13 @@ pub record Mailboxed : Type 0 where
   pub room : ℕ
   pub messages : List Message
 
--- whether two times are the same
-abbrev pub same_time : Timestamp → Timestamp → Bool
-same_time t u = (t.epoch == u.epoch) && pointwise (λ i j. i == j) (reverse t.turns) (reverse u.turns)
+-- whether two times are equal, as a derived test of their parts computes it
+abbrev pub equal_times : Timestamp → Timestamp → Bool
+equal_times t u = (t.epoch == u.epoch) && pointwise (λ i j. i == j) (reverse t.turns) (reverse u.turns)
 
 -- whether two messages are on one edge, and bear one time
 abbrev pub same_edge : Message → Message → Bool
-same_edge c d = (c.vertex == d.vertex) && ((c.port == d.port) && same_time c.time d.time)
+same_edge c d = (c.vertex == d.vertex) && ((c.port == d.port) && equal_times c.time d.time)
 
 -- a message is on the edge of another, and bears its time
 abbrev pub IsBeside : Message → Message → Type 0
@@ -30,15 +31,19 @@ without_first p zero xs = xs
 without_first p (suc n) [] = []
 without_first p (suc n) (x ∷ xs) = cond (p x) (without_first p n xs) (x ∷ without_first p (suc n) xs)
 
--- a task that begins with a message: of the others the first 63 on its edge and of its time come with it
+-- how many more messages a task has at most than the one with which it begins
+abbrev pub task_rest : ℕ
+task_rest = task_size - 1
+
+-- a task that begins with a message: of the others the first on its edge and of its time come with it, as many as a task has
 abbrev pub task_by : Option Message → List Message → List Message
 task_by None others = []
-task_by (Some c) others = c ∷ take 63 (filter (same_edge c) others)
+task_by (Some c) others = c ∷ take task_rest (filter (same_edge c) others)
 
 -- what stays of the others
 abbrev pub left_by : Option Message → List Message → List Message
 left_by None others = others
-left_by (Some c) others = without_first (same_edge c) 63 others
+left_by (Some c) others = without_first (same_edge c) task_rest others
 
 -- the task that begins with the message at a place, and the messages that are left then
 abbrev pub task_at : ℕ → List Message → List Message

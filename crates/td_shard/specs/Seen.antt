@@ -10,22 +10,14 @@ use Rattle.td_stamp.specs.Bag.{bag_insert, has, join}
 use Rattle.td_machine.specs.declared.records.Stamped.{Stamped}
 use Rattle.td_machine.specs.State.{stamped_cmp}
 use Rattle.td_machine.specs.Steps.{stamped}
+use Rattle.td_machine.specs.AtOnce.{fresh}
 use Rattle.td_shard.specs.declared.place.Place.{Place}
-
--- a record at a vertex and a time
-abbrev pub at : ℕ → Timestamp → Rec → Stamped
-at v t r = record { vertex = v; time = t; rec = r }
-
--- of records that come to a vertex at a time those that were not seen there before, each once, in the order in which they come
-abbrev pub fresh : List Stamped → ℕ → Timestamp → List Rec → List Rec
-fresh seen v t [] = []
-fresh seen v t (r ∷ rs) = cond (has stamped_cmp (at v t r) seen) (fresh seen v t rs) (r ∷ fresh (bag_insert stamped_cmp (at v t r) seen) v t rs)
 
 -- what is seen when these records came as well
 abbrev pub with_fresh : List Stamped → ℕ → Timestamp → List Rec → List Stamped
 with_fresh seen v t recs = join stamped_cmp (stamped v t (fresh seen v t recs)) seen
 
--- the same within one set, in the order of records
+-- what is new within one set, in the order of records
 abbrev pub fresh_recs : List Rec → List Rec → List Rec
 fresh_recs seen [] = []
 fresh_recs seen (r ∷ rs) = cond (has rec_cmp r seen) (fresh_recs seen rs) (r ∷ fresh_recs (bag_insert rec_cmp r seen) rs)

@@ -6,7 +6,7 @@ use Rattle.td_stamp.specs.declared.values.Rec.{Rec}
 use Rattle.td_shard.specs.declared.lane.Lane.{Lane}
 use Rattle.td_shard.specs.declared.slots.Slot.{Slot}
 use Rattle.td_machine.specs.declared.records.Message.{Message}
-use Rattle.td_shard.specs.Messages.{same_time}
+use Rattle.td_shard.specs.Messages.{equal_times}
 
 -- the message of a slot
 abbrev pub message : Slot → Message
@@ -19,7 +19,7 @@ messages_of (s ∷ ss) = cond s.is_taken (messages_of ss) (message s ∷ message
 
 -- whether two lanes are the same
 abbrev pub lane_eq : Lane → Lane → Bool
-lane_eq j k = (j.vertex == k.vertex) && ((j.port == k.port) && same_time j.time k.time)
+lane_eq j k = (j.vertex == k.vertex) && ((j.port == k.port) && equal_times j.time k.time)
 
 -- how far ahead a place in what follows is: 0 where there is none
 abbrev pub ahead_of : Option ℕ → ℕ

@@ -16,26 +16,26 @@ abbrev pub VersionList : Type 0
 VersionList = List ((ℕ × ℕ) × List Version)
 
 -- a version, as what was left for a vertex and key
-abbrev pub left_at : ℕ × ℕ → Version → StateLeft
-left_at place version = record { epoch = version.epoch; vertex = place.0; key = place.1; state = version.state }
+abbrev pub left_of : ℕ × ℕ → Version → StateLeft
+left_of place version = record { epoch = version.epoch; vertex = place.0; key = place.1; state = version.state }
 
 -- all that was left, in the order of epochs
 abbrev pub left_in : VersionList → List StateLeft
 left_in [] = []
-left_in (e ∷ es) = join left_cmp (map (left_at e.0) e.1) (left_in es)
+left_in (e ∷ es) = join left_cmp (map (left_of e.0) e.1) (left_in es)
 
 -- the order of the versions of one vertex and key: that in which they were left
 abbrev pub version_cmp : Version → Version → Ordering
 version_cmp x y = ordering_then (nat_cmp x.epoch y.epoch) (option_cmp state_cmp x.state y.state)
 
 -- how the versions of a vertex and key are kept: there are some, and they stand in order
-abbrev pub IsKept : List Version → Type 0
-IsKept versions = (versions ≢ []) × Rises version_cmp versions
+abbrev pub AreVersions : List Version → Type 0
+AreVersions versions = (versions ≢ []) × Rises version_cmp versions
 
 -- so are those of each
 abbrev pub AreKept : VersionList → Type 0
 AreKept [] = Unit {0}
-AreKept (e ∷ es) = IsKept e.1 × AreKept es
+AreKept (e ∷ es) = AreVersions e.1 × AreKept es
 
 -- the later of two versions
 abbrev pub later : Option Version → Version → Option Version

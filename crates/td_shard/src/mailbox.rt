@@ -9,10 +9,11 @@ ghost use Rattle.td_shard.specs.Slots.{lane_eq};
 use crate::error::ShardError;
 use crate::lane::Lane;
 use crate::slots::{Slot, append};
-use crate::take::{TASK_SIZE, let_go, mark_task, read_task};
+use crate::take::{let_go, mark_task, read_task};
 use std::alloc::Global;
 use std::collections::{HashMap, VecDeque};
 use std::marker::Model;
+use td_machine::TASK_SIZE;
 use td_stamp::{Rec, Time};
 
 /// The messages of a task: records that come to a port of a vertex, all at one time.

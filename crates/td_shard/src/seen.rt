@@ -1,10 +1,12 @@
-//! What the distincts of a shard have seen.
-ghost use Rattle.std.specs.Prelude.{◌≡◌, ◌<◌, ◌≤◌, ◌++◌, ◌∷◌, [], List, cond, filter, length, nat_lt, IfOk, OnOk, OnErr, vec_len, vec_capacity};
+//! What distincts have seen, those of all shards together.
+ghost use Rattle.std.specs.Prelude.{◌≡◌, ◌<◌, ◌≤◌, ◌++◌, ◌∷◌, [], List, cond, filter, length, nat_lt, IfOk, OnOk};
+ghost use Rattle.std.specs.Prelude.{OnErr, vec_len, vec_capacity};
 ghost use Rattle.td_stamp.specs.declared.values.Rec.{Rec as AnyRec};
 ghost use Rattle.td_stamp.specs.Orders.{rec_cmp};
 ghost use Rattle.td_stamp.specs.Bag.{bag_insert, has, join};
 ghost use Rattle.td_machine.specs.State.{stamped_cmp};
-ghost use Rattle.td_shard.specs.Seen.{at, fresh, fresh_recs, with_fresh};
+ghost use Rattle.td_machine.specs.AtOnce.{fresh, stamped_at};
+ghost use Rattle.td_shard.specs.Seen.{fresh_recs, with_fresh};
 
 use crate::error::ShardError;
 use crate::place::Place;
@@ -52,7 +54,7 @@ impl Seen {
 
     /// Whether a record was seen at a vertex and time. It takes no memory.
     pub fn has(&self, vertex: u8, time: &Time, rec: &Rec) -> bool
-        ensures { result ≡ has stamped_cmp (at vertex time.now rec.now) self.now }
+        ensures { result ≡ has stamped_cmp (stamped_at vertex time.now rec.now) self.now }
     {
         let time = time.copy();
         match self.sets.get(&Place { vertex, time }) {

@@ -1,22 +1,23 @@
 //! How a task is read off the slots of a mailbox, and how it is taken out.
-ghost use Rattle.std.specs.Prelude.{◌≡◌, ◌+◌, ◌-◌, ◌^◌, ◌<◌, ◌≤◌, ◌++◌, ◌∷◌, [], ℕ, cond, true, false, ◌==◌, ◌&&◌, IsTrue, Some, None, length, take, drop, slice_set, slice_index_or, vec_len, vec_capacity, IsSome};
+ghost use Rattle.std.specs.Prelude.{◌≡◌, ◌+◌, ◌-◌, ◌^◌, ◌<◌, ◌≤◌, ◌++◌, ◌∷◌, [], ℕ, cond, true, false, ◌==◌, ◌&&◌};
+ghost use Rattle.std.specs.Prelude.{IsTrue, Some, None, length, take, drop, slice_set, slice_index_or, vec_len};
+ghost use Rattle.std.specs.Prelude.{vec_capacity, IsSome};
 ghost use Rattle.std.specs.List.{HoldsAt};
 ghost use Rattle.std.specs.Option.{option_map};
 ghost use Rattle.std.specs.HashMap.{get, spare};
 ghost use Rattle.std.specs.VecDeque.{deque_len, deque_capacity};
 ghost use Rattle.td_shard.specs.Messages.{task_at, left_at};
 ghost use Rattle.td_machine.specs.Steps.{coming};
-ghost use Rattle.td_shard.specs.Slots.{lane_eq, first_on, last_on, AreLinked, FrontWaits, messages_of, taken, taken_at, taken_on, waiting_rec, recs_on};
+ghost use Rattle.td_shard.specs.Slots.{lane_eq, first_on, last_on, AreLinked, FrontWaits, messages_of, taken, taken_at};
+ghost use Rattle.td_shard.specs.Slots.{taken_on, waiting_rec, recs_on};
 ghost use Rattle.td_shard.specs.declared.slots.Slot.{Slot as AnySlot};
 ghost use Rattle.td_shard.specs.declared.lane.Lane.{Lane as AnyLane};
 
 use crate::lane::Lane;
 use crate::slots::Slot;
 use std::collections::{HashMap, VecDeque};
+use td_machine::TASK_SIZE;
 use td_stamp::Rec;
-
-/// How many messages a task has at most.
-pub(crate) const TASK_SIZE: usize = 64;
 
 /// The place of the slot whose message is at `pick` among those that wait.
 pub(crate) fn place_of(slots: &VecDeque<Slot>, pick: usize) -> usize

@@ -3,3 +3,4 @@ mod OtherPut
 mod Order
 mod Parsing
 mod Reading
+mod Raised

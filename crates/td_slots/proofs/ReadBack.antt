@@ -6,7 +6,8 @@ use Rattle.std.proofs.lemmas.Bool.{and_from, lt-ltb, le-leb}
 use Rattle.std.proofs.lemmas.List.{append_assoc, length-append, length-replicate}
 use Rattle.td_stamp.specs.declared.values.State.{State}
 use Rattle.td_stamp.specs.States.{StateList}
-use Rattle.td_gate.specs.Fields.{number_bytes, number_at, signed_at, signed_bytes, Front, front_bytes, front_in, front_len, front_of, is_plain, each_in}
+use Rattle.td_gate.specs.declared.fields.Front.{Front}
+use Rattle.td_gate.specs.Fields.{number_bytes, number_at, signed_at, signed_bytes, front_bytes, front_in, front_len, front_of, is_plain, each_in}
 use Rattle.td_gate.specs.Reading.{number_behind, signed_behind, length_bytes, front_back, front_past, front_size, each_back, each_size}
 use Rattle.td_slots.specs.Slot.{slot_len, state_bytes, state_in, slot_bytes, states_in, is_last, is_front, are_states, is_slot, IsLast, FitsState, AreSlotStates}
 use Rattle.td_slots.specs.Newest.{where_valid, spelled, checkpoint_in}

@@ -6,7 +6,8 @@ use Rattle.std.specs.Ordering.{is_lt}
 use Rattle.td_stamp.specs.declared.values.State.{State}
 use Rattle.td_stamp.specs.Orders.{state_key_cmp}
 use Rattle.td_stamp.specs.States.{StateList}
-use Rattle.td_gate.specs.Fields.{Front, number_bytes, number_at, signed_at, signed_bytes, front_bytes, front_in, front_len, front_of, is_plain, each_in, is_chain}
+use Rattle.td_gate.specs.declared.fields.Front.{Front}
+use Rattle.td_gate.specs.Fields.{number_bytes, number_at, signed_at, signed_bytes, front_bytes, front_in, front_len, front_of, is_plain, each_in, is_chain}
 use Rattle.td_gate.specs.Reading.{Each}
 use Rattle.td_gate.specs.declared.region.Region.{Region}
 use Rattle.td_slots.specs.declared.slots.Slots.{Slots}

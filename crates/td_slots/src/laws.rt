@@ -61,3 +61,9 @@ pub fn states_are_in_order()
     ensures named { (folds : List ℕ) (states : StateList)
         → are_states folds states ≡ true → list_all (λ s. list_any (λ v. v == s.0.0) folds) states ≡ true }
 {}
+
+/// The newest checkpoint of any version of the format is that of version 2.
+pub fn version_is_raised()
+    ensures { (version : ℕ) (folds : List ℕ) (s : AnySlots) (image : List ℕ) (c : AnyCheckpoint)
+        → newest version folds s image ≡ Ok c → newest 2 folds s image ≡ Ok c }
+{}

@@ -6,23 +6,10 @@ ghost use Rattle.td_slots.specs.Slot.{are_states as are_states_of, is_front as i
 ghost use Rattle.td_slots.specs.Slot.{states_in, state_in, slot_len};
 ghost use Rattle.td_slots.specs.Parsed.{may_come_after};
 
+use crate::payload::STATE_LEN;
 use std::alloc::Global;
-use td_gate::fields::{i64_at, u32_at, u64_at};
-use td_stamp::{StampError, State, States};
-
-/// The fold of this number, if it is one of them.
-fn named(folds: &[u8], number: u64) -> Option<u8>
-    ensures some { IfSome result (λ fold. fold ≡ number) }
-    ensures named { IfSome result (λ fold. list_any (λ v. v == number) folds.now ≡ true) }
-    ensures none { IfNone result (list_any (λ v. v == number) folds.now ≡ false) }
-{
-    for fold in folds {
-        if u64::from(*fold) == number {
-            return Some(*fold);
-        }
-    }
-    None
-}
+use td_gate::fields::{FRONT_LEN, Front, i64_at, named, u64_at};
+use td_stamp::{EPOCHS_END, StampError, State, States};
 
 /// Where the state at a place of a payload is kept, if by a fold.
 fn kept_at(folds: &[u8], payload: &[u8], at: usize) -> Option<(u8, u64)>
@@ -64,10 +51,9 @@ fn is_front(version: u32, k: u32, payload: &[u8]) -> bool
     requires { 24 ≤ length payload.now }
     ensures { result ≡ is_front_of version k (front_in payload.now) }
 {
-    let is_epoch = u64_at(payload, 0) < 1 << 63;
-    let is_last = 2 <= version || u64_at(payload, 8) == 0;
-    let is_count = u32_at(payload, 20) == 0 && u32_at(payload, 16) <= k;
-    is_epoch && (is_last && is_count)
+    let front = Front::read(payload);
+    let is_last = 2 <= version || front.request == 0;
+    front.epoch < EPOCHS_END && (is_last && front.is_plain(k))
 }
 
 /// Whether the counted states are kept by folds and rise strictly by vertex and key.
@@ -76,8 +62,8 @@ fn are_states(folds: &[u8], payload: &[u8]) -> bool
     ensures { result ≡ are_states_of folds.now (states_in payload.now) }
 {
     let mut last = None;
-    for i in 0..u32_at(payload, 16) {
-        let Some(place) = kept_at(folds, payload, 24 + 32 * i as usize) else {
+    for i in 0..Front::read(payload).count {
+        let Some(place) = kept_at(folds, payload, FRONT_LEN + STATE_LEN * i as usize) else {
             return false;
         };
         if !may_come(last, place) {
@@ -103,8 +89,8 @@ pub(crate) fn states_of(alloc: Global, folds: &[u8], payload: &[u8]) -> Result<S
     ensures { IfOk result (λ states. states ≡ states_in payload.now) }
 {
     let mut states = States::new(alloc);
-    for i in 0..u32_at(payload, 16) {
-        let at = 24 + 32 * i as usize;
+    for i in 0..Front::read(payload).count {
+        let at = FRONT_LEN + STATE_LEN * i as usize;
         if let Some(place) = kept_at(folds, payload, at) {
             states.set(place.0, place.1, state_at(payload, at))?;
         }

@@ -4,8 +4,11 @@ ghost use Rattle.td_gate.specs.Reading.{Each};
 ghost use Rattle.td_slots.specs.Slot.{state_bytes, slot_bytes, FitsState};
 
 use std::alloc::{AllocError, Global};
-use td_gate::fields::{push_i64, push_u32, push_u64};
+use td_gate::fields::{FRONT_LEN, Front, push_i64, push_u64};
 use td_stamp::{State, States};
+
+/// How many bytes a kept state has.
+pub(crate) const STATE_LEN: usize = 32;
 
 /// Puts a kept state at the end.
 fn push_state(payload: &mut Vec<u8>, vertex: u8, key: u64, state: State) -> Result<(), AllocError>
@@ -42,12 +45,15 @@ pub(crate) fn slot_payload(
     ensures ok { IfOk result (λ payload. payload.items ≡ slot_bytes k epoch last states.now) }
     ensures fits { IfOk result (λ _. Each FitsState states.now) }
 {
-    let len = 24 + 32 * k as usize;
+    let len = FRONT_LEN + STATE_LEN * k as usize;
     let mut payload = Vec::with_capacity(alloc, len)?;
-    push_u64(&mut payload, epoch)?;
-    push_u64(&mut payload, last)?;
-    push_u32(&mut payload, states.len() as u32)?;
-    push_u32(&mut payload, 0)?;
+    let front = Front {
+        epoch,
+        request: last,
+        count: states.len() as u32,
+        zeros: 0,
+    };
+    front.push(&mut payload)?;
     push_states(&mut payload, states)?;
     payload.resize(len, 0)?;
     Ok(payload)

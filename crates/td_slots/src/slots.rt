@@ -1,7 +1,8 @@
 // Two slots.
 ghost use Rattle.std.specs.Prelude.{◌≡◌, ◌⊎◌, ◌↔◌, ◌+◌, ◌-◌, ◌*◌, ◌^◌, ◌<◌, ◌≤◌, length, true, OnOk, IfOk, IfErr, IsErrOf};
-ghost use Rattle.td_disk.specs.Disk.{IsDurable, Rises};
-ghost use Rattle.td_gate.specs.CrashSafe.{CrashSafe, Unchanged};
+ghost use Rattle.td_disk.specs.Disk.{CountsDevice, IsDurable};
+ghost use Rattle.td_gate.specs.CrashSafe.{CrashSafe};
+ghost use Rattle.td_gate.specs.Reads.{IsRead};
 ghost use Rattle.td_gate.specs.Reading.{Each};
 ghost use Rattle.td_gate.specs.Region.{opened, payload_of, HasLength, IsSettled, IsOpen, Puts};
 ghost use Rattle.td_slots.specs.Slot.{slot, slot_len, slot_bytes, is_last, are_states, FitsState};
@@ -10,11 +11,11 @@ ghost use Rattle.td_slots.specs.Parsed.{newer_of, chosen_of, AtLeast, IsValid, I
 
 use crate::error::SlotsError;
 use crate::parse::{is_slot, states_of};
-use crate::payload::slot_payload;
+use crate::payload::{STATE_LEN, slot_payload};
 use std::alloc::Global;
 use td_disk::Disk;
 use td_gate::Region;
-use td_gate::fields::u64_at;
+use td_gate::fields::{FRONT_LEN, Front};
 use td_stamp::States;
 
 /// A checkpoint: the slot in which it stands, its epoch, the greatest request number of the epochs up to it (0 for
@@ -46,7 +47,7 @@ fn newer(first: Option<Vec<u8>>, second: Option<Vec<u8>>) -> Option<(u8, Vec<u8>
     let Some(second) = second else {
         return Some((0, first));
     };
-    if u64_at(&first, 0) < u64_at(&second, 0) {
+    if Front::read(&first).epoch < Front::read(&second).epoch {
         Some((1, second))
     } else {
         Some((0, first))
@@ -62,7 +63,7 @@ impl Slots {
         ensures region { result ≡ slot self.now side }
         ensures within { result.at + result.len + 1 ≤ self.now.at + 2 * (slot_len self.now.k + 1) }
     {
-        let len = 24 + 32 * u64::from(self.k);
+        let len = (FRONT_LEN + STATE_LEN * self.k as usize) as u64;
         Region {
             at: self.at + u64::from(side) * (len + 1),
             len,
@@ -89,8 +90,7 @@ impl Slots {
         ensures refusals { IfErr result (λ e.
             (e ≡ SlotsError.TooManyKeys) ⊎ (e ≡ SlotsError.Memory) ⊎ (e ≡ SlotsError.Device)) }
         ensures untouched { IfErr result (λ e. (e ≡ SlotsError.Device) ⊎ (device.new ≡ device.old)) }
-        ensures device { IsErrOf result SlotsError.Device → Rises (D.failures device.old) (D.failures device.new) }
-        ensures later { D.failures device.old ≤ D.failures device.new }
+        ensures failures { CountsDevice result SlotsError.Device (D.failures device.old) (D.failures device.new) }
         ensures size { D.capacity device.new ≡ D.capacity device.old }
         ensures lawful { D.is_lawful device.old ↔ D.is_lawful device.new }
         ensures few { OnOk result (length states.now ≤ self.now.k) }
@@ -134,13 +134,8 @@ impl Slots {
         ensures len { IfOk result (λ p. HasLength p (slot_len self.now.k)) }
         ensures refused { IfErr result (λ e. (e ≡ SlotsError.Device) ⊎ ((e ≡ SlotsError.Memory) ⊎ (D.is_lawful device.old
             → IsDamaged version folds.now self.now.k side (opened (slot self.now side) (D.state device.old).bytes) e))) }
-        ensures device { IsErrOf result SlotsError.Device → Rises (D.failures device.old) (D.failures device.new) }
-        ensures later { D.failures device.old ≤ D.failures device.new }
-        ensures size { D.capacity device.new ≡ D.capacity device.old }
-        ensures lawful { D.is_lawful device.old ↔ D.is_lawful device.new }
-        ensures same { D.is_lawful device.old → (D.state device.new).bytes ≡ (D.state device.old).bytes }
-        ensures durable { D.is_lawful device.old → IsDurable (D.state device.old) → IsDurable (D.state device.new) }
-        ensures crash_safe { D.is_lawful device.old → CrashSafe Unchanged (D.state device.old) (D.state device.new) }
+        ensures failures { CountsDevice result SlotsError.Device (D.failures device.old) (D.failures device.new) }
+        ensures read { IsRead D.capacity D.is_lawful D.state device.old device.new }
     {
         // The answer fits a u64, and so do the places of the slots.
         let _size = device.size();
@@ -175,13 +170,8 @@ impl Slots {
         ensures small { IfOk result (λ c. c.epoch < 2 ^ 63) }
         ensures last { IfOk result (λ c. is_last version c.last ≡ true) }
         ensures states { IfOk result (λ c. are_states folds.now c.states ≡ true) }
-        ensures device { IsErrOf result SlotsError.Device → Rises (D.failures device.old) (D.failures device.new) }
-        ensures later { D.failures device.old ≤ D.failures device.new }
-        ensures size { D.capacity device.new ≡ D.capacity device.old }
-        ensures lawful { D.is_lawful device.old ↔ D.is_lawful device.new }
-        ensures same { D.is_lawful device.old → (D.state device.new).bytes ≡ (D.state device.old).bytes }
-        ensures durable { D.is_lawful device.old → IsDurable (D.state device.old) → IsDurable (D.state device.new) }
-        ensures crash_safe { D.is_lawful device.old → CrashSafe Unchanged (D.state device.old) (D.state device.new) }
+        ensures failures { CountsDevice result SlotsError.Device (D.failures device.old) (D.failures device.new) }
+        ensures read { IsRead D.capacity D.is_lawful D.state device.old device.new }
     {
         td_gate::laws::reads_in_turn::<D>();
         let first = self.valid_payload(alloc, device, version, folds, 0)?;
@@ -189,10 +179,11 @@ impl Slots {
         let Some((slot, payload)) = newer(first, second) else {
             return Err(SlotsError::NoSlot);
         };
+        let front = Front::read(&payload);
         Ok(Checkpoint {
             slot,
-            epoch: u64_at(&payload, 0),
-            last: u64_at(&payload, 8),
+            epoch: front.epoch,
+            last: front.request,
             states: states_of(alloc, folds, &payload)?,
         })
     }

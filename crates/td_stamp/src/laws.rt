@@ -15,7 +15,8 @@ ghost use Rattle.td_stamp.specs.Orders.{rec_cmp, item_cmp, arrival_cmp, entry_cm
 ghost use Rattle.td_stamp.specs.Bag.{bag_insert, bag_remove, bag_of, join, set_insert, set_of, set_has, has, IsBag};
 ghost use Rattle.td_stamp.specs.BagLaws.{BagLaws, SetLaws};
 ghost use Rattle.td_stamp.specs.Groups.{groups, runs};
-ghost use Rattle.td_stamp.specs.Time.{Timestamp, depth, enter, leave, rounds, counters_cmp, time_le, time_cmp, AreEarlier, AreNotLater, IsAtMost};
+ghost use Rattle.td_stamp.specs.Time.{Timestamp, depth, enter, leave, rounds, counters_cmp, time_le, time_cmp};
+ghost use Rattle.td_stamp.specs.Time.{AreEarlier, AreNotLater, IsAtMost};
 
 use crate::member::Member;
 use crate::values::{Arrival, Entry, Item, Output, Rec};

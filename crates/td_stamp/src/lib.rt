@@ -23,5 +23,5 @@ pub use groups::Group;
 pub use member::Member;
 pub use members::Members;
 pub use states::States;
-pub use time::{LEVELS, Time};
+pub use time::{EPOCHS_END, LEVELS, Time};
 pub use values::{Arrival, Entry, FEW, Few, Item, Output, Rec, State};

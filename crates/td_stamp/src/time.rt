@@ -9,6 +9,9 @@ use std::marker::Model;
 /// The most loops that a time is in.
 pub const LEVELS: usize = 3;
 
+/// The end of the numbers of epochs: they begin at 1 and stay below it.
+pub const EPOCHS_END: u64 = 1 << 63;
+
 /// A timestamp: an epoch, and a counter for each loop that it is in.
 ///
 /// The counters stand in the order in which they are printed, the outermost first. Contracts see them with the
@@ -79,6 +82,15 @@ impl Time {
             epoch: self.epoch,
             turns,
         }
+    }
+
+    /// The same counters in another epoch.
+    pub fn at(&self, epoch: u64) -> Self
+        ensures { result ≡ record self.now { epoch = epoch } }
+    {
+        let mut time = self.copy();
+        time.epoch = epoch;
+        time
     }
 
     /// Whether this time is at most `other`, a time of the same depth: its epoch is not later, and its counters are not

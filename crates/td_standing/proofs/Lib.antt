@@ -9,3 +9,4 @@ mod Versions
 mod Formats
 mod Refusing
 mod Inputs
+mod Raised

@@ -10,7 +10,7 @@ use Rattle.td_journal.specs.declared.error.JournalError.TheVariants as journal
 use Rattle.td_standing.specs.declared.error.Part.{Part}
 use Rattle.td_standing.specs.declared.error.Part.TheVariants.{Head, NoSlot, Slot, Cell}
 use Rattle.td_standing.specs.declared.error.KeeperError.{KeeperError}
-use Rattle.td_standing.specs.declared.error.KeeperError.TheVariants.{NotFormatted, WrongPlan, Damaged, Full, TooManyRecords, NoSuchInput, Foreign, NotPassed, CutWaiting, TooManyKeys, Broken, Device, Memory, Epochs}
+use Rattle.td_standing.specs.declared.error.KeeperError.TheVariants.{NotFormatted, WrongPlan, Damaged, Full, TooManyRecords, NoSuchInput, Foreign, NotPassed, CutWaiting, TooManyKeys, Broken, Device, Memory, Epochs, OldVersion, LastGeneration}
 
 abbrev pub of_head : HeadError → KeeperError
 of_head head.NotFormatted = NotFormatted
@@ -18,6 +18,7 @@ of_head head.Damaged = Damaged Head
 of_head head.WrongPlan = WrongPlan
 of_head head.Device = Device
 of_head head.Memory = Memory
+of_head head.LastGeneration = LastGeneration
 
 abbrev pub of_slots : SlotsError → KeeperError
 of_slots slots.TooManyKeys = TooManyKeys
@@ -49,6 +50,8 @@ number_of Broken = 11
 number_of Device = 12
 number_of Memory = 13
 number_of Epochs = 14
+number_of OldVersion = 15
+number_of LastGeneration = 16
 
 -- the text of a part
 abbrev pub part_text : Part → List ℕ
@@ -73,3 +76,5 @@ refusal_text Broken = codes "broken"
 refusal_text Device = codes "device"
 refusal_text Memory = codes "memory"
 refusal_text Epochs = codes "no more epochs"
+refusal_text OldVersion = codes "old version"
+refusal_text LastGeneration = codes "last generation"

@@ -69,10 +69,14 @@ pub enum KeeperError {
     Memory,
     /// The greatest epoch is reached.
     Epochs,
+    /// The disk is of version 1 of the format, which has no request numbers.
+    OldVersion,
+    /// No generation follows that of the head.
+    LastGeneration,
 }
 
 impl KeeperError {
-    /// The refusal's number, 1 to 14, in the order in which they are declared.
+    /// The refusal's number, 1 to 16, in the order in which they are declared.
     pub fn number(&self) -> u8
         ensures { result ≡ number_of self.now }
     {
@@ -91,6 +95,8 @@ impl KeeperError {
             KeeperError::Device => 12,
             KeeperError::Memory => 13,
             KeeperError::Epochs => 14,
+            KeeperError::OldVersion => 15,
+            KeeperError::LastGeneration => 16,
         }
     }
 }
@@ -114,6 +120,8 @@ impl fmt::Display for KeeperError {
             KeeperError::Device => write!(f, "device"),
             KeeperError::Memory => write!(f, "memory"),
             KeeperError::Epochs => write!(f, "no more epochs"),
+            KeeperError::OldVersion => write!(f, "old version"),
+            KeeperError::LastGeneration => write!(f, "last generation"),
         }
     }
 }
@@ -162,6 +170,7 @@ impl From<HeadError> for KeeperError {
             HeadError::WrongPlan => KeeperError::WrongPlan,
             HeadError::Device => KeeperError::Device,
             HeadError::Memory => KeeperError::Memory,
+            HeadError::LastGeneration => KeeperError::LastGeneration,
         }
     }
 }

@@ -7,11 +7,12 @@ ghost use Rattle.td_standing.specs.Tells.{Keeps, first_head};
 
 use crate::error::KeeperError;
 use crate::laws;
+use crate::layout::slots_of;
 use std::alloc::Global;
 use td_disk::Disk;
 use td_head::Shape;
 use td_plan::Plan;
-use td_slots::{Checkpoint, Slots};
+use td_slots::Checkpoint;
 use td_stamp::States;
 
 /// Formats a disk, and gives what its keeper has in memory: a copy of the plan, and the checkpoint of no epochs.
@@ -31,6 +32,8 @@ pub fn format_device<D: Disk>(
         → Keeps plan.now (first_head shape) 0 nothing_told (D.state device.new)) }
     ensures refusals { IfErr result (λ e. (e ≡ KeeperError.Memory) ⊎ (e ≡ KeeperError.Device)) }
     ensures device { IsErrOf result KeeperError.Device → Rises (D.failures device.old) (D.failures device.new) }
+    ensures later { D.failures device.old ≤ D.failures device.new }
+    ensures stays { IsErrOf result KeeperError.Device ⊎ (D.failures device.new ≡ D.failures device.old) }
 {
     let _vertices = plan.vertices();
     let Ok(copy) = plan.copy() else {
@@ -42,10 +45,7 @@ pub fn format_device<D: Disk>(
     td_gate::laws::put_leaves_others();
     td_gate::laws::durable_is_settled::<D>();
     let _bytes = shape.bytes();
-    let slots = Slots {
-        at: 8_258,
-        k: shape.states(),
-    };
+    let slots = slots_of(&shape);
     td_head::wipe(device, shape)?;
     slots.write(alloc, device, 1, 0, 0, &states)?;
     td_head::put_first(alloc, device, plan, shape)?;

@@ -1,5 +1,6 @@
 //! Laws of the definitions. Each is the contract of a function that does nothing.
-ghost use Rattle.std.specs.Prelude.{◌≡◌, ◌==◌, ◌≢◌, ◌⊎◌, ◌+◌, ◌-◌, ◌^◌, ◌<◌, ◌≤◌, ◌++◌, [], ◌∷◌, List, length, take, ℕ, suc, Result, None, Ok, Err};
+ghost use Rattle.std.specs.Prelude.{◌≡◌, ◌==◌, ◌≢◌, ◌⊎◌, ◌+◌, ◌-◌, ◌^◌, ◌<◌, ◌≤◌, ◌++◌, [], ◌∷◌, List, length, take, ℕ};
+ghost use Rattle.std.specs.Prelude.{suc, Result, None, Ok, Err};
 ghost use Rattle.std.specs.List.{list_all, list_any};
 ghost use Rattle.td_stamp.specs.declared.values.Entry.{Entry as AnyEntry};
 ghost use Rattle.td_stamp.specs.States.{StateList};
@@ -14,8 +15,8 @@ ghost use Rattle.td_gate.specs.CrashSafe.{CrashSafe};
 ghost use Rattle.td_gate.specs.Regions.{Apart, Replaces};
 ghost use Rattle.td_head.specs.declared.error.HeadError.{HeadError};
 ghost use Rattle.td_head.specs.declared.head.Head.{Head as AnyHead};
-ghost use Rattle.td_head.specs.Layout.{Sizes, head_a, head_b, size_of};
-ghost use Rattle.td_head.specs.Head.{IsHeaded};
+ghost use Rattle.td_head.specs.Layout.{Sizes, head as head_of_side, head_a, head_b, size_of};
+ghost use Rattle.td_head.specs.Head.{raised, raised_bytes, IsHeaded};
 ghost use Rattle.td_slots.specs.declared.error.SlotsError.{SlotsError};
 ghost use Rattle.td_slots.specs.Slot.{slot, slot_bytes};
 ghost use Rattle.td_slots.specs.declared.slots.Checkpoint.{Checkpoint as AnyCheckpoint};
@@ -236,6 +237,42 @@ pub fn write_cut_is_safe<D: Disk>()
         → EachTells plan head (side_after side k) (cut_at s k states) (D.state new) }
 {
     cut_is_written();
+}
+
+/// A HEAD IS RAISED. While the head that follows one is put beside it, an image that told a standing tells it still, under
+/// the one head or the other; once it is put, under the other.
+pub fn head_is_raised()
+    ensures begun { (plan : List Line) (head : AnyHead) (side : ℕ) (s : Standing) (old new : List ℕ)
+        → IsPlan plan → Tells plan head side s old → head.generation + 1 < 2 ^ 64
+        → Puts (head_of_side (1 - head.side)) (raised_bytes head plan) old new
+        → Tells plan head side s new ⊎ Tells plan (raised head) side s new }
+    ensures done { (plan : List Line) (head : AnyHead) (side : ℕ) (s : Standing) (old new : List ℕ)
+        → IsPlan plan → Tells plan head side s old → head.generation + 1 < 2 ^ 64
+        → Replaces (head_of_side (1 - head.side)) (raised_bytes head plan) old new
+        → Tells plan (raised head) side s new }
+{
+    td_gate::laws::put_leaves_others();
+    td_head::laws::heads_tell();
+    td_head::laws::other_head_is_put();
+    td_slots::laws::slots_tell();
+    td_slots::laws::version_is_raised();
+    td_journal::laws::cells_tell();
+    td_journal::laws::version_is_raised();
+}
+
+/// The crash clause of an upgrade, by the contract of `td_head::raise`.
+pub fn raise_is_safe<D: Disk>()
+    ensures begun { (plan : List Line) (head : AnyHead) (side : ℕ) (s : Standing) (old new : D)
+        → IsPlan plan → EachTells plan head side s (D.state old) → head.generation + 1 < 2 ^ 64
+        → CrashSafe (Puts (head_of_side (1 - head.side)) (raised_bytes head plan)) (D.state old) (D.state new)
+        → TellsSince (Tells plan head side s) (Tells plan (raised head) side s) (D.state old) (D.state new) }
+    ensures done { (plan : List Line) (head : AnyHead) (side : ℕ) (s : Standing) (old new : D)
+        → IsPlan plan → EachTells plan head side s (D.state old) → head.generation + 1 < 2 ^ 64 → D.is_lawful new
+        → CrashSafe (Puts (head_of_side (1 - head.side)) (raised_bytes head plan)) (D.state old) (D.state new)
+        → IsOpen (head_of_side (1 - head.side)) (raised_bytes head plan) (D.state new)
+        → EachTells plan (raised head) side s (D.state new) }
+{
+    head_is_raised();
 }
 
 /// Where a crash leaves what is read, each image tells what is read.

@@ -5,10 +5,12 @@
 mod error;
 mod format;
 pub mod laws;
+mod layout;
 mod parts;
 mod steps;
 
 pub use error::{KeeperError, Part};
 pub use format::format_device;
+pub use layout::{ring_of, slots_of};
 pub use parts::{Recovered, read_parts, recover_device};
-pub use steps::{submit_batch, write_states};
+pub use steps::{raise_head, submit_batch, write_states};

@@ -1,20 +1,22 @@
 //! What is read of a disk, part by part.
 ghost use Rattle.std.specs.Prelude.{◌≡◌, ◌⊎◌, ◌↔◌, ◌≤◌, IfOk, IfErr, IsErrOf};
-ghost use Rattle.td_disk.specs.Disk.{IsDurable, Rises};
+ghost use Rattle.td_disk.specs.Disk.{CountsDevice, IsDurable, Rises};
 ghost use Rattle.td_gate.specs.CrashSafe.{CrashSafe, Unchanged};
+ghost use Rattle.td_gate.specs.Reads.{IsRead};
 ghost use Rattle.td_head.specs.Layout.{size_of};
-ghost use Rattle.td_standing.specs.Told.{Told, inputs_of, folds_of};
+ghost use Rattle.td_standing.specs.Told.{Told, inputs_of, folds_of, floor_of as floor_in};
 ghost use Rattle.td_standing.specs.Tells.{Tells, Keeps};
 ghost use Rattle.td_standing.specs.Read.{standing_of, MayStand, Refused};
 
 use crate::error::KeeperError;
 use crate::laws;
+use crate::layout::{ring_of, slots_of};
 use std::alloc::{AllocError, Global};
 use td_disk::Disk;
 use td_head::Head;
-use td_journal::{Journal, Submitted};
+use td_journal::Submitted;
 use td_plan::{Kind, Plan};
-use td_slots::{Checkpoint, Slots};
+use td_slots::Checkpoint;
 
 /// What a disk tells: its head, its checkpoint, and the batches after it.
 #[derive(Drop)]
@@ -46,6 +48,13 @@ fn folds(alloc: Global, plan: &Plan) -> Result<Vec<u8>, AllocError>
         .collect(alloc)
 }
 
+/// The number above which the requests after a checkpoint are, where the version of the format has request numbers.
+fn floor_of(version: u32, last: u64) -> Option<u64>
+    ensures { result ≡ floor_in version last }
+{
+    if 2 <= version { Some(last) } else { None }
+}
+
 /// What a disk tells for a plan. It refuses `NotFormatted`, `Damaged` of the head, `WrongPlan`, `Damaged` of the slots,
 /// `Damaged` of a cell, each exactly where that is the first that the disk tells, and `Memory` and `Device`. It writes
 /// nothing.
@@ -62,36 +71,18 @@ pub fn read_parts<D: Disk>(
     ensures may_stand { IfOk result (λ r. MayStand plan.now r.head r.checkpoint.slot (standing_of r)) }
     ensures refused { IfErr result (λ e. (e ≡ KeeperError.Device) ⊎ ((e ≡ KeeperError.Memory) ⊎ (D.is_lawful device.old
         → Told plan.now (D.state device.old).bytes (Refused e)))) }
-    ensures device { IsErrOf result KeeperError.Device → Rises (D.failures device.old) (D.failures device.new) }
-    ensures later { D.failures device.old ≤ D.failures device.new }
-    ensures size { D.capacity device.new ≡ D.capacity device.old }
-    ensures lawful { D.is_lawful device.old ↔ D.is_lawful device.new }
-    ensures same { D.is_lawful device.old → (D.state device.new).bytes ≡ (D.state device.old).bytes }
-    ensures durable { D.is_lawful device.old → IsDurable (D.state device.old) → IsDurable (D.state device.new) }
-    ensures crash_safe { D.is_lawful device.old → CrashSafe Unchanged (D.state device.old) (D.state device.new) }
+    ensures failures { CountsDevice result KeeperError.Device (D.failures device.old) (D.failures device.new) }
+    ensures read { IsRead D.capacity D.is_lawful D.state device.old device.new }
 {
     laws::told_refused();
     td_gate::laws::reads_in_turn::<D>();
     let inputs = inputs(alloc, plan)?;
     let folds = folds(alloc, plan)?;
-    let _size = device.size();
     let head = td_head::read(alloc, device, plan)?;
-    let shape = head.shape;
-    let _bytes = shape.bytes();
-    let k = shape.states();
-    let slots = Slots { at: 8_258, k };
+    let slots = slots_of(&head.shape);
     let checkpoint = slots.newest(alloc, device, head.version, &folds)?;
-    let journal = Journal {
-        at: 8_308 + 64 * u64::from(k),
-        m: shape.records(),
-        n: shape.cells(),
-        kept: checkpoint.epoch,
-    };
-    let floor = if head.version < 2 {
-        None
-    } else {
-        Some(checkpoint.last)
-    };
+    let journal = ring_of(&head.shape, checkpoint.epoch);
+    let floor = floor_of(head.version, checkpoint.last);
     let submitted = journal.read_from(alloc, device, &inputs, checkpoint.epoch, floor)?;
     Ok(Recovered {
         head,
@@ -117,6 +108,8 @@ pub fn recover_device<D: Disk>(
     ensures refused { IfErr result (λ e. (e ≡ KeeperError.Device) ⊎ ((e ≡ KeeperError.Memory) ⊎ (D.is_lawful device.old
         → IsDurable (D.state device.new) × Told plan.now (D.state device.new).bytes (Refused e)))) }
     ensures device { IsErrOf result KeeperError.Device → Rises (D.failures device.old) (D.failures device.new) }
+    ensures later { D.failures device.old ≤ D.failures device.new }
+    ensures stays { IsErrOf result KeeperError.Device ⊎ (D.failures device.new ≡ D.failures device.old) }
     ensures crash_safe { D.is_lawful device.old → CrashSafe Unchanged (D.state device.old) (D.state device.new) }
 {
     td_gate::laws::unchanged::<D>();

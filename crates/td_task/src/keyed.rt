@@ -1,5 +1,7 @@
 //! What a notification is given: keys with their items and states.
-ghost use Rattle.std.specs.Prelude.{◌≡◌, ◌↔◌, IsTrue, ◌<◌, ◌^◌, ◌∷◌, ◌++◌, ◌+◌, ◌≤◌, [], false, map, OnOk, OnErr, IfOk, IfErr, Option, length, slice_get, slice_set, Some, None, true, vec_len, vec_capacity};
+ghost use Rattle.std.specs.Prelude.{◌≡◌, ◌↔◌, IsTrue, ◌<◌, ◌^◌, ◌∷◌, ◌++◌, ◌+◌, ◌≤◌, [], false, map, OnOk, OnErr, IfOk};
+ghost use Rattle.std.specs.Prelude.{IfErr, Option, length, slice_get, slice_set, Some, None, true, vec_len};
+ghost use Rattle.std.specs.Prelude.{vec_capacity};
 ghost use Rattle.td_stamp.specs.Groups.{groups};
 ghost use Rattle.td_machine.specs.State.{KeyItems as AnyKey};
 ghost use Rattle.td_task.specs.Arriving.{is_key, keys_after, with_arrival_by};

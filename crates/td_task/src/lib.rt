@@ -12,4 +12,4 @@ mod task;
 pub use done::Done;
 pub use error::TaskError;
 pub use keyed::{KeyAt, KeyedItems};
-pub use task::{TASK_SIZE, Task, Work};
+pub use task::{Task, Work};

@@ -11,9 +11,6 @@ use std::sync::Arc;
 use td_plan::Kind;
 use td_stamp::{Rec, Time, laws};
 
-/// The most records of a task.
-pub const TASK_SIZE: usize = 64;
-
 /// What a task is to do.
 #[derive(Drop)]
 pub enum Work {

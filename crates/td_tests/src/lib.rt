@@ -15,8 +15,6 @@ mod keeper;
 #[cfg(test)]
 mod plan;
 #[cfg(test)]
-mod reach;
-#[cfg(test)]
 mod shard;
 #[cfg(test)]
 mod stamp;

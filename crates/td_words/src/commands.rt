@@ -1,7 +1,8 @@
 //! The commands of the program, as clap has them.
 ghost use Rattle.std.specs.Prelude.{◌≡◌, false, IfOk, IsOkAnd};
 ghost use Rattle.clap.specs.Words.{app_of, new_app, rule_of, with_rule, with_subcommand};
-ghost use Rattle.td_words.specs.Command.{td, batch_app, run_app, sim_app, format_app, feed_app, show_app, workers_rule, picks_rule, word_rule, number_rule};
+ghost use Rattle.td_words.specs.Command.{td, batch_app, run_app, sim_app, format_app, feed_app, show_app, workers_rule};
+ghost use Rattle.td_words.specs.Command.{picks_rule, word_rule, number_rule};
 ghost use Rattle.td_words.specs.Jobs.{has_globals};
 
 use clap::builder::ValueParser;

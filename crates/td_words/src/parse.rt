@@ -1,8 +1,10 @@
 //! What the program is asked to do, from the words that it is given.
-ghost use Rattle.std.specs.Prelude.{◌≡◌, ◌≢◌, ◌⊎◌, ◌↔◌, ◌≤◌, ℕ, IsTrue, IfOk, IfErr, IfSome, IfNone, map, string_bytes, Ok, Err, Some, None, codes};
+ghost use Rattle.std.specs.Prelude.{◌≡◌, ◌≢◌, ◌⊎◌, ◌↔◌, ◌≤◌, ℕ, IsTrue, IfOk, IfErr, IfSome, IfNone, map, string_bytes};
+ghost use Rattle.std.specs.Prelude.{Ok, Err, Some, None, codes};
 ghost use Rattle.clap.specs.Words.{found_of, first_of, kind_of, rows_of, subcommand_rows_of};
 ghost use Rattle.td_words.specs.declared.job.Job.{Job as AnyJob};
-ghost use Rattle.td_words.specs.Command.{batch_words, run_words, format_words, feed_words, IsAsked, IsNamed, IsNumber, IsWorkers, HasWorkers, IsRefused, IsFormat, IsFeed};
+ghost use Rattle.td_words.specs.Command.{batch_words, run_words, format_words, feed_words, IsAsked, IsNamed, IsNumber};
+ghost use Rattle.td_words.specs.Command.{IsWorkers, HasWorkers, IsRefused, IsFormat, IsFeed};
 ghost use Rattle.td_words.specs.Jobs.{IsHelp, IsOf};
 
 use crate::commands::command;

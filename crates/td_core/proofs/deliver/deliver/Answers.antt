@@ -9,7 +9,7 @@ use Rattle.td_machine.specs.State.{stamped_cmp, output_at_cmp}
 use Rattle.td_machine.specs.Steps.{stamped}
 use Rattle.td_machine.specs.AtOnce.{fresh}
 use Rattle.td_core.specs.Came.{output_at}
-use Rattle.td_core.specs.Delivered.{IsSent, IsKept}
+use Rattle.td_core.specs.Delivered.{IsSent, IsNoted}
 use Rattle.td_core.proofs.Delivering.{can_send, own_place, one_time, some_records, shard_there, nothing_sent, sent_as, passed_on, kept_as}
 use Rattle.td_core.proofs.deliver.deliver.Goals as goal
 
@@ -120,7 +120,7 @@ returns-in-Group-clause-ok g c =
     kept_as g.L.Law.answers c.counted.ensures.append task c.args.port recs floor c.keep.new.floor c.bags_of_states.ensures.notifications
     (subst (λ k. ((code : ℕ) × (k ≡ Group code)) ⊎ ((code : ℕ) × (k ≡ Fold code))) (sym same) c.in-Group.is)
     (shard_there g.L.Law.answers floor task c.args.port recs c.requires.hall c.requires.out c.requires.content c.reached_in_order.ensures.tasks c.reached_in_order.ensures.numbers)
-    (subst (λ (p : ℕ × ℕ × Timestamp). IsKept p.0 p.1 p.2 (map (arrival_of c.args.port) recs) floor c.keep.new.floor) (λ i. (of_shard i, of_vertex i, of_time i)) is))
+    (subst (λ (p : ℕ × ℕ × Timestamp). IsNoted p.0 p.1 p.2 (map (arrival_of c.args.port) recs) floor c.keep.new.floor) (λ i. (of_shard i, of_vertex i, of_time i)) is))
     c.keep.ensures.ok
 
 pub returns-in-Enter-clause-ok : goal.returns-in-Enter-clause-ok

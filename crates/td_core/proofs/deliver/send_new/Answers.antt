@@ -6,9 +6,8 @@ use Rattle.td_progress.specs.Bag.{occurrences}
 use Rattle.td_machine.specs.State.{stamped_cmp}
 use Rattle.td_machine.specs.Steps.{stamped}
 use Rattle.td_machine.specs.AtOnce.{fresh}
-use Rattle.td_shard.specs.Seen as shards
 use Rattle.td_core.specs.Posted.{stamp_on_outlet, stamps_on, on_each, IsPosted, HaveRoom}
-use Rattle.td_core.proofs.Sending.{sent_then, outlets_of_plan, same_fresh, fewer, room_for_new, enough_on, surplus_off, all_off, untouched}
+use Rattle.td_core.proofs.Sending.{sent_then, outlets_of_plan, fewer, room_for_new, enough_on, surplus_off, all_off, untouched}
 use Rattle.td_core.proofs.deliver.send_new.Goals as goal
 
 pub prepare-requires-clause-of_plan : goal.prepare-requires-clause-of_plan
@@ -30,7 +29,7 @@ returns-in_default-clause-err c =
 pub overflow_sub-surplus : goal.overflow_sub-surplus
 overflow_sub-surplus c =
     let less = fewer c.args.floor.now.seen c.args.vertex c.args.time.now c.args.recs.now in
-    let many : c.len.result ≡ length (shards.fresh c.args.floor.now.seen c.args.vertex c.args.time.now c.args.recs.now) = c.len.ensures ∙ (c.in-Ok.new.ok.0 ∙ ap length c.in-Ok.ensures.answer) in
+    let many : c.len.result ≡ length (fresh c.args.floor.now.seen c.args.vertex c.args.time.now c.args.recs.now) = c.len.ensures ∙ (c.in-Ok.new.ok.0 ∙ ap length c.in-Ok.ensures.answer) in
     omega (arith, less, many)
 
 pub lower_on-requires-2 : goal.lower_on-requires-2
@@ -49,9 +48,8 @@ returns-clause-ok c =
     let v = c.args.vertex in
     let t = c.args.time.now in
     let outs = c.outlets-outlets.result.now in
-    let same = same_fresh floor.seen v t c.args.recs.now in
     let less = fewer floor.seen v t c.args.recs.now in
-    let many : c.len.result ≡ length (shards.fresh floor.seen v t c.args.recs.now) = c.len.ensures ∙ (c.in-Ok.new.ok.0 ∙ ap length c.in-Ok.ensures.answer) in
+    let many : c.len.result ≡ length (fresh floor.seen v t c.args.recs.now) = c.len.ensures ∙ (c.in-Ok.new.ok.0 ∙ ap length c.in-Ok.ensures.answer) in
     let stamps = surplus_off c.counted.ensures.append outs t (length c.args.recs.now) c.len.result floor.table.stamps c.prepare.new.table.stamps c.lower_on-2.new.table.stamps
     (omega (arith, less, many)) c.in_ok-prepare.ensures.stamps c.lower_on-2.ensures.stamps in
     sent_then floor (record floor { table = c.lower_on-2.new.table; shards = c.post.new.shards; seen = c.see.new.self }) v t t c.requires.plain outs
@@ -60,9 +58,9 @@ returns-clause-ok c =
     (λ i. record floor {
       table = c.lower_on-2.new.table;
       shards = c.post.new.shards;
-      seen = (c.in-Ok.ensures.ok ∙ ap (λ new. join stamped_cmp (stamped v t new) floor.seen) same) i;
+      seen = c.in-Ok.ensures.ok i;
     })
     (c.lower_on-2.ensures.plan ∙ c.in_ok-prepare.ensures.plan)
-    (λ p. stamps p ∙ ap (λ n. occurrences p (stamps_on outs t n ++ floor.table.stamps)) (many ∙ ap length same))
+    (λ p. stamps p ∙ ap (λ n. occurrences p (stamps_on outs t n ++ floor.table.stamps)) many)
     c.in_ok-prepare.ensures.shards
-    (subst (λ new. IsPosted (on_each outs t new) c.prepare.new.shards.items c.post.new.shards.items) (c.as_slice.ensures.value ∙ (c.in-Ok.ensures.answer ∙ same)) c.post.ensures.messages)
+    (subst (λ new. IsPosted (on_each outs t new) c.prepare.new.shards.items c.post.new.shards.items) (c.as_slice.ensures.value ∙ c.in-Ok.ensures.answer) c.post.ensures.messages)

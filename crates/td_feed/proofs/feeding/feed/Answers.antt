@@ -1,4 +1,6 @@
-use Rattle.std.proofs.Common.{◌≡◌, ◌≤◌, List, ◌++◌, sym, ap, ◌∙◌, subst}
+use Rattle.std.proofs.Common.{◌≡◌, ◌≤◌, ℕ, List, ◌++◌, refl, sym, ap, ◌∙◌, subst, inl, inr, ⊎_elim}
+use Rattle.td_disk.specs.Disk.{Rises}
+use Rattle.td_console.specs.Refusals.{keeper_fault}
 use Rattle.std.specs.Prelude.{IfSome}
 use Rattle.std.proofs.lemmas.Option.{IfSome_then}
 use Rattle.std.proofs.lemmas.Result.{on_ok_weaker}
@@ -11,6 +13,8 @@ use Rattle.td_feed.specs.Orders.{orders_of, submitted_by}
 use Rattle.td_feed.specs.Fed.{EachTellsHistory, EachTellsSome}
 use Rattle.td_feed.specs.Carried.{StandsFor, Carries, Leaves}
 use Rattle.td_feed.proofs.Carrying.{either_way, in_some, leaves_all, ended_some, ended_all, none_more, still_each, found}
+use Rattle.td_feed.proofs.Counting.{as_err, fault_of, keeper_device, lack_no_device}
+use Rattle.td_feed.proofs.Lines.{fed_says}
 use Rattle.td_feed.proofs.feeding.feed.Goals as goal
 
 pub returns-in-Err-clause-safe : goal.returns-in-Err-clause-safe
@@ -80,3 +84,52 @@ returns-clause-safe g c =
     ended_some g.D.Disk.is_lawful state answers c.told_in_parts.ensures.together keeper new history more by_keeper leaves c.into_disk.ensures.held (c.obey-keeper.ensures.lawful.0 now) in
     subst (λ (d : g.row.D.Denot). EachTellsSome answers plan history more (state d)) (sym c.into_disk.ensures.disk)
     (subst (λ (p : List Line). EachTellsSome answers p history more (state new.device)) c.in-Ok.ensures.plan ended))
+
+pub returns-in-Err-clause-said : goal.returns-in-Err-clause-said
+returns-in-Err-clause-said g c = in_some (g.I.Source.remaining c.args.reader.now) (λ input. inl refl)
+
+pub returns-in-Err-clause-device : goal.returns-in-Err-clause-device
+returns-in-Err-clause-device g c is = absurd (lack_no_device c.in-Err.lack (ap (as_err (Unit {0})) (sym c.lack_fault.ensures.fault ∙ fault_of _ _ is)))
+
+pub returns-in-Err-clause-stays : goal.returns-in-Err-clause-stays
+returns-in-Err-clause-stays g c = inr refl
+
+pub returns-in-Err-recover-clause-said : goal.returns-in-Err-recover-clause-said
+returns-in-Err-recover-clause-said g c = in_some (g.I.Source.remaining c.args.reader.now) (λ input. inl refl)
+
+pub returns-in-Err-recover-clause-device : goal.returns-in-Err-recover-clause-device
+returns-in-Err-recover-clause-device g c is = c.in-Err-recover.ensures.device (keeper_device c.in-Err-recover.refusal (let from = c.from.ensures in let said = is in cc))
+
+pub returns-in-Err-recover-clause-stays : goal.returns-in-Err-recover-clause-stays
+returns-in-Err-recover-clause-stays g c =
+    ⊎_elim (λ device. inl (ap (as_err (Unit {0})) (c.from.ensures ∙ ap keeper_fault device))) inr c.in-Err-recover.ensures.stays_back
+
+pub returns-clause-said : goal.returns-clause-said
+returns-clause-said g c =
+    let is_lawful = g.D.Disk.is_lawful in
+    let state = g.D.Disk.state in
+    let failures = g.D.Disk.failures in
+    let answers = g.L.Law.answers in
+    let plan = c.args.plan.now in
+    IfSome_then (g.I.Source.remaining c.args.reader.now) c.obey-keeper.ensures.said
+    (λ input said.
+    fed_says is_lawful state failures answers c.obey-keeper.result.1 plan c.args.disk c.into_disk.result (g.W.Sink.contents c.args.writer.now) (g.W.Sink.contents c.obey-keeper.new.writer)
+    (submitted_by (orders_of plan input))
+    (record {
+      keeper = c.in-Ok.keeper;
+      fresh = c.in-Ok.ensures.fresh;
+      plan_is = c.in-Ok.ensures.plan;
+      told = c.in-Ok.ensures.told;
+      ended = c.obey-keeper.result.0;
+      left_is = c.into_disk.ensures.disk;
+      said = said;
+    }))
+
+pub returns-clause-device : goal.returns-clause-device
+returns-clause-device g c is =
+    subst (λ (d : g.row.D.Denot). Rises (g.D.Disk.failures c.args.disk) (g.D.Disk.failures d)) (sym c.into_disk.ensures.disk)
+    (subst (λ (n : ℕ). Rises n (g.D.Disk.failures c.obey-keeper.result.0.device)) c.in-Ok.ensures.stays (c.obey-keeper.ensures.failures.rises is))
+
+pub returns-clause-stays : goal.returns-clause-stays
+returns-clause-stays g c =
+    ⊎_elim inl (λ same. inr (ap g.D.Disk.failures c.into_disk.ensures.disk ∙ same ∙ c.in-Ok.ensures.stays)) c.obey-keeper.ensures.failures.stays

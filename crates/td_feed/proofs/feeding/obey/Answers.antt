@@ -1,6 +1,13 @@
-use Rattle.std.proofs.Common.{refl}
+use Rattle.std.proofs.Common.{List, [], refl, inr, sym, ap, subst, Err}
+use Rattle.std.specs.Prelude.{Result}
+use Rattle.std.proofs.lemmas.Option.{IfSome_then}
+use Rattle.td_console.specs.declared.faults.Fault.{Fault}
+use Rattle.td_feed.specs.declared.order.Order.{Order}
+use Rattle.td_feed.specs.Said.{SaysBy}
 use Rattle.td_feed.specs.Orders.{orders_of, submitted_by}
 use Rattle.td_feed.proofs.Carrying.{in_some, unmoved, leaves_none}
+use Rattle.td_feed.proofs.Counting.{as_err, counts_same, fault_of}
+use Rattle.td_feed.proofs.Lines.{says_nothing, some_of_all}
 use Rattle.td_feed.proofs.feeding.obey.Goals as goal
 
 pub returns-in-Err-clause-left : goal.returns-in-Err-clause-left
@@ -8,3 +15,27 @@ returns-in-Err-clause-left g c =
     let old = c.args.keeper in
     in_some (g.I.Source.remaining c.args.reader.now) (λ input.
     leaves_none g.D.Disk.is_lawful g.D.Disk.state g.L.Law.answers old old (submitted_by (orders_of c.args.plan.now input)) (unmoved g.L.Law.answers old old refl refl c.requires.whole))
+
+pub returns-in-Err-clause-said : goal.returns-in-Err-clause-said
+returns-in-Err-clause-said g c =
+    let is_lawful = g.D.Disk.is_lawful in
+    let state = g.D.Disk.state in
+    let failures = g.D.Disk.failures in
+    let answers = g.L.Law.answers in
+    let w = g.W.Sink.contents c.args.writer.now in
+    let old = c.args.keeper in
+    in_some (g.I.Source.remaining c.args.reader.now) (λ input. inr (some_of_all is_lawful state failures answers w w old old [] (says_nothing is_lawful state failures answers w old)))
+
+pub returns-in-Err-clause-failures : goal.returns-in-Err-clause-failures
+returns-in-Err-clause-failures g c = counts_same (as_err (Unit {0}) c.in-Err.fault) _ _ (λ is. c.in-Err.ensures.no_device (ap Err (fault_of _ _ is))) refl
+
+pub returns-in-Ok-clause-said : goal.returns-in-Ok-clause-said
+returns-in-Ok-clause-said g c =
+    let is_lawful = g.D.Disk.is_lawful in
+    let state = g.D.Disk.state in
+    let failures = g.D.Disk.failures in
+    let answers = g.L.Law.answers in
+    IfSome_then (g.I.Source.remaining c.args.reader.now) c.in-Ok.ensures.orders
+    (λ input is.
+    subst (λ (r : Result (List Order) Fault). SaysBy is_lawful state failures answers c.obey_by_workers.result.1 (g.W.Sink.contents c.args.writer.now) (g.W.Sink.contents c.obey_by_workers.new.writer) c.args.keeper c.obey_by_workers.result.0 (submitted_by r))
+    (sym is) c.obey_by_workers.ensures.said)

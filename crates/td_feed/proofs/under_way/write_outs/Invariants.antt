@@ -1,11 +1,14 @@
 use Rattle.std.proofs.Common.{◌≡◌, [], length}
-use Rattle.std.specs.Prelude.{◌↔◌}
+use Rattle.std.specs.Prelude.{◌↔◌, string_bytes}
 use Rattle.td_feed.specs.Carried.{Carries}
+use Rattle.td_feed.proofs.Lines.{Holding}
 use Rattle.td_feed.proofs.under_way.write_outs.Given as goal
 
--- the keeper has gone on, with nothing submitted
+-- the keeper has gone on, with nothing submitted, and the lines of its replies are written or held
 abbrev pub invariant-loop-text : goal.invariant-loop-text
 invariant-loop-text g l = record {
+  said : Holding g.D.Disk.is_lawful g.D.Disk.state g.D.Disk.failures g.L.Law.answers (g.W.Sink.contents l.fn.writer) (g.W.Sink.contents l.writer) l.fn.keeper l.keeper (string_bytes l.text);
+  count : g.D.Disk.failures l.keeper.device ≡ g.D.Disk.failures l.fn.keeper.device;
   carried : Carries g.L.Law.answers l.fn.keeper l.keeper [];
   size : g.D.Disk.capacity l.keeper.device ≡ g.D.Disk.capacity l.fn.keeper.device;
   lawful : g.D.Disk.is_lawful l.fn.keeper.device ↔ g.D.Disk.is_lawful l.keeper.device;

@@ -1,4 +1,4 @@
-use Rattle.std.proofs.Common.{◌≡◌, ◌+◌, List, [], ◌∷◌, ◌++◌, length, map, drop, refl, sym, ap, ◌∙◌, subst}
+use Rattle.std.proofs.Common.{◌≡◌, ◌+◌, List, [], ◌∷◌, ◌++◌, length, map, drop, refl, sym, ap, ◌∙◌, subst, inr}
 use Rattle.std.proofs.lemmas.List.{map-id, append-nil, append_assoc}
 use Rattle.std.proofs.lemmas.Iterator.Consumers.{YieldsList-so_far, YieldsList-turn, YieldsList-end}
 use Rattle.std.proofs.lemmas.Iterator.Adapters.{YieldsList-from_vec}
@@ -8,7 +8,11 @@ use Rattle.td_feed.specs.declared.order.Order.{Order}
 use Rattle.td_feed.specs.Orders.{submissions}
 use Rattle.td_feed.specs.Carried.{Carries, Leaves}
 use Rattle.td_feed.proofs.Carrying.{at_err, unmoved, then_carries, carries_then, then_leaves, leaves_all, leaves_none}
+use Rattle.td_feed.specs.Said.{Says, SaysBy}
 use Rattle.td_feed.proofs.Released.{submissions-append, at_place}
+use Rattle.td_feed.proofs.Counting.{as_err, counts_same, counts_handed, counts_after, same_count}
+use Rattle.td_feed.proofs.Lines.{says_nothing, some_of_all, says_then, handed_on, then_quiet}
+use Rattle.td_console.specs.declared.faults.Fault.TheVariants.{Memory}
 use Rattle.td_feed.proofs.workers.obey_each.Goals as goal
 
 pub loop-order-preserved : goal.loop-order-preserved
@@ -18,7 +22,13 @@ loop-order-preserved g c =
     let new = c.obey.new.keeper in
     let so_far = c.loop-order.invariant in
     let here = c.in_ok-obey.ensures in
+    let u = g.W.Sink.contents c.args.writer.now in
+    let v = g.W.Sink.contents c.loop-order.writer in
+    let w = g.W.Sink.contents c.obey.new.writer in
     record {
+      said = subst (λ (x : List Submitted). Says g.D.Disk.is_lawful g.D.Disk.state g.D.Disk.failures answers u w old new x) (sym (submissions-append c.loop-order.yielded (c.in-Some.order ∷ [])))
+          (says_then g.D.Disk.is_lawful g.D.Disk.state g.D.Disk.failures answers u v w old c.loop-order.keeper new (submissions c.loop-order.yielded) (submissions (c.in-Some.order ∷ [])) so_far.said here.said);
+      count = same_count c.in_ok-obey.field-0 _ _ here.failures ∙ so_far.count;
       carried = subst (λ (x : List Submitted). Carries answers old new x) (sym (submissions-append c.loop-order.yielded (c.in-Some.order ∷ [])))
           (then_carries answers old c.loop-order.keeper new (submissions c.loop-order.yielded) (submissions (c.in-Some.order ∷ [])) so_far.carried here.carried);
       size = here.size ∙ so_far.size;
@@ -63,7 +73,83 @@ returns-clause-left g c =
     (subst (λ (x : List Submitted). Carries answers old new x) (ap submissions same)
     (carries_then g.D.Disk.is_lawful g.D.Disk.state answers old there new (submissions yielded) so_far c.settle.ensures.carried)))
 
-pub returns-in_err-started-clause-left : goal.returns-in_err-started-clause-left
-returns-in_err-started-clause-left g c =
+pub returns-then-is_refused-clause-left : goal.returns-then-is_refused-clause-left
+returns-then-is_refused-clause-left g c =
     let old = c.args.keeper.now in
-    at_err c.from_residual.result (leaves_none g.D.Disk.is_lawful g.D.Disk.state g.L.Law.answers old old (submissions c.args.orders.items) (unmoved g.L.Law.answers old old refl refl c.requires.whole))
+    leaves_none g.D.Disk.is_lawful g.D.Disk.state g.L.Law.answers old old (submissions c.args.orders.items) (unmoved g.L.Law.answers old old refl refl c.requires.whole)
+
+pub returns-then-is_refused-clause-said : goal.returns-then-is_refused-clause-said
+returns-then-is_refused-clause-said g c =
+    let is_lawful = g.D.Disk.is_lawful in
+    let state = g.D.Disk.state in
+    let failures = g.D.Disk.failures in
+    let answers = g.L.Law.answers in
+    let w = g.W.Sink.contents c.args.writer.now in
+    let old = c.args.keeper.now in
+    inr (some_of_all is_lawful state failures answers w w old old [] (says_nothing is_lawful state failures answers w old))
+
+pub returns-then-is_refused-clause-failures : goal.returns-then-is_refused-clause-failures
+returns-then-is_refused-clause-failures g c = counts_same (as_err (Unit {0}) Memory) _ _ (λ is. absurd (let other = is in cc)) refl
+
+pub returns-in_err-release-clause-said : goal.returns-in_err-release-clause-said
+returns-in_err-release-clause-said g c =
+    let is_lawful = g.D.Disk.is_lawful in
+    let state = g.D.Disk.state in
+    let failures = g.D.Disk.failures in
+    let answers = g.L.Law.answers in
+    let w = g.W.Sink.contents c.args.writer.now in
+    let old = c.args.keeper.now in
+    handed_on is_lawful state failures answers c.from_residual.result c.in_err-release.field-0.0 w w w old old c.release.new.keeper [] [] (submissions c.args.orders.items) c.from_residual.ensures.1
+    (says_nothing is_lawful state failures answers w old) (c.in_err-release.ensures.said w)
+
+pub returns-in_err-release-clause-failures : goal.returns-in_err-release-clause-failures
+returns-in_err-release-clause-failures g c =
+    counts_handed c.from_residual.result c.in_err-release.field-0.0 _ _ c.from_residual.ensures.1 c.in_err-release.ensures.failures
+
+pub loop-order-init : goal.loop-order-init
+loop-order-init g c = record {
+  said = c.in_ok-release.ensures.said (g.W.Sink.contents c.args.writer.now);
+  count = same_count c.in_ok-release.field-0 _ _ c.in_ok-release.ensures.failures;
+  carried = c.release.ensures.carried;
+  size = c.release.ensures.size;
+  lawful = c.release.ensures.lawful;
+}
+
+pub returns-in_err-obey-clause-said : goal.returns-in_err-obey-clause-said
+returns-in_err-obey-clause-said g c =
+    let is_lawful = g.D.Disk.is_lawful in
+    let state = g.D.Disk.state in
+    let failures = g.D.Disk.failures in
+    let answers = g.L.Law.answers in
+    let u = g.W.Sink.contents c.args.writer.now in
+    let v = g.W.Sink.contents c.loop-order.writer in
+    let w = g.W.Sink.contents c.obey.new.writer in
+    handed_on is_lawful state failures answers c.from_residual-in_err-obey.result c.in_err-obey.field-0.0 u v w c.args.keeper.now c.loop-order.keeper c.obey.new.keeper (submissions c.loop-order.yielded) (submissions (c.in-Some.order ∷ []))
+    (submissions c.args.orders.items) c.from_residual-in_err-obey.ensures.1 c.loop-order.invariant.said c.in_err-obey.ensures.said
+
+pub returns-in_err-obey-clause-failures : goal.returns-in_err-obey-clause-failures
+returns-in_err-obey-clause-failures g c =
+    counts_after c.from_residual-in_err-obey.result _ _ _ c.loop-order.invariant.count
+    (counts_handed c.from_residual-in_err-obey.result c.in_err-obey.field-0.0 _ _ c.from_residual-in_err-obey.ensures.1 c.in_err-obey.ensures.failures)
+
+pub returns-clause-said : goal.returns-clause-said
+returns-clause-said g c =
+    let is_lawful = g.D.Disk.is_lawful in
+    let state = g.D.Disk.state in
+    let failures = g.D.Disk.failures in
+    let answers = g.L.Law.answers in
+    let old = c.args.keeper.now in
+    let u = g.W.Sink.contents c.args.writer.now in
+    let v = g.W.Sink.contents c.loop-order.writer in
+    let w = g.W.Sink.contents c.settle.new.writer in
+    let yielded : List Order = c.loop-order.yielded in
+    let all : List Order = c.args.orders.items in
+    let given = c.into_iter-order-iterator.ensures.into_iter_gives in
+    let source = YieldsList-from_vec all given.0 (given.1 ∙ c.args.orders.ok.0) in
+    let end = YieldsList-end source yielded c.loop-order.order-iterator c.loop-order.yielded_by c.next.result c.next.new.self c.in-None.is c.next.ensures.steps in
+    let same : yielded ≡ all = sym (map-id yielded) ∙ end.0 in
+    subst (λ (x : List Submitted). SaysBy is_lawful state failures answers c.settle.result u w old c.settle.new.keeper x) (ap submissions same)
+    (then_quiet is_lawful state failures answers c.settle.result u v w old c.loop-order.keeper c.settle.new.keeper (submissions yielded) c.loop-order.invariant.said c.settle.ensures.said)
+
+pub returns-clause-failures : goal.returns-clause-failures
+returns-clause-failures g c = counts_after c.settle.result _ _ _ c.loop-order.invariant.count c.settle.ensures.failures

@@ -28,7 +28,7 @@ loop-i-preserved g c =
       whole = inv.whole;
       size = put.size ∙ inv.size;
       lawful = (λ l. put.lawful.0 (inv.lawful.0 l), λ l. inv.lawful.1 (put.lawful.1 l));
-      later = omega (arith, inv.later, put.cause.later);
+      count = put.cause.stays ∙ inv.count;
     }
 
 pub returns-clause-zero : goal.returns-clause-zero

@@ -1,4 +1,4 @@
-use Rattle.std.proofs.Common.{◌≡◌, ◌≤◌, ◌*◌}
+use Rattle.std.proofs.Common.{◌≡◌, ◌*◌}
 use Rattle.std.specs.Prelude.{◌↔◌}
 use Rattle.td_disk.specs.Disk.{SameOutside}
 use Rattle.td_head.specs.Images.{IsZero}
@@ -12,5 +12,5 @@ invariant-loop-i g l = record {
   whole : l.bytes ≡ size_of l.fn.shape;
   size : g.D.Disk.capacity l.device ≡ g.D.Disk.capacity l.fn.device;
   lawful : g.D.Disk.is_lawful l.fn.device ↔ g.D.Disk.is_lawful l.device;
-  later : g.D.Disk.failures l.fn.device ≤ g.D.Disk.failures l.device;
+  count : g.D.Disk.failures l.device ≡ g.D.Disk.failures l.fn.device;
 }

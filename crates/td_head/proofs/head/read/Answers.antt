@@ -21,8 +21,8 @@ is_none : (o : Option (ℕ × Vec ℕ Global)) → ((v : ℕ × Vec ℕ Global) 
 is_none None not = refl
 is_none (Some v) not = absurd (not v refl)
 
-pub returns-then-size-lt8258-clause-refused : goal.returns-then-size-lt8258-clause-refused
-returns-then-size-lt8258-clause-refused g c =
+pub returns-then-size-lt-HEADS_LEN-clause-refused : goal.returns-then-size-lt-HEADS_LEN-clause-refused
+returns-then-size-lt-HEADS_LEN-clause-refused g c =
     let state = g.D.Disk.state in
     let laws = g.met.D.Disk in
     let old = c.args.device.now in
@@ -31,7 +31,7 @@ returns-then-size-lt8258-clause-refused g c =
     let size = c.size-size.result in
     let whole : g.D.Disk.is_lawful old → length image ≡ g.D.Disk.capacity old = λ l. laws.image_size old image l (laws.reads_image old l) in
     let d = decided (text_in (head_of image)) c.one_answer.ensures.either c.one_answer.ensures.not_both c.one_answer.ensures.one_plan in
-    inr (inr (λ l. small_disk plan image size (g.D.Disk.capacity old) (sym c.size-size.ensures) (whole l) d c.if-size-lt8258.true))
+    inr (inr (λ l. small_disk plan image size (g.D.Disk.capacity old) (sym c.size-size.ensures) (whole l) d c.if-size-lt-HEADS_LEN.true))
 
 pub returns-in_default-clause-refused : goal.returns-in_default-clause-refused
 returns-in_default-clause-refused g c =
@@ -45,9 +45,9 @@ returns-in_default-clause-refused g c =
     let d = decided (text_in (head_of image)) c.one_answer.ensures.either c.one_answer.ensures.not_both c.one_answer.ensures.one_plan in
     let held : g.D.Disk.is_lawful old → head_of image ≡ chosen_of c.later.result = λ l.
     ap (λ (f : Option Fields). greater f (candidate 1 (opened (head 1) image))) (c.in_ok-first.ensures.told l)
-    ∙ ap (λ (b : List ℕ). greater (fields_of 0 c.in_ok-first.first) (candidate 1 (opened (head 1) b))) (sym (c.in_ok-first.ensures.same l))
-    ∙ ap (greater (fields_of 0 c.in_ok-first.first)) (c.in_ok-second.ensures.told (c.in_ok-first.ensures.lawful.0 l)) ∙ sym c.later.ensures.greater in
-    let large : 8258 ≤ size = omega (arith, c.if-size-lt8258.false) in
+    ∙ ap (λ (b : List ℕ). greater (fields_of 0 c.in_ok-first.first) (candidate 1 (opened (head 1) b))) (sym (c.in_ok-first.ensures.read.same l))
+    ∙ ap (greater (fields_of 0 c.in_ok-first.first)) (c.in_ok-second.ensures.told (c.in_ok-first.ensures.read.lawful.0 l)) ∙ sym c.later.ensures.greater in
+    let large : 8258 ≤ size = omega (arith, c.if-size-lt-HEADS_LEN.false) in
     inr (inr (λ l. no_head plan image size (g.D.Disk.capacity old) (sym c.size-size.ensures) (whole l) d large (held l ∙ is_none c.later.result c.in_default.not-Some)))
 
 pub returns-clause-told : goal.returns-clause-told
@@ -62,9 +62,9 @@ returns-clause-told g c =
     let d = decided (text_in (head_of image)) c.one_answer.ensures.either c.one_answer.ensures.not_both c.one_answer.ensures.one_plan in
     let held : g.D.Disk.is_lawful old → head_of image ≡ chosen_of c.later.result = λ l.
     ap (λ (f : Option Fields). greater f (candidate 1 (opened (head 1) image))) (c.in_ok-first.ensures.told l)
-    ∙ ap (λ (b : List ℕ). greater (fields_of 0 c.in_ok-first.first) (candidate 1 (opened (head 1) b))) (sym (c.in_ok-first.ensures.same l))
-    ∙ ap (greater (fields_of 0 c.in_ok-first.first)) (c.in_ok-second.ensures.told (c.in_ok-first.ensures.lawful.0 l)) ∙ sym c.later.ensures.greater in
-    let large : 8258 ≤ size = omega (arith, c.if-size-lt8258.false) in
+    ∙ ap (λ (b : List ℕ). greater (fields_of 0 c.in_ok-first.first) (candidate 1 (opened (head 1) b))) (sym (c.in_ok-first.ensures.read.same l))
+    ∙ ap (greater (fields_of 0 c.in_ok-first.first)) (c.in_ok-second.ensures.told (c.in_ok-first.ensures.read.lawful.0 l)) ∙ sym c.later.ensures.greater in
+    let large : 8258 ≤ size = omega (arith, c.if-size-lt-HEADS_LEN.false) in
     let fields : Fields = fields_in c.in-Some.side c.in-Some.payload.items in
     let held_is : g.D.Disk.is_lawful old → head_of image ≡ Some fields = λ l. held l ∙ ap chosen_of c.in-Some.is in
     let still = ap (fields_in c.in-Some.side) c.deref.ensures.value in
@@ -83,14 +83,17 @@ returns-clause-refused g c =
     let d = decided (text_in (head_of image)) c.one_answer.ensures.either c.one_answer.ensures.not_both c.one_answer.ensures.one_plan in
     let held : g.D.Disk.is_lawful old → head_of image ≡ chosen_of c.later.result = λ l.
     ap (λ (f : Option Fields). greater f (candidate 1 (opened (head 1) image))) (c.in_ok-first.ensures.told l)
-    ∙ ap (λ (b : List ℕ). greater (fields_of 0 c.in_ok-first.first) (candidate 1 (opened (head 1) b))) (sym (c.in_ok-first.ensures.same l))
-    ∙ ap (greater (fields_of 0 c.in_ok-first.first)) (c.in_ok-second.ensures.told (c.in_ok-first.ensures.lawful.0 l)) ∙ sym c.later.ensures.greater in
-    let large : 8258 ≤ size = omega (arith, c.if-size-lt8258.false) in
+    ∙ ap (λ (b : List ℕ). greater (fields_of 0 c.in_ok-first.first) (candidate 1 (opened (head 1) b))) (sym (c.in_ok-first.ensures.read.same l))
+    ∙ ap (greater (fields_of 0 c.in_ok-first.first)) (c.in_ok-second.ensures.told (c.in_ok-first.ensures.read.lawful.0 l)) ∙ sym c.later.ensures.greater in
+    let large : 8258 ≤ size = omega (arith, c.if-size-lt-HEADS_LEN.false) in
     let fields : Fields = fields_in c.in-Some.side c.in-Some.payload.items in
     let held_is : g.D.Disk.is_lawful old → head_of image ≡ Some fields = λ l. held l ∙ ap chosen_of c.in-Some.is in
     let still = ap (fields_in c.in-Some.side) c.deref.ensures.value in
     if_err_map c.told.result (λ e one. ⊎_elim (λ memory. inr (inl memory)) (λ told. inr (inr (λ l. of_fields plan image size (g.D.Disk.capacity old) (sym c.size-size.ensures) (whole l) fields (Refused e) large (held_is l)
     (subst (λ (f : Fields). IsFieldsTold plan size f (Refused e)) still told)))) one) c.told.ensures.refused
 
-pub returns-clause-durable : goal.returns-clause-durable
-returns-clause-durable g c lawful durable = c.in_ok-second.ensures.durable (c.in_ok-first.ensures.lawful.0 lawful) (c.in_ok-first.ensures.durable lawful durable)
+pub returns-in_default-clause-read : goal.returns-in_default-clause-read
+returns-in_default-clause-read g c = c.reads_in_turn.ensures.read _ _ _ c.in_ok-first.ensures.read c.in_ok-second.ensures.read
+
+pub returns-clause-read : goal.returns-clause-read
+returns-clause-read g c = c.reads_in_turn.ensures.read _ _ _ c.in_ok-first.ensures.read c.in_ok-second.ensures.read

@@ -1,3 +1,4 @@
+use Rattle.td_head.proofs.Raised.{head_version}
 use Rattle.td_head.proofs.Same.{same_told, same_text, limits, one_answer}
 use Rattle.td_head.proofs.laws.heads_tell.Goals as goal
 
@@ -9,6 +10,9 @@ returns-clause-text c = same_text
 
 pub returns-clause-limits : goal.returns-clause-limits
 returns-clause-limits c = limits
+
+pub returns-clause-version : goal.returns-clause-version
+returns-clause-version c = head_version
 
 pub returns-clause-one : goal.returns-clause-one
 returns-clause-one c = one_answer

@@ -14,7 +14,7 @@ if_none (Some x) not p = absurd (not x refl)
 pub loop-i-preserved : goal.loop-i-preserved
 loop-i-preserved c =
     let folds = c.args.folds.now in
-    let count = c.u32_at-i-end.result in
+    let count = c.read-i-end.result.count in
     let bytes = c.args.payload.now in
     let i = c.loop-i.i in
     let es = c.loop-i.states in

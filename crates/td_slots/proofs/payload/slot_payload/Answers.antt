@@ -1,4 +1,4 @@
-use Rattle.std.proofs.Common.{◌≡◌, ℕ, ◌+◌, ◌-◌, ◌*◌, ◌≤◌, List, [], ◌++◌, length, take, replicate, flat_map, ap, ◌∙◌, arith, append_assoc, length-append}
+use Rattle.std.proofs.Common.{◌≡◌, ℕ, ◌+◌, ◌-◌, ◌*◌, ◌≤◌, List, ◌++◌, length, take, replicate, flat_map, ap, ◌∙◌, arith, append_assoc, length-append}
 use Rattle.std.proofs.lemmas.List.{take_all}
 use Rattle.td_stamp.specs.declared.values.State.{State}
 use Rattle.td_gate.specs.Fields.{number_bytes}
@@ -6,10 +6,6 @@ use Rattle.td_gate.specs.Reading.{length_bytes, each_size}
 use Rattle.td_slots.specs.Slot.{state_bytes}
 use Rattle.td_slots.proofs.ReadBack.{state_size}
 use Rattle.td_slots.proofs.payload.slot_payload.Goals as goal
-
-in_turn : (o a b c d e p q r s t : List ℕ) → o ≡ [] → p ≡ o ++ a → q ≡ p ++ b → r ≡ q ++ c → s ≡ r ++ d → t ≡ s ++ e → t ≡ (a ++ (b ++ (c ++ d))) ++ e
-in_turn o a b c d e p q r s t none f g h i j =
-    j ∙ ap (λ (l : List ℕ). l ++ e) (i ∙ ap (λ (l : List ℕ). l ++ d) (h ∙ ap (λ (l : List ℕ). l ++ c) (g ∙ ap (λ (l : List ℕ). l ++ b) (f ∙ ap (λ (l : List ℕ). l ++ a) none)))) ∙ simp append_assoc
 
 assembled : (m : ℕ) (x : List ((ℕ × ℕ) × State)) (a b c d t u : List ℕ) (len v : ℕ) → length a ≡ 8 → length b ≡ 8 → length c ≡ 4 → length d ≡ 4 → length x ≤ m
     → t ≡ (a ++ (b ++ (c ++ d))) ++ flat_map state_bytes x → len ≡ 24 + 32 * m → v ≡ length t → u ≡ take len t ++ replicate (len - v) 0
@@ -30,11 +26,9 @@ returns-clause-ok c =
     let n = number_bytes 4 (length x) in
     let z = number_bytes 4 0 in
     let t = c.push_states.new.payload.items in
-    let is : t ≡ (a ++ (b ++ (n ++ z))) ++ flat_map state_bytes x =
-    in_turn c.in_ok-payload.payload.items a b n z (flat_map state_bytes x) c.push_u64.new.payload.items c.push_u64-2.new.payload.items c.push_u32.new.payload.items c.push_u32-2.new.payload.items t
-    c.in_ok-payload.ensures.items c.in_ok-push_u64.ensures c.in_ok-push_u64-2.ensures
-    (c.in_ok-push_u32.ensures ∙ ap (λ (k : ℕ). c.push_u64-2.new.payload.items ++ number_bytes 4 k) c.len.ensures)
-    c.in_ok-push_u32-2.ensures c.in_ok-push_states.ensures.ok in
+    let front : c.push.new.payload.items ≡ a ++ (b ++ (n ++ z)) =
+    c.in_ok-push.ensures ∙ ap (λ (l : List ℕ). l ++ (a ++ (b ++ (number_bytes 4 c.len.result ++ z)))) c.in_ok-payload.ensures.items ∙ ap (λ (k : ℕ). a ++ (b ++ (number_bytes 4 k ++ z))) c.len.ensures in
+    let is : t ≡ (a ++ (b ++ (n ++ z))) ++ flat_map state_bytes x = c.in_ok-push_states.ensures.ok ∙ ap (λ (l : List ℕ). l ++ flat_map state_bytes x) front in
     assembled c.args.k x a b n z t c.resize.new.self.items (24 + 32 * c.args.k) c.push_states.new.payload.len
     (length_bytes 8 c.args.epoch) (length_bytes 8 c.args.last) (length_bytes 4 (length x)) (length_bytes 4 0) c.requires.few
     is (omega arith) (omega (arith, c.push_states.new.payload.ok.0)) c.in_ok-resize.ensures.items

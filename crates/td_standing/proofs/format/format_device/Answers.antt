@@ -27,17 +27,17 @@ returns-clause-kept g c lawful =
     let d1 : IsDurable (state wiped) = c.in_ok-wipe.ensures.durable lawful in
     let d2 : IsDurable (state slotted) = c.in_ok-write.ensures.durable l1 in
     let d3 : IsDurable (state new) = c.in_ok-put_first.ensures.durable l2 in
-    let slots : Slots = record { at = 8258; k = c.states.result } in
+    let slots : Slots = c.slots_of-slots.result in
     let settled_0 = c.durable_is_settled.ensures wiped (slot slots 0) d1 in
     let settled_a = c.durable_is_settled.ensures slotted head_a d2 in
     let payload = slot_bytes sizes.k 0 0 [] in
     let head = head_bytes 2 1 sizes (text_of plan) in
     let puts_0 : CrashSafe (Puts (slot (slots_of sizes) 0) payload) (state wiped) (state slotted) =
     subst (λ (x : StateList). CrashSafe (Puts (slot (slots_of sizes) 0) (slot_bytes sizes.k 0 0 x)) (state wiped) (state slotted)) c.new-states.ensures
-    (subst (λ (k : ℕ). CrashSafe (Puts (slot (record { at = 8258; k = k }) 0) (slot_bytes k 0 0 c.new-states.result)) (state wiped) (state slotted)) c.states.ensures (c.in_ok-write.ensures.crash_safe l1 settled_0)) in
+    (subst (λ (z : Slots). CrashSafe (Puts (slot z 0) (slot_bytes z.k 0 0 c.new-states.result)) (state wiped) (state slotted)) c.slots_of-slots.ensures.slots (c.in_ok-write.ensures.crash_safe l1 settled_0)) in
     let open_0 : IsOpen (slot (slots_of sizes) 0) payload (state slotted) =
     subst (λ (x : StateList). IsOpen (slot (slots_of sizes) 0) (slot_bytes sizes.k 0 0 x) (state slotted)) c.new-states.ensures
-    (subst (λ (k : ℕ). IsOpen (slot (record { at = 8258; k = k }) 0) (slot_bytes k 0 0 c.new-states.result) (state slotted)) c.states.ensures (c.in_ok-write.ensures.open l1 settled_0)) in
+    (subst (λ (z : Slots). IsOpen (slot z 0) (slot_bytes z.k 0 0 c.new-states.result) (state slotted)) c.slots_of-slots.ensures.slots (c.in_ok-write.ensures.open l1 settled_0)) in
     let puts_a : CrashSafe (Puts head_a head) (state slotted) (state new) = c.in_ok-put_first.ensures.crash_safe l2 settled_a in
     let open_a : IsOpen head_a head (state new) = c.in_ok-put_first.ensures.open l2 settled_a in
     let read_0 = laws.reads_image slotted l2 in

@@ -20,29 +20,29 @@ returns-in_err-recovered-clause-refused g c =
     c.from_residual-in_err-recovered.ensures.1
     (⊎_elim inl (λ other. ⊎_elim (λ e. inr (inl e)) (λ told. inr (inr (λ lawful.
     let still = c.in_ok-sync.ensures.lawful.0 lawful in (
-      c.in_err-recovered.ensures.durable still (c.in_ok-sync.ensures.durable lawful),
-      subst (λ (b : List ℕ). Told plan b (Refused d)) (sym (c.in_err-recovered.ensures.same still)) (told still),
+      c.in_err-recovered.ensures.read.durable still (c.in_ok-sync.ensures.durable lawful),
+      subst (λ (b : List ℕ). Told plan b (Refused d)) (sym (c.in_err-recovered.ensures.read.same still)) (told still),
     )))) other) c.in_err-recovered.ensures.refused)
 
 pub returns-in_default-clause-crash_safe : goal.returns-in_default-clause-crash_safe
 returns-in_default-clause-crash_safe g c lawful =
     let still = c.in_ok-sync.ensures.lawful.0 lawful in
-    c.reads_in_turn.ensures c.args.device.now c.sync.new.self c.read_parts.new.device still
+    c.reads_in_turn.ensures.unchanged c.args.device.now c.sync.new.self c.read_parts.new.device still
     (c.unchanged.ensures.call c.args.device.now c.sync.new.self lawful (c.in_ok-sync.ensures.images lawful) (c.in_ok-sync.ensures.time lawful))
-    (c.in_ok-recovered.ensures.crash_safe still)
+    (c.in_ok-recovered.ensures.read.crash_safe still)
 
 pub returns-clause-kept : goal.returns-clause-kept
 returns-clause-kept g c lawful =
     let still = c.in_ok-sync.ensures.lawful.0 lawful in
     let r = c.in_ok-recovered.recovered in
     record {
-      durable = c.in_ok-recovered.ensures.durable still (c.in_ok-sync.ensures.durable lawful);
-      tells = subst (Tells c.args.plan.now r.head r.checkpoint.slot (standing_of r)) (sym (c.in_ok-recovered.ensures.same still)) (c.in_ok-recovered.ensures.told still);
+      durable = c.in_ok-recovered.ensures.read.durable still (c.in_ok-sync.ensures.durable lawful);
+      tells = subst (Tells c.args.plan.now r.head r.checkpoint.slot (standing_of r)) (sym (c.in_ok-recovered.ensures.read.same still)) (c.in_ok-recovered.ensures.told still);
     }
 
 pub returns-clause-crash_safe : goal.returns-clause-crash_safe
 returns-clause-crash_safe g c lawful =
     let still = c.in_ok-sync.ensures.lawful.0 lawful in
-    c.reads_in_turn.ensures c.args.device.now c.sync.new.self c.read_parts.new.device still
+    c.reads_in_turn.ensures.unchanged c.args.device.now c.sync.new.self c.read_parts.new.device still
     (c.unchanged.ensures.call c.args.device.now c.sync.new.self lawful (c.in_ok-sync.ensures.images lawful) (c.in_ok-sync.ensures.time lawful))
-    (c.in_ok-recovered.ensures.crash_safe still)
+    (c.in_ok-recovered.ensures.read.crash_safe still)

@@ -3,8 +3,9 @@ use Rattle.td_machine.specs.Active.{has_passed, unpassed}
 use Rattle.td_machine.specs.Steps.{cut_by}
 use Rattle.td_machine.specs.Steps.Event.{cut}
 use Rattle.td_machine.specs.Steps.Refusal.{not_passed}
+use Rattle.td_core.specs.declared.error.HallError.TheVariants.{Memory}
 use Rattle.td_core.specs.Floor.{state_of}
-use Rattle.td_core.proofs.CutSteps.{cut_hall, cuts}
+use Rattle.td_core.proofs.CutSteps.{cut_hall, cuts, at_err}
 use Rattle.td_core.proofs.Meant.{cut_meant, last_passed}
 use Rattle.td_core.proofs.hall.Hall.cut.Goals as goal
 
@@ -36,3 +37,6 @@ returns-in-None-clause-meaning g c =
 pub returns-in-Some-clause-refused : goal.returns-in-Some-clause-refused
 returns-in-Some-clause-refused g c =
     inr (not_passed c.in-Some.epoch, refl, ap (λ o. cut_by c.args.self.now o (c.args.self.now.next - 1)) (sym c.unpassed.ensures ∙ c.in-Some.is))
+
+pub returns-in-None-clause-memory_last : goal.returns-in-None-clause-memory_last
+returns-in-None-clause-memory_last g c = at_err (λ e. e ≡ Memory) (sym c.unpassed.ensures ∙ c.in-None.is) c.cut_floor.result

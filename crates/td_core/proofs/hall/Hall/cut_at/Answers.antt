@@ -4,8 +4,9 @@ use Rattle.td_machine.specs.Steps.{cut_at_by}
 use Rattle.td_machine.specs.Steps.Event.{cut_at}
 use Rattle.td_machine.specs.Steps.Answer.{refused}
 use Rattle.td_machine.specs.Steps.Refusal.{not_passed}
+use Rattle.td_core.specs.declared.error.HallError.TheVariants.{Memory}
 use Rattle.td_core.specs.Floor.{state_of}
-use Rattle.td_core.proofs.CutSteps.{cut_hall, cut_answered, cuts_at, refuses_at}
+use Rattle.td_core.proofs.CutSteps.{cut_hall, cut_answered, cuts_at, refuses_at, at_err}
 use Rattle.td_core.proofs.Meant.{cut_meant}
 use Rattle.td_core.proofs.hall.Hall.cut_at.Goals as goal
 
@@ -40,3 +41,10 @@ returns-then-passed-clause-meaning g c =
     let passed : has_passed (state_of floor) e ≡ true = sym (c.in_any_order.ensures.passed _ _ e c.self.invariant.counted) ∙ (sym c.passed.ensures ∙ c.if-passed.true) in
     cut_meant g.L.Law.answers floor (c.reached.ensures.sound _ c.self.invariant.reached) e (subst (λ S. S.base ≤ e) (sym c.self.view_is) c.requires.after)
     (subst (λ S. e < S.next) (sym c.self.view_is) c.requires.released) passed c.cut_floor.result c.cut_floor.ensures.epoch c.cut_floor.ensures.states c.args.self.now c.self.view_is
+
+pub returns-then-passed-clause-memory_last : goal.returns-then-passed-clause-memory_last
+returns-then-passed-clause-memory_last g c =
+    let floor = c.self.inside.floor in
+    let e = c.args.epoch in
+    let passed : has_passed (state_of floor) e ≡ true = sym (c.in_any_order.ensures.passed _ _ e c.self.invariant.counted) ∙ (sym c.passed.ensures ∙ c.if-passed.true) in
+    at_err (λ why. why ≡ Memory) (subst (λ S. has_passed S e ≡ true) c.self.view_is passed) c.cut_floor.result

@@ -1,10 +1,13 @@
 use Rattle.std.proofs.Common.{◌≡◌, Some, OnOk, OnErr, inr, refl, sym, ap, ◌∙◌, subst}
 use Rattle.std.specs.List.{Contains, slice_get}
-use Rattle.td_machine.specs.State.{Task}
+use Rattle.td_machine.specs.State.{HallState, Task}
 use Rattle.td_machine.specs.Steps.{Gives}
 use Rattle.td_machine.specs.Steps.Answer.{has_given}
 use Rattle.td_machine.specs.Steps.Refusal.{stranger}
+use Rattle.td_core.specs.declared.error.HallError.{HallError}
+use Rattle.td_core.specs.declared.error.HallError.TheVariants.{Memory}
 use Rattle.td_core.specs.Floor.{state_of}
+use Rattle.td_core.proofs.CutSteps.{at_err}
 use Rattle.td_core.proofs.GiveFloor.{hall_still, has_given_it, as_it_was, is_no_task}
 use Rattle.td_core.proofs.GiveSteps.{among}
 use Rattle.td_core.proofs.hall.Hall.give.Goals as goal
@@ -36,6 +39,14 @@ returns-clause-given g c =
           (has_given_it g.L.Law.answers floor new c.args.self.now c.args.done c.give_floor.result _ w.in-Ok.is c.self.view_is there c.give_floor.ensures.state)
       | in-Err w ↦ subst (λ r. OnOk r (Gives g.L.Law.answers c.args.self.now c.args.done has_given (state_of new))) (sym w.result-is) tt
     ]
+
+pub returns-clause-memory_last : goal.returns-clause-memory_last
+returns-clause-memory_last g c =
+    let floor = c.self.inside.floor in
+    let found : slice_get floor.out.items c.in-Some.place ≡ Some c.args.done =
+    ap (λ l. slice_get l c.in-Some.place) (sym c.as_slice.ensures.value) ∙ (c.in-Some.ensures.there ∙ ap Some c.task.ensures) in
+    let there = subst (λ (S : HallState). Contains S.out c.args.done) c.self.view_is (among floor.out.items c.in-Some.place c.args.done found) in
+    at_err (λ (e : HallError × Task). e.0 ≡ Memory) there c.match-give_floor.result
 
 pub returns-clause-err : goal.returns-clause-err
 returns-clause-err g c =

@@ -1,4 +1,4 @@
-use Rattle.std.proofs.Common.{◌≡◌, ◌<◌, ◌≤◌, true, length, ap, sym, ◌∙◌, arith}
+use Rattle.std.proofs.Common.{◌≡◌, ◌<◌, ◌≤◌, true, length, ap, sym, ◌∙◌, subst, arith}
 use Rattle.td_machine.specs.Steps.{accepts, release_step, ends}
 use Rattle.td_machine.specs.Steps.Answer.{has_released}
 use Rattle.td_core.specs.Floor.{state_of}
@@ -33,3 +33,9 @@ returns-in-Err-clause-err g c =
     let floor = c.self.inside.floor in
     as_before_state g.L.Law.answers c.bags_of_states.ensures.messages floor c.bring_in.new.floor c.self.invariant (c.reached_in_order.ensures.numbers (state_of floor) c.self.invariant.reached).workers c.in-Err.ensures.err
     ∙ c.self.view_is
+
+pub returns-in-Err-clause-memory_last : goal.returns-in-Err-clause-memory_last
+returns-in-Err-clause-memory_last g c is =
+    let floor = c.self.inside.floor in
+    let below : floor.next < ends = let most = c.self.invariant.next in let other = c.if-self-2.false in omega (arith, most, other) in
+    (sym (ap (λ S. S.closed) c.self.view_is) ∙ c.if-self.false, subst (λ S. S.next < ends) c.self.view_is below)

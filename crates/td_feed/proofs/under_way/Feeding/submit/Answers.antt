@@ -1,38 +1,50 @@
-use Rattle.std.proofs.Common.{List, [], ◌∷◌}
+use Rattle.std.proofs.Common.{◌≡◌, List, [], ◌∷◌}
 use Rattle.td_journal.specs.declared.submitted.Submitted.{Submitted}
 use Rattle.td_standing.specs.Standing.{submission}
-use Rattle.td_keeper.specs.declared.command.Command.TheVariants.{Submit}
-use Rattle.td_keeper.specs.declared.command.Reply.{Reply}
-use Rattle.td_keeper.specs.Driven.{submitted_in}
 use Rattle.td_feed.specs.Carried.{Carries}
-use Rattle.td_feed.proofs.Carrying.{at_err, carried_by, carries_then, leaves_all}
+use Rattle.td_feed.proofs.Carrying.{at_err, leaves_all, carries_then}
+use Rattle.td_feed.proofs.Counting.{counts_handed, counts_after, same_count}
+use Rattle.td_feed.proofs.Lines.{says_nothing, handed_on, then_quiet}
 use Rattle.td_feed.proofs.under_way.Feeding.submit.Goals as goal
 
-pub returns-in_err-line-clause-left : goal.returns-in_err-line-clause-left
-returns-in_err-line-clause-left g c =
+pub returns-in_err-tell_aloud-clause-said : goal.returns-in_err-tell_aloud-clause-said
+returns-in_err-tell_aloud-clause-said g c =
+    let is_lawful = g.D.Disk.is_lawful in
+    let state = g.D.Disk.state in
+    let failures = g.D.Disk.failures in
     let answers = g.L.Law.answers in
+    let w = g.W.Sink.contents c.args.writer.now in
     let old = c.args.keeper.now in
-    let there = c.tell.new.keeper in
     let x : List Submitted = submission 0 c.args.batch ∷ [] in
-    at_err c.from_residual-in_err-line.result
-    (leaves_all g.D.Disk.is_lawful g.D.Disk.state answers old there x (carried_by answers old there (submitted_in (Submit c.args.batch)) c.in-Submitted.is c.in_ok-epoch.ensures.carried))
+    handed_on is_lawful state failures answers c.from_residual.result c.in_err-tell_aloud.field-0.0 w w (g.W.Sink.contents c.tell_aloud.new.writer) old old c.tell_aloud.new.keeper [] x x c.from_residual.ensures.1
+    (says_nothing is_lawful state failures answers w old) c.in_err-tell_aloud.ensures.said
 
-pub returns-in_err-write_answer-clause-left : goal.returns-in_err-write_answer-clause-left
-returns-in_err-write_answer-clause-left g c =
-    let answers = g.L.Law.answers in
-    let old = c.args.keeper.now in
-    let there = c.tell.new.keeper in
-    let x : List Submitted = submission 0 c.args.batch ∷ [] in
-    at_err c.from_residual-in_err-write_answer.result
-    (leaves_all g.D.Disk.is_lawful g.D.Disk.state answers old there x (carried_by answers old there (submitted_in (Submit c.args.batch)) c.in-Submitted.is c.in_ok-epoch.ensures.carried))
+pub returns-in_err-tell_aloud-clause-failures : goal.returns-in_err-tell_aloud-clause-failures
+returns-in_err-tell_aloud-clause-failures g c =
+    counts_handed c.from_residual.result c.in_err-tell_aloud.field-0.0 _ _ c.from_residual.ensures.1 c.in_err-tell_aloud.ensures.failures
 
 pub returns-clause-left : goal.returns-clause-left
 returns-clause-left g c =
+    let is_lawful = g.D.Disk.is_lawful in
+    let state = g.D.Disk.state in
+    let failures = g.D.Disk.failures in
     let answers = g.L.Law.answers in
-    let old = c.args.keeper.now in
-    let there = c.tell.new.keeper in
-    let new = c.release.new.keeper in
     let x : List Submitted = submission 0 c.args.batch ∷ [] in
-    let first : Carries answers old there x = carried_by answers old there (submitted_in (Submit c.args.batch)) c.in-Submitted.is c.in_ok-epoch.ensures.carried in
     at_err c.release.result
-    (leaves_all g.D.Disk.is_lawful g.D.Disk.state answers old new x (carries_then g.D.Disk.is_lawful g.D.Disk.state answers old there new x first c.release.ensures.carried))
+    (leaves_all is_lawful state answers c.args.keeper.now c.release.new.keeper x
+    (carries_then is_lawful state answers c.args.keeper.now c.tell_aloud.new.keeper c.release.new.keeper x c.in_ok-tell_aloud.ensures.carried c.release.ensures.carried))
+
+pub returns-clause-said : goal.returns-clause-said
+returns-clause-said g c =
+    let is_lawful = g.D.Disk.is_lawful in
+    let state = g.D.Disk.state in
+    let failures = g.D.Disk.failures in
+    let answers = g.L.Law.answers in
+    let w = g.W.Sink.contents c.args.writer.now in
+    let v = g.W.Sink.contents c.tell_aloud.new.writer in
+    let x : List Submitted = submission 0 c.args.batch ∷ [] in
+    then_quiet is_lawful state failures answers c.release.result w v v c.args.keeper.now c.tell_aloud.new.keeper c.release.new.keeper x c.in_ok-tell_aloud.ensures.said (c.release.ensures.said v)
+
+pub returns-clause-failures : goal.returns-clause-failures
+returns-clause-failures g c =
+    counts_after c.release.result _ _ _ (same_count c.in_ok-tell_aloud.field-0 _ _ c.in_ok-tell_aloud.ensures.failures) c.release.ensures.failures

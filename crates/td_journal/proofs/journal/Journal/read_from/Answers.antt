@@ -1,5 +1,6 @@
-use Rattle.std.proofs.Common.{◌≡◌, ◌+◌, ◌^◌, ◌<◌, ℕ, true, List, [], ◌∷◌, length, Option, inl, inr, ⊎_elim, ap, sym, ◌∙◌, subst, arith}
-use Rattle.std.specs.Prelude.{All, IfSome}
+use Rattle.std.proofs.Common.{◌≡◌, ◌+◌, ◌^◌, ◌<◌, ℕ, true, List, [], ◌∷◌, length, Option, Ok, ◌⊎◌, inl, inr, ⊎_elim, ap, sym, ◌∙◌, subst, arith}
+use Rattle.std.specs.Prelude.{All, IfSome, IsErrOf}
+use Rattle.td_journal.specs.declared.error.JournalError.TheVariants.{Device}
 use Rattle.std.proofs.lemmas.List.{length-append}
 use Rattle.std.proofs.lemmas.List.Elements.{All-append, All-cons, All-nil}
 use Rattle.td_journal.specs.declared.submitted.Submitted.{Submitted}
@@ -9,6 +10,11 @@ use Rattle.td_journal.specs.Ring.{found, past}
 use Rattle.td_journal.specs.Parsed.{IsDamage, found_by}
 use Rattle.td_journal.proofs.Reading.{joined, joined_push, joined_ok, joined_err, left_from, left_found, left_more, left_none, damage_refuses}
 use Rattle.td_journal.proofs.journal.Journal.read_from.Goals as goal
+
+-- the count of a call that answered
+not_failed : {T E : Type 0} (x : T) (e : E) (new old : ℕ) → IsErrOf (Ok x) e ⊎ (new ≡ old) → new ≡ old
+not_failed x e new old (inl no_) = absurd cc
+not_failed x e new old (inr same) = same
 
 pub returns-clause-told : goal.returns-clause-told
 returns-clause-told g c lawful =
@@ -25,10 +31,10 @@ returns-in-Ok-None-clause-told g c lawful =
     let w = c.loop-i.told.items in
     let i = c.loop-i.i in
     let floor = c.loop-i.greatest in
-    let still = c.loop-i.invariant.lawful.0 lawful in
+    let still = c.loop-i.invariant.read.lawful.0 lawful in
     let here : find floor (c.args.checkpoint + 1 + i) ≡ ended =
     ap (λ (n : ℕ). find floor (c.args.checkpoint + 1 + n)) (sym c.from.ensures)
-    ∙ ap (λ (b : List ℕ). found c.args.inputs.now c.args.self.now b floor (c.args.checkpoint + 1 + c.from.result)) (sym (c.loop-i.invariant.same lawful))
+    ∙ ap (λ (b : List ℕ). found c.args.inputs.now c.args.self.now b floor (c.args.checkpoint + 1 + c.from.result)) (sym (c.loop-i.invariant.read.same lawful))
     ∙ c.in-Ok-None.ensures.found still ∙ ap found_by c.in-Ok-None.field-0-is in
     c.loop-i.invariant.told lawful ∙ ap (joined w) (left_found find c.args.self.now.n c.args.checkpoint floor i ended c.loop-i-test.true here) ∙ joined_ok w
 
@@ -42,10 +48,10 @@ returns-in-Err-clause-refused g c =
     let f = find floor (c.args.checkpoint + 1 + i) in
     let rest = left_from find c.args.self.now.n c.args.checkpoint (past floor f) (i + 1) in
     ⊎_elim (λ device. inl device) (λ other. ⊎_elim (λ memory. inr (inl memory)) (λ damage. inr (inr (λ lawful.
-    let still = c.loop-i.invariant.lawful.0 lawful in
+    let still = c.loop-i.invariant.read.lawful.0 lawful in
     let here : f ≡ found c.args.inputs.now c.args.self.now (state c.loop-i.device).bytes floor (c.args.checkpoint + 1 + c.from.result) =
     ap (λ (n : ℕ). find floor (c.args.checkpoint + 1 + n)) (sym c.from.ensures)
-    ∙ ap (λ (b : List ℕ). found c.args.inputs.now c.args.self.now b floor (c.args.checkpoint + 1 + c.from.result)) (sym (c.loop-i.invariant.same lawful)) in
+    ∙ ap (λ (b : List ℕ). found c.args.inputs.now c.args.self.now b floor (c.args.checkpoint + 1 + c.from.result)) (sym (c.loop-i.invariant.read.same lawful)) in
     c.loop-i.invariant.told lawful
     ∙ ap (joined w) (left_more find c.args.self.now.n c.args.checkpoint floor i c.loop-i-test.true ∙ damage_refuses c.in-Err.refusal f rest (subst (IsDamage c.in-Err.refusal) (sym here) (damage still)))
     ∙ joined_err w c.in-Err.refusal))) other) c.in-Err.ensures.refused
@@ -67,8 +73,8 @@ loop-i-preserved g c =
       told = λ lawful.
           let here : find floor (c.args.checkpoint + 1 + i) ≡ submitted s =
           ap (λ (n : ℕ). find floor (c.args.checkpoint + 1 + n)) (sym c.from.ensures)
-          ∙ ap (λ (l : List ℕ). found c.args.inputs.now c.args.self.now l floor (c.args.checkpoint + 1 + c.from.result)) (sym (inv.same lawful))
-          ∙ c.in-Ok-Some.ensures.found (inv.lawful.0 lawful) ∙ ap found_by c.in-Ok-Some.field-0-is in
+          ∙ ap (λ (l : List ℕ). found c.args.inputs.now c.args.self.now l floor (c.args.checkpoint + 1 + c.from.result)) (sym (inv.read.same lawful))
+          ∙ c.in-Ok-Some.ensures.found (inv.read.lawful.0 lawful) ∙ ap found_by c.in-Ok-Some.field-0-is in
           let rest = left_from find c.args.self.now.n c.args.checkpoint (past floor (submitted s)) (i + 1) in
           inv.told lawful
           ∙ ap (joined w) (left_found find c.args.self.now.n c.args.checkpoint floor i (submitted s) c.loop-i-test.true here)
@@ -78,34 +84,15 @@ loop-i-preserved g c =
           (All-append (λ x. is_batch c.args.inputs.now x.batch ≡ true) w (s ∷ []) inv.batches (All-cons (λ x. is_batch c.args.inputs.now x.batch ≡ true) s [] lawful_batch (All-nil (λ x. is_batch c.args.inputs.now x.batch ≡ true))));
       count = ap length c.in_ok-push-in-Ok-Some.ensures.items ∙ length-append w (s ∷ []) ∙ ap (λ (n : ℕ). n + 1) inv.count;
       below = omega (arith, looked_for, c.from.ensures);
-      size = c.in-Ok-Some.ensures.size ∙ inv.size;
-      lawful = (λ l. c.in-Ok-Some.ensures.lawful.0 (inv.lawful.0 l), λ l. inv.lawful.1 (c.in-Ok-Some.ensures.lawful.1 l));
-      later = omega (arith, inv.later, c.in-Ok-Some.ensures.later);
-      same = λ l. c.in-Ok-Some.ensures.same (inv.lawful.0 l) ∙ inv.same l;
-      durable = λ l d. c.in-Ok-Some.ensures.durable (inv.lawful.0 l) (inv.durable l d);
-      crash_safe = λ l. c.reads_in_turn.ensures c.args.device.now c.loop-i.device c.submitted_at.new.device (inv.lawful.0 l) (inv.crash_safe l) (c.in-Ok-Some.ensures.crash_safe (inv.lawful.0 l));
+      count_stays = not_failed c.in-Ok-Some.field-0 Device (g.D.Disk.failures c.submitted_at.new.device) (g.D.Disk.failures c.loop-i.device) c.in-Ok-Some.ensures.failures.stays ∙ inv.count_stays;
+      read = c.reads_in_turn.ensures.read _ _ _ inv.read c.in-Ok-Some.ensures.read;
     }
 
-pub returns-in-Ok-None-clause-durable : goal.returns-in-Ok-None-clause-durable
-returns-in-Ok-None-clause-durable g c lawful durable = c.in-Ok-None.ensures.durable (c.loop-i.invariant.lawful.0 lawful) (c.loop-i.invariant.durable lawful durable)
+pub returns-in-Ok-None-clause-read : goal.returns-in-Ok-None-clause-read
+returns-in-Ok-None-clause-read g c = c.reads_in_turn.ensures.read _ _ _ c.loop-i.invariant.read c.in-Ok-None.ensures.read
 
-pub returns-in-Err-clause-durable : goal.returns-in-Err-clause-durable
-returns-in-Err-clause-durable g c lawful durable = c.in-Err.ensures.durable (c.loop-i.invariant.lawful.0 lawful) (c.loop-i.invariant.durable lawful durable)
+pub returns-in-Err-clause-read : goal.returns-in-Err-clause-read
+returns-in-Err-clause-read g c = c.reads_in_turn.ensures.read _ _ _ c.loop-i.invariant.read c.in-Err.ensures.read
 
-pub returns-in-Ok-None-clause-crash_safe : goal.returns-in-Ok-None-clause-crash_safe
-returns-in-Ok-None-clause-crash_safe g c lawful =
-    let inv = c.loop-i.invariant in
-    c.reads_in_turn.ensures c.args.device.now c.loop-i.device c.submitted_at.new.device (inv.lawful.0 lawful) (inv.crash_safe lawful) (c.in-Ok-None.ensures.crash_safe (inv.lawful.0 lawful))
-
-pub returns-in-Err-clause-crash_safe : goal.returns-in-Err-clause-crash_safe
-returns-in-Err-clause-crash_safe g c lawful =
-    let inv = c.loop-i.invariant in
-    c.reads_in_turn.ensures c.args.device.now c.loop-i.device c.submitted_at.new.device (inv.lawful.0 lawful) (inv.crash_safe lawful) (c.in-Err.ensures.crash_safe (inv.lawful.0 lawful))
-
-pub returns-in_err-push-in-Ok-Some-clause-crash_safe : goal.returns-in_err-push-in-Ok-Some-clause-crash_safe
-returns-in_err-push-in-Ok-Some-clause-crash_safe g c lawful =
-    let inv = c.loop-i.invariant in
-    c.reads_in_turn.ensures c.args.device.now c.loop-i.device c.submitted_at.new.device (inv.lawful.0 lawful) (inv.crash_safe lawful) (c.in-Ok-Some.ensures.crash_safe (inv.lawful.0 lawful))
-
-pub returns-in_err-push-in-Ok-Some-clause-durable : goal.returns-in_err-push-in-Ok-Some-clause-durable
-returns-in_err-push-in-Ok-Some-clause-durable g c lawful durable = c.in-Ok-Some.ensures.durable (c.loop-i.invariant.lawful.0 lawful) (c.loop-i.invariant.durable lawful durable)
+pub returns-in_err-push-in-Ok-Some-clause-read : goal.returns-in_err-push-in-Ok-Some-clause-read
+returns-in_err-push-in-Ok-Some-clause-read g c = c.reads_in_turn.ensures.read _ _ _ c.loop-i.invariant.read c.in-Ok-Some.ensures.read

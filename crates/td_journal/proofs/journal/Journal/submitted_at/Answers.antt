@@ -16,7 +16,7 @@ pub returns-in-Some-2-clause-found : goal.returns-in-Some-2-clause-found
 returns-in-Some-2-clause-found g c lawful =
     let bytes = (g.D.Disk.state c.args.device.now).bytes in
     let payload = c.in-Some.payload.items in
-    let small : c.args.epoch < 2 ^ 63 = omega (arith, c.if-epoch.false) in
+    let small : c.args.epoch < 2 ^ 63 = omega (arith, c.if-epoch-ge-EPOCHS_END.false) in
     let number : number_at 8 0 payload ≡ c.args.epoch = ap (number_at 8 0) (sym c.deref.ensures.value) ∙ sym c.u64_at.ensures ∙ c.if-u64_at-epoch.false in
     let held : opened (cell_of c.args.self.now c.args.epoch) bytes ≡ Some payload =
     ap (λ (r : Region). opened r bytes) (sym c.cell_of-cell.ensures.region) ∙ sym (ap payload_of (sym c.in-Some.is) ∙ c.in_ok-payload.ensures.found lawful) in
@@ -40,7 +40,7 @@ pub returns-clause-refused : goal.returns-clause-refused
 returns-clause-refused g c = inr (inr (λ lawful.
     let bytes = (g.D.Disk.state c.args.device.now).bytes in
     let payload = c.in-Some.payload.items in
-    let small : c.args.epoch < 2 ^ 63 = omega (arith, c.if-epoch.false) in
+    let small : c.args.epoch < 2 ^ 63 = omega (arith, c.if-epoch-ge-EPOCHS_END.false) in
     let number : number_at 8 0 payload ≡ c.args.epoch = ap (number_at 8 0) (sym c.deref.ensures.value) ∙ sym c.u64_at.ensures ∙ c.if-u64_at-epoch.false in
     let held : opened (cell_of c.args.self.now c.args.epoch) bytes ≡ Some payload =
     ap (λ (r : Region). opened r bytes) (sym c.cell_of-cell.ensures.region) ∙ sym (ap payload_of (sym c.in-Some.is) ∙ c.in_ok-payload.ensures.found lawful) in

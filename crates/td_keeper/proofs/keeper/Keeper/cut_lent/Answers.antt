@@ -23,8 +23,8 @@ cut_at_epoch-requires-clause-released g c =
     let now = c.in_ok-bring_in.ensures.collected in
     let keeping = subst (λ (q : Keeping g.row.D.Denot). IsKeeping q g.L.Law.answers) c.self.view_is c.self.invariant.1 in
     let own : IsOwn c.bring_in.new.self (g.H.AnyHall.state c.bring_in.new.hall) = subst (λ (q : Keeping g.row.D.Denot). IsOwn q (g.H.AnyHall.state c.bring_in.new.hall)) (sym now.0) (subst (IsOwn (with_collected c.args.self.now (g.H.AnyHall.state c.args.hall.now))) (sym now.1) (own_after c.args.self.now (g.H.AnyHall.state c.args.hall.now) (c.owns.ensures.0 c.if-not-owns.false))) in
-    let last = is_last g.L.Law.answers c.run_joins.ensures.states c.run_joins.ensures.outs c.bring_in.new.self keeping (g.H.AnyHall.state c.bring_in.new.hall) own c.each_is_sound.ensures.sound
-    (c.base_has_passed.ensures (g.H.AnyHall.state c.bring_in.new.hall) c.each_is_sound.ensures.reached) in
+    let last = is_last g.L.Law.answers c.run_joins.ensures.states c.run_joins.ensures.outs c.bring_in.new.self keeping (g.H.AnyHall.state c.bring_in.new.hall) own c.each_is_sound-2.ensures.sound
+    (c.base_has_passed.ensures (g.H.AnyHall.state c.bring_in.new.hall) c.each_is_sound-2.ensures.reached) in
     omega (arith, last.before, c.in-Ok.ensures.epoch)
 
 pub invariant_of-self : goal.invariant_of-self
@@ -32,10 +32,10 @@ invariant_of-self g c =
     let now = c.in_ok-bring_in.ensures.collected in
     let q : Keeping g.row.D.Denot = keeping_of c.self.inside.device c.self.inside.plan c.self.inside.head c.self.inside.checkpoint c.self.inside.submitted.items c.self.inside.broken c.self.inside.taken c.self.inside.collected c.self.inside.queue.items c.self.inside.watch in
     let own : IsOwn q (g.H.AnyHall.state c.bring_in.new.hall) = subst (λ (p : Keeping g.row.D.Denot). IsOwn p (g.H.AnyHall.state c.bring_in.new.hall)) (sym (c.self.view_is ∙ now.0)) (subst (IsOwn (with_collected c.args.self.now (g.H.AnyHall.state c.args.hall.now))) (sym now.1) (own_after c.args.self.now (g.H.AnyHall.state c.args.hall.now) (c.owns.ensures.0 c.if-not-owns.false))) in
-    let passed = c.base_has_passed.ensures (g.H.AnyHall.state c.bring_in.new.hall) c.each_is_sound.ensures.reached in
-    let last = is_last g.L.Law.answers c.run_joins.ensures.states c.run_joins.ensures.outs q c.self.invariant.1 (g.H.AnyHall.state c.bring_in.new.hall) own c.each_is_sound.ensures.sound passed in
+    let passed = c.base_has_passed.ensures (g.H.AnyHall.state c.bring_in.new.hall) c.each_is_sound-2.ensures.reached in
+    let last = is_last g.L.Law.answers c.run_joins.ensures.states c.run_joins.ensures.outs q c.self.invariant.1 (g.H.AnyHall.state c.bring_in.new.hall) own c.each_is_sound-2.ensures.sound passed in
     let there : has_passed (g.H.AnyHall.state c.bring_in.new.hall) c.in-Ok.last ≡ true = ap (has_passed (g.H.AnyHall.state c.bring_in.new.hall)) c.in-Ok.ensures.epoch
-    ∙ last_has_passed g.L.Law.answers c.run_joins.ensures.states c.run_joins.ensures.outs q c.self.invariant.1 (g.H.AnyHall.state c.bring_in.new.hall) own c.each_is_sound.ensures.sound passed in
+    ∙ last_has_passed g.L.Law.answers c.run_joins.ensures.states c.run_joins.ensures.outs q c.self.invariant.1 (g.H.AnyHall.state c.bring_in.new.hall) own c.each_is_sound-2.ensures.sound passed in
     let is = cut_is (g.H.AnyHall.state c.bring_in.new.hall) (g.H.AnyHall.state c.cut_at_epoch.new.self) c.in-Ok.last c.in-Ok-cut_at_epoch.field-0.epoch c.in-Ok-cut_at_epoch.field-0.states (has_passed (g.H.AnyHall.state c.bring_in.new.hall) c.in-Ok.last) there c.in-Ok-cut_at_epoch.ensures.cut in
     let far : last_passed (g.H.AnyHall.state c.bring_in.new.hall) ≤ q.collected =
     let low = c.collects_what_is_meant.ensures.far in
@@ -43,7 +43,7 @@ invariant_of-self g c =
     let count = ap (λ (p : Keeping g.row.D.Denot). p.collected) (c.self.view_is ∙ now.0) in
     omega (arith, low, here, count) in (
       c.self.invariant.0,
-      cut_right g.L.Law.answers c.run_joins.ensures.states c.run_joins.ensures.outs q c.self.invariant.1 (g.H.AnyHall.state c.bring_in.new.hall) own c.each_is_sound.ensures.sound c.in-Ok-cut_at_epoch.field-0.epoch
+      cut_right g.L.Law.answers c.run_joins.ensures.states c.run_joins.ensures.outs q c.self.invariant.1 (g.H.AnyHall.state c.bring_in.new.hall) own c.each_is_sound-2.ensures.sound c.in-Ok-cut_at_epoch.field-0.epoch
           (omega (arith, is.0, c.in-Ok.ensures.epoch, last.after)) (omega (arith, is.0, c.in-Ok.ensures.epoch, last.before)) (omega (arith, is.0, c.in-Ok.ensures.epoch, far))
           c.in-Ok-cut_at_epoch.field-0.states c.in-Ok-cut_at_epoch.ensures.meaning,
       c.self.invariant.2,
@@ -62,9 +62,9 @@ returns-clause-cut g c =
     let q : Keeping g.row.D.Denot = keeping_of c.self.inside.device c.self.inside.plan c.self.inside.head c.self.inside.checkpoint c.self.inside.submitted.items c.self.inside.broken c.self.inside.taken c.self.inside.collected c.self.inside.queue.items c.self.inside.watch in
     let view : q ≡ with_collected c.args.self.now (g.H.AnyHall.state c.args.hall.now) = c.self.view_is ∙ now.0 in
     let own : IsOwn q (g.H.AnyHall.state c.bring_in.new.hall) = subst (λ (p : Keeping g.row.D.Denot). IsOwn p (g.H.AnyHall.state c.bring_in.new.hall)) (sym view) (subst (IsOwn (with_collected c.args.self.now (g.H.AnyHall.state c.args.hall.now))) (sym now.1) (own_after c.args.self.now (g.H.AnyHall.state c.args.hall.now) (c.owns.ensures.0 c.if-not-owns.false))) in
-    let passed = c.base_has_passed.ensures (g.H.AnyHall.state c.bring_in.new.hall) c.each_is_sound.ensures.reached in
+    let passed = c.base_has_passed.ensures (g.H.AnyHall.state c.bring_in.new.hall) c.each_is_sound-2.ensures.reached in
     let there : has_passed (g.H.AnyHall.state c.bring_in.new.hall) c.in-Ok.last ≡ true = ap (has_passed (g.H.AnyHall.state c.bring_in.new.hall)) c.in-Ok.ensures.epoch
-    ∙ last_has_passed g.L.Law.answers c.run_joins.ensures.states c.run_joins.ensures.outs q c.self.invariant.1 (g.H.AnyHall.state c.bring_in.new.hall) own c.each_is_sound.ensures.sound passed in
+    ∙ last_has_passed g.L.Law.answers c.run_joins.ensures.states c.run_joins.ensures.outs q c.self.invariant.1 (g.H.AnyHall.state c.bring_in.new.hall) own c.each_is_sound-2.ensures.sound passed in
     let is = cut_is (g.H.AnyHall.state c.bring_in.new.hall) (g.H.AnyHall.state c.cut_at_epoch.new.self) c.in-Ok.last c.in-Ok-cut_at_epoch.field-0.epoch c.in-Ok-cut_at_epoch.field-0.states (has_passed (g.H.AnyHall.state c.bring_in.new.hall) c.in-Ok.last) there c.in-Ok-cut_at_epoch.ensures.cut in
     let epochs : c.in-Ok-cut_at_epoch.field-0.epoch ≡ (g.H.AnyHall.state c.cut_at_epoch.new.self).base = is.0 ∙ sym (ap (λ (U : HallState). U.base) is.2) in
     let states : c.in-Ok-cut_at_epoch.field-0.states ≡ (g.H.AnyHall.state c.cut_at_epoch.new.self).base_states = is.1 ∙ sym (ap (λ (U : HallState). U.base_states) is.2) in (
@@ -79,11 +79,11 @@ returns-clause-meaning g c =
     let q : Keeping g.row.D.Denot = keeping_of c.self.inside.device c.self.inside.plan c.self.inside.head c.self.inside.checkpoint c.self.inside.submitted.items c.self.inside.broken c.self.inside.taken c.self.inside.collected c.self.inside.queue.items c.self.inside.watch in
     let view : q ≡ with_collected c.args.self.now (g.H.AnyHall.state c.args.hall.now) = c.self.view_is ∙ now.0 in
     let own : IsOwn q (g.H.AnyHall.state c.bring_in.new.hall) = subst (λ (p : Keeping g.row.D.Denot). IsOwn p (g.H.AnyHall.state c.bring_in.new.hall)) (sym view) (subst (IsOwn (with_collected c.args.self.now (g.H.AnyHall.state c.args.hall.now))) (sym now.1) (own_after c.args.self.now (g.H.AnyHall.state c.args.hall.now) (c.owns.ensures.0 c.if-not-owns.false))) in
-    let passed = c.base_has_passed.ensures (g.H.AnyHall.state c.bring_in.new.hall) c.each_is_sound.ensures.reached in
-    let last = is_last g.L.Law.answers c.run_joins.ensures.states c.run_joins.ensures.outs q c.self.invariant.1 (g.H.AnyHall.state c.bring_in.new.hall) own c.each_is_sound.ensures.sound passed in
+    let passed = c.base_has_passed.ensures (g.H.AnyHall.state c.bring_in.new.hall) c.each_is_sound-2.ensures.reached in
+    let last = is_last g.L.Law.answers c.run_joins.ensures.states c.run_joins.ensures.outs q c.self.invariant.1 (g.H.AnyHall.state c.bring_in.new.hall) own c.each_is_sound-2.ensures.sound passed in
     let there : has_passed (g.H.AnyHall.state c.bring_in.new.hall) c.in-Ok.last ≡ true = ap (has_passed (g.H.AnyHall.state c.bring_in.new.hall)) c.in-Ok.ensures.epoch
-    ∙ last_has_passed g.L.Law.answers c.run_joins.ensures.states c.run_joins.ensures.outs q c.self.invariant.1 (g.H.AnyHall.state c.bring_in.new.hall) own c.each_is_sound.ensures.sound passed in
+    ∙ last_has_passed g.L.Law.answers c.run_joins.ensures.states c.run_joins.ensures.outs q c.self.invariant.1 (g.H.AnyHall.state c.bring_in.new.hall) own c.each_is_sound-2.ensures.sound passed in
     let is = cut_is (g.H.AnyHall.state c.bring_in.new.hall) (g.H.AnyHall.state c.cut_at_epoch.new.self) c.in-Ok.last c.in-Ok-cut_at_epoch.field-0.epoch c.in-Ok-cut_at_epoch.field-0.states (has_passed (g.H.AnyHall.state c.bring_in.new.hall) c.in-Ok.last) there c.in-Ok-cut_at_epoch.ensures.cut in
-    cut_meaning g.L.Law.answers c.run_joins.ensures.states c.run_joins.ensures.outs q c.self.invariant.1 (g.H.AnyHall.state c.bring_in.new.hall) own c.each_is_sound.ensures.sound c.in-Ok-cut_at_epoch.field-0.epoch
+    cut_meaning g.L.Law.answers c.run_joins.ensures.states c.run_joins.ensures.outs q c.self.invariant.1 (g.H.AnyHall.state c.bring_in.new.hall) own c.each_is_sound-2.ensures.sound c.in-Ok-cut_at_epoch.field-0.epoch
     (omega (arith, is.0, c.in-Ok.ensures.epoch, last.after)) (omega (arith, is.0, c.in-Ok.ensures.epoch, last.before)) c.in-Ok-cut_at_epoch.field-0.states c.in-Ok-cut_at_epoch.ensures.meaning
     ∙ ap (λ (p : Keeping g.row.D.Denot). states_after g.L.Law.answers (tree_of p.plan) p.standing.states (batches_of p.standing.submitted) (c.in-Ok-cut_at_epoch.field-0.epoch - p.standing.epoch)) view

@@ -8,6 +8,7 @@ use Rattle.td_keeper.specs.declared.command.Command.{Command}
 use Rattle.td_keeper.specs.declared.command.Reply.{Reply}
 use Rattle.td_keeper.specs.Driven.{submitted_by, handed_out, HandsOn, Advances, Driven}
 use Rattle.td_keeper.proofs.Driving.{driven_more, driven_broken, driven_advances}
+use Rattle.td_keeper.proofs.Failing.{driven_counted, driven_failed, driven_whole}
 use Rattle.td_keeper.proofs.Handing.{driven_hands}
 use Rattle.td_keeper.proofs.Since.{from_start}
 use Rattle.td_keeper.proofs.Submitting.{keeps_of}
@@ -18,17 +19,30 @@ loop-command-preserved g c =
     let inv = c.loop-command.invariant in
     let so_far = c.loop-command.yielded in
     let command = c.in-Some.command in record {
-      driven = subst (λ (rs : List Reply). Driven g.D.Disk.is_lawful g.D.Disk.state g.L.Law.answers (so_far ++ command ∷ []) rs c.args.self.now c.obey.new.self) (sym c.push_reserved.ensures.items)
-          (driven_more g.D.Disk.is_lawful g.D.Disk.state g.L.Law.answers so_far c.loop-command.replies.items command c.obey.result c.args.self.now c.loop-command.self c.obey.new.self inv.driven c.obey.ensures.obeyed c.each_is_kept-in-loop-command.ensures);
+      driven = subst (λ (rs : List Reply). Driven g.D.Disk.is_lawful g.D.Disk.state g.D.Disk.failures g.L.Law.answers (so_far ++ command ∷ []) rs c.args.self.now c.obey.new.self) (sym c.push_reserved.ensures.items)
+          (driven_more g.D.Disk.is_lawful g.D.Disk.state g.D.Disk.failures g.L.Law.answers so_far c.loop-command.replies.items command c.obey.result c.args.self.now c.loop-command.self c.obey.new.self inv.driven c.obey.ensures.obeyed c.each_is_kept-in-loop-command.ensures);
       count = ap length c.push_reserved.ensures.items ∙ (length-append c.loop-command.replies.items (c.obey.result ∷ []) ∙ (ap (λ n. n + 1) inv.count ∙ sym (length-append so_far (command ∷ []))));
       room = omega (arith, c.push_reserved.ensures.capacity, inv.room);
       size = c.obey.ensures.size ∙ inv.size;
       lawful = (λ l. c.obey.ensures.lawful.0 (inv.lawful.0 l), λ l. inv.lawful.1 (c.obey.ensures.lawful.1 l));
     }
 
+pub returns-clause-device : goal.returns-clause-device
+returns-clause-device g c is =
+    let fails = driven_failed g.D.Disk.is_lawful g.D.Disk.state g.D.Disk.failures g.L.Law.answers c.loop-command.yielded c.loop-command.replies.items c.args.self.now c.loop-command.self c.loop-command.invariant.driven is in
+    (fails.broken, fails.risen)
+
+pub returns-clause-whole : goal.returns-clause-whole
+returns-clause-whole g c none =
+    driven_whole g.D.Disk.is_lawful g.D.Disk.state g.D.Disk.failures g.L.Law.answers c.loop-command.yielded c.loop-command.replies.items c.args.self.now c.loop-command.self c.loop-command.invariant.driven none
+
+pub returns-clause-counted : goal.returns-clause-counted
+returns-clause-counted g c =
+    driven_counted g.D.Disk.is_lawful g.D.Disk.state g.D.Disk.failures g.L.Law.answers c.loop-command.yielded c.loop-command.replies.items c.args.self.now c.loop-command.self c.loop-command.invariant.driven
+
 pub returns-clause-broken : goal.returns-clause-broken
 returns-clause-broken g c is =
-    (driven_broken g.D.Disk.is_lawful g.D.Disk.state g.L.Law.answers c.loop-command.yielded c.loop-command.replies.items c.args.self.now c.loop-command.self c.loop-command.invariant.driven is).0
+    (driven_broken g.D.Disk.is_lawful g.D.Disk.state g.D.Disk.failures g.L.Law.answers c.loop-command.yielded c.loop-command.replies.items c.args.self.now c.loop-command.self c.loop-command.invariant.driven is).0
 
 pub returns-clause-further : goal.returns-clause-further
 returns-clause-further g c lawful whole =
@@ -43,8 +57,8 @@ returns-clause-further g c lawful whole =
     let end = YieldsList-end source yielded c.loop-command.command-iterator c.loop-command.yielded_by c.next.result c.next.new.self c.in-None.is c.next.ensures.steps in
     let same : yielded ≡ all = sym (map-id yielded) ∙ end.0 in
     let join = c.advances_join.ensures in
-    subst (λ (l : List Command). Advances g.D.Disk.is_lawful g.D.Disk.state answers old new (submitted_by l replies)) same
-    (driven_advances g.D.Disk.is_lawful g.D.Disk.state answers join.submitted join.cut join.later join.last yielded replies old new c.each_is_kept.ensures c.loop-command.invariant.driven lawful whole)
+    subst (λ (l : List Command). Advances g.D.Disk.is_lawful g.D.Disk.state g.D.Disk.failures answers old new (submitted_by l replies)) same
+    (driven_advances g.D.Disk.is_lawful g.D.Disk.state g.D.Disk.failures answers join.submitted join.cut join.later join.last yielded replies old new c.each_is_kept.ensures c.loop-command.invariant.driven lawful whole)
 
 pub returns-clause-images : goal.returns-clause-images
 returns-clause-images g c lawful whole =
@@ -70,4 +84,4 @@ returns-clause-outputs g c =
     let end = YieldsList-end source yielded c.loop-command.command-iterator c.loop-command.yielded_by c.next.result c.next.new.self c.in-None.is c.next.ensures.steps in
     let same : yielded ≡ all = sym (map-id yielded) ∙ end.0 in
     subst (λ (l : List Command). HandsOn answers old new (submitted_by l replies) (handed_out replies)) same
-    (driven_hands g.D.Disk.is_lawful g.D.Disk.state answers c.run_joins.ensures.outs c.advances_join.ensures.last yielded replies old new c.each_is_kept.ensures c.loop-command.invariant.driven)
+    (driven_hands g.D.Disk.is_lawful g.D.Disk.state g.D.Disk.failures answers c.run_joins.ensures.outs c.advances_join.ensures.last yielded replies old new c.each_is_kept.ensures c.loop-command.invariant.driven)

@@ -1,14 +1,27 @@
-use Rattle.std.proofs.Common.{List, ap, ⊎_elim, inl, inr, Some, rules}
+use Rattle.std.proofs.Common.{◌≡◌, ◌∙◌, List, true, false, sym, ap, ⊎_elim, inl, inr, refl, Some}
 use Rattle.td_journal.specs.declared.submitted.Submitted.{Submitted}
 use Rattle.td_standing.specs.Standing.{last_epoch}
 use Rattle.td_standing.specs.Advanced.{AdvancesSince}
+use Rattle.td_keeper.specs.Driven.{is_device}
 use Rattle.td_keeper.proofs.Driving.{refused_in}
-use Rattle.std.specs.Prelude.{Option, Result, Ok, ℕ}
+use Rattle.std.specs.Prelude.{Option, Result, Ok, Err, ℕ}
 use Rattle.td_standing.specs.declared.error.KeeperError.{KeeperError}
+use Rattle.td_standing.specs.declared.error.KeeperError.TheVariants as error
 use Rattle.td_keeper.proofs.keeper.Keeper.obey.Goals as goal
 
 abbrev as_ok : Option ℕ → Result (Option ℕ) KeeperError
 as_ok o = Ok o
+
+abbrev as_err : KeeperError → Result (Option ℕ) KeeperError
+as_err e = Err e
+
+error_of : Result (Option ℕ) KeeperError → KeeperError
+error_of (Ok o) = error.Memory
+error_of (Err e) = e
+
+as_error : (e : KeeperError) → as_err e ≡ as_err error.Device → e ≡ error.Device
+unfolding error_of
+as_error e is = ap error_of is
 
 pub returns-in-Submit-clause-obeyed : goal.returns-in-Submit-clause-obeyed
 returns-in-Submit-clause-obeyed g c =
@@ -16,13 +29,17 @@ returns-in-Submit-clause-obeyed g c =
     let old = c.args.self.now in
     let state = g.D.Disk.state in
     rw (c.in-Submit.is, c.refused.ensures) (
-      (ap Some e.back, e.broken, e.refused, e.unchanged),
-      λ lawful. record {
-        lawful = e.lawful.0 lawful;
-        later = e.later lawful;
-        since = λ whole.
-            refused_in (λ (x : List Submitted). AdvancesSince g.L.Law.answers old.plan old.standing x (last_epoch old.standing) (state old.device) (state c.submit.new.self.device))
-            c.in-Submit.batch c.in-Err.error (Some c.in-Err.batch) (e.further lawful whole) (⊎_elim inl (λ none. inr (none lawful whole)) e.nothing);
+      record { batch_back = ap Some e.back; cause = e.refused; unchanged = e.unchanged; memory = e.unwritten; device = λ failed. record { broken = e.broken failed; risen = e.device failed } },
+      record {
+        counted = e.counted;
+        stays = λ quiet. ⊎_elim (λ failed. absurd (let both : true ≡ false = sym (ap is_device failed) ∙ quiet in cc)) (λ same. same) e.stays_back;
+        advances = λ lawful. record {
+          lawful = e.lawful.0 lawful;
+          later = e.later lawful;
+          since = λ whole.
+              refused_in (λ (x : List Submitted). AdvancesSince g.L.Law.answers old.plan old.standing x (last_epoch old.standing) (state old.device) (state c.submit.new.self.device))
+              c.in-Submit.batch c.in-Err.error (Some c.in-Err.batch) (e.further lawful whole) (⊎_elim inl (λ none. inr (none lawful whole)) e.nothing);
+        };
       },
     )
 
@@ -30,11 +47,15 @@ pub returns-in-Ok-clause-obeyed : goal.returns-in-Ok-clause-obeyed
 returns-in-Ok-clause-obeyed g c =
     let e = c.in-Ok.ensures in
     rw c.in-Submit.is (
-      (e.accepted, e.submitted, e.acknowledged),
-      λ lawful. record {
-        lawful = e.lawful.0 lawful;
-        later = e.later lawful;
-        since = λ whole. e.further lawful whole;
+      record { accepted = e.accepted; submitted = e.submitted; last = e.acknowledged },
+      record {
+        counted = e.counted;
+        stays = λ quiet. e.stays;
+        advances = λ lawful. record {
+          lawful = e.lawful.0 lawful;
+          later = e.later lawful;
+          since = λ whole. e.further lawful whole;
+        };
       },
     )
 
@@ -42,19 +63,36 @@ pub returns-in-Ok-write_cut-clause-obeyed : goal.returns-in-Ok-write_cut-clause-
 returns-in-Ok-write_cut-clause-obeyed g c =
     let e = c.in-Ok-write_cut.ensures in
     rw c.in-WriteCut.is (
-      (e.accepted, ⊎_elim (λ none. inl (none, (e.none.0 (ap as_ok none)).1, e.none_unchanged (ap as_ok none))) inr e.written),
-      λ lawful. record {
-        lawful = e.lawful.0 lawful;
-        later = e.later lawful;
-        since = λ whole. e.further lawful whole;
+      record { accepted = e.accepted; cut = ⊎_elim (λ none. inl (none, (e.none.0 (ap as_ok none)).1, e.none_unchanged (ap as_ok none))) inr e.written },
+      record {
+        counted = e.counted;
+        stays = λ quiet. ⊎_elim (λ failed. absurd (let both : Ok c.in-Ok-write_cut.epoch ≡ Err error.Device = failed in cc)) (λ same. same) e.stays;
+        advances = λ lawful. record {
+          lawful = e.lawful.0 lawful;
+          later = e.later lawful;
+          since = λ whole. e.further lawful whole;
+        };
       },
     )
 
-pub returns-in-Ok-cut_lent-clause-obeyed : goal.returns-in-Ok-cut_lent-clause-obeyed
-returns-in-Ok-cut_lent-clause-obeyed g c =
-    let own = c.in-Ok-cut_lent.ensures.own in
-    let cut = c.in-Ok-cut_lent.ensures.cut in
-    rw c.in-Cut.is (c.deref_mut-in-Cut.result.now.hall, c.cut_lent.new.hall.hall, own.0, own.1, cut.0, cut.2, c.in-Ok-cut_lent.ensures.meaning, c.in-Ok-cut_lent.ensures.outs own.0)
-
-pub returns-in-Ok-released-clause-obeyed : goal.returns-in-Ok-released-clause-obeyed
-returns-in-Ok-released-clause-obeyed g c = search rules
+pub returns-clause-obeyed : goal.returns-clause-obeyed
+returns-clause-obeyed g c =
+    let e = c.in-Err-write_cut.ensures in
+    rw (c.in-WriteCut.is, c.refused-in-Err-write_cut.ensures) (
+      record {
+        no_batch = refl;
+        cause = e.refused;
+        unchanged = ⊎_elim (λ many. inl (many, e.too_many (ap as_err many)))
+            (λ other. ⊎_elim (λ failed. inr (inl (failed, e.broken (ap as_err failed)))) (λ same. inr (inr same)) other) e.unchanged;
+        device = λ failed. record { broken = ap (λ k. k.broken) (e.broken (ap as_err failed)); risen = e.device (ap as_err failed) };
+      },
+      record {
+        counted = e.counted;
+        stays = λ quiet. ⊎_elim (λ failed. absurd (let both : true ≡ false = sym (ap is_device (as_error c.in-Err-write_cut.error failed)) ∙ quiet in cc)) (λ same. same) e.stays;
+        advances = λ lawful. record {
+          lawful = e.lawful.0 lawful;
+          later = e.later lawful;
+          since = λ whole. e.further lawful whole;
+        };
+      },
+    )

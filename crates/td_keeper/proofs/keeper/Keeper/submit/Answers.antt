@@ -66,7 +66,7 @@ returns-in-Ok-clause-further g c =
     let none : submit_refusal k batch ≡ None = ap (λ (z : Keeping g.row.D.Denot). submit_refusal z batch) c.self.view_is ∙ (sym c.refusal_of.ensures ∙ is_none c.refusal_of.result c.in_default.not-Some) in
     let taken : IsAccepted k batch = accepted k batch none in
     let epoch : c.last_epoch-epoch.result + 1 ≡ last_epoch s + 1 = ap (λ (n : ℕ). n + 1) (c.last_epoch-epoch.ensures ∙ sym (ap (λ (z : Keeping g.row.D.Denot). last_epoch z.standing) c.self.view_is)) in
-    let ring : c.journal-journal.result ≡ ring_of head.shape s.epoch = c.journal-journal.ensures ∙ sym (ap (λ (z : Keeping g.row.D.Denot). ring_of z.head.shape z.standing.epoch) c.self.view_is) in
+    let ring : c.ring_of-journal.result ≡ ring_of head.shape s.epoch = c.ring_of-journal.ensures.ring in
     let room : HasRoom head.shape s (c.last_epoch-epoch.result + 1) = has_room k batch (c.last_epoch-epoch.result + 1) taken epoch in
     let lawful : is_batch (inputs_of plan) batch ≡ true = lawful_batch c.inputs_are_accepted.ensures c.batches_are_in_order.ensures.written plan batch c.vertices-plan.ensures.lawful c.list-in_order.ensures.sorted taken.named in
     let more : Advance (states_by answers plan) (with_more s x) (with_more s x) = c.standings_advance.ensures.submitted (tree_of plan) s x in
@@ -129,7 +129,7 @@ invariant_of-self-in-Ok g c =
     let none : submit_refusal k batch ≡ None = ap (λ (z : Keeping g.row.D.Denot). submit_refusal z batch) c.self.view_is ∙ (sym c.refusal_of.ensures ∙ is_none c.refusal_of.result c.in_default.not-Some) in
     let taken : IsAccepted k batch = accepted k batch none in
     let epoch : c.last_epoch-epoch.result + 1 ≡ last_epoch s + 1 = ap (λ (n : ℕ). n + 1) (c.last_epoch-epoch.ensures ∙ sym (ap (λ (z : Keeping g.row.D.Denot). last_epoch z.standing) c.self.view_is)) in
-    let ring : c.journal-journal.result ≡ ring_of head.shape s.epoch = c.journal-journal.ensures ∙ sym (ap (λ (z : Keeping g.row.D.Denot). ring_of z.head.shape z.standing.epoch) c.self.view_is) in
+    let ring : c.ring_of-journal.result ≡ ring_of head.shape s.epoch = c.ring_of-journal.ensures.ring in
     let room : HasRoom head.shape s (c.last_epoch-epoch.result + 1) = has_room k batch (c.last_epoch-epoch.result + 1) taken epoch in
     let lawful : is_batch (inputs_of plan) batch ≡ true = lawful_batch c.inputs_are_accepted.ensures c.batches_are_in_order.ensures.written plan batch c.vertices-plan.ensures.lawful c.list-in_order.ensures.sorted taken.named in
     let new = c.submit_batch.new.device in
@@ -163,7 +163,7 @@ returns-in-Device-clause-further g c =
     let none : submit_refusal k batch ≡ None = ap (λ (z : Keeping g.row.D.Denot). submit_refusal z batch) c.self.view_is ∙ (sym c.refusal_of.ensures ∙ is_none c.refusal_of.result c.in_default.not-Some) in
     let taken : IsAccepted k batch = accepted k batch none in
     let epoch : c.last_epoch-epoch.result + 1 ≡ last_epoch s + 1 = ap (λ (n : ℕ). n + 1) (c.last_epoch-epoch.ensures ∙ sym (ap (λ (z : Keeping g.row.D.Denot). last_epoch z.standing) c.self.view_is)) in
-    let ring : c.journal-journal.result ≡ ring_of head.shape s.epoch = c.journal-journal.ensures ∙ sym (ap (λ (z : Keeping g.row.D.Denot). ring_of z.head.shape z.standing.epoch) c.self.view_is) in
+    let ring : c.ring_of-journal.result ≡ ring_of head.shape s.epoch = c.ring_of-journal.ensures.ring in
     let room : HasRoom head.shape s (c.last_epoch-epoch.result + 1) = has_room k batch (c.last_epoch-epoch.result + 1) taken epoch in
     let lawful : is_batch (inputs_of plan) batch ≡ true = lawful_batch c.inputs_are_accepted.ensures c.batches_are_in_order.ensures.written plan batch c.vertices-plan.ensures.lawful c.list-in_order.ensures.sorted taken.named in
     let more : Advance (states_by answers plan) (with_more s x) (with_more s x) = c.standings_advance.ensures.submitted (tree_of plan) s x in
@@ -180,8 +180,8 @@ returns-in-Device-clause-images g c old whole =
     by_further g.D.Disk.is_lawful state g.met.D.Disk.only_now g.L.Law.answers c.told_in_parts.ensures.together c.standings_advance.ensures.not_yet c.self.view_is c.self.invariant.2
     (submission 0 c.args.batch ∷ []) (state c.submit_batch.new.device) old whole (returns-in-Device-clause-further g c old whole)
 
-pub returns-in_default-refusal-clause-further : goal.returns-in_default-refusal-clause-further
-returns-in_default-refusal-clause-further g c =
+pub returns-in-Memory-clause-further : goal.returns-in-Memory-clause-further
+returns-in-Memory-clause-further g c =
     let state = g.D.Disk.state in
     let answers = g.L.Law.answers in
     let device = c.self.inside.device in
@@ -196,7 +196,7 @@ returns-in_default-refusal-clause-further g c =
     let none : submit_refusal k batch ≡ None = ap (λ (z : Keeping g.row.D.Denot). submit_refusal z batch) c.self.view_is ∙ (sym c.refusal_of.ensures ∙ is_none c.refusal_of.result c.in_default.not-Some) in
     let taken : IsAccepted k batch = accepted k batch none in
     let epoch : c.last_epoch-epoch.result + 1 ≡ last_epoch s + 1 = ap (λ (n : ℕ). n + 1) (c.last_epoch-epoch.ensures ∙ sym (ap (λ (z : Keeping g.row.D.Denot). last_epoch z.standing) c.self.view_is)) in
-    let ring : c.journal-journal.result ≡ ring_of head.shape s.epoch = c.journal-journal.ensures ∙ sym (ap (λ (z : Keeping g.row.D.Denot). ring_of z.head.shape z.standing.epoch) c.self.view_is) in
+    let ring : c.ring_of-journal.result ≡ ring_of head.shape s.epoch = c.ring_of-journal.ensures.ring in
     let room : HasRoom head.shape s (c.last_epoch-epoch.result + 1) = has_room k batch (c.last_epoch-epoch.result + 1) taken epoch in
     let lawful : is_batch (inputs_of plan) batch ≡ true = lawful_batch c.inputs_are_accepted.ensures c.batches_are_in_order.ensures.written plan batch c.vertices-plan.ensures.lawful c.list-in_order.ensures.sorted taken.named in
     let more : Advance (states_by answers plan) (with_more s x) (with_more s x) = c.standings_advance.ensures.submitted (tree_of plan) s x in
@@ -207,11 +207,11 @@ returns-in_default-refusal-clause-further g c =
     either answers plan c.told_in_parts.ensures.together head side s x (state device) (state c.submit_batch.new.device) side (with_more s x) still more holds
     (c.in-Err.ensures.begun old plan head side s ring room (no_request head.version s) lawful keeps))
 
-pub returns-in_default-refusal-clause-images : goal.returns-in_default-refusal-clause-images
-returns-in_default-refusal-clause-images g c old whole =
+pub returns-in-Memory-clause-images : goal.returns-in-Memory-clause-images
+returns-in-Memory-clause-images g c old whole =
     let state = g.D.Disk.state in
     by_further g.D.Disk.is_lawful state g.met.D.Disk.only_now g.L.Law.answers c.told_in_parts.ensures.together c.standings_advance.ensures.not_yet c.self.view_is c.self.invariant.2
-    (submission 0 c.args.batch ∷ []) (state c.submit_batch.new.device) old whole (returns-in_default-refusal-clause-further g c old whole)
+    (submission 0 c.args.batch ∷ []) (state c.submit_batch.new.device) old whole (returns-in-Memory-clause-further g c old whole)
 
 pub invariant_of-self-in-Device : goal.invariant_of-self-in-Device
 invariant_of-self-in-Device g c =
@@ -229,7 +229,7 @@ invariant_of-self-in-Device g c =
     let none : submit_refusal k batch ≡ None = ap (λ (z : Keeping g.row.D.Denot). submit_refusal z batch) c.self.view_is ∙ (sym c.refusal_of.ensures ∙ is_none c.refusal_of.result c.in_default.not-Some) in
     let taken : IsAccepted k batch = accepted k batch none in
     let epoch : c.last_epoch-epoch.result + 1 ≡ last_epoch s + 1 = ap (λ (n : ℕ). n + 1) (c.last_epoch-epoch.ensures ∙ sym (ap (λ (z : Keeping g.row.D.Denot). last_epoch z.standing) c.self.view_is)) in
-    let ring : c.journal-journal.result ≡ ring_of head.shape s.epoch = c.journal-journal.ensures ∙ sym (ap (λ (z : Keeping g.row.D.Denot). ring_of z.head.shape z.standing.epoch) c.self.view_is) in
+    let ring : c.ring_of-journal.result ≡ ring_of head.shape s.epoch = c.ring_of-journal.ensures.ring in
     let room : HasRoom head.shape s (c.last_epoch-epoch.result + 1) = has_room k batch (c.last_epoch-epoch.result + 1) taken epoch in
     let lawful : is_batch (inputs_of plan) batch ≡ true = lawful_batch c.inputs_are_accepted.ensures c.batches_are_in_order.ensures.written plan batch c.vertices-plan.ensures.lawful c.list-in_order.ensures.sorted taken.named in
     let more : Advance (states_by answers plan) (with_more s x) (with_more s x) = c.standings_advance.ensures.submitted (tree_of plan) s x in
@@ -249,8 +249,8 @@ invariant_of-self-in-Device g c =
           (c.in-Err.ensures.begun old plan head side s ring room (no_request head.version s) lawful keeps)))),
     )
 
-pub invariant_of-self-in_default-refusal : goal.invariant_of-self-in_default-refusal
-invariant_of-self-in_default-refusal g c =
+pub invariant_of-self-in-Memory : goal.invariant_of-self-in-Memory
+invariant_of-self-in-Memory g c =
     let state = g.D.Disk.state in
     let answers = g.L.Law.answers in
     let device = c.self.inside.device in
@@ -264,7 +264,7 @@ invariant_of-self-in_default-refusal g c =
     let none : submit_refusal k batch ≡ None = ap (λ (z : Keeping g.row.D.Denot). submit_refusal z batch) c.self.view_is ∙ (sym c.refusal_of.ensures ∙ is_none c.refusal_of.result c.in_default.not-Some) in
     let taken : IsAccepted k batch = accepted k batch none in
     let epoch : c.last_epoch-epoch.result + 1 ≡ last_epoch s + 1 = ap (λ (n : ℕ). n + 1) (c.last_epoch-epoch.ensures ∙ sym (ap (λ (z : Keeping g.row.D.Denot). last_epoch z.standing) c.self.view_is)) in
-    let ring : c.journal-journal.result ≡ ring_of head.shape s.epoch = c.journal-journal.ensures ∙ sym (ap (λ (z : Keeping g.row.D.Denot). ring_of z.head.shape z.standing.epoch) c.self.view_is) in
+    let ring : c.ring_of-journal.result ≡ ring_of head.shape s.epoch = c.ring_of-journal.ensures.ring in
     let room : HasRoom head.shape s (c.last_epoch-epoch.result + 1) = has_room k batch (c.last_epoch-epoch.result + 1) taken epoch in
     let lawful : is_batch (inputs_of plan) batch ≡ true = lawful_batch c.inputs_are_accepted.ensures c.batches_are_in_order.ensures.written plan batch c.vertices-plan.ensures.lawful c.list-in_order.ensures.sorted taken.named in
     let new = c.submit_batch.new.device in (
@@ -274,14 +274,14 @@ invariant_of-self-in_default-refusal g c =
       λ l.
           let old = c.in-Err.ensures.lawful.1 l in
           let keeps = keeps_of c.self.inside.broken answers plan head side s (state device) taken.whole (c.self.invariant.2 old) in
-          let memory : c.in-Err.refusal ≡ JournalError.Memory = ⊎_elim (λ m. m) (λ d. absurd (c.in_default-refusal.not-Device d)) c.in-Err.ensures.refusals in
+          let memory : c.in-Err.refusal ≡ JournalError.Memory = c.in-Memory.is in
           subst (λ (v : List Submitted). HeldWhere c.self.inside.broken answers plan head side (standing_from c.self.inside.checkpoint v) (state new)) (sym c.reserve.ensures.items)
           (held_of c.self.inside.broken answers plan head side s (state new) taken.whole (c.in-Err.ensures.kept (ap as_err memory) old plan head side s keeps)),
     )
 
-pub returns-in_default-refusal-clause-unwritten : goal.returns-in_default-refusal-clause-unwritten
-returns-in_default-refusal-clause-unwritten g c is =
-    let memory : c.in-Err.refusal ≡ JournalError.Memory = ⊎_elim (λ m. m) (λ d. absurd (c.in_default-refusal.not-Device d)) c.in-Err.ensures.refusals in
+pub returns-in-Memory-clause-unwritten : goal.returns-in-Memory-clause-unwritten
+returns-in-Memory-clause-unwritten g c is =
+    let memory : c.in-Err.refusal ≡ JournalError.Memory = c.in-Memory.is in
     subst (λ (z : Keeping g.row.D.Denot). g.D.Disk.is_lawful z.device → CrashSafe Unchanged (g.D.Disk.state z.device) (g.D.Disk.state c.submit_batch.new.device)) c.self.view_is
     (λ old. c.in-Err.ensures.unwritten (ap as_err memory) old)
 
@@ -330,8 +330,8 @@ returns-then-is_err-clause-nothing g c =
     inr (subst (λ (z : Keeping g.row.D.Denot). g.D.Disk.is_lawful z.device → z.broken ≡ false → AdvancesSince answers z.plan z.standing [] (last_epoch z.standing) (state z.device) (state device)) c.self.view_is
     (λ old whole t f le left. inl left))
 
-pub returns-in_default-refusal-clause-nothing : goal.returns-in_default-refusal-clause-nothing
-returns-in_default-refusal-clause-nothing g c =
+pub returns-in-Memory-clause-nothing : goal.returns-in-Memory-clause-nothing
+returns-in-Memory-clause-nothing g c =
     let state = g.D.Disk.state in
     let answers = g.L.Law.answers in
     let device = c.self.inside.device in
@@ -339,18 +339,18 @@ returns-in_default-refusal-clause-nothing g c =
     let head = c.self.inside.head in
     let s = standing_from c.self.inside.checkpoint c.self.inside.submitted.items in
     let side = c.self.inside.checkpoint.slot in
-    let memory : c.in-Err.refusal ≡ JournalError.Memory = ⊎_elim (λ m. m) (λ d. absurd (c.in_default-refusal.not-Device d)) c.in-Err.ensures.refusals in
+    let memory : c.in-Err.refusal ≡ JournalError.Memory = c.in-Memory.is in
     let still : Advance (states_by answers plan) (with_more s []) s = c.standings_advance.ensures.not_yet (tree_of plan) s [] in
     inr (subst (λ (z : Keeping g.row.D.Denot). g.D.Disk.is_lawful z.device → z.broken ≡ false → AdvancesSince answers z.plan z.standing [] (last_epoch z.standing) (state z.device) (state c.submit_batch.new.device)) c.self.view_is
     (λ old whole.
     let keeps = keeps_of c.self.inside.broken answers plan head side s (state device) whole (c.self.invariant.2 old) in
     unwritten answers plan c.told_in_parts.ensures.together head side s [] (state device) (state c.submit_batch.new.device) (c.in-Err.ensures.unwritten (ap as_err memory) old) still keeps))
 
-pub returns-in_default-refusal-clause-unchanged : goal.returns-in_default-refusal-clause-unchanged
-returns-in_default-refusal-clause-unchanged g c = search rules
+pub returns-in-Memory-clause-unchanged : goal.returns-in-Memory-clause-unchanged
+returns-in-Memory-clause-unchanged g c = search rules
 
-pub returns-in_default-refusal-clause-device : goal.returns-in_default-refusal-clause-device
-returns-in_default-refusal-clause-device g c = search rules
+pub returns-in-Memory-clause-device : goal.returns-in-Memory-clause-device
+returns-in-Memory-clause-device g c = search rules
 
-pub returns-in_default-refusal-clause-broken : goal.returns-in_default-refusal-clause-broken
-returns-in_default-refusal-clause-broken g c = search rules
+pub returns-in-Memory-clause-broken : goal.returns-in-Memory-clause-broken
+returns-in-Memory-clause-broken g c = search rules

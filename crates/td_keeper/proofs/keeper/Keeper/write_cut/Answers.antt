@@ -1,5 +1,5 @@
 use Rattle.std.proofs.Common.{◌≡◌, ⊎_elim, inl, inr, Result, Err, ℕ, ◌+◌, ◌-◌, ◌^◌, ◌<◌, ◌≤◌, true, false, [], length, take, refl, sym, ap, ◌∙◌, subst, arith}
-use Rattle.std.specs.Prelude.{Option, Some, None}
+use Rattle.std.specs.Prelude.{Bool, Option, Some, None}
 use Rattle.td_plan.specs.Tree.{tree_of}
 use Rattle.td_watch.specs.View.{View}
 use Rattle.td_head.specs.Layout.{size_of}
@@ -14,7 +14,7 @@ use Rattle.td_standing.specs.Tells.{IsCut, side_after}
 use Rattle.td_standing.specs.Advanced.{AdvancesSince, HeldWhere, states_by}
 use Rattle.td_keeper.specs.declared.keeper.Taken.{Taken}
 use Rattle.td_keeper.specs.Keeping.{Keeping, IsKeeping, keeping_of, with_checkpoint, published}
-use Rattle.td_keeper.specs.Refused.{write_refusal}
+use Rattle.td_keeper.specs.Refused.{write_refusal, waits_after}
 use Rattle.td_keeper.proofs.Cutting.{lawful, most, is_cut, advance, as_written, not_above, write_none}
 use Rattle.td_keeper.proofs.Kept.{written, set_down}
 use Rattle.td_keeper.proofs.Since.{either, from_start, held, by_further}
@@ -56,9 +56,9 @@ returns-in-Ok-clause-further g c =
     let at : c.self.inside.taken ≡ Some cut = c.in-Some.ensures.some.0 in
     let k = keeping_of device plan head checkpoint w c.self.inside.broken (Some cut) c.self.inside.collected c.self.inside.queue.items c.self.inside.watch in
     let is : IsKeeping k answers = subst (λ (t : Option Taken). IsKeeping (keeping_of device plan head checkpoint w c.self.inside.broken t c.self.inside.collected c.self.inside.queue.items c.self.inside.watch) answers) at c.self.invariant.1 in
-    let wide : head.shape.k ≤ 1048576 = subst (λ (z : Keeping g.row.D.Denot). z.head.shape.k ≤ 1048576) (sym c.self.view_is) c.slots-slots.ensures.few in
-    let slots : c.slots-slots.result ≡ slots_of head.shape = c.slots-slots.ensures.slots ∙ sym (ap (λ (z : Keeping g.row.D.Denot). slots_of z.head.shape) c.self.view_is) in
-    let few : length cut.states ≤ head.shape.k = subst (λ (z : Slots). length cut.states ≤ z.k) slots (not_above c.slots-slots.result.k (length cut.states) (λ lt. let z = c.in-Ok.ensures.too_many.1 lt in absurd (cc z))) in
+    let wide : head.shape.k ≤ 1048576 = subst (λ (z : Slots). z.k ≤ 1048576) c.slots_of-slots.ensures.slots c.slots_of-slots.ensures.limit in
+    let slots : c.slots_of-slots.result ≡ slots_of head.shape = c.slots_of-slots.ensures.slots in
+    let few : length cut.states ≤ head.shape.k = subst (λ (z : Slots). length cut.states ≤ z.k) slots (not_above c.slots_of-slots.result.k (length cut.states) (λ lt. let z = c.in-Ok.ensures.too_many.1 lt in absurd (cc z))) in
     let of_folds : are_states (folds_of plan) cut.states ≡ true = lawful answers k is c.states_of_folds.ensures c.states_are_in_order.ensures.written c.states_are_in_order.ensures.named c.vertices-plan.ensures.lawful c.list-in_order.ensures.ordered in
     let narrow : head.shape.k < 2 ^ 32 = omega arith in
     let is_a_cut : IsCut plan head.shape s n cut.states = is_cut answers k is of_folds few narrow c.in-Ok.ensures.fits in
@@ -96,9 +96,9 @@ returns-in-Device-clause-further g c =
     let at : c.self.inside.taken ≡ Some cut = c.in-Some.ensures.some.0 in
     let k = keeping_of device plan head checkpoint w c.self.inside.broken (Some cut) c.self.inside.collected c.self.inside.queue.items c.self.inside.watch in
     let is : IsKeeping k answers = subst (λ (t : Option Taken). IsKeeping (keeping_of device plan head checkpoint w c.self.inside.broken t c.self.inside.collected c.self.inside.queue.items c.self.inside.watch) answers) at c.self.invariant.1 in
-    let wide : head.shape.k ≤ 1048576 = subst (λ (z : Keeping g.row.D.Denot). z.head.shape.k ≤ 1048576) (sym c.self.view_is) c.slots-slots.ensures.few in
-    let slots : c.slots-slots.result ≡ slots_of head.shape = c.slots-slots.ensures.slots ∙ sym (ap (λ (z : Keeping g.row.D.Denot). slots_of z.head.shape) c.self.view_is) in
-    let few : length cut.states ≤ head.shape.k = subst (λ (z : Slots). length cut.states ≤ z.k) slots (not_above c.slots-slots.result.k (length cut.states) (λ lt. let z = c.in-Err.ensures.too_many.1 lt in let d = c.in-Device.is in absurd (cc (z, d)))) in
+    let wide : head.shape.k ≤ 1048576 = subst (λ (z : Slots). z.k ≤ 1048576) c.slots_of-slots.ensures.slots c.slots_of-slots.ensures.limit in
+    let slots : c.slots_of-slots.result ≡ slots_of head.shape = c.slots_of-slots.ensures.slots in
+    let few : length cut.states ≤ head.shape.k = subst (λ (z : Slots). length cut.states ≤ z.k) slots (not_above c.slots_of-slots.result.k (length cut.states) (λ lt. let z = c.in-Err.ensures.too_many.1 lt in let d = c.in-Device.is in absurd (cc (z, d)))) in
     let of_folds : are_states (folds_of plan) cut.states ≡ true = lawful answers k is c.states_of_folds.ensures c.states_are_in_order.ensures.written c.states_are_in_order.ensures.named c.vertices-plan.ensures.lawful c.list-in_order.ensures.ordered in
     let narrow : head.shape.k < 2 ^ 32 = omega arith in
     let is_a_cut : IsCut plan head.shape s n cut.states = is_cut answers k is of_folds few narrow (c.in-Err.ensures.fits_too (ap as_err c.in-Device.is)) in
@@ -134,24 +134,24 @@ returns-in-TooManyKeys-clause-images g c old whole =
     by_further g.D.Disk.is_lawful state g.met.D.Disk.only_now g.L.Law.answers c.told_in_parts.ensures.together c.standings_advance.ensures.not_yet c.self.view_is c.self.invariant.2
     [] (state c.write_states.new.device) old whole (returns-in-TooManyKeys-clause-further g c old whole)
 
-pub returns-in_default-refusal-clause-further : goal.returns-in_default-refusal-clause-further
-returns-in_default-refusal-clause-further g c =
+pub returns-in-Memory-clause-further : goal.returns-in-Memory-clause-further
+returns-in-Memory-clause-further g c =
     let state = g.D.Disk.state in
     let answers = g.L.Law.answers in
     let device = c.self.inside.device in
     let new = c.write_states.new.device in
-    let same : new ≡ device = ⊎_elim (λ d. absurd (c.in_default-refusal.not-Device d)) (λ e. e) c.in-Err.ensures.untouched in
+    let same : new ≡ device = ⊎_elim (λ d. (let m = c.in-Memory.is in absurd (cc (d, m)))) (λ e. e) c.in-Err.ensures.untouched in
     subst (λ (z : Keeping g.row.D.Denot). g.D.Disk.is_lawful z.device → z.broken ≡ false → AdvancesSince answers z.plan z.standing [] (last_epoch z.standing) (state z.device) (state new)) c.self.view_is
     (λ old whole t f le left. inl (subst (λ (d : g.row.D.Denot). (state d).since t f) same left))
 
-pub returns-in_default-refusal-clause-images : goal.returns-in_default-refusal-clause-images
-returns-in_default-refusal-clause-images g c old whole =
+pub returns-in-Memory-clause-images : goal.returns-in-Memory-clause-images
+returns-in-Memory-clause-images g c old whole =
     let state = g.D.Disk.state in
     by_further g.D.Disk.is_lawful state g.met.D.Disk.only_now g.L.Law.answers c.told_in_parts.ensures.together c.standings_advance.ensures.not_yet c.self.view_is c.self.invariant.2
-    [] (state c.write_states.new.device) old whole (returns-in_default-refusal-clause-further g c old whole)
+    [] (state c.write_states.new.device) old whole (returns-in-Memory-clause-further g c old whole)
 
-pub returns-in_default-refusal-clause-refused : goal.returns-in_default-refusal-clause-refused
-returns-in_default-refusal-clause-refused g c =
+pub returns-in-Memory-clause-refused : goal.returns-in-Memory-clause-refused
+returns-in-Memory-clause-refused g c =
     let state = g.D.Disk.state in
     let answers = g.L.Law.answers in
     let device = c.self.inside.device in
@@ -167,14 +167,14 @@ returns-in_default-refusal-clause-refused g c =
     let at : c.self.inside.taken ≡ Some cut = c.in-Some.ensures.some.0 in
     let k = keeping_of device plan head checkpoint w c.self.inside.broken (Some cut) c.self.inside.collected c.self.inside.queue.items c.self.inside.watch in
     let is : IsKeeping k answers = subst (λ (t : Option Taken). IsKeeping (keeping_of device plan head checkpoint w c.self.inside.broken t c.self.inside.collected c.self.inside.queue.items c.self.inside.watch) answers) at c.self.invariant.1 in
-    let slots : c.slots-slots.result ≡ slots_of head.shape = c.slots-slots.ensures.slots ∙ sym (ap (λ (z : Keeping g.row.D.Denot). slots_of z.head.shape) c.self.view_is) in
-    let few : length cut.states ≤ head.shape.k = subst (λ (z : Slots). length cut.states ≤ z.k) slots (not_above c.slots-slots.result.k (length cut.states) (λ lt. c.in_default-refusal.not-TooManyKeys (let z = c.in-Err.ensures.too_many.1 lt in cc z))) in
+    let slots : c.slots_of-slots.result ≡ slots_of head.shape = c.slots_of-slots.ensures.slots in
+    let few : length cut.states ≤ head.shape.k = subst (λ (z : Slots). length cut.states ≤ z.k) slots (not_above c.slots_of-slots.result.k (length cut.states) (λ lt. let z = c.in-Err.ensures.too_many.1 lt in let m = c.in-Memory.is in absurd (cc (z, m)))) in
     let none : write_refusal (keeping_of device plan head checkpoint w c.self.inside.broken c.self.inside.taken c.self.inside.collected c.self.inside.queue.items c.self.inside.watch) ≡ None =
     subst (λ (t : Option Taken). write_refusal (keeping_of device plan head checkpoint w c.self.inside.broken t c.self.inside.collected c.self.inside.queue.items c.self.inside.watch) ≡ None) (sym at) (write_none k c.if-self.false few) in
     inr (sym (ap (λ (z : Keeping g.row.D.Denot). write_refusal z) c.self.view_is) ∙ none, inl refl)
 
-pub returns-in_default-refusal-clause-unchanged : goal.returns-in_default-refusal-clause-unchanged
-returns-in_default-refusal-clause-unchanged g c =
+pub returns-in-Memory-clause-unchanged : goal.returns-in-Memory-clause-unchanged
+returns-in-Memory-clause-unchanged g c =
     let state = g.D.Disk.state in
     let answers = g.L.Law.answers in
     let device = c.self.inside.device in
@@ -190,8 +190,10 @@ returns-in_default-refusal-clause-unchanged g c =
     let at : c.self.inside.taken ≡ Some cut = c.in-Some.ensures.some.0 in
     let k = keeping_of device plan head checkpoint w c.self.inside.broken (Some cut) c.self.inside.collected c.self.inside.queue.items c.self.inside.watch in
     let is : IsKeeping k answers = subst (λ (t : Option Taken). IsKeeping (keeping_of device plan head checkpoint w c.self.inside.broken t c.self.inside.collected c.self.inside.queue.items c.self.inside.watch) answers) at c.self.invariant.1 in
-    let same : new ≡ device = ⊎_elim (λ d. absurd (c.in_default-refusal.not-Device d)) (λ e. e) c.in-Err.ensures.untouched in
-    inr (inr (ap (λ (d : g.row.D.Denot). keeping_of d plan head checkpoint w c.self.inside.broken (Some cut) c.self.inside.collected c.self.inside.queue.items c.self.inside.watch) same
+    let same : new ≡ device = ⊎_elim (λ d. (let m = c.in-Memory.is in absurd (cc (d, m)))) (λ e. e) c.in-Err.ensures.untouched in
+    let waits : c.waits_after-waits.result ≡ cut.waits = c.waits_after-waits.ensures ∙ (ap waits_after c.in-Memory.is ∙ sym c.in-Some.ensures.some.1) in
+    inr (inr (ap (λ (b : Bool). record (keeping_of new plan head checkpoint w c.self.inside.broken (Some cut) c.self.inside.collected c.self.inside.queue.items c.self.inside.watch) { waiting = b }) waits
+    ∙ ap (λ (d : g.row.D.Denot). keeping_of d plan head checkpoint w c.self.inside.broken (Some cut) c.self.inside.collected c.self.inside.queue.items c.self.inside.watch) same
     ∙ (ap (λ (t : Option Taken). keeping_of device plan head checkpoint w c.self.inside.broken t c.self.inside.collected c.self.inside.queue.items c.self.inside.watch) (sym at) ∙ c.self.view_is)))
 
 pub invariant_of-self-in-Ok : goal.invariant_of-self-in-Ok
@@ -211,9 +213,9 @@ invariant_of-self-in-Ok g c =
     let at : c.self.inside.taken ≡ Some cut = c.in-Some.ensures.some.0 in
     let k = keeping_of device plan head checkpoint w c.self.inside.broken (Some cut) c.self.inside.collected c.self.inside.queue.items c.self.inside.watch in
     let is : IsKeeping k answers = subst (λ (t : Option Taken). IsKeeping (keeping_of device plan head checkpoint w c.self.inside.broken t c.self.inside.collected c.self.inside.queue.items c.self.inside.watch) answers) at c.self.invariant.1 in
-    let wide : head.shape.k ≤ 1048576 = subst (λ (z : Keeping g.row.D.Denot). z.head.shape.k ≤ 1048576) (sym c.self.view_is) c.slots-slots.ensures.few in
-    let slots : c.slots-slots.result ≡ slots_of head.shape = c.slots-slots.ensures.slots ∙ sym (ap (λ (z : Keeping g.row.D.Denot). slots_of z.head.shape) c.self.view_is) in
-    let few : length cut.states ≤ head.shape.k = subst (λ (z : Slots). length cut.states ≤ z.k) slots (not_above c.slots-slots.result.k (length cut.states) (λ lt. let z = c.in-Ok.ensures.too_many.1 lt in absurd (cc z))) in
+    let wide : head.shape.k ≤ 1048576 = subst (λ (z : Slots). z.k ≤ 1048576) c.slots_of-slots.ensures.slots c.slots_of-slots.ensures.limit in
+    let slots : c.slots_of-slots.result ≡ slots_of head.shape = c.slots_of-slots.ensures.slots in
+    let few : length cut.states ≤ head.shape.k = subst (λ (z : Slots). length cut.states ≤ z.k) slots (not_above c.slots_of-slots.result.k (length cut.states) (λ lt. let z = c.in-Ok.ensures.too_many.1 lt in absurd (cc z))) in
     let of_folds : are_states (folds_of plan) cut.states ≡ true = lawful answers k is c.states_of_folds.ensures c.states_are_in_order.ensures.written c.states_are_in_order.ensures.named c.vertices-plan.ensures.lawful c.list-in_order.ensures.ordered in
     let narrow : head.shape.k < 2 ^ 32 = omega arith in
     let is_a_cut : IsCut plan head.shape s n cut.states = is_cut answers k is of_folds few narrow c.in-Ok.ensures.fits in
@@ -254,9 +256,9 @@ invariant_of-self-in-Device g c =
     let at : c.self.inside.taken ≡ Some cut = c.in-Some.ensures.some.0 in
     let k = keeping_of device plan head checkpoint w c.self.inside.broken (Some cut) c.self.inside.collected c.self.inside.queue.items c.self.inside.watch in
     let is : IsKeeping k answers = subst (λ (t : Option Taken). IsKeeping (keeping_of device plan head checkpoint w c.self.inside.broken t c.self.inside.collected c.self.inside.queue.items c.self.inside.watch) answers) at c.self.invariant.1 in
-    let wide : head.shape.k ≤ 1048576 = subst (λ (z : Keeping g.row.D.Denot). z.head.shape.k ≤ 1048576) (sym c.self.view_is) c.slots-slots.ensures.few in
-    let slots : c.slots-slots.result ≡ slots_of head.shape = c.slots-slots.ensures.slots ∙ sym (ap (λ (z : Keeping g.row.D.Denot). slots_of z.head.shape) c.self.view_is) in
-    let few : length cut.states ≤ head.shape.k = subst (λ (z : Slots). length cut.states ≤ z.k) slots (not_above c.slots-slots.result.k (length cut.states) (λ lt. let z = c.in-Err.ensures.too_many.1 lt in let d = c.in-Device.is in absurd (cc (z, d)))) in
+    let wide : head.shape.k ≤ 1048576 = subst (λ (z : Slots). z.k ≤ 1048576) c.slots_of-slots.ensures.slots c.slots_of-slots.ensures.limit in
+    let slots : c.slots_of-slots.result ≡ slots_of head.shape = c.slots_of-slots.ensures.slots in
+    let few : length cut.states ≤ head.shape.k = subst (λ (z : Slots). length cut.states ≤ z.k) slots (not_above c.slots_of-slots.result.k (length cut.states) (λ lt. let z = c.in-Err.ensures.too_many.1 lt in let d = c.in-Device.is in absurd (cc (z, d)))) in
     let of_folds : are_states (folds_of plan) cut.states ≡ true = lawful answers k is c.states_of_folds.ensures c.states_are_in_order.ensures.written c.states_are_in_order.ensures.named c.vertices-plan.ensures.lawful c.list-in_order.ensures.ordered in
     let narrow : head.shape.k < 2 ^ 32 = omega arith in
     let is_a_cut : IsCut plan head.shape s n cut.states = is_cut answers k is of_folds few narrow (c.in-Err.ensures.fits_too (ap as_err c.in-Device.is)) in
@@ -265,7 +267,7 @@ invariant_of-self-in-Device g c =
     let next : Advance (states_by answers plan) (with_more s []) (cut_at s n cut.states) = advance answers k is (c.standings_advance.ensures.cut (tree_of plan) s n (most answers k is)) in
     let holds : Holds (cut_at s n cut.states) (last_epoch s) = c.standings_advance.ensures.holds_cut s (last_epoch s) n cut.states (most answers k is) (omega arith) in (
       subst (λ (m : ℕ). size_of head.shape ≤ m) (sym c.in-Err.ensures.size) c.self.invariant.0,
-      set_down answers k new true false is,
+      set_down answers k new true c.waits_after-waits.result is,
       λ l.
           let old = c.in-Err.ensures.lawful.1 l in
           let keeps = keeps_of c.self.inside.broken answers plan head side s (state device) c.if-self.false (c.self.invariant.2 old) in

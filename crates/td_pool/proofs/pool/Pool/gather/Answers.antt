@@ -24,3 +24,8 @@ pub returns-clause-exact : goal.returns-clause-exact
 returns-clause-exact g c =
     sym (sym c.are_all.ensures ∙ c.if-not-are_all.false)
     ∙ ((λ i. (length (c.as_slice.ensures.value i) == c.args.self.shards_is i) && list_all (λ s. is_empty s.hand) (c.as_slice.ensures.value i)))
+
+pub returns-then-not-are_all-clause-exact : goal.returns-then-not-are_all-clause-exact
+returns-then-not-are_all-clause-exact g c =
+    sym (sym c.are_all.ensures ∙ c.if-not-are_all.true)
+    ∙ ((λ i. (length (c.as_slice.ensures.value i) == c.args.self.shards_is i) && list_all (λ s. is_empty s.hand) (c.as_slice.ensures.value i)))

@@ -1,23 +1,21 @@
-use Rattle.std.proofs.Common.{◌≡◌, ◌<◌, ℕ, nat_lt, true, sym, subst, arith}
-use Rattle.std.proofs.lemmas.Bool.Decides.{nat_tests}
-use Rattle.td_progress.proofs.Counted.{occurs, stands}
+use Rattle.std.proofs.Common.{sym, ◌∙◌, subst}
+use Rattle.td_plan.specs.Faults.{IsPlan}
+use Rattle.td_reach.specs.Paths.{IsOf}
+use Rattle.td_reach.specs.Frontier.{Frontier}
+use Rattle.td_progress.proofs.HeldCounts.{first_is_free, free_is_first}
+use Rattle.td_progress.proofs.Marked.{frontier_listed, frontier_held}
 use Rattle.td_progress.proofs.table.Table.in_frontier.Goals as goal
 
-above_zero : (n : ℕ) → nat_lt 0 n ≡ true → 0 < n
-above_zero n e = grind (arith, nat_tests)
-
-is_above_zero : (n : ℕ) → 0 < n → nat_lt 0 n ≡ true
-is_above_zero n h = grind (arith, nat_tests)
-
-pub returns-then-occurrences-gt0 : goal.returns-then-occurrences-gt0
-returns-then-occurrences-gt0 c =
+pub returns : goal.returns
+returns c =
     let p = c.args.stamp.now in
-    let some = subst (λ n. 0 < n) c.occurrences.ensures c.if-occurrences-gt0.true in
-    (λ free. record { is_active = stands p c.args.self.now.stamps some; is_free = c.is_free.ensures.0 free }, λ first. c.is_free.ensures.1 first.is_free)
-
-pub returns-else-occurrences-gt0 : goal.returns-else-occurrences-gt0
-returns-else-occurrences-gt0 c =
-    let p = c.args.stamp.now in (
-      λ some. absurd (omega (arith, above_zero c.occurrences.result some, c.if-occurrences-gt0.false)),
-      λ first. is_above_zero c.occurrences.result (subst (λ n. 0 < n) (sym c.occurrences.ensures) (occurs p c.args.self.now.stamps first.is_active)),
+    let plan = c.self.inside.tally.plan in
+    let stamps = c.self.inside.tally.stamps in
+    let ks = c.self.inside.held in
+    let tested = c.could_tested.ensures.could plan (subst IsPlan (c.plan.ensures ∙ c.reach.ensures) c.vertices-plan.ensures.lawful) in
+    let of_plan = subst (λ a. IsOf a.plan p) (sym c.self.view_is) c.requires in (
+      λ t. subst (λ a. Frontier a.plan a.stamps p) c.self.view_is
+          (frontier_listed plan ks stamps c.self.invariant.1 p (first_is_free plan tested (c.could_order.ensures.reflexive plan) ks c.self.invariant.0 p of_plan (c.is_first.ensures.0 t))),
+      λ f. c.is_first.ensures.1 (free_is_first plan tested (c.could_order.ensures.reflexive plan) ks c.self.invariant.0 p of_plan
+          (frontier_held plan ks stamps c.self.invariant.1 p (subst (λ a. Frontier a.plan a.stamps p) (sym c.self.view_is) f))),
     )

@@ -1,10 +1,12 @@
-use Rattle.std.proofs.Common.{◌≡◌, ◌+◌, ◌<◌, ◌≤◌, ◌∷◌, [], List, map, take, length, ℕ, ap, ◌∙◌, arith, slice_index_or}
+use Rattle.std.proofs.Common.{◌≡◌, ◌+◌, ◌<◌, ◌≤◌, ◌∷◌, [], List, map, take, length, ℕ, ap, sym, ◌∙◌, subst, arith, slice_index_or}
 use Rattle.std.proofs.lemmas.List.{length-take-le, length-map, map-append, take_more, take_all}
 use Rattle.td_stamp.specs.Time.{Timestamp}
 use Rattle.td_reach.specs.declared.stamp.Stamp.{Stamp}
 use Rattle.td_reach.specs.declared.stamp.Place.TheVariants as places
 use Rattle.td_progress.specs.Bag.{occurrences, input_stamp}
 use Rattle.td_progress.proofs.Counted.{occurrences-cons, occurrences-append, occurrences-le}
+use Rattle.td_progress.specs.Held.{AreHeld, AreMarked}
+use Rattle.td_progress.proofs.Marked.{marked_nothing, nothing_held}
 use Rattle.td_progress.proofs.table.Table.new.Goals as goal
 
 -- an input's pointstamp more, at the end or at the front
@@ -49,3 +51,9 @@ pub returns-clause-inputs : goal.returns-clause-inputs
 returns-clause-inputs c p =
     c.loop-input.invariant.stamps p
     ∙ ap (λ xs. occurrences p (map (input_stamp c.args.first) xs)) (take_all c.loop-input.input-index c.args.inputs.now c.loop-input-test.false)
+
+pub invariant_of-table : goal.invariant_of-table
+invariant_of-table c = (
+  subst (AreHeld c.new.result.plan) (sym c.new-2.ensures) nothing_held,
+  subst (λ ks. AreMarked ks c.new.result.stamps) (sym c.new-2.ensures) (subst (λ a. AreMarked [] a.stamps) (sym c.new.ensures) marked_nothing),
+)

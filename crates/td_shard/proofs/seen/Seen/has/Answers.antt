@@ -3,7 +3,8 @@ use Rattle.td_stamp.specs.Orders.{rec_cmp}
 use Rattle.td_stamp.specs.Bag.{has}
 use Rattle.td_machine.specs.State.{stamped_cmp}
 use Rattle.td_shard.specs.declared.place.Place.{Place}
-use Rattle.td_shard.specs.Seen.{at, seen_of}
+use Rattle.td_machine.specs.AtOnce.{stamped_at as at}
+use Rattle.td_shard.specs.Seen.{seen_of}
 use Rattle.td_shard.proofs.Between.{key-is-has}
 use Rattle.td_shard.proofs.Cut.{cut_some, cut_none, has_seen}
 use Rattle.td_shard.proofs.seen.Seen.has.Goals as goal

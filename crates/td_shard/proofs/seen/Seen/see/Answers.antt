@@ -4,7 +4,8 @@ use Rattle.std.specs.BTreeMap.{insert_entry}
 use Rattle.td_stamp.specs.Orders.{rec_cmp}
 use Rattle.td_stamp.specs.Bag.{join}
 use Rattle.td_shard.specs.declared.place.Place.{Place}
-use Rattle.td_shard.specs.Seen.{fresh, fresh_recs, with_fresh, place_cmp, seen_of}
+use Rattle.td_machine.specs.AtOnce.{fresh}
+use Rattle.td_shard.specs.Seen.{fresh_recs, with_fresh, place_cmp, seen_of}
 use Rattle.td_shard.proofs.Cut.{cut_some, cut_none, fresh_seen, put_seen, same_seen}
 use Rattle.td_shard.proofs.seen.Seen.see.Goals as goal
 use Rattle.td_shard.proofs.seen.Seen.see.Goals.{in-Some+in_ok-put_in-in-Some, in-None+in_ok-put_in-in-None+in_ok-insert-in-None+in-Some-1, in-None+in_ok-put_in-in-None+in_ok-insert-in-None+in-None-1}

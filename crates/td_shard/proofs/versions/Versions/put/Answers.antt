@@ -6,7 +6,7 @@ use Rattle.td_stamp.specs.Orders.{state_key_cmp}
 use Rattle.td_stamp.specs.Bag.{bag_insert}
 use Rattle.td_machine.specs.State.{left_cmp}
 use Rattle.td_shard.specs.declared.version.Version.{Version}
-use Rattle.td_shard.specs.Versions.{IsKept, left_at, version_cmp}
+use Rattle.td_shard.specs.Versions.{AreVersions, left_of, version_cmp}
 use Rattle.td_shard.proofs.KeptVersions.{as_before, one_more, first_one}
 use Rattle.td_shard.proofs.EachKept.{kept-here, kept-more, kept-written, kept-put}
 use Rattle.td_shard.proofs.versions.Versions.put.Goals as goal
@@ -21,9 +21,9 @@ if-err (Ok a) f p = p
 if-err (Err e) f p = f p
 
 -- with one more, or as before, they are kept in order
-either : {A E : Type 0} (r : Result A E) (v : Version) (old new : List Version) → IsKept old → OnOk r (new ≡ bag_insert version_cmp v old) → OnErr r (new ≡ old) → IsKept new
-either (Ok a) v old new h p q = subst IsKept (sym p) (kept-more v old h)
-either (Err e) v old new h p q = subst IsKept (sym q) h
+either : {A E : Type 0} (r : Result A E) (v : Version) (old new : List Version) → AreVersions old → OnOk r (new ≡ bag_insert version_cmp v old) → OnErr r (new ≡ old) → AreVersions new
+either (Ok a) v old new h p q = subst AreVersions (sym p) (kept-more v old h)
+either (Err e) v old new h p q = subst AreVersions (sym q) h
 
 pub put_in-requires : goal.put_in-requires
 put_in-requires c = (kept-here (λ v. v.items) c.placed.result.0 c.self.inside.versions.entries c.self.inside.versions.entries c.self.invariant.1 c.in-Some.versions.now c.in-Some.ensures.value).1
@@ -35,7 +35,7 @@ returns-in-Some-clause-ok c =
     if-ok c.put_in.result
     (λ more. one_more (λ v. v.items) c.placed.result.0 es (c.get_mut.follows.lender new).entries c.version_laws.ensures c.placed.result.1 c.in-Some.versions.now new
     c.in-Some.ensures.value (c.get_mut.follows.holds new).0 more
-    ∙ (λ i. bag_insert left_cmp (left_at (c.placed.ensures.place i) (c.placed.ensures.version i)) (c.self.view_is i)))
+    ∙ (λ i. bag_insert left_cmp (left_of (c.placed.ensures.place i) (c.placed.ensures.version i)) (c.self.view_is i)))
     c.put_in.ensures.ok
 
 pub returns-in-Some-clause-err : goal.returns-in-Some-clause-err
@@ -53,7 +53,7 @@ returns-in_ok-insert-in-None-clause-ok c =
     first_one (λ v. v.items) c.placed.result.0 es c.insert.new.self.entries c.version_laws.ensures c.placed.result.1 new c.in-None.ensures.value
     (c.in_ok-insert-in-None.ensures.entries ∙ ap (λ m. insert_entry state_key_cmp m.entries c.placed.result.0 new) c.get_mut.follows.holds-at-none)
     (c.in_ok-push-in-None.ensures.items ∙ ap (λ l. l ++ c.placed.result.1 ∷ []) c.new-versions.ensures.items)
-    ∙ (λ i. bag_insert left_cmp (left_at (c.placed.ensures.place i) (c.placed.ensures.version i)) (c.self.view_is i))
+    ∙ (λ i. bag_insert left_cmp (left_of (c.placed.ensures.place i) (c.placed.ensures.version i)) (c.self.view_is i))
 
 pub invariant_of-self : goal.invariant_of-self
 invariant_of-self c =
@@ -71,5 +71,5 @@ invariant_of-self-in-None c =
       search rules,
       kept-put (λ v. v.items) c.placed.result.0 c.self.inside.versions.entries c.insert.new.self.entries c.self.invariant.1 c.push.new.self
           (c.in_ok-insert-in-None.ensures.entries ∙ ap (λ m. insert_entry state_key_cmp m.entries c.placed.result.0 c.push.new.self) c.get_mut.follows.holds-at-none)
-          (subst IsKept (sym one) (λ e. cc, (tt, tt))),
+          (subst AreVersions (sym one) (λ e. cc, (tt, tt))),
     )

@@ -2,7 +2,7 @@ use Rattle.std.proofs.Common.{◌≡◌, ◌∙◌, ap, sym, subst, rules, true,
 use Rattle.td_stamp.specs.Bag.{bag_remove}
 use Rattle.td_machine.specs.State.{left_cmp}
 use Rattle.td_stamp.specs.Rises.{Rises}
-use Rattle.td_shard.specs.Versions.{left_at, version_cmp}
+use Rattle.td_shard.specs.Versions.{left_of, version_cmp}
 use Rattle.td_shard.proofs.KeptVersions.{none_out, one_out, last_out}
 use Rattle.td_shard.proofs.EachKept.{kept-here, kept-written, kept-out}
 use Rattle.td_shard.proofs.Rising.{rises-removed}
@@ -17,7 +17,7 @@ pub returns-in_default : goal.returns-in_default
 returns-in_default c =
     none_out (λ v. v.items) c.placed.result.0 c.self.inside.versions.entries c.get_mut.follows.lender-at-none.entries c.version_laws.ensures c.placed.result.1
     c.in_default.ensures.value (ap (λ m. m.entries) c.get_mut.follows.holds-at-none)
-    ∙ (λ i. bag_remove left_cmp (left_at (c.placed.ensures.place i) (c.placed.ensures.version i)) (c.self.view_is i))
+    ∙ (λ i. bag_remove left_cmp (left_of (c.placed.ensures.place i) (c.placed.ensures.version i)) (c.self.view_is i))
 
 pub returns-then-take_out : goal.returns-then-take_out
 returns-then-take_out c =
@@ -26,7 +26,7 @@ returns-then-take_out c =
     let out =
     last_out (λ v. v.items) c.placed.result.0 es (c.get_mut.follows.lender new).entries c.version_laws.ensures c.placed.result.1 c.in-Some.versions.now new c.remove.new.self.entries
     c.self.invariant.0 c.in-Some.ensures.value (c.get_mut.follows.holds new).0 c.take_out.ensures.left (c.take_out.ensures.none.0 c.if-take_out.true) c.remove.ensures.entries
-    ∙ (λ i. bag_remove left_cmp (left_at (c.placed.ensures.place i) (c.placed.ensures.version i)) (c.self.view_is i)) in
+    ∙ (λ i. bag_remove left_cmp (left_of (c.placed.ensures.place i) (c.placed.ensures.version i)) (c.self.view_is i)) in
     elim c.match-remove.branch [ in-Some-1 w ↦ w.self-is ∙ out | in-None-1 w ↦ w.self-is ∙ out ]
 
 pub returns-else-take_out : goal.returns-else-take_out
@@ -34,7 +34,7 @@ returns-else-take_out c =
     let new = c.take_out.new.versions in
     one_out (λ v. v.items) c.placed.result.0 c.self.inside.versions.entries (c.get_mut.follows.lender new).entries c.version_laws.ensures c.placed.result.1 c.in-Some.versions.now new
     c.self.invariant.0 c.in-Some.ensures.value (c.get_mut.follows.holds new).0 c.take_out.ensures.left
-    ∙ (λ i. bag_remove left_cmp (left_at (c.placed.ensures.place i) (c.placed.ensures.version i)) (c.self.view_is i))
+    ∙ (λ i. bag_remove left_cmp (left_of (c.placed.ensures.place i) (c.placed.ensures.version i)) (c.self.view_is i))
 
 pub invariant_of-self-then-take_out : goal.invariant_of-self-then-take_out
 invariant_of-self-then-take_out c = (

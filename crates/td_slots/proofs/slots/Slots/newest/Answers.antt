@@ -2,6 +2,7 @@ use Rattle.std.proofs.Common.{◌≡◌, ℕ, ◌<◌, ◌^◌, true, nat_lt, �
 use Rattle.std.specs.Prelude.{Vec}
 use Rattle.std.specs.declared.alloc.Global.{Global}
 use Rattle.std.proofs.lemmas.Bool.{and_parts, ltb-true}
+use Rattle.td_gate.specs.declared.fields.Front.{Front}
 use Rattle.td_gate.specs.Fields.{front_in, is_plain}
 use Rattle.td_gate.specs.Region.{opened, payload_of}
 use Rattle.td_slots.specs.Slot.{slot, is_last, is_front, are_states, is_slot, states_in}
@@ -37,7 +38,7 @@ states_of-requires-clause-valid g c =
     let k = c.args.self.now.k in
     let p = c.in-Some.payload in
     let valid = chosen c.args.version folds k c.in_ok-first.first c.in_ok-second.second c.newer.result c.in-Some.slot p c.in_ok-first.ensures.valid c.in_ok-second.ensures.valid c.newer.ensures c.in-Some.is in
-    ap (λ (bytes : List ℕ). are_states folds (states_in bytes)) c.deref-3.ensures.value ∙ (parts c.args.version folds k p.items valid).2
+    ap (λ (bytes : List ℕ). are_states folds (states_in bytes)) c.deref-2.ensures.value ∙ (parts c.args.version folds k p.items valid).2
 
 pub returns-clause-small : goal.returns-clause-small
 returns-clause-small g c =
@@ -45,7 +46,7 @@ returns-clause-small g c =
     let k = c.args.self.now.k in
     let p = c.in-Some.payload in
     let valid = chosen c.args.version folds k c.in_ok-first.first c.in_ok-second.second c.newer.result c.in-Some.slot p c.in_ok-first.ensures.valid c.in_ok-second.ensures.valid c.newer.ensures c.in-Some.is in
-    subst (λ (n : ℕ). n < 2 ^ 63) (sym (c.u64_at.ensures ∙ ap (λ (bytes : List ℕ). (front_in bytes).epoch) c.deref.ensures.value)) (parts c.args.version folds k p.items valid).0
+    subst (λ (n : ℕ). n < 2 ^ 63) (sym (ap (λ (f : Front). f.epoch) (c.read-front.ensures ∙ ap front_in c.deref.ensures.value))) (parts c.args.version folds k p.items valid).0
 
 pub returns-clause-last : goal.returns-clause-last
 returns-clause-last g c =
@@ -53,7 +54,7 @@ returns-clause-last g c =
     let k = c.args.self.now.k in
     let p = c.in-Some.payload in
     let valid = chosen c.args.version folds k c.in_ok-first.first c.in_ok-second.second c.newer.result c.in-Some.slot p c.in_ok-first.ensures.valid c.in_ok-second.ensures.valid c.newer.ensures c.in-Some.is in
-    ap (is_last c.args.version) (c.u64_at-2.ensures ∙ ap (λ (bytes : List ℕ). (front_in bytes).request) c.deref-2.ensures.value) ∙ (parts c.args.version folds k p.items valid).1
+    ap (λ (f : Front). is_last c.args.version f.request) (c.read-front.ensures ∙ ap front_in c.deref.ensures.value) ∙ (parts c.args.version folds k p.items valid).1
 
 pub returns-clause-states : goal.returns-clause-states
 returns-clause-states g c =
@@ -61,7 +62,7 @@ returns-clause-states g c =
     let k = c.args.self.now.k in
     let p = c.in-Some.payload in
     let valid = chosen c.args.version folds k c.in_ok-first.first c.in_ok-second.second c.newer.result c.in-Some.slot p c.in_ok-first.ensures.valid c.in_ok-second.ensures.valid c.newer.ensures c.in-Some.is in
-    ap (are_states folds) (c.in_ok-states_of.ensures ∙ ap states_in c.deref-3.ensures.value) ∙ (parts c.args.version folds k p.items valid).2
+    ap (are_states folds) (c.in_ok-states_of.ensures ∙ ap states_in c.deref-2.ensures.value) ∙ (parts c.args.version folds k p.items valid).2
 
 pub returns-clause-told : goal.returns-clause-told
 returns-clause-told g c lawful =
@@ -73,13 +74,19 @@ returns-clause-told g c lawful =
     let b = c.in_ok-second.second in
     let p = c.in-Some.payload in
     let image = (state c.args.device.now).bytes in
-    let still = c.in_ok-first.ensures.lawful.0 lawful in
-    let second : payload_of b ≡ opened (slot s 1) image = c.in_ok-second.ensures.found still ∙ ap (opened (slot s 1)) (c.in_ok-first.ensures.same lawful) in
+    let still = c.in_ok-first.ensures.read.lawful.0 lawful in
+    let second : payload_of b ≡ opened (slot s 1) image = c.in_ok-second.ensures.found still ∙ ap (opened (slot s 1)) (c.in_ok-first.ensures.read.same lawful) in
     let read : newest version folds s image ≡ picked (newer_of (payload_of a) (payload_of b)) =
     (λ i. newest_in version folds s.k (sym (c.in_ok-first.ensures.found lawful) i) (sym second i))
     ∙ both_read version folds s.k (payload_of a) (payload_of b) (valid_of version folds s.k a c.in_ok-first.ensures.valid) (valid_of version folds s.k b c.in_ok-second.ensures.valid) in
-    let epoch : (front_in p.items).epoch ≡ c.u64_at.result = sym (c.u64_at.ensures ∙ ap (λ (bytes : List ℕ). (front_in bytes).epoch) c.deref.ensures.value) in
-    let last : (front_in p.items).request ≡ c.u64_at-2.result = sym (c.u64_at-2.ensures ∙ ap (λ (bytes : List ℕ). (front_in bytes).request) c.deref-2.ensures.value) in
-    let states : states_in p.items ≡ c.in_ok-states_of.field-0 = sym (c.in_ok-states_of.ensures ∙ ap states_in c.deref-3.ensures.value) in
+    let epoch : (front_in p.items).epoch ≡ c.read-front.result.epoch = sym (ap (λ (f : Front). f.epoch) (c.read-front.ensures ∙ ap front_in c.deref.ensures.value)) in
+    let last : (front_in p.items).request ≡ c.read-front.result.request = sym (ap (λ (f : Front). f.request) (c.read-front.ensures ∙ ap front_in c.deref.ensures.value)) in
+    let states : states_in p.items ≡ c.in_ok-states_of.field-0 = sym (c.in_ok-states_of.ensures ∙ ap states_in c.deref-2.ensures.value) in
     read ∙ ap picked (sym c.newer.ensures ∙ ap chosen_of c.in-Some.is)
     ∙ (λ i. Ok (record { slot = c.in-Some.slot; epoch = epoch i; last = last i; states = states i }))
+
+pub returns-in_default-clause-read : goal.returns-in_default-clause-read
+returns-in_default-clause-read g c = c.reads_in_turn.ensures.read _ _ _ c.in_ok-first.ensures.read c.in_ok-second.ensures.read
+
+pub returns-clause-read : goal.returns-clause-read
+returns-clause-read g c = c.reads_in_turn.ensures.read _ _ _ c.in_ok-first.ensures.read c.in_ok-second.ensures.read

@@ -1,8 +1,11 @@
-use Rattle.std.proofs.Common.{List}
+use Rattle.std.proofs.Common.{◌≡◌, List, refl}
+use Rattle.std.specs.Prelude.{Ok}
 use Rattle.td_journal.specs.declared.submitted.Submitted.{Submitted}
 use Rattle.td_feed.specs.Orders.{submissions}
 use Rattle.td_feed.specs.Carried.{Carries, Leaves}
-use Rattle.td_feed.proofs.Carrying.{ended_ok, ended_err, leaves_all}
+use Rattle.td_feed.proofs.Carrying.{ok_only, ended_ok, ended_err, leaves_all}
+use Rattle.td_feed.proofs.Counting.{ended_counts}
+use Rattle.td_feed.proofs.Lines.{ended_says}
 use Rattle.td_feed.proofs.workers.fn.beside.scope.Goals as goal
 
 pub returns : goal.returns
@@ -13,9 +16,14 @@ returns g c =
     let old = c.captures.keeper in
     let new = c.obey_each-obeyed.new.keeper in
     let x : List Submitted = submissions c.captures.orders.items in
-    let obeyed = c.obey_each-obeyed.ensures in record {
+    let failures = g.D.Disk.failures in
+    let obeyed = c.obey_each-obeyed.ensures in
+    let ended = c.ended_as.ensures in record {
+      same_writer = refl;
       size = obeyed.size;
       lawful = obeyed.lawful;
-      fed = ended_ok (Carries answers old new x) tt c.obey_each-obeyed.result c.ended_as.result c.ended_as.ensures obeyed.fed;
+      fed = ended_ok (Carries answers old new x) tt c.obey_each-obeyed.result c.ended_as.result (ok_only (c.obey_each-obeyed.result ≡ Ok tt) (c.loop-worker.worked ≡ Ok tt) c.ended_as.result ended.ok) obeyed.fed;
       left = ended_err (Carries answers old new x) (Leaves is_lawful state answers old new x) c.obey_each-obeyed.result c.ended_as.result (leaves_all is_lawful state answers old new x) obeyed.fed obeyed.left;
+      said = ended_says is_lawful state failures answers (g.W.Sink.contents c.captures.writer.now) (g.W.Sink.contents c.obey_each-obeyed.new.writer) old new x c.obey_each-obeyed.result c.ended_as.result c.loop-worker.worked ended.ok ended.err obeyed.said;
+      failures = ended_counts c.obey_each-obeyed.result c.ended_as.result c.loop-worker.worked (failures old.device) (failures new.device) ended.ok ended.err obeyed.failures;
     }

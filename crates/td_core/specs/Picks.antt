@@ -1,0 +1,30 @@
+-- Which of the tasks that a shard may take a pick names. Messages stand in no order in a state, so which of them is not told here.
+use Rattle.std.specs.Prelude.{◌≡◌, ℕ, ◌+◌, ◌-◌, ◌%◌, ◌==◌, ◌<◌, ◌≤◌, true, List, filter, length, Some, Contains, ◌↔◌}
+use Rattle.std.specs.List.{slice_get}
+use Rattle.std.specs.List.Sorted.{IsStrictlySortedBy}
+use Rattle.td_machine.specs.State.{HallState, Task, Content, shard_of_key}
+use Rattle.td_machine.specs.State.Content.{messages, notification}
+use Rattle.td_machine.specs.Active.{Frontier, stamp_at}
+use Rattle.td_machine.specs.Steps.{is_asked}
+use Rattle.td_shard.specs.declared.noted.Noted.{Noted}
+use Rattle.td_shard.specs.Asked.{noted_cmp, noted_at}
+
+-- what a task has to do, of so many messages and, after them, these notifications: a message, or the notification at a place
+abbrev pub IsAt : ℕ → List Noted → ℕ → Task → Content → Type 0
+IsAt many notes place task (messages port recs) = place < many
+IsAt many notes place task (notification items) = (many ≤ place) × (slice_get notes (place - many) ≡ Some (noted_at task.vertex task.time))
+
+module _ (S : HallState) (shard : ℕ) where
+  -- how many messages a shard has, at which no task is out
+  abbrev pub messages_at : ℕ
+  messages_at = length (filter (λ c. shard_of_key S.workers c.rec.key == shard) S.messages)
+
+  -- THE NOTIFICATIONS that may be taken of a shard, those that it asked for and that are in the frontier: each once, by epoch, counters
+  -- and vertex
+  pub record AreOpen (notes : List Noted) : Type 0 where
+    pub in_order : IsStrictlySortedBy noted_cmp notes
+    pub each : (n : Noted) → Contains notes n ↔ ((is_asked S shard n.vertex n.time ≡ true) × Frontier S (stamp_at n.vertex n.time))
+
+  -- THE TASK THAT A PICK NAMES, counted round among the messages of the shard and, after them, these notifications
+  abbrev pub IsPick : ℕ → Task → Type 0
+  IsPick pick task = (notes : List Noted) → AreOpen notes → IsAt messages_at notes (pick % (messages_at + length notes)) task task.content

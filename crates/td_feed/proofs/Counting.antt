@@ -1,0 +1,143 @@
+-- What a feed counts of the failures of its disk.
+use Rattle.std.proofs.Common.{◌≡◌, ◌⊎◌, inl, inr, ⊎_elim, ℕ, ◌≤◌, Bool, true, false, ◌||◌, List, [], ◌∷◌, refl, sym, ap, ◌∙◌, subst, arith}
+use Rattle.std.specs.Prelude.{Option, Result, Ok, Err, OnOk, IfOk, IfErr}
+use Rattle.std.specs.Result.{IsErrAnd}
+use Rattle.td_stamp.specs.declared.values.Entry.{Entry}
+use Rattle.td_disk.specs.Disk.{Rises, CountsDevice}
+use Rattle.td_standing.specs.declared.error.KeeperError.{KeeperError}
+use Rattle.td_standing.specs.declared.error.KeeperError.TheVariants as error
+use Rattle.td_keeper.specs.declared.command.Reply.{Reply}
+use Rattle.td_keeper.specs.declared.command.Reply.TheVariants.{Submitted, Released, Settled, Collected, Out, CutTaken, Written, Refused}
+use Rattle.td_keeper.specs.Driven.{is_device, some_failed}
+use Rattle.td_core.specs.declared.error.HallError.TheVariants as hall
+use Rattle.td_pool.specs.declared.error.PoolError.{PoolError}
+use Rattle.td_pool.specs.declared.error.PoolError.TheVariants as pool
+use Rattle.td_console.specs.declared.faults.Fault.{Fault}
+use Rattle.td_console.specs.declared.faults.Fault.TheVariants.{Keeper}
+use Rattle.td_console.specs.Refusals.{keeper_fault}
+use Rattle.td_console.specs.Answer.{lack_fault}
+use Rattle.td_calls.specs.declared.error.CallsError.{CallsError}
+use Rattle.td_calls.specs.declared.error.CallsError.TheVariants as calls
+use Rattle.td_feed.specs.Carried.{is_refused}
+use Rattle.td_feed.specs.Fed.{pool_fault}
+use Rattle.td_feed.specs.Said.{fault_in}
+use Rattle.td_feed.proofs.Lines.{EndedAs}
+
+-- a fault that is not the device's
+pub other_fault : {T : Type 0} (result : Result T Fault) (P : Fault → Type 0) → IsErrAnd result P → (P (Keeper error.Device) → ⊥) → result ≡ Err (Keeper error.Device) → ⊥
+other_fault (Ok x) P none not_so is = none
+other_fault (Err f) P holds not_so is = not_so (subst (λ (r : Result _ Fault). IsErrAnd r P) is holds)
+
+-- nothing failed
+pub counts_same : {T : Type 0} (result : Result T Fault) (n m : ℕ) → (result ≡ Err (Keeper error.Device) → ⊥) → n ≡ m → CountsDevice result (Keeper error.Device) n m
+counts_same result n m not_so is = record { later = omega (arith, is); rises = λ device. absurd (not_so device); stays = inr (sym is) }
+
+-- the same fault is handed on
+abbrev pub as_err : (T : Type 0) → Fault → Result T Fault
+as_err T f = Err f
+
+-- what fault an answer tells, or another where it tells none
+abbrev fault_in_result : Fault → Result (Unit {0}) Fault → Fault
+fault_in_result e (Ok x) = e
+fault_in_result e (Err g) = g
+
+-- the fault of a refusal is the one that is told
+pub fault_of : (e f : Fault) → as_err (Unit {0}) e ≡ as_err (Unit {0}) f → e ≡ f
+fault_of e f is = ap (λ (r : Result (Unit {0}) Fault). fault_in_result e r) is
+
+pub counts_handed : {S T : Type 0} (result : Result T Fault) (e : Fault) (n m : ℕ) → IsErrAnd result (λ f. f ≡ e) → CountsDevice (as_err S e) (Keeper error.Device) n m
+    → CountsDevice result (Keeper error.Device) n m
+counts_handed (Ok x) e n m none counts = absurd none
+counts_handed {S = S} {T = T} (Err f) e n m is counts = record {
+  later = counts.later;
+  rises = λ device. counts.rises (ap (as_err S) (sym is ∙ ap fault_at device));
+  stays = elim counts.stays as (λ _. (as_err T f ≡ as_err T (Keeper error.Device)) ⊎ (m ≡ n)) [ inl device ↦ inl (ap (as_err T) (is ∙ ap fault_at device)) | inr same ↦ inr same ];
+}
+  where
+    fault_at : {R : Type 0} → Result R Fault → Fault
+    fault_at (Ok x) = e
+    fault_at (Err g) = g
+
+-- after what did not fail
+pub counts_after : {T : Type 0} (result : Result T Fault) (k n m : ℕ) → n ≡ k → CountsDevice result (Keeper error.Device) n m → CountsDevice result (Keeper error.Device) k m
+counts_after result k n m is counts = subst (λ (i : ℕ). CountsDevice result (Keeper error.Device) i m) is counts
+
+abbrev done : Result (Unit {0}) Fault
+done = Ok tt
+
+-- what did not fail left the count
+abbrev as_ok : {T : Type 0} → T → Result T Fault
+as_ok x = Ok x
+
+or_false : (b : Bool) → (b || false) ≡ b
+or_false true = refl
+or_false false = refl
+
+pub same_count : {T : Type 0} (x : T) (n m : ℕ) → CountsDevice (as_ok x) (Keeper error.Device) n m → m ≡ n
+same_count x n m counts = elim counts.stays as (λ _. m ≡ n) [ inl not_so ↦ absurd (let is = not_so in cc) | inr same ↦ same ]
+
+-- what did not fail, did not
+pub counts_ok : {T : Type 0} (x : T) (n m : ℕ) → CountsDevice (as_ok x) (Keeper error.Device) n m → CountsDevice done (Keeper error.Device) n m
+counts_ok x n m counts = record { later = counts.later; rises = λ device. absurd (let is = device in cc); stays = inr (same_count x n m counts) }
+
+-- the fault of a refusal
+counts_error : (e : KeeperError) (f : Fault) (n m : ℕ) → f ≡ keeper_fault e → n ≤ m → (is_device e ≡ true → Rises n m) → (is_device e ≡ false → m ≡ n)
+    → CountsDevice (as_err Reply f) (Keeper error.Device) n m
+counts_error error.Device f n m is later rose same = record { later = later; rises = λ device. rose refl; stays = inl (ap (as_err Reply) is) }
+counts_error _ f n m is later rose same = record { later = later; rises = λ device. absurd (let not_so = device in let other = is in cc); stays = inr (same refl) }
+
+-- a reply, or the fault for its refusal
+pub counts_told : (result : Result Reply Fault) (reply : Reply) (n m : ℕ) → IfOk result (λ r. (r ≡ reply) × (is_refused reply ≡ false))
+    → IfErr result (λ f. (is_refused reply ≡ true) × (f ≡ fault_in reply)) → n ≤ m → (some_failed (reply ∷ []) ≡ true → Rises n m) → (some_failed (reply ∷ []) ≡ false → m ≡ n)
+    → CountsDevice result (Keeper error.Device) n m
+counts_told (Err f) (Refused e b) n m ok err later rose same = counts_error e f n m err.1 later (λ is. rose (or_false (is_device e) ∙ is)) (λ is. same (or_false (is_device e) ∙ is))
+counts_told (Err f) (Submitted k) n m ok err later rose same = absurd (let not_so = err.0 in cc)
+counts_told (Err f) (Released k) n m ok err later rose same = absurd (let not_so = err.0 in cc)
+counts_told (Err f) Settled n m ok err later rose same = absurd (let not_so = err.0 in cc)
+counts_told (Err f) (Collected k) n m ok err later rose same = absurd (let not_so = err.0 in cc)
+counts_told (Err f) (Out o) n m ok err later rose same = absurd (let not_so = err.0 in cc)
+counts_told (Err f) (CutTaken k) n m ok err later rose same = absurd (let not_so = err.0 in cc)
+counts_told (Err f) (Written w) n m ok err later rose same = absurd (let not_so = err.0 in cc)
+counts_told (Ok r) (Refused e b) n m ok err later rose same = absurd (let not_so = ok.1 in cc)
+counts_told (Ok r) (Submitted k) n m ok err later rose same = record { later = later; rises = λ device. absurd (let not_so = device in cc); stays = inr (same refl) }
+counts_told (Ok r) (Released k) n m ok err later rose same = record { later = later; rises = λ device. absurd (let not_so = device in cc); stays = inr (same refl) }
+counts_told (Ok r) Settled n m ok err later rose same = record { later = later; rises = λ device. absurd (let not_so = device in cc); stays = inr (same refl) }
+counts_told (Ok r) (Collected k) n m ok err later rose same = record { later = later; rises = λ device. absurd (let not_so = device in cc); stays = inr (same refl) }
+counts_told (Ok r) (Out o) n m ok err later rose same = record { later = later; rises = λ device. absurd (let not_so = device in cc); stays = inr (same refl) }
+counts_told (Ok r) (CutTaken k) n m ok err later rose same = record { later = later; rises = λ device. absurd (let not_so = device in cc); stays = inr (same refl) }
+counts_told (Ok r) (Written w) n m ok err later rose same = record { later = later; rises = λ device. absurd (let not_so = device in cc); stays = inr (same refl) }
+
+-- a worker's refusal is none of the device's
+worker_no_device : (r : PoolError) → pool_fault r ≡ Keeper error.Device → ⊥
+worker_no_device (pool.NoCall vertex code) is = absurd (let not_so = is in cc)
+worker_no_device pool.Memory is = absurd (let not_so = is in cc)
+worker_no_device pool.NotAll is = absurd (let not_so = is in cc)
+worker_no_device (pool.Hall hall.Memory) is = absurd (let not_so = is in cc)
+worker_no_device (pool.Hall hall.Spent) is = absurd (let not_so = is in cc)
+worker_no_device (pool.Hall _) is = absurd (let not_so = is in cc)
+
+-- what did not fail in a feed left the count
+whole_count : (obeyed : Result (Unit {0}) Fault) (n m : ℕ) → CountsDevice obeyed (Keeper error.Device) n m → (obeyed ≡ Ok tt) ⊎ ((e : ℕ) × (obeyed ≡ Err (Keeper (error.NotPassed e)))) → m ≡ n
+whole_count obeyed n m counts why =
+    elim counts.stays as (λ _. m ≡ n) [
+      | inl device ↦ ⊎_elim (λ done. absurd (let not_so = done in let is = device in cc)) (λ unpassed. absurd (let not_so = unpassed.1 in let is = device in cc)) why
+      | inr same ↦ same
+    ]
+
+-- how a feed ended
+pub ended_counts : (obeyed result : Result (Unit {0}) Fault) (worked : Result (Unit {0}) PoolError) (n m : ℕ) → OnOk result ((obeyed ≡ Ok tt) × (worked ≡ Ok tt)) → IfErr result (EndedAs obeyed worked)
+    → CountsDevice obeyed (Keeper error.Device) n m → CountsDevice result (Keeper error.Device) n m
+ended_counts obeyed (Ok done) worked n m ok err counts = subst (λ (r : Result (Unit {0}) Fault). CountsDevice r (Keeper error.Device) n m) ok.0 counts
+ended_counts obeyed (Err f) worked n m ok err counts =
+    ⊎_elim (λ same. subst (λ (r : Result (Unit {0}) Fault). CountsDevice r (Keeper error.Device) n m) same counts)
+    (λ other. counts_same (as_err (Unit {0}) f) n m (λ is. worker_no_device other.1.0 (let not_so = is in let said = other.1.2 in cc)) (sym (whole_count obeyed n m counts other.0))) err
+
+-- which refusal of a keeper's the device's fault is
+pub keeper_device : (e : KeeperError) → keeper_fault e ≡ Keeper error.Device → e ≡ error.Device
+keeper_device error.Device is = refl
+keeper_device _ is = absurd (let not_so = is in cc)
+
+-- a closure that lacks is none
+pub lack_no_device : (lack : CallsError) → as_err (Unit {0}) (lack_fault lack) ≡ as_err (Unit {0}) (Keeper error.Device) → ⊥
+lack_no_device (calls.NoCall vertex code) is = absurd (let not_so = is in cc)
+lack_no_device _ is = absurd (let not_so = is in cc)

@@ -1,0 +1,350 @@
+-- How what a feed writes comes together.
+use Rattle.std.proofs.Common.{◌≡◌, ◌⊎◌, ⊎_elim, inl, inr, ℕ, Bool, true, false, List, [], ◌∷◌, ◌++◌, refl, sym, ap, ◌∙◌, subst}
+use Rattle.std.specs.Prelude.{Option, Some, None, Result, Ok, Err, OnOk, IfErr}
+use Rattle.std.specs.Result.{IsErrAnd}
+use Rattle.std.specs.Io.KnownBytes.{Appends}
+use Rattle.std.proofs.KnownBytes.{Appends-nil, Appends-trans}
+use Rattle.std.proofs.lemmas.List.{append-nil, append_assoc}
+use Rattle.td_plan.specs.Lines.{Line as PlanLine}
+use Rattle.td_calls.specs.Answers.{Answers}
+use Rattle.td_stamp.specs.declared.epoch_out.EpochOut.{EpochOut}
+use Rattle.td_disk.specs.Disk.{DiskState}
+use Rattle.td_journal.specs.declared.submitted.Submitted.{Submitted as AnySubmitted}
+use Rattle.td_standing.specs.declared.error.KeeperError.TheVariants as error
+use Rattle.td_keeper.specs.declared.command.Command.{Command}
+use Rattle.td_keeper.specs.declared.command.Command.TheVariants.{Submit, Release, Settle, Collect, NextOut, Cut, WriteCut}
+use Rattle.td_keeper.specs.declared.command.Reply.{Reply}
+use Rattle.td_keeper.specs.declared.command.Reply.TheVariants.{Submitted, Released, Settled, Collected, Out, CutTaken, Written, Refused}
+use Rattle.td_keeper.specs.Keeping.{Keeping}
+use Rattle.td_keeper.specs.Driven.{submitted_in, submitted_by, Obeys, Driven}
+use Rattle.td_pool.specs.declared.error.PoolError.{PoolError}
+use Rattle.td_console.specs.declared.faults.Fault.{Fault}
+use Rattle.td_console.specs.declared.faults.Fault.TheVariants.{Output, Memory, Keeper}
+use Rattle.td_feed.specs.Fed.{pool_fault}
+use Rattle.td_feed.specs.Said.{line_of, lines_of, Says, SaysSome, SaysBy, SaysFrom, SaysFed, Refuses}
+
+-- whether a command's reply has no line
+abbrev pub is_quiet : Command → Bool
+is_quiet Release = true
+is_quiet Settle = true
+is_quiet Collect = true
+is_quiet Cut = true
+is_quiet _ = false
+
+-- lines of replies, one after another
+pub lines-append : (rs ss : List Reply) → lines_of (rs ++ ss) ≡ lines_of rs ++ lines_of ss
+lines-append [] ss = refl
+lines-append (r ∷ rs) ss = ap (λ (l : List ℕ). line_of r ++ l) (lines-append rs ss) ∙ sym (append_assoc (line_of r) (lines_of rs) (lines_of ss))
+
+module _ {D : Type 0} (is_lawful : D → Type 0) (state : D → DiskState) (failures : D → ℕ) (answers : Answers) where
+  -- commands, and then others
+  pub driven-append : (cs : List Command) (rs : List Reply) (ds : List Command) (ss : List Reply) (a b c : Keeping D) → Driven is_lawful state failures answers cs rs a b
+      → Driven is_lawful state failures answers ds ss b c → Driven is_lawful state failures answers (cs ++ ds) (rs ++ ss) a c
+  driven-append [] [] ds ss a b c is rest = subst (λ (k : Keeping D). Driven is_lawful state failures answers ds ss k c) is rest
+  driven-append [] (r ∷ rs) ds ss a b c none rest = absurd none
+  driven-append (x ∷ cs) [] ds ss a b c none rest = absurd none
+  driven-append (x ∷ cs) (r ∷ rs) ds ss a b c first rest = (first.0, first.1, first.2, driven-append cs rs ds ss first.0 b c first.3 rest)
+
+  pub submitted-append : (cs : List Command) (rs : List Reply) (ds : List Command) (ss : List Reply) (a b : Keeping D) → Driven is_lawful state failures answers cs rs a b
+      → submitted_by (cs ++ ds) (rs ++ ss) ≡ submitted_by cs rs ++ submitted_by ds ss
+  submitted-append [] [] ds ss a b is = refl
+  submitted-append [] (r ∷ rs) ds ss a b none = absurd none
+  submitted-append (x ∷ cs) [] ds ss a b none = absurd none
+  submitted-append (x ∷ cs) (r ∷ rs) ds ss a b first =
+      ap (λ (l : List AnySubmitted). submitted_in x r ++ l) (submitted-append cs rs ds ss first.0 b first.3)
+      ∙ sym (append_assoc (submitted_in x r) (submitted_by cs rs) (submitted_by ds ss))
+
+  -- nothing was told
+  pub says_nothing : (w : Option (List ℕ)) (k : Keeping D) → Says is_lawful state failures answers w w k k []
+  says_nothing w k = record { commands = []; replies = []; driven = refl; submitted = refl; said = Appends-nil w }
+
+  -- one command was told, and its line was written
+  pub says_one : (before after : Option (List ℕ)) (c : Command) (r : Reply) (old new : Keeping D) → Driven is_lawful state failures answers (c ∷ []) (r ∷ []) old new
+      → Appends before after (line_of r) → Says is_lawful state failures answers before after old new (submitted_in c r)
+  says_one before after c r old new driven said = record {
+    commands = c ∷ [];
+    replies = r ∷ [];
+    driven = driven;
+    submitted = append-nil (submitted_in c r);
+    said = subst (λ (l : List ℕ). Appends before after l) (sym (append-nil (line_of r))) said;
+  }
+
+  -- one after the other
+  pub says_then : (u v w : Option (List ℕ)) (a b c : Keeping D) (x y : List AnySubmitted) → Says is_lawful state failures answers u v a b x
+      → Says is_lawful state failures answers v w b c y → Says is_lawful state failures answers u w a c (x ++ y)
+  says_then u v w a b c x y first rest = record {
+    commands = first.commands ++ rest.commands;
+    replies = first.replies ++ rest.replies;
+    driven = driven-append first.commands first.replies rest.commands rest.replies a b c first.driven rest.driven;
+    submitted = submitted-append first.commands first.replies rest.commands rest.replies a b first.driven
+        ∙ ap (λ (l : List AnySubmitted). l ++ submitted_by rest.commands rest.replies) first.submitted ∙ ap (λ (l : List AnySubmitted). x ++ l) rest.submitted;
+    said = subst (λ (l : List ℕ). Appends u w l) (sym (lines-append first.replies rest.replies))
+        (Appends-trans u v w (lines_of first.replies) (lines_of rest.replies) first.said rest.said);
+  }
+
+  pub then_some : (u v w : Option (List ℕ)) (a b c : Keeping D) (x : List AnySubmitted) → Says is_lawful state failures answers u v a b x
+      → SaysSome is_lawful state failures answers v w b c → SaysSome is_lawful state failures answers u w a c
+  then_some u v w a b c x first rest = record {
+    commands = first.commands ++ rest.commands;
+    replies = first.replies ++ rest.replies;
+    driven = driven-append first.commands first.replies rest.commands rest.replies a b c first.driven rest.driven;
+    text = lines_of first.replies ++ rest.text;
+    unsaid = rest.unsaid;
+    lines = lines-append first.replies rest.replies ∙ ap (λ (l : List ℕ). lines_of first.replies ++ l) rest.lines
+        ∙ sym (append_assoc (lines_of first.replies) rest.text rest.unsaid);
+    said = Appends-trans u v w (lines_of first.replies) rest.text first.said rest.said;
+  }
+
+  -- all is some
+  pub some_of_all : (u v : Option (List ℕ)) (a b : Keeping D) (x : List AnySubmitted) → Says is_lawful state failures answers u v a b x → SaysSome is_lawful state failures answers u v a b
+  some_of_all u v a b x all = record {
+    commands = all.commands;
+    replies = all.replies;
+    driven = all.driven;
+    text = lines_of all.replies;
+    unsaid = [];
+    lines = sym (append-nil (lines_of all.replies));
+    said = all.said;
+  }
+
+  -- the last line was not written
+  pub unsaid_one : (w : Option (List ℕ)) (c : Command) (r : Reply) (old new : Keeping D) → Driven is_lawful state failures answers (c ∷ []) (r ∷ []) old new
+      → SaysSome is_lawful state failures answers w w old new
+  unsaid_one w c r old new driven = record { commands = c ∷ []; replies = r ∷ []; driven = driven; text = []; unsaid = lines_of (r ∷ []); lines = refl; said = Appends-nil w }
+
+  -- a refused command writes nothing
+  pub refused_some : (w : Option (List ℕ)) (c : Command) (old new : Keeping D) → Refuses is_lawful state failures answers c old new → SaysSome is_lawful state failures answers w w old new
+  refused_some w c old new (inl is) = record { commands = []; replies = []; driven = is; text = []; unsaid = []; lines = refl; said = Appends-nil w }
+  refused_some w c old new (inr told) = unsaid_one w c (Refused told.0 told.1) old new told.2
+
+  -- AT AN ANSWER
+  pub then_by : (result : Result (Unit {0}) Fault) (u v w : Option (List ℕ)) (a b c : Keeping D) (x y : List AnySubmitted) → Says is_lawful state failures answers u v a b x
+      → SaysBy is_lawful state failures answers result v w b c y → SaysBy is_lawful state failures answers result u w a c (x ++ y)
+  then_by (Ok done) u v w a b c x y first rest = says_then u v w a b c x y first rest
+  then_by (Err fault) u v w a b c x y first rest = ⊎_elim inl (λ some. inr (then_some u v w a b c x first some)) rest
+
+  pub by_ok : (result : Result (Unit {0}) Fault) (u v : Option (List ℕ)) (a b : Keeping D) (x : List AnySubmitted) → result ≡ Ok tt
+      → Says is_lawful state failures answers u v a b x → SaysBy is_lawful state failures answers result u v a b x
+  by_ok result u v a b x is says = subst (λ (r : Result (Unit {0}) Fault). SaysBy is_lawful state failures answers r u v a b x) (sym is) says
+
+  pub by_refusal : (result : Result (Unit {0}) Fault) (P : Fault → Type 0) (u v : Option (List ℕ)) (a b : Keeping D) (x : List AnySubmitted) → IsErrAnd result P
+      → ((f : Fault) → P f → (f ≡ Output) ⊎ SaysSome is_lawful state failures answers u v a b) → SaysBy is_lawful state failures answers result u v a b x
+  by_refusal (Ok done) P u v a b x none step = absurd none
+  by_refusal (Err fault) P u v a b x is step = step fault is
+
+  -- the same fault is handed on
+  pub handed_on : (result : Result (Unit {0}) Fault) (e : Fault) (u v w : Option (List ℕ)) (a b c : Keeping D) (x y z : List AnySubmitted) → IsErrAnd result (λ f. f ≡ e)
+      → Says is_lawful state failures answers u v a b x → SaysBy is_lawful state failures answers (Err e) v w b c y → SaysBy is_lawful state failures answers result u w a c z
+  handed_on (Ok done) e u v w a b c x y z none first rest = absurd none
+  handed_on (Err f) e u v w a b c x y z is first rest = ⊎_elim (λ output. inl (is ∙ output)) (λ some. inr (then_some u v w a b c x first some)) rest
+
+  -- a command whose reply has no line
+  pub says_silent : (w : Option (List ℕ)) (c : Command) (r : Reply) (old new : Keeping D) → Driven is_lawful state failures answers (c ∷ []) (r ∷ []) old new → line_of r ≡ []
+      → Says is_lawful state failures answers w w old new (submitted_in c r)
+  says_silent w c r old new driven none = says_one w w c r old new driven (subst (λ (l : List ℕ). Appends w w l) (sym none) (Appends-nil w))
+
+  quiet_release : (r : Reply) (old new : Keeping D) → Obeys is_lawful state failures answers Release r old new → line_of r ≡ []
+  quiet_release (Submitted n) old new not_so = absurd not_so
+  quiet_release (Released n) old new is = refl
+  quiet_release Settled old new is = refl
+  quiet_release (Collected n) old new is = refl
+  quiet_release (Out o) old new not_so = absurd not_so
+  quiet_release (CutTaken n) old new is = refl
+  quiet_release (Written w) old new not_so = absurd not_so
+  quiet_release (Refused e b) old new is = refl
+
+  quiet_settle : (r : Reply) (old new : Keeping D) → Obeys is_lawful state failures answers Settle r old new → line_of r ≡ []
+  quiet_settle (Submitted n) old new not_so = absurd not_so
+  quiet_settle (Released n) old new is = refl
+  quiet_settle Settled old new is = refl
+  quiet_settle (Collected n) old new is = refl
+  quiet_settle (Out o) old new not_so = absurd not_so
+  quiet_settle (CutTaken n) old new is = refl
+  quiet_settle (Written w) old new not_so = absurd not_so
+  quiet_settle (Refused e b) old new is = refl
+
+  quiet_collect : (r : Reply) (old new : Keeping D) → Obeys is_lawful state failures answers Collect r old new → line_of r ≡ []
+  quiet_collect (Submitted n) old new not_so = absurd not_so
+  quiet_collect (Released n) old new is = refl
+  quiet_collect Settled old new is = refl
+  quiet_collect (Collected n) old new is = refl
+  quiet_collect (Out o) old new not_so = absurd not_so
+  quiet_collect (CutTaken n) old new is = refl
+  quiet_collect (Written w) old new not_so = absurd not_so
+  quiet_collect (Refused e b) old new is = refl
+
+  quiet_cut : (r : Reply) (old new : Keeping D) → Obeys is_lawful state failures answers Cut r old new → line_of r ≡ []
+  quiet_cut (Submitted n) old new not_so = absurd not_so
+  quiet_cut (Released n) old new is = refl
+  quiet_cut Settled old new is = refl
+  quiet_cut (Collected n) old new is = refl
+  quiet_cut (Out o) old new not_so = absurd not_so
+  quiet_cut (CutTaken n) old new is = refl
+  quiet_cut (Written w) old new not_so = absurd not_so
+  quiet_cut (Refused e b) old new is = refl
+
+  -- releasing, settling, collecting and cutting write nothing
+  pub quietly : (w : Option (List ℕ)) (c : Command) (r : Reply) (old new : Keeping D) → is_quiet c ≡ true → Obeys is_lawful state failures answers c r old new
+      → Driven is_lawful state failures answers (c ∷ []) (r ∷ []) old new → Says is_lawful state failures answers w w old new []
+  quietly w Release r old new quiet is driven = says_silent w Release r old new driven (quiet_release r old new is)
+  quietly w Settle r old new quiet is driven = says_silent w Settle r old new driven (quiet_settle r old new is)
+  quietly w Collect r old new quiet is driven = says_silent w Collect r old new driven (quiet_collect r old new is)
+  quietly w Cut r old new quiet is driven = says_silent w Cut r old new driven (quiet_cut r old new is)
+  quietly w (Submit batch) r old new not_so is driven = absurd (let is = not_so in cc)
+  quietly w NextOut r old new not_so is driven = absurd (let is = not_so in cc)
+  quietly w WriteCut r old new not_so is driven = absurd (let is = not_so in cc)
+
+  -- the lines of one reply, where they were to be written
+  pub said_by : (result : Result (Unit {0}) Fault) (w v : Option (List ℕ)) (c : Command) (r : Reply) (old new : Keeping D) (x : List AnySubmitted) (P : Type 0)
+      → Driven is_lawful state failures answers (c ∷ []) (r ∷ []) old new → submitted_in c r ≡ x → OnOk result (Appends w v (line_of r))
+      → IfErr result (λ f. (f ≡ Output) ⊎ ((f ≡ Memory) × P)) → (P → v ≡ w) → SaysBy is_lawful state failures answers result w v old new x
+  said_by (Ok done) w v c r old new x P driven is said none same =
+      subst (λ (l : List AnySubmitted). Says is_lawful state failures answers w v old new l) is (says_one w v c r old new driven said)
+  said_by (Err f) w v c r old new x P driven is said why same =
+      ⊎_elim inl (λ memory. inr (subst (λ (u : Option (List ℕ)). SaysSome is_lawful state failures answers w u old new) (sym (same memory.1)) (unsaid_one w c r old new driven))) why
+
+  -- after what was said
+  pub then_quiet : (result : Result (Unit {0}) Fault) (u v w : Option (List ℕ)) (a b c : Keeping D) (x : List AnySubmitted) → Says is_lawful state failures answers u v a b x
+      → SaysBy is_lawful state failures answers result v w b c [] → SaysBy is_lawful state failures answers result u w a c x
+  then_quiet result u v w a b c x first rest =
+      subst (λ (l : List AnySubmitted). SaysBy is_lawful state failures answers result u w a c l) (append-nil x) (then_by result u v w a b c x [] first rest)
+
+  -- and a command that was refused
+  pub then_refused : (result : Result (Unit {0}) Fault) (P : Fault → Type 0) (u v : Option (List ℕ)) (command : Command) (a b c : Keeping D) (x y : List AnySubmitted) → IsErrAnd result P
+      → Says is_lawful state failures answers u v a b x → Refuses is_lawful state failures answers command b c → SaysBy is_lawful state failures answers result u v a c y
+  then_refused result P u v command a b c x y is first refused =
+      by_refusal result P u v a c y is (λ f holds. inr (then_some u v v a b c x first (refused_some v command b c refused)))
+
+  -- OUTPUTS THAT ARE HELD BACK: the lines of the replies are what was written, and what is held
+  pub record Holding (before after : Option (List ℕ)) (old new : Keeping D) (held : List ℕ) : Type 0 where
+    pub some : SaysSome is_lawful state failures answers before after old new
+    pub held_is : some.unsaid ≡ held
+    pub none : submitted_by some.commands some.replies ≡ []
+
+  pub holding_nothing : (w : Option (List ℕ)) (k : Keeping D) (held : List ℕ) → held ≡ [] → Holding w w k k held
+  holding_nothing w k held is = record {
+    some = record { commands = []; replies = []; driven = refl; text = []; unsaid = []; lines = refl; said = Appends-nil w };
+    held_is = sym is;
+    none = refl;
+  }
+
+  -- one reply more, whose lines are held too
+  pub holding_more : (u v : Option (List ℕ)) (a b c : Keeping D) (o : Option EpochOut) (held more : List ℕ) → Holding u v a b held
+      → Driven is_lawful state failures answers (NextOut ∷ []) (Out o ∷ []) b c → more ≡ held ++ line_of (Out o) → Holding u v a c more
+  holding_more u v a b c o held more so_far driven is =
+      let s = so_far.some in
+      record {
+        some = record {
+          commands = s.commands ++ NextOut ∷ [];
+          replies = s.replies ++ Out o ∷ [];
+          driven = driven-append s.commands s.replies (NextOut ∷ []) (Out o ∷ []) a b c s.driven driven;
+          text = s.text;
+          unsaid = more;
+          lines = lines-append s.replies (Out o ∷ [])
+              ∙ ap (λ (l : List ℕ). l ++ lines_of (Out o ∷ [])) s.lines
+              ∙ append_assoc s.text s.unsaid (lines_of (Out o ∷ []))
+              ∙ ap (λ (l : List ℕ). s.text ++ l) (ap (λ (l : List ℕ). l ++ lines_of (Out o ∷ [])) so_far.held_is ∙ ap (λ (l : List ℕ). held ++ l) (append-nil (line_of (Out o))) ∙ sym is);
+          said = s.said;
+        };
+        held_is = refl;
+        none = submitted-append s.commands s.replies (NextOut ∷ []) (Out o ∷ []) a b s.driven ∙ append-nil (submitted_by s.commands s.replies) ∙ so_far.none;
+      }
+
+  -- a reply that has none
+  pub none_out : (o : Option EpochOut) → ((out : EpochOut) → o ≡ Some out → ⊥) → line_of (Out o) ≡ []
+  none_out None not_some = refl
+  none_out (Some out) not_some = absurd (not_some out refl)
+
+  -- and a command that is refused
+  pub holding_refused : (u v : Option (List ℕ)) (a b c : Keeping D) (held : List ℕ) → Holding u v a b held → Refuses is_lawful state failures answers NextOut b c
+      → SaysSome is_lawful state failures answers u v a c
+  holding_refused u v a b c held so_far (inl is) = subst (λ (k : Keeping D). SaysSome is_lawful state failures answers u v a k) (sym is) so_far.some
+  holding_refused u v a b c held so_far (inr told) =
+      let s = so_far.some in
+      let r : Reply = Refused told.0 told.1 in
+      record {
+        commands = s.commands ++ NextOut ∷ [];
+        replies = s.replies ++ r ∷ [];
+        driven = driven-append s.commands s.replies (NextOut ∷ []) (r ∷ []) a b c s.driven told.2;
+        text = s.text;
+        unsaid = s.unsaid;
+        lines = lines-append s.replies (r ∷ []) ∙ append-nil (lines_of s.replies) ∙ s.lines;
+        said = s.said;
+      }
+
+  -- what is held is written
+  pub holding_written : (u v w : Option (List ℕ)) (a b : Keeping D) (held after : List ℕ) → Holding u v a b held → Appends v w held → after ≡ [] → Holding u w a b after
+  holding_written u v w a b held after so_far written none =
+      let s = so_far.some in
+      record {
+        some = record {
+          commands = s.commands;
+          replies = s.replies;
+          driven = s.driven;
+          text = s.text ++ s.unsaid;
+          unsaid = [];
+          lines = s.lines ∙ sym (append-nil (s.text ++ s.unsaid));
+          said = Appends-trans u v w s.text s.unsaid s.said (subst (λ (l : List ℕ). Appends v w l) (sym so_far.held_is) written);
+        };
+        held_is = sym none;
+        none = so_far.none;
+      }
+
+  -- or not yet
+  pub holding_piece : {W S : Type 0} (contents : W → Option (List ℕ)) (bytes : S → List ℕ) (u : Option (List ℕ)) (v w : W) (a b : Keeping D) (held after : S) → Holding u (contents v) a b (bytes held)
+      → (Appends (contents v) (contents w) (bytes held) × (bytes after ≡ [])) ⊎ ((w ≡ v) × (after ≡ held)) → Holding u (contents w) a b (bytes after)
+  holding_piece contents bytes u v w a b held after so_far (inl written) =
+      holding_written u (contents v) (contents w) a b (bytes held) (bytes after) so_far written.0 written.1
+  holding_piece contents bytes u v w a b held after so_far (inr same) =
+      subst (λ (l : List ℕ). Holding u (contents w) a b l) (ap bytes (sym same.1)) (subst (λ x. Holding u (contents x) a b (bytes held)) (sym same.0) so_far)
+
+  -- nothing is held any more
+  pub all_written : (u v : Option (List ℕ)) (a b : Keeping D) (held : List ℕ) → Holding u v a b held → held ≡ [] → Says is_lawful state failures answers u v a b []
+  all_written u v a b held so_far none =
+      let s = so_far.some in
+      record {
+        commands = s.commands;
+        replies = s.replies;
+        driven = s.driven;
+        submitted = so_far.none;
+        said = subst (λ (l : List ℕ). Appends u v l) (sym (s.lines ∙ ap (λ (l : List ℕ). s.text ++ l) (so_far.held_is ∙ none) ∙ append-nil s.text)) s.said;
+      }
+
+  -- the last of it
+  pub last_written : (result : Result (Unit {0}) Fault) (u v w : Option (List ℕ)) (a b : Keeping D) (held : List ℕ) → Holding u v a b held
+      → OnOk result (Appends v w held) → IfErr result (λ f. f ≡ Output) → SaysBy is_lawful state failures answers result u w a b []
+  last_written (Ok done) u v w a b held so_far written why = all_written u w a b [] (holding_written u v w a b held [] so_far written refl) refl
+  last_written (Err f) u v w a b held so_far written why = inl why
+
+-- a refusal of a writer's, or for want of memory, is not the device's
+pub no_device_if : {T : Type 0} (result : Result T Fault) (P : Type 0) → IfErr result (λ f. (f ≡ Output) ⊎ ((f ≡ Memory) × P)) → result ≡ Err (Keeper error.Device) → ⊥
+no_device_if (Ok x) P none is = absurd (let not_so = is in cc)
+no_device_if (Err f) P why is = ⊎_elim (λ output. absurd (let not_so = is in let other = output in cc)) (λ memory. absurd (let not_so = is in let other = memory.0 in cc)) why
+
+pub output_no_device : {T : Type 0} (result : Result T Fault) → IfErr result (λ f. f ≡ Output) → result ≡ Err (Keeper error.Device) → ⊥
+output_no_device (Ok x) none is = absurd (let not_so = is in cc)
+output_no_device (Err f) why is = absurd (let not_so = is in let other = why in cc)
+
+-- HOW A FEED ENDED, where a worker's refusal may stand in place of what did not pass
+abbrev pub EndedAs : Result (Unit {0}) Fault → Result (Unit {0}) PoolError → Fault → Type 0
+EndedAs obeyed worked f = (obeyed ≡ Err f) ⊎ (((obeyed ≡ Ok tt) ⊎ ((e : ℕ) × (obeyed ≡ Err (Keeper (error.NotPassed e))))) × ((r : PoolError) × (worked ≡ Err r) × (f ≡ pool_fault r)))
+
+module _ {D : Type 0} (is_lawful : D → Type 0) (state : D → DiskState) (failures : D → ℕ) (answers : Answers) (u v : Option (List ℕ)) (a b : Keeping D) (x : List AnySubmitted) where
+  some_by : (obeyed : Result (Unit {0}) Fault) → SaysBy is_lawful state failures answers obeyed u v a b x → (obeyed ≡ Ok tt) ⊎ ((e : ℕ) × (obeyed ≡ Err (Keeper (error.NotPassed e))))
+      → SaysSome is_lawful state failures answers u v a b
+  some_by (Ok done) says why = some_of_all is_lawful state failures answers u v a b x says
+  some_by (Err f) says why =
+      ⊎_elim (λ output. ⊎_elim (λ not_so. absurd (let is = not_so in cc)) (λ unpassed. absurd (let is = unpassed.1 in let other = output in cc)) why) (λ some. some) says
+
+  pub ended_says : (obeyed result : Result (Unit {0}) Fault) (worked : Result (Unit {0}) PoolError) → OnOk result ((obeyed ≡ Ok tt) × (worked ≡ Ok tt)) → IfErr result (EndedAs obeyed worked)
+      → SaysBy is_lawful state failures answers obeyed u v a b x → SaysBy is_lawful state failures answers result u v a b x
+  ended_says obeyed (Ok done) worked ok err says = subst (λ (r : Result (Unit {0}) Fault). SaysBy is_lawful state failures answers r u v a b x) ok.0 says
+  ended_says obeyed (Err f) worked ok err says =
+      ⊎_elim (λ same. subst (λ (r : Result (Unit {0}) Fault). SaysBy is_lawful state failures answers r u v a b x) same says) (λ other. inr (some_by obeyed says other.0)) err
+
+-- a feed of a disk
+module _ {D : Type 0} (is_lawful : D → Type 0) (state : D → DiskState) (failures : D → ℕ) (answers : Answers) where
+  pub fed_says : (result : Result (Unit {0}) Fault) (plan : List PlanLine) (disk left : D) (before after : Option (List ℕ)) (x : List AnySubmitted)
+      → SaysFrom is_lawful state failures answers result plan disk left before after x → SaysFed is_lawful state failures answers result plan disk left before after x
+  fed_says (Ok done) plan disk left before after x says = says
+  fed_says (Err f) plan disk left before after x says = inr says

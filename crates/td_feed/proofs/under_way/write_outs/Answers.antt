@@ -1,0 +1,173 @@
+use Rattle.std.proofs.Common.{◌≡◌, ◌==◌, inl, inr, ℕ, true, List, [], ◌∷◌, ◌++◌, length, refl, sym, ap, ◌∙◌, subst, arith, eqb-true}
+use Rattle.std.specs.Prelude.{Option, Some, string_bytes, string_len, OnOk}
+use Rattle.std.specs.Io.KnownBytes.{Appends}
+use Rattle.std.proofs.lemmas.List.{append-nil}
+use Rattle.td_stamp.specs.declared.epoch_out.EpochOut.{EpochOut}
+use Rattle.td_keeper.specs.declared.command.Reply.TheVariants.{Out}
+use Rattle.td_console.specs.declared.faults.Fault.{Fault}
+use Rattle.td_feed.specs.Said.{line_of}
+use Rattle.td_feed.proofs.Carrying.{unmoved, carries_after}
+use Rattle.td_feed.proofs.Counting.{other_fault, counts_same, counts_handed, counts_after, counts_ok, same_count}
+use Rattle.td_feed.proofs.Lines.{by_refusal, output_no_device, holding_nothing, holding_more, holding_refused, holding_piece, none_out, all_written, last_written}
+use Rattle.td_feed.proofs.under_way.write_outs.Goals as goal
+
+-- a list without members
+nil_of : (l : List ℕ) (n : ℕ) → (n == 0) ≡ true → n ≡ length l → l ≡ []
+nil_of [] n is many = refl
+nil_of (x ∷ l) n is many = absurd (let none : n ≡ 0 = eqb-true n 0 is in omega (arith, none, many))
+
+pub loop-text-init : goal.loop-text-init
+loop-text-init g c = record {
+  said = holding_nothing g.D.Disk.is_lawful g.D.Disk.state g.D.Disk.failures g.L.Law.answers (g.W.Sink.contents c.args.writer.now) c.args.keeper.now (string_bytes c.new-text.result) c.new-text.ensures.bytes;
+  count = refl;
+  carried = unmoved g.L.Law.answers c.args.keeper.now c.args.keeper.now refl refl c.requires.whole;
+  size = refl;
+  lawful = (λ l. l, λ l. l);
+}
+
+pub loop-text-preserved : goal.loop-text-preserved
+loop-text-preserved g c =
+    let is_lawful = g.D.Disk.is_lawful in
+    let state = g.D.Disk.state in
+    let failures = g.D.Disk.failures in
+    let answers = g.L.Law.answers in
+    let u = g.W.Sink.contents c.args.writer.now in
+    let v = g.W.Sink.contents c.loop-text.writer in
+    let old = c.args.keeper.now in
+    let there = c.loop-text.keeper in
+    let new = c.next_out.new.keeper in
+    let held = string_bytes c.loop-text.text in
+    let so_far = c.loop-text.invariant in
+    let o : Option EpochOut = c.in_ok-out.field-0 in
+    let more = holding_more is_lawful state failures answers u v old there new o held (held ++ line_of (Out o)) so_far.said c.in_ok-out.ensures.driven refl in
+    let count = same_count c.in_ok-out.field-0 (g.D.Disk.failures c.loop-text.keeper.device) (g.D.Disk.failures c.next_out.new.keeper.device) c.in_ok-out.ensures.failures ∙ c.loop-text.invariant.count in
+    let printed : string_bytes c.print_epoch.new.text ≡ held ++ line_of (Out (Some c.in-Some.out)) =
+    c.in_ok-print_epoch.ensures.ok ∙ ap (λ (l : List ℕ). held ++ l) (sym (append-nil _)) in
+    let is : held ++ line_of (Out o) ≡ string_bytes c.print_epoch.new.text = ap (λ (p : Option EpochOut). held ++ line_of (Out p)) c.in-Some.is ∙ sym printed in
+    record {
+      said = holding_piece is_lawful state failures answers g.W.Sink.contents string_bytes u c.loop-text.writer c.write_piece.new.writer old new c.print_epoch.new.text c.write_piece.new.text
+          (holding_more is_lawful state failures answers u v old there new o held (string_bytes c.print_epoch.new.text) so_far.said c.in_ok-out.ensures.driven (sym is)) c.in_ok-write_piece.ensures.ok;
+      count = count;
+      carried = carries_after is_lawful state answers old there new [] so_far.carried c.next_out.ensures.carried;
+      size = c.next_out.ensures.size ∙ so_far.size;
+      lawful = (λ l. c.next_out.ensures.lawful.0 (so_far.lawful.0 l), λ l. so_far.lawful.1 (c.next_out.ensures.lawful.1 l));
+    }
+
+pub returns-in_err-out-clause-said : goal.returns-in_err-out-clause-said
+returns-in_err-out-clause-said g c =
+    let is_lawful = g.D.Disk.is_lawful in
+    let state = g.D.Disk.state in
+    let failures = g.D.Disk.failures in
+    let answers = g.L.Law.answers in
+    let u = g.W.Sink.contents c.args.writer.now in
+    let v = g.W.Sink.contents c.loop-text.writer in
+    let old = c.args.keeper.now in
+    let there = c.loop-text.keeper in
+    let new = c.next_out.new.keeper in
+    let held = string_bytes c.loop-text.text in
+    let so_far = c.loop-text.invariant in
+    by_refusal is_lawful state failures answers c.from_residual.result (λ (f : Fault). f ≡ c.in_err-out.field-0.0) u v old new [] c.from_residual.ensures.1
+    (λ f is. inr (holding_refused is_lawful state failures answers u v old there new held so_far.said c.in_err-out.ensures.refused))
+
+pub returns-in_err-out-clause-failures : goal.returns-in_err-out-clause-failures
+returns-in_err-out-clause-failures g c =
+    counts_after c.from_residual.result _ _ _ c.loop-text.invariant.count (counts_handed c.from_residual.result c.in_err-out.field-0.0 _ _ c.from_residual.ensures.1 c.in_err-out.ensures.failures)
+
+pub returns-in_err-print_epoch-clause-said : goal.returns-in_err-print_epoch-clause-said
+returns-in_err-print_epoch-clause-said g c =
+    let is_lawful = g.D.Disk.is_lawful in
+    let state = g.D.Disk.state in
+    let failures = g.D.Disk.failures in
+    let answers = g.L.Law.answers in
+    let u = g.W.Sink.contents c.args.writer.now in
+    let v = g.W.Sink.contents c.loop-text.writer in
+    let old = c.args.keeper.now in
+    let there = c.loop-text.keeper in
+    let new = c.next_out.new.keeper in
+    let held = string_bytes c.loop-text.text in
+    let so_far = c.loop-text.invariant in
+    let o : Option EpochOut = c.in_ok-out.field-0 in
+    let more = holding_more is_lawful state failures answers u v old there new o held (held ++ line_of (Out o)) so_far.said c.in_ok-out.ensures.driven refl in
+    by_refusal is_lawful state failures answers c.from_residual-in_err-print_epoch.result (λ (f : Fault). f ≡ c.in_err-print_epoch.field-0.0) u v old new [] c.from_residual-in_err-print_epoch.ensures.1
+    (λ f is. inr more.some)
+
+pub returns-in_err-print_epoch-clause-failures : goal.returns-in_err-print_epoch-clause-failures
+returns-in_err-print_epoch-clause-failures g c =
+    let count = same_count c.in_ok-out.field-0 (g.D.Disk.failures c.loop-text.keeper.device) (g.D.Disk.failures c.next_out.new.keeper.device) c.in_ok-out.ensures.failures ∙ c.loop-text.invariant.count in
+    counts_same c.from_residual-in_err-print_epoch.result _ _
+    (other_fault c.from_residual-in_err-print_epoch.result (λ (f : Fault). f ≡ c.in_err-print_epoch.field-0.0) c.from_residual-in_err-print_epoch.ensures.1
+    (λ is. let memory = c.in_err-print_epoch.ensures.err in let other = is in cc))
+    (sym count)
+
+pub returns-in_err-write_piece-clause-said : goal.returns-in_err-write_piece-clause-said
+returns-in_err-write_piece-clause-said g c =
+    let is_lawful = g.D.Disk.is_lawful in
+    let state = g.D.Disk.state in
+    let failures = g.D.Disk.failures in
+    let answers = g.L.Law.answers in
+    let u = g.W.Sink.contents c.args.writer.now in
+    let v = g.W.Sink.contents c.loop-text.writer in
+    let old = c.args.keeper.now in
+    let there = c.loop-text.keeper in
+    let new = c.next_out.new.keeper in
+    let held = string_bytes c.loop-text.text in
+    let so_far = c.loop-text.invariant in
+    by_refusal is_lawful state failures answers c.from_residual-in_err-write_piece.result (λ (f : Fault). f ≡ c.in_err-write_piece.field-0.0) u (g.W.Sink.contents c.write_piece.new.writer) old new []
+    c.from_residual-in_err-write_piece.ensures.1 (λ f is. inl (is ∙ c.in_err-write_piece.ensures.err))
+
+pub returns-in_err-write_piece-clause-failures : goal.returns-in_err-write_piece-clause-failures
+returns-in_err-write_piece-clause-failures g c =
+    let count = same_count c.in_ok-out.field-0 (g.D.Disk.failures c.loop-text.keeper.device) (g.D.Disk.failures c.next_out.new.keeper.device) c.in_ok-out.ensures.failures ∙ c.loop-text.invariant.count in
+    counts_same c.from_residual-in_err-write_piece.result _ _
+    (other_fault c.from_residual-in_err-write_piece.result (λ (f : Fault). f ≡ c.in_err-write_piece.field-0.0) c.from_residual-in_err-write_piece.ensures.1
+    (λ is. let output = c.in_err-write_piece.ensures.err in let other = is in cc))
+    (sym count)
+
+pub returns-then-is_empty-clause-said : goal.returns-then-is_empty-clause-said
+returns-then-is_empty-clause-said g c =
+    let is_lawful = g.D.Disk.is_lawful in
+    let state = g.D.Disk.state in
+    let failures = g.D.Disk.failures in
+    let answers = g.L.Law.answers in
+    let u = g.W.Sink.contents c.args.writer.now in
+    let v = g.W.Sink.contents c.loop-text.writer in
+    let old = c.args.keeper.now in
+    let there = c.loop-text.keeper in
+    let new = c.next_out.new.keeper in
+    let held = string_bytes c.loop-text.text in
+    let so_far = c.loop-text.invariant in
+    let o : Option EpochOut = c.in_ok-out.field-0 in
+    let more = holding_more is_lawful state failures answers u v old there new o held (held ++ line_of (Out o)) so_far.said c.in_ok-out.ensures.driven refl in
+    let line = none_out is_lawful state failures answers o c.in_default.not-Some in
+    let empty : held ≡ [] = nil_of held (string_len c.loop-text.text) (sym c.is_empty.ensures ∙ c.if-is_empty.true) c.loop-text.text.bytes.ok.0 in
+    all_written is_lawful state failures answers u v old new (held ++ line_of (Out o)) more (ap (λ (l : List ℕ). l ++ line_of (Out o)) empty ∙ line)
+
+pub returns-then-is_empty-clause-failures : goal.returns-then-is_empty-clause-failures
+returns-then-is_empty-clause-failures g c =
+    counts_after _ _ _ _ c.loop-text.invariant.count (counts_ok c.in_ok-out.field-0 _ _ c.in_ok-out.ensures.failures)
+
+pub returns-clause-said : goal.returns-clause-said
+returns-clause-said g c =
+    let is_lawful = g.D.Disk.is_lawful in
+    let state = g.D.Disk.state in
+    let failures = g.D.Disk.failures in
+    let answers = g.L.Law.answers in
+    let u = g.W.Sink.contents c.args.writer.now in
+    let v = g.W.Sink.contents c.loop-text.writer in
+    let old = c.args.keeper.now in
+    let there = c.loop-text.keeper in
+    let new = c.next_out.new.keeper in
+    let held = string_bytes c.loop-text.text in
+    let so_far = c.loop-text.invariant in
+    let o : Option EpochOut = c.in_ok-out.field-0 in
+    let more = holding_more is_lawful state failures answers u v old there new o held (held ++ line_of (Out o)) so_far.said c.in_ok-out.ensures.driven refl in
+    let w = g.W.Sink.contents c.write_answer.new.writer in
+    let line = none_out is_lawful state failures answers o c.in_default.not-Some in
+    let is : c.as_str.result.now ≡ held ++ line_of (Out o) = c.as_str.ensures.value ∙ sym (append-nil held) ∙ ap (λ (l : List ℕ). held ++ l) (sym line) in
+    last_written is_lawful state failures answers c.write_answer.result u v w old new (held ++ line_of (Out o)) more
+    (subst (λ (t : List ℕ). OnOk c.write_answer.result (Appends v w t)) is c.write_answer.ensures.written) c.write_answer.ensures.err
+
+pub returns-clause-failures : goal.returns-clause-failures
+returns-clause-failures g c =
+    let count = same_count c.in_ok-out.field-0 (g.D.Disk.failures c.loop-text.keeper.device) (g.D.Disk.failures c.next_out.new.keeper.device) c.in_ok-out.ensures.failures ∙ c.loop-text.invariant.count in
+    counts_same c.write_answer.result _ _ (output_no_device c.write_answer.result c.write_answer.ensures.err) (sym count)

@@ -1,0 +1,87 @@
+-- What a feed writes: the lines of what its keeper replied.
+use Rattle.std.specs.Prelude.{◌≡◌, ◌⊎◌, ℕ, List, [], ◌∷◌, ◌++◌, codes, Option, Some, None, Result, Ok, Err}
+use Rattle.std.specs.Fmt.{decimal}
+use Rattle.std.specs.Io.KnownBytes.{Appends}
+use Rattle.td_stamp.specs.declared.values.Entry.{Entry}
+use Rattle.td_plan.specs.Lines.{Line as PlanLine}
+use Rattle.td_calls.specs.Answers.{Answers}
+use Rattle.td_disk.specs.Disk.{DiskState}
+use Rattle.td_journal.specs.declared.submitted.Submitted.{Submitted as AnySubmitted}
+use Rattle.td_standing.specs.declared.error.KeeperError.{KeeperError}
+use Rattle.td_standing.specs.Told.{Told}
+use Rattle.td_keeper.specs.declared.command.Command.{Command}
+use Rattle.td_keeper.specs.declared.command.Reply.{Reply}
+use Rattle.td_keeper.specs.declared.command.Reply.TheVariants.{Submitted, Out, Written, Refused}
+use Rattle.td_keeper.specs.Keeping.{Keeping, IsFreshlyOpened}
+use Rattle.td_keeper.specs.Driven.{submitted_by, Driven}
+use Rattle.td_console.specs.Answer.{output_text}
+use Rattle.td_console.specs.declared.faults.Fault.{Fault}
+use Rattle.td_console.specs.declared.faults.Fault.TheVariants.{Memory, Output}
+use Rattle.td_console.specs.Refusals.{keeper_fault}
+
+-- `ack E` and `cut E`
+abbrev pub ack_line : ℕ → List ℕ
+ack_line epoch = codes "ack " ++ decimal epoch ++ 10 ∷ []
+
+abbrev pub cut_line : ℕ → List ℕ
+cut_line epoch = codes "cut " ++ decimal epoch ++ 10 ∷ []
+
+-- THE LINES OF A REPLY: that an epoch is on the disk, the outputs of one that is handed out, that a cut is on the disk
+abbrev pub line_of : Reply → List ℕ
+line_of (Submitted epoch) = ack_line epoch
+line_of (Out (Some out)) = output_text (out ∷ [])
+line_of (Written (Some epoch)) = cut_line epoch
+line_of _ = []
+
+-- of replies, one after another
+abbrev pub lines_of : List Reply → List ℕ
+lines_of [] = []
+lines_of (reply ∷ replies) = line_of reply ++ lines_of replies
+
+-- the fault for a refusal
+abbrev pub fault_in : Reply → Fault
+fault_in (Refused error back) = keeper_fault error
+fault_in _ = Memory
+
+module _ {D : Type 0} (is_lawful : D → Type 0) (state : D → DiskState) (failures : D → ℕ) (answers : Answers) where
+  -- A KEEPER WAS TOLD WHAT SUBMITS THESE, and the lines of its replies were appended to what a writer holds, all of them, in order
+  pub record Says (before after : Option (List ℕ)) (old new : Keeping D) (x : List AnySubmitted) : Type 0 where
+    pub commands : List Command
+    pub replies : List Reply
+    pub driven : Driven is_lawful state failures answers commands replies old new
+    pub submitted : submitted_by commands replies ≡ x
+    pub said : Appends before after (lines_of replies)
+
+  -- or a beginning of them: no line is written before its reply
+  pub record SaysSome (before after : Option (List ℕ)) (old new : Keeping D) : Type 0 where
+    pub commands : List Command
+    pub replies : List Reply
+    pub driven : Driven is_lawful state failures answers commands replies old new
+    pub text : List ℕ
+    pub unsaid : List ℕ
+    pub lines : lines_of replies ≡ text ++ unsaid
+    pub said : Appends before after text
+
+  -- all of them after Ok, and a beginning at a refusal; of a writer that failed nothing is known
+  abbrev pub SaysBy : Result (Unit {0}) Fault → Option (List ℕ) → Option (List ℕ) → Keeping D → Keeping D → List AnySubmitted → Type 0
+  SaysBy (Ok done) before after old new x = Says before after old new x
+  SaysBy (Err fault) before after old new x = (fault ≡ Output) ⊎ SaysSome before after old new
+
+  -- A FEED OF A DISK: its keeper is what the disk tells, and what was written are the lines of what that keeper replied
+  pub record SaysFrom (result : Result (Unit {0}) Fault) (plan : List PlanLine) (disk left : D) (before after : Option (List ℕ)) (x : List AnySubmitted) : Type 0 where
+    pub keeper : Keeping D
+    pub fresh : IsFreshlyOpened keeper
+    pub plan_is : keeper.plan ≡ plan
+    pub told : is_lawful disk → Told plan (state keeper.device).bytes (Ok keeper.standing)
+    pub ended : Keeping D
+    pub left_is : left ≡ ended.device
+    pub said : SaysBy result before after keeper ended x
+
+  -- at a refusal before there is a keeper, or before it is told anything, nothing is written
+  abbrev pub SaysFed : Result (Unit {0}) Fault → List PlanLine → D → D → Option (List ℕ) → Option (List ℕ) → List AnySubmitted → Type 0
+  SaysFed (Ok done) plan disk left before after x = SaysFrom (Ok done) plan disk left before after x
+  SaysFed (Err fault) plan disk left before after x = (after ≡ before) ⊎ SaysFrom (Err fault) plan disk left before after x
+
+  -- ONE COMMAND that was refused: by the keeper, or before it was told
+  abbrev pub Refuses : Command → Keeping D → Keeping D → Type 0
+  Refuses command old new = (new ≡ old) ⊎ ((error : KeeperError) × (back : Option (List Entry)) × Driven is_lawful state failures answers (command ∷ []) (Refused error back ∷ []) old new)

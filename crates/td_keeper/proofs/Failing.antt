@@ -1,0 +1,166 @@
+-- Commands, one after another: the count of failures, and in which of them the device failed.
+use Rattle.std.proofs.Common.{◌≡◌, ⊎_elim, ℕ, ◌+◌, ◌≤◌, Bool, true, false, ◌||◌, List, [], ◌∷◌, nat_le, refl, sym, ap, ◌∙◌, subst, arith}
+use Rattle.std.specs.Prelude.{Option, Some, None, if◌then◌else◌}
+use Rattle.td_stamp.specs.declared.values.Entry.{Entry}
+use Rattle.td_calls.specs.Answers.{Answers}
+use Rattle.td_disk.specs.Disk.{DiskState}
+use Rattle.td_machine.specs.State.{HallState}
+use Rattle.td_machine.specs.Active.{unpassed}
+use Rattle.td_standing.specs.declared.error.KeeperError.{KeeperError}
+use Rattle.td_standing.specs.declared.error.KeeperError.TheVariants as error
+use Rattle.td_keeper.specs.declared.command.Command.{Command}
+use Rattle.td_keeper.specs.declared.command.Command.TheVariants.{Submit, Release, Settle, Collect, NextOut, Cut, WriteCut}
+use Rattle.td_keeper.specs.declared.command.Reply.{Reply}
+use Rattle.td_keeper.specs.declared.command.Reply.TheVariants.{Submitted, Released, Settled, Collected, Out, CutTaken, Written, Refused}
+use Rattle.td_keeper.specs.Keeping.{Keeping}
+use Rattle.td_keeper.specs.Refused.{first_unpassed, or_waiting, cut_refusal}
+use Rattle.td_keeper.specs.Driven.{is_device, is_failed, some_failed, Fails, Submits, Releases, Settles, Collects, HandsOut, Cuts, Writes, Obeys, Driven, Rests}
+use Rattle.td_keeper.proofs.Driving.{is_device_is, rests, driven_broken}
+
+-- of an error that is another
+other_error : (e f : KeeperError) → e ≡ f → is_device f ≡ false → is_device e ≡ true → ⊥
+other_error e f is quiet said = let both : true ≡ false = sym said ∙ (ap is_device is ∙ quiet) in absurd (cc)
+
+-- a cut is not refused for the device
+chosen : {D : Type 0} (k : Keeping D) (base e : ℕ) (b w : Bool) → or_waiting (record k { waiting = w }) (if b then Some (error.NotPassed e) else None) ≡ Some error.Device → ⊥
+chosen k base e true w is = absurd (cc)
+chosen k base e false true is = absurd (cc)
+chosen k base e false false is = absurd (cc)
+
+no_device : {D : Type 0} (k : Keeping D) (base : ℕ) (o : Option ℕ) (w : Bool) → or_waiting (record k { waiting = w }) (first_unpassed k base o) ≡ Some error.Device → ⊥
+no_device k base None true is = absurd (cc)
+no_device k base None false is = absurd (cc)
+no_device k base (Some e) w is = chosen k base e (nat_le e (base + 1)) w is
+
+cut_never_device : {D : Type 0} (k : Keeping D) (S : HallState) (e : KeeperError) → cut_refusal k S ≡ Some e → is_device e ≡ true → ⊥
+cut_never_device k S e is said = no_device k S.base (unpassed S) k.waiting (is ∙ ap (λ (f : KeeperError). Some f) (is_device_is e said))
+
+module _ {D : Type 0} (is_lawful : D → Type 0) (state : D → DiskState) (failures : D → ℕ) (answers : Answers) where
+  -- the count never falls
+  at_rest : (old new : Keeping D) → Rests old new → failures old.device ≤ failures new.device
+  at_rest old new is = subst (λ (d : D). failures old.device ≤ failures d) (sym is.device) (omega arith)
+
+  counted : (c : Command) (r : Reply) (old new : Keeping D) → Obeys is_lawful state failures answers c r old new → failures old.device ≤ failures new.device
+  counted (Submit batch) r old new obeys = obeys.1.counted
+  counted WriteCut r old new obeys = obeys.1.counted
+  counted Release r old new obeys = at_rest old new (rests is_lawful state failures answers Release r old new refl obeys)
+  counted Settle r old new obeys = at_rest old new (rests is_lawful state failures answers Settle r old new refl obeys)
+  counted Collect r old new obeys = at_rest old new (rests is_lawful state failures answers Collect r old new refl obeys)
+  counted NextOut r old new obeys = at_rest old new (rests is_lawful state failures answers NextOut r old new refl obeys)
+  counted Cut r old new obeys = at_rest old new (rests is_lawful state failures answers Cut r old new refl obeys)
+
+  pub driven_counted : (commands : List Command) (replies : List Reply) (old new : Keeping D) → Driven is_lawful state failures answers commands replies old new
+      → failures old.device ≤ failures new.device
+  driven_counted [] [] old new e = subst (λ (k : Keeping D). failures old.device ≤ failures k.device) (sym e) (omega arith)
+  driven_counted [] (r ∷ rs) old new none = absurd none
+  driven_counted (c ∷ cs) [] old new none = absurd none
+  driven_counted (c ∷ cs) (r ∷ rs) old new driven =
+      let first = counted c r old driven.0 driven.2 in
+      let rest = driven_counted cs rs driven.0 new driven.3 in
+      omega (arith, first, rest)
+
+  -- WHERE A REPLY SAYS THAT THE DEVICE FAILED, the keeper is broken, and the count rose
+  failed : (c : Command) (e : KeeperError) (b : Option (List Entry)) (old new : Keeping D) → Obeys is_lawful state failures answers c (Refused e b) old new → is_device e ≡ true
+      → Fails is_lawful state failures answers old new
+  failed (Submit batch) e b old new obeys is = obeys.0.device (is_device_is e is)
+  failed WriteCut e b old new obeys is = obeys.0.device (is_device_is e is)
+  failed Release e b old new obeys is = absurd (⊎_elim (λ foreign. other_error e error.Foreign foreign.0 refl is) (λ memory. other_error e error.Memory memory.0 refl is) obeys.1)
+  failed Settle e b old new obeys is = absurd (other_error e (error.NotPassed obeys.1.0) obeys.1.1 refl is)
+  failed Collect e b old new obeys is = absurd (⊎_elim (λ foreign. other_error e error.Foreign foreign.0 refl is) (λ memory. other_error e error.Memory memory.0 refl is) obeys.1)
+  failed NextOut e b old new obeys is = absurd obeys
+  failed Cut e b old new obeys is =
+      absurd (⊎_elim (λ foreign. other_error e error.Foreign foreign.0 refl is)
+      (λ other. ⊎_elim (λ memory. other_error e error.Memory memory.0 refl is)
+      (λ some. ⊎_elim (λ refused. cut_never_device old some.hall e refused is) (λ memory. other_error e error.Memory memory refl is) some.cause) other) obeys.1)
+
+  one_failed : (c : Command) (r : Reply) (old new : Keeping D) → Obeys is_lawful state failures answers c r old new → is_failed r ≡ true → Fails is_lawful state failures answers old new
+  one_failed c (Refused e b) old new obeys is = failed c e b old new obeys is
+  one_failed c (Submitted n) old new obeys is = absurd (cc)
+  one_failed c (Released n) old new obeys is = absurd (cc)
+  one_failed c Settled old new obeys is = absurd (cc)
+  one_failed c (Collected n) old new obeys is = absurd (cc)
+  one_failed c (Out o) old new obeys is = absurd (cc)
+  one_failed c (CutTaken n) old new obeys is = absurd (cc)
+  one_failed c (Written w) old new obeys is = absurd (cc)
+
+  pub driven_failed : (commands : List Command) (replies : List Reply) (old new : Keeping D) → Driven is_lawful state failures answers commands replies old new
+      → some_failed replies ≡ true → Fails is_lawful state failures answers old new
+  driven_failed [] [] old new e is = absurd (cc)
+  driven_failed [] (r ∷ rs) old new none is = absurd none
+  driven_failed (c ∷ cs) [] old new none is = absurd none
+  driven_failed (c ∷ cs) (r ∷ rs) old new driven is = by (is_failed r) refl (λ later. driven_failed cs rs driven.0 new driven.3 later)
+    where
+      mid : Keeping D
+      mid = driven.0
+
+      first : failures old.device ≤ failures mid.device
+      first = counted c r old mid driven.2
+
+      rest : failures mid.device ≤ failures new.device
+      rest = driven_counted cs rs mid new driven.3
+
+      by : (b : Bool) → is_failed r ≡ b → (some_failed rs ≡ true → Fails is_lawful state failures answers mid new) → Fails is_lawful state failures answers old new
+      by true said others =
+          let here = one_failed c r old mid driven.2 said in
+          let stays = driven_broken is_lawful state failures answers cs rs mid new driven.3 here.broken in
+          record { broken = stays.2; risen = omega (arith, here.risen, rest) }
+      by false quiet others =
+          let there = others (sym (ap (λ (b : Bool). b || some_failed rs) quiet) ∙ is) in
+          record { broken = there.broken; risen = omega (arith, there.risen, first) }
+
+  -- WHERE NONE DOES, the keeper is as whole as it was, and the count stays
+  whole_submit : (batch : List Entry) (r : Reply) (old new : Keeping D) → Submits is_lawful state failures answers batch r old new → is_failed r ≡ false → new.broken ≡ old.broken
+  whole_submit batch (Submitted n) old new r quiet = ap (λ k. k.broken) r.submitted
+  whole_submit batch (Refused e b) old new r quiet =
+      ⊎_elim (λ is. ap (λ k. k.broken) is)
+      (λ other. ⊎_elim (λ is. ap (λ k. k.broken) is.1) (λ is. absurd (let both : true ≡ false = sym (ap is_device is.0) ∙ quiet in cc)) other) r.unchanged
+  whole_submit batch (Released n) old new r quiet = absurd r
+  whole_submit batch Settled old new r quiet = absurd r
+  whole_submit batch (Collected n) old new r quiet = absurd r
+  whole_submit batch (Out o) old new r quiet = absurd r
+  whole_submit batch (CutTaken n) old new r quiet = absurd r
+  whole_submit batch (Written w) old new r quiet = absurd r
+
+  whole_write : (r : Reply) (old new : Keeping D) → Writes is_lawful state failures answers r old new → is_failed r ≡ false → new.broken ≡ old.broken
+  whole_write (Written w) old new r quiet = ⊎_elim (λ none. ap (λ k. k.broken) none.2) (λ some. ap (λ k. k.broken) some.1) r.cut
+  whole_write (Refused e b) old new r quiet =
+      ⊎_elim (λ is. ap (λ k. k.broken) is.1)
+      (λ other. ⊎_elim (λ is. absurd (let both : true ≡ false = sym (ap is_device is.0) ∙ quiet in cc)) (λ is. ap (λ k. k.broken) is) other) r.unchanged
+  whole_write (Submitted n) old new r quiet = absurd r
+  whole_write (Released n) old new r quiet = absurd r
+  whole_write Settled old new r quiet = absurd r
+  whole_write (Collected n) old new r quiet = absurd r
+  whole_write (Out o) old new r quiet = absurd r
+  whole_write (CutTaken n) old new r quiet = absurd r
+
+  -- of one that is as it was
+  as_whole : (old new : Keeping D) → Rests old new → (new.broken ≡ old.broken) × (failures new.device ≡ failures old.device)
+  as_whole old new is = (is.broken, ap failures is.device)
+
+  one_whole : (c : Command) (r : Reply) (old new : Keeping D) → Obeys is_lawful state failures answers c r old new → is_failed r ≡ false
+      → (new.broken ≡ old.broken) × (failures new.device ≡ failures old.device)
+  one_whole (Submit batch) r old new obeys quiet = (whole_submit batch r old new obeys.0 quiet, obeys.1.stays quiet)
+  one_whole WriteCut r old new obeys quiet = (whole_write r old new obeys.0 quiet, obeys.1.stays quiet)
+  one_whole Release r old new obeys quiet = as_whole old new (rests is_lawful state failures answers Release r old new refl obeys)
+  one_whole Settle r old new obeys quiet = as_whole old new (rests is_lawful state failures answers Settle r old new refl obeys)
+  one_whole Collect r old new obeys quiet = as_whole old new (rests is_lawful state failures answers Collect r old new refl obeys)
+  one_whole NextOut r old new obeys quiet = as_whole old new (rests is_lawful state failures answers NextOut r old new refl obeys)
+  one_whole Cut r old new obeys quiet = as_whole old new (rests is_lawful state failures answers Cut r old new refl obeys)
+
+  pub driven_whole : (commands : List Command) (replies : List Reply) (old new : Keeping D) → Driven is_lawful state failures answers commands replies old new
+      → some_failed replies ≡ false → (new.broken ≡ old.broken) × (failures new.device ≡ failures old.device)
+  driven_whole [] [] old new e quiet = (ap (λ k. k.broken) e, ap (λ (k : Keeping D). failures k.device) e)
+  driven_whole [] (r ∷ rs) old new none quiet = absurd none
+  driven_whole (c ∷ cs) [] old new none quiet = absurd none
+  driven_whole (c ∷ cs) (r ∷ rs) old new driven quiet = by (is_failed r) refl (λ later. driven_whole cs rs driven.0 new driven.3 later)
+    where
+      mid : Keeping D
+      mid = driven.0
+
+      by : (b : Bool) → is_failed r ≡ b → (some_failed rs ≡ false → (new.broken ≡ mid.broken) × (failures new.device ≡ failures mid.device))
+          → (new.broken ≡ old.broken) × (failures new.device ≡ failures old.device)
+      by true said others = absurd (let both : true ≡ false = sym (ap (λ (b : Bool). b || some_failed rs) said) ∙ quiet in cc)
+      by false here others =
+          let first = one_whole c r old mid driven.2 here in
+          let rest = others (sym (ap (λ (b : Bool). b || some_failed rs) here) ∙ quiet) in
+          (rest.0 ∙ first.0, rest.1 ∙ first.1)

@@ -1,0 +1,61 @@
+//! How far a keeper has come. All but `kept_states` take no memory.
+ghost use Rattle.std.specs.Prelude.{◌≡◌, ◌+◌, ◌-◌, ◌^◌, length, min, IfOk, IfErr};
+ghost use Rattle.std.specs.List.{sum_by};
+ghost use Rattle.td_standing.specs.Standing.{last_epoch};
+
+use crate::keeper::Keeper;
+use td_calls::Law;
+use td_disk::Disk;
+use td_stamp::States;
+use td_standing::KeeperError;
+
+impl<D: Disk, L: Law> Keeper<D, L> {
+    /// The last epoch that is acknowledged: that of the checkpoint, or the last on the journal after it.
+    pub fn last_epoch(&self) -> u64
+        ensures { result ≡ last_epoch self.now.standing }
+    {
+        self.checkpoint.epoch + self.submitted.len() as u64
+    }
+
+    /// The last epoch whose outputs were collected.
+    pub fn collected(&self) -> u64
+        ensures { result ≡ self.now.collected }
+    {
+        self.collected
+    }
+
+    /// The last epoch that is kept: that of the checkpoint.
+    pub fn kept(&self) -> u64
+        ensures { result ≡ self.now.standing.epoch }
+    {
+        self.checkpoint.epoch
+    }
+
+    /// The states of the checkpoint, in memory of their own. Refusal: `Memory`.
+    pub fn kept_states(&self) -> Result<States, KeeperError>
+        ensures states { IfOk result (λ s. s ≡ self.now.standing.states) }
+        ensures refusals { IfErr result (λ e. e ≡ KeeperError.Memory) }
+    {
+        Ok(self.checkpoint.states.copy()?)
+    }
+
+    /// Whether the device failed in an earlier call that writes.
+    pub fn is_broken(&self) -> bool
+        ensures { result ≡ self.now.broken }
+    {
+        self.broken
+    }
+
+    /// How much a hall that is opened at the checkpoint lacks: each epoch after it and each record of these counted as one, up to
+    /// the greatest of a u64. It reads the length of each batch.
+    pub fn pending(&self) -> u64
+        ensures { result ≡ min (sum_by (λ s. length s.batch + 1) self.now.standing.submitted) (2 ^ 64 - 1) }
+    {
+        let mut pending = 0u64;
+        for at in 0..self.submitted.len() {
+            let weight = (self.submitted[at].batch.len() as u64).saturating_add(1);
+            pending = pending.saturating_add(weight);
+        }
+        pending
+    }
+}

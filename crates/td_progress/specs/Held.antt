@@ -1,0 +1,102 @@
+-- How a table keeps precursor counts: for each place and counters with active pointstamps, their epochs and gaps.
+use Rattle.std.specs.Prelude.{◌≡◌, ℕ, zero, suc, ◌<◌, ◌≤◌, nat_lt, Bool, true, false, ◌&&◌, cond, List, [], ◌∷◌, map, length, slice_get, Option, Some, None, is_some}
+use Rattle.std.specs.List.{AllByRecursion, IsDistinct, flat_map, sum_by}
+use Rattle.std.specs.Map.{lookup, keys_of}
+use Rattle.std.specs.Option.{unwrap_or}
+use Rattle.td_plan.specs.Lines.{Line}
+use Rattle.td_reach.specs.declared.stamp.Stamp.{Stamp}
+use Rattle.td_reach.specs.Paths.{IsOf}
+use Rattle.td_reach.specs.Tables.{could_test}
+use Rattle.td_progress.specs.Bag.{is_stamp, occurrences}
+use Rattle.td_progress.specs.Gaps.{has_epoch, sum_to, within, first_from, count_to, with_epoch, without_epoch, changed_from, plus, minus, AreGaps}
+use Rattle.td_progress.specs.declared.chain.Step.{Step}
+use Rattle.td_progress.specs.declared.chain.Step.TheVariants as steps
+
+-- a gap after a step
+abbrev pub stepped : Step → ℕ → ℕ
+stepped steps.Up = plus 1
+stepped steps.Down = minus 1
+
+-- the pointstamp of the same place and counters in another epoch
+abbrev pub at : ℕ → Stamp → Stamp
+at e p = record { time = record { epoch = e; turns = p.time.turns }; place = p.place }
+
+-- its place and counters, as the pointstamp of epoch 0
+abbrev pub class_of : Stamp → Stamp
+class_of p = at 0 p
+
+-- the active pointstamps
+abbrev pub held : List (Stamp × List (ℕ × ℕ)) → List Stamp
+held chains = flat_map (λ k. map (λ g. at g.0 k.0) k.1) chains
+
+-- how many there are
+abbrev pub total : List (Stamp × List (ℕ × ℕ)) → ℕ
+total chains = sum_by (λ k. length k.1) chains
+
+-- how many of epochs from lo to e could result in what has the place and counters of c
+abbrev pub between : List Line → List (Stamp × List (ℕ × ℕ)) → Stamp → ℕ → ℕ → ℕ
+between plan chains c lo e = sum_by (λ k. cond (could_test plan k.0 c) (within lo e k.1) 0) chains
+
+-- the epochs and gaps of a place and counters
+abbrev pub chain_at : Stamp → List (Stamp × List (ℕ × ℕ)) → List (ℕ × ℕ)
+chain_at c chains = unwrap_or (lookup (is_stamp c) chains) []
+
+-- with an epoch more of c
+abbrev pub with_stamp : Stamp → ℕ → ℕ → List (Stamp × List (ℕ × ℕ)) → List (Stamp × List (ℕ × ℕ))
+with_stamp c e n [] = (c, with_epoch e n []) ∷ []
+with_stamp c e n (k ∷ chains) = cond (is_stamp c k.0) ((k.0, with_epoch e n k.1) ∷ chains) (k ∷ with_stamp c e n chains)
+
+-- with an epoch less of c
+abbrev pub without_stamp : Stamp → ℕ → List (Stamp × List (ℕ × ℕ)) → List (Stamp × List (ℕ × ℕ))
+without_stamp c e [] = []
+without_stamp c e (k ∷ chains) = cond (is_stamp c k.0) ((k.0, without_epoch e k.1) ∷ chains) (k ∷ without_stamp c e chains)
+
+-- with f of the first gap from e on, where c could result in that
+abbrev pub shifted : List Line → Stamp → ℕ → (ℕ → ℕ) → Stamp × List (ℕ × ℕ) → Stamp × List (ℕ × ℕ)
+shifted plan c e f k = (k.0, cond (could_test plan c k.0) (changed_from e f k.1) k.1)
+
+-- the same of the i-th
+abbrev pub shifted_at : List Line → Stamp → ℕ → (ℕ → ℕ) → ℕ → List (Stamp × List (ℕ × ℕ)) → List (Stamp × List (ℕ × ℕ))
+shifted_at plan c e f i [] = []
+shifted_at plan c e f zero (k ∷ chains) = shifted plan c e f k ∷ chains
+shifted_at plan c e f (suc i) (k ∷ chains) = k ∷ shifted_at plan c e f i chains
+
+-- whether c could result in a later epoch of a chain
+abbrev pub is_ahead : List Line → Stamp → ℕ → Option (Stamp × List (ℕ × ℕ)) → Bool
+is_ahead plan c e None = false
+is_ahead plan c e (Some k) = is_some (first_from e k.1) && could_test plan c k.0
+
+-- the same of the first n
+abbrev pub first_shifted : List Line → Stamp → ℕ → (ℕ → ℕ) → ℕ → List (Stamp × List (ℕ × ℕ)) → List (Stamp × List (ℕ × ℕ))
+first_shifted plan c e f zero chains = chains
+first_shifted plan c e f (suc n) [] = []
+first_shifted plan c e f (suc n) (k ∷ chains) = shifted plan c e f k ∷ first_shifted plan c e f n chains
+
+-- the first of its place and counters, with only itself in its gap
+abbrev pub IsFirst : Stamp → List (Stamp × List (ℕ × ℕ)) → Type 0
+IsFirst p chains = slice_get (chain_at (class_of p) chains) 0 ≡ Some (p.time.epoch, 1)
+
+-- of an active pointstamp, the gaps up to it add up to at least 1, and to no more than there are pointstamps
+abbrev pub IsCounted : Stamp → List (Stamp × List (ℕ × ℕ)) → Type 0
+IsCounted p chains =
+    has_epoch p.time.epoch (chain_at (class_of p) chains) ≡ true
+    → (0 < sum_to p.time.epoch (chain_at (class_of p) chains)) × (sum_to p.time.epoch (chain_at (class_of p) chains) ≤ total chains)
+
+-- of an active pointstamp, what the gaps up to it add up to, without itself
+abbrev pub count_of : Stamp → List (Stamp × List (ℕ × ℕ)) → Option ℕ
+count_of p chains = count_to p.time.epoch (chain_at (class_of p) chains)
+
+-- of a place and counters of the plan, the gaps are as counted
+pub record IsChain (plan : List Line) (count : Stamp → ℕ → ℕ → ℕ) (k : Stamp × List (ℕ × ℕ)) : Type 0 where
+  pub of_plan : IsOf plan k.0
+  pub class : k.0.time.epoch ≡ 0
+  pub gaps : AreGaps (count k.0) 0 k.1
+
+-- each place and counters stands there once, and all count what could result in theirs
+pub record AreHeld (plan : List Line) (chains : List (Stamp × List (ℕ × ℕ))) : Type 0 where
+  pub once : IsDistinct is_stamp (keys_of chains)
+  pub each : AllByRecursion (IsChain plan (between plan chains)) chains
+
+-- of the pointstamps that occur in a list each is held once
+abbrev pub AreMarked : List (Stamp × List (ℕ × ℕ)) → List Stamp → Type 0
+AreMarked chains stamps = (p : Stamp) → occurrences p (held chains) ≡ cond (nat_lt 0 (occurrences p stamps)) 1 0
