@@ -7,9 +7,10 @@ It runs `td batch`, `run` and `sim` on the files, by default on the examples, an
 Each run must answer as with ample memory, or write nothing to standard output, `td: memory` to standard error, and end with
 status 1.
 
-Without files it also runs `engine_steps` on its rows (rows/steps.txt, and those of rows/keeper.txt and rows/threads.txt whose
-disk does not stop or fail), where a call that was refused is made once more. Each run must then answer as the row says, but for
-a line `refused: memory`; or, where the program itself lacked memory before the first call, end with status 1 and no answer.
+Without files it also runs `engine_steps` on its rows (rows/steps.txt and rows/pointstamps.txt, and those of rows/keeper.txt,
+rows/requests.txt and rows/threads.txt whose disk does not stop or fail), where a call that was refused is made once more. Each run
+must then answer as the row says, but for a line `refused: memory`; or, where the program itself lacked memory before the first
+call, end with status 1 and no answer.
 Where a feed was refused, which is not made once more, or the disk in memory could not grow its record of calls and failed, the
 run is made again up to there, and a recovery must then tell at least what was acknowledged. A feed and a drive have workers in
 threads, so that no two runs make their allocations in one order: in rows with them each is followed by two recoveries in the
@@ -32,7 +33,7 @@ import tempfile
 ROOT = pathlib.Path(__file__).resolve().parent.parent
 TD = ROOT / "crates/td/out/td"
 STEPS = ROOT / "crates/engine_steps/out/engine_steps"
-ROWS = ("rows/steps.txt", "rows/pointstamps.txt", "rows/keeper.txt", "rows/threads.txt")
+ROWS = ("rows/steps.txt", "rows/pointstamps.txt", "rows/keeper.txt", "rows/requests.txt", "rows/threads.txt")
 EXAMPLES = sorted((ROOT / "examples").glob("*.td"))
 REFUSED = (1, b"", b"td: memory\n")
 # What `engine_steps` prints for a call that is made once more, and how it ends where there was none to make again.

@@ -1,10 +1,10 @@
 #!/usr/bin/env python3
-"""Stops two feeds at each of their writes and syncs, and crashes them in five ways.
+"""Stops four feeds at each of their writes and syncs, and crashes them in five ways.
 
     bench/each_stop.py          needs crates/td/out/td and crates/engine_steps/out/engine_steps (see the README)
 
 The feeds are `engine_steps`' on a disk in memory. One has 40 epochs: a plan with two folds and a group, small batches, a ring
-of three cells, and a cut before it is full. The other is the running total of docs/TUTORIAL.md, two epochs and a cut after
+of three cells, and a cut before it is full. Another is the running total of docs/TUTORIAL.md, two epochs and a cut after
 them, whose last lines stand here. A feed stops at the K-th write or sync, for each K until none is met; of each range that was
 written and not synced a crash leaves the old bytes, the new ones, or 00, a5 or ff all over. Then `show` tells what is left, and
 the epochs that are not told are fed on. It is required of each stop that
@@ -14,8 +14,12 @@ the epochs that are not told are fed on. It is required of each stop that
 - the feed that goes on writes the output lines of all epochs after the checkpoint, acknowledges the rest, and ends with the
   states of the whole.
 
-The output lines are those of `td batch` on all epochs. The states of the 40 epochs are reckoned here from these lines and the
-records."""
+The other two have the same plans, and one of them fewer epochs: each epoch has a request number, and some are fed twice. After a
+stop such a feed is fed again from its beginning, whatever is told. It must answer `again` for each request that stands on the
+disk already, acknowledge the others, and end as a feed that was not stopped: with each request once.
+
+The output lines are those of `td batch` on all epochs. The states of the plan with two folds are reckoned here from these lines
+and the records."""
 
 import concurrent.futures
 import pathlib
@@ -29,7 +33,7 @@ TD = ROOT / "crates/td/out/td"
 STEPS = ROOT / "crates/engine_steps/out/engine_steps"
 
 FOLDS = "0 input\n1 fold 40 0\n2 fold 41 0\n3 group 20 1 2\n4 output 1\n5 output 2\n6 output 3\n"
-EPOCHS, RECORDS, KEYS = 40, 3, 3
+EPOCHS, NUMBERED_EPOCHS, RECORDS, KEYS = 40, 9, 3, 3
 TOTAL = "0 input\n1 fold 40 0\n2 output 1\n"
 TOTAL_EPOCHS = [([(7, 5)], False), ([(7, -2), (8, 1)], True)]
 TOTAL_STATES = ["state 1 7 3 2", "state 1 8 1 1"]
@@ -38,14 +42,14 @@ FILLS = ("old", "new", "00", "a5", "ff")
 STOPS_OF_A_RUN = 40
 
 
-def made_epochs():
+def made_epochs(count):
     """The records of each epoch, and whether a cut follows it: before the ring is full."""
     made = random.Random(20)
     waiting, epochs = 0, []
-    for number in range(1, EPOCHS + 1):
+    for number in range(1, count + 1):
         records = [(made.randrange(KEYS), made.randrange(-9, 10)) for _ in range(made.randrange(RECORDS + 1))]
         waiting += 1
-        is_cut = waiting == 3 or number == EPOCHS or made.random() < 0.2
+        is_cut = waiting == 3 or number == count or made.random() < 0.2
         waiting = 0 if is_cut else waiting
         epochs.append((records, is_cut))
     return epochs
@@ -75,6 +79,8 @@ def states_after(epochs, outputs):
 
 class Feed:
     """A feed's plan, its disk's shape, its epochs and their output lines, and the states that it ends with."""
+
+    goes_on = "each was fed on to the whole"
 
     def __init__(self, plan, shape, epochs, states=None):
         self.plan, self.shape, self.epochs = plan, shape, epochs
@@ -110,9 +116,13 @@ class Feed:
                 done = number
         return written
 
+    def last(self, told):
+        """The line of `show` for the last request number where so much is told, if there is one."""
+        return []
+
     def shown(self):
         """What `show` prints of the whole."""
-        return [f"kept {len(self.epochs)}", f"told {len(self.epochs)}", *self.states]
+        return [f"kept {len(self.epochs)}", f"told {len(self.epochs)}", *self.last(len(self.epochs)), *self.states]
 
     def stopped(self, stop, fill):
         """The commands of a feed that is stopped, and of what is told then."""
@@ -129,6 +139,46 @@ class Feed:
         return [answer.splitlines() for answer in answers[:-1]]
 
 
+class NumberedFeed(Feed):
+    """A feed each epoch of which has a request number. Every third is fed twice, and what is left is fed from its beginning."""
+
+    goes_on = "each was fed again from its beginning, with each request once"
+
+    @staticmethod
+    def request(number):
+        """The request number of an epoch: not all numbers are used."""
+        return 5 * number - number % 2
+
+    def times(self, number):
+        return 2 if number % 3 == 0 else 1
+
+    def input_after(self, told):
+        lines = []
+        for number, (records, is_cut) in enumerate(self.epochs[told:], told + 1):
+            lines += [f"req {self.request(number)}", *lines_of(records)] * self.times(number) + ["cut"] * is_cut
+        return lines
+
+    def rest(self, kept, told):
+        return self.input_after(0)
+
+    def written(self, kept, told):
+        """What a feed of everything writes: a cut is at the last epoch on the disk, and writes the outputs that were not written."""
+        written, done, last = [], kept, told
+        for number, (_, is_cut) in enumerate(self.epochs, 1):
+            answers = [f"again {self.request(number)}"] * self.times(number)
+            if number > last:
+                answers[0] = f"ack {number}"
+                last = number
+            written += answers
+            if is_cut:
+                written += [line for lines in self.outputs[done + 1:last + 1] for line in lines] + [f"cut {last}"]
+                done = last
+        return written
+
+    def last(self, told):
+        return [f"last {self.request(told)}"] if told else []
+
+
 def read_stop(name, feed, answer):
     """Whether the feed met its stop, and the checkpoint and the last epoch that are told; the script ends where these are wrong."""
     at = next(index for index, line in enumerate(answer) if line.startswith("kept "))
@@ -142,7 +192,8 @@ def read_stop(name, feed, answer):
     wanted = [f"epoch {number} {len(feed.epochs[number - 1][0])}" for number in range(kept + 1, told + 1)]
     if before != whole[:len(before)] or (not is_met and before != whole):
         sys.exit(f"{name}: what was written is no beginning of the whole: {written}")
-    if told not in (acknowledged, acknowledged + 1) or counts != wanted:
+    last = [line for line in shown if line.startswith("last ")]
+    if told not in (acknowledged, acknowledged + 1) or counts != wanted or last != feed.last(told):
         sys.exit(f"{name}: {acknowledged} epochs were acknowledged, and this is told: {shown}")
     return is_met, kept, told
 
@@ -150,11 +201,11 @@ def read_stop(name, feed, answer):
 def check_rest(name, feed, kept, told, answer):
     """The script ends where the feed that went on did not come to the whole."""
     at = next(index for index, line in enumerate(answer) if line.startswith("kept "))
-    last = next(index for index, line in enumerate(answer) if index > at and not line.startswith(("told ", "state ", "epoch ")))
+    last = next(index for index, line in enumerate(answer) if index > at and not line.startswith(("told ", "last ", "state ", "epoch ")))
     rest = answer[last:]
     wanted = feed.written(kept, told) + feed.shown()
     if rest != wanted:
-        sys.exit(f"{name}: fed on from epoch {told + 1} with a checkpoint at {kept}: {rest}, and not {wanted}")
+        sys.exit(f"{name}: fed after epoch {told} was told, with a checkpoint at {kept}: {rest}, and not {wanted}")
 
 
 def stop_some(feed, fill, first):
@@ -183,15 +234,17 @@ def stop_each(feed):
     if told != set(range(len(feed.epochs) + 1)):
         sys.exit(f"some numbers of epochs were never told: {set(range(len(feed.epochs) + 1)) - told}")
     print(f"a feed of {len(feed.epochs)} epochs stopped at each of its {met // len(FILLS)} writes and syncs, {met} crashes: "
-          "nothing acknowledged was lost, and each was fed on to the whole")
+          f"nothing acknowledged was lost, and {feed.goes_on}")
 
 
 def main():
     for program in (TD, STEPS):
         if not program.exists():
             sys.exit(f"{program} is not there: cd {program.parent.parent} && rt run")
-    stop_each(Feed(FOLDS, "3 3 6", made_epochs()))
+    stop_each(Feed(FOLDS, "3 3 6", made_epochs(EPOCHS)))
     stop_each(Feed(TOTAL, "4 2 3", TOTAL_EPOCHS, TOTAL_STATES))
+    stop_each(NumberedFeed(FOLDS, "3 3 6", made_epochs(NUMBERED_EPOCHS)))
+    stop_each(NumberedFeed(TOTAL, "4 2 3", TOTAL_EPOCHS, TOTAL_STATES))
 
 
 main()

@@ -3,16 +3,26 @@
 
     bench/kill_feed.py [SEED]       needs crates/td/out/td (see the README)
 
-The file is formatted for a plan with two folds and a group. Each feed has 60 epochs of a few records, with a cut after each
-fifth; it gets SIGKILL after a random number of its `ack` lines and a random while after that, as long as some epochs take. Then
-`td show` tells which epochs are on the disk, and the next feed begins with the first that is not. It is required that
+The file is formatted for a plan with two folds and a group. Each feed has epochs of a few records, with a cut after each fifth; it
+gets SIGKILL after a random number of its `ack` lines and a random while after that, as long as some epochs take. 150 kills are of
+feeds of 60 epochs without request numbers: `td show` tells which epochs are on the disk, and the next feed begins with the first
+that is not. It is required that
 
 - after each kill what is told is what was acknowledged, or one epoch more, with as many records in each epoch as were fed;
 - a feed's output lines are those of the epochs after the checkpoint that it began with, from the first on;
 - after a last feed, which is let end, the states are those of all epochs, each once.
 
-The output lines are those of `td batch` on all epochs; from these and the records the states are reckoned here. At least half of
-the kills must have come between two epochs of a feed. What comes when is another thing in each run, also for the same seed."""
+150 kills are of feeds whose epochs have request numbers, on another file: 180 epochs are sent from the first on again and again,
+whatever the disk has of them, until each was answered; then that feed is let end, and the next 180 epochs are sent. It is required
+that
+
+- a feed answers `again` for each epoch that an earlier one acknowledged, and for at most one more, and acknowledges the next ones;
+- its output lines are those of the epochs after the checkpoint that it began with, from the first on;
+- at the end `td show` tells the same as of a file to which all that was sent once, by feeds that were not killed.
+
+The output lines are those of `td batch` on all epochs; from these and the records the states are reckoned here. Of both halves at
+least half of the kills must have come between two epochs of a feed. What comes when is another thing in each run, also for the same
+seed."""
 
 import pathlib
 import random
@@ -27,8 +37,8 @@ TD = ROOT / "crates/td/out/td"
 
 PLAN = "0 input\n1 fold 40 0\n2 fold 41 0\n3 group 20 1 2\n4 output 1\n5 output 2\n6 output 3\n"
 SHAPE = ("4", "16", "16")
-KILLS, RECORDS, KEYS = 300, 4, 6
-EPOCHS_OF_A_FEED, EPOCHS_OF_A_CUT = 60, 5
+KILLS_OF_A_HALF, RECORDS, KEYS = 150, 4, 6
+EPOCHS_OF_A_FEED, EPOCHS_OF_A_NUMBERED_FEED, EPOCHS_OF_A_CUT = 60, 180, 5
 MOST_ACKS = 12
 SECONDS_AFTER = 0.01
 
@@ -63,6 +73,18 @@ class Epochs:
         for number, records in enumerate(self.upto(last)[first - 1:], first):
             lines += lines_of(records) + ["cut"] * (number % EPOCHS_OF_A_CUT == 0)
         return "".join(f"{line}\n" for line in lines)
+
+    def numbered_text(self, first, last):
+        """The input of a feed of these epochs under their request numbers, with a cut after some."""
+        lines = []
+        for number, records in enumerate(self.upto(last)[first - 1:], first):
+            lines += [f"req {request(number)}", *lines_of(records)] + ["cut"] * (number % EPOCHS_OF_A_CUT == 0)
+        return "".join(f"{line}\n" for line in lines)
+
+
+def request(number):
+    """The request number of an epoch: each fourth one is left out."""
+    return number + (number - 1) // 3
 
 
 def shown(disk, plan, epochs):
@@ -143,36 +165,92 @@ def check_outputs(feeds, epochs, states):
         sys.exit(f"the states are {states}, and not {states_after(epochs, outputs)}")
 
 
+def kill_half(made, folder):
+    """Kills feeds without request numbers, each of which goes on where the disk ends: how many came between two epochs, how many
+    told an epoch that was not yet acknowledged, and how many epochs there are."""
+    epochs, feeds = Epochs(made), []
+    inside = beyond = 0
+    disk, plan = f"{folder}/disk", f"{folder}/plan"
+    td("format", disk, plan, *SHAPE)
+    kept, told, _ = shown(disk, plan, epochs)
+    for kill in range(1, KILLS_OF_A_HALF + 1):
+        first, last = told + 1, told + EPOCHS_OF_A_FEED
+        written, was_there = killed(disk, plan, epochs.text(first, last), made)
+        feeds.append((kept, written))
+        kept, told, _ = shown(disk, plan, epochs)
+        count = check_feed(written, first, told, kill)
+        inside += was_there and 0 < count < EPOCHS_OF_A_FEED
+        beyond += told > first - 1 + count
+    written = td("feed", disk, plan, text=epochs.text(told + 1, told + 1) + "cut\n")
+    feeds.append((kept, written))
+    last = told + 1
+    kept, told, states = shown(disk, plan, epochs)
+    if (kept, told) != (last, last) or written[-1] != f"cut {last}":
+        sys.exit(f"a feed that was let end: {kept} is kept and {told} told, and not {last}: {written}")
+    check_outputs(feeds, epochs.upto(told), states)
+    return inside, beyond, told
+
+
+def check_again(written, first, last, known, kill):
+    """How many epochs a feed from `first` on has answered, where those up to `known` were acknowledged before, and whether the disk
+    had one more; the script ends where its answers are others than `again` for these, and then `ack` in turn."""
+    answers = [line for line in written if line.startswith(("ack ", "again "))]
+    again = len([line for line in answers if line.startswith("again ")])
+    numbers = range(first, first + len(answers))
+    wanted = [f"again {request(number)}" for number in numbers[:again]] + [f"ack {number}" for number in numbers[again:]]
+    there = known - first + 1
+    if answers != wanted or len(answers) > last - first + 1 or again > there + 1 or (len(answers) > again and again < there):
+        sys.exit(f"kill {kill}: {known} epochs were known to be on the disk, and a feed of {first} to {last} wrote {written}")
+    return len(answers), again - there == 1
+
+
+def kill_numbered_half(made, folder):
+    """Kills feeds with request numbers, each of which is sent from its beginning until it is let end: the same three counts."""
+    epochs, feeds = Epochs(made), []
+    inside = beyond = kill = known = 0
+    disk, once, plan = f"{folder}/numbered", f"{folder}/once", f"{folder}/plan"
+    for file in (disk, once):
+        td("format", file, plan, *SHAPE)
+    first = 1
+    while kill < KILLS_OF_A_HALF:
+        last = first + EPOCHS_OF_A_NUMBERED_FEED - 1
+        text = epochs.numbered_text(first, last)
+        while known < last and kill < KILLS_OF_A_HALF:
+            kill += 1
+            kept = shown(disk, plan, epochs)[0]
+            written, was_there = killed(disk, plan, text, made)
+            feeds.append((kept, written))
+            count, is_beyond = check_again(written, first, last, known, kill)
+            inside += was_there and 0 < count < EPOCHS_OF_A_NUMBERED_FEED
+            beyond += is_beyond
+            known = max(known, first - 1 + count)
+        kept = shown(disk, plan, epochs)[0]
+        written = td("feed", disk, plan, text=text)
+        feeds.append((kept, written))
+        check_again(written, first, last, known, kill)
+        td("feed", once, plan, text=text)
+        known, first = last, last + 1
+    told = [td("show", file, plan) for file in (disk, once)]
+    if told[0] != told[1] or told[0][:3] != [f"kept {known}", f"told {known}", f"last {request(known)}"]:
+        sys.exit(f"feeds that were killed left {told[0]}, and feeds that were not {told[1]}")
+    check_outputs(feeds, epochs.upto(known), told[0][3:])
+    return inside, beyond, known
+
+
 def main():
     if not TD.exists():
         sys.exit(f"{TD} is not there: cd crates/td && rt run")
     seed = int(sys.argv[1]) if sys.argv[1:] else 1
     made = random.Random(seed)
-    epochs, feeds = Epochs(made), []
-    inside = beyond = 0
     with tempfile.TemporaryDirectory(prefix="td-kill-") as folder:
-        disk, plan = f"{folder}/disk", f"{folder}/plan"
-        pathlib.Path(plan).write_text(PLAN)
-        td("format", disk, plan, *SHAPE)
-        kept, told, _ = shown(disk, plan, epochs)
-        for kill in range(1, KILLS + 1):
-            first, last = told + 1, told + EPOCHS_OF_A_FEED
-            written, was_there = killed(disk, plan, epochs.text(first, last), made)
-            feeds.append((kept, written))
-            kept, told, _ = shown(disk, plan, epochs)
-            count = check_feed(written, first, told, kill)
-            inside += was_there and 0 < count < EPOCHS_OF_A_FEED
-            beyond += told > first - 1 + count
-        written = td("feed", disk, plan, text=epochs.text(told + 1, told + 1) + "cut\n")
-        feeds.append((kept, written))
-        last = told + 1
-        kept, told, states = shown(disk, plan, epochs)
-        if (kept, told) != (last, last) or written[-1] != f"cut {last}":
-            sys.exit(f"a feed that was let end: {kept} is kept and {told} told, and not {last}: {written}")
-    check_outputs(feeds, epochs.upto(told), states)
-    if 2 * inside < KILLS:
-        sys.exit(f"{inside} of {KILLS} kills alone came between two epochs of a feed")
-    print(f"{KILLS} feeds killed, {inside} of them between two epochs, and {beyond} told an epoch that was not yet acknowledged: {told} epochs, none lost and none twice (seed {seed})")
+        pathlib.Path(f"{folder}/plan").write_text(PLAN)
+        halves = [("fed on where the disk ended", kill_half(made, folder)),
+                  ("fed again from their beginning by their request numbers", kill_numbered_half(made, folder))]
+    for way, (inside, beyond, told) in halves:
+        if 2 * inside < KILLS_OF_A_HALF:
+            sys.exit(f"{way}: {inside} of {KILLS_OF_A_HALF} kills alone came between two epochs of a feed")
+        print(f"{KILLS_OF_A_HALF} feeds killed, and {way}: {inside} of them between two epochs, and {beyond} told an epoch that was "
+              f"not yet acknowledged: {told} epochs, none lost and none twice (seed {seed})")
 
 
 main()

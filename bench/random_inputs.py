@@ -1,12 +1,17 @@
 #!/usr/bin/env python3
 """Compares `td batch` with a reading of docs/FORMATS.md in Python, on random inputs, most of them with a mistake in them.
 
-    bench/random_inputs.py [--every-plan] [--hall] [COUNT [SEED]]       needs crates/td/out/td (see the README); by default 2000 inputs
+    bench/random_inputs.py [--every-plan] [--hall] [--feeds] [COUNT [SEED]]     needs crates/td/out/td (see the README);
+                                                                                by default 2000 inputs
 
 The reading shares nothing with the program. Status, output and error text must be equal; the first input at which one
 is not is printed. With --every-plan it reads loops, folds, distinct and several sources; without, it refuses these as
 syntax, as a reader of flat plans does. With --hall each input is answered by `td run` and by `td sim` too, with a random
-number of workers and random picks; of `sim` the lines of notifications are left out."""
+number of workers and random picks; of `sim` the lines of notifications are left out.
+
+With --feeds a disk is made for one input in ten more, of random plans without faults, each third of them of version 1: it is fed a few
+times, by epochs some of which have request numbers, new, repeated or lower ones, with cuts and with mistakes between them; it may be
+raised to version 2; and after each command `td show` must tell what the reading says."""
 
 import collections
 import pathlib
@@ -14,12 +19,15 @@ import random
 import re
 import subprocess
 import sys
+import tempfile
 
 TD = pathlib.Path(__file__).resolve().parent.parent / "crates/td/out/td"
 HALF = 2**63
 # So many records on one edge are enough: a random loop may double them at each turn.
 ENOUGH = 500
 WORKERS = [1, 2, 3, 4, 7, 16]
+# Of so many inputs each, one disk is fed.
+INPUTS_OF_A_DISK = 10
 PICKS = [0, 0, 1, 2, 3, 5, 8, 100, 2**64 - 1]
 
 
@@ -275,17 +283,23 @@ def read_epochs(plan, lines, first):
             closed.append(current)
             current = []
             continue
-        if not is_printable(line) or len(said) != 3:
-            raise Fault(f"line {at}: syntax")
-        record = (number(said[0]), natural(said[1]), integer(said[2]))
-        if None in record:
-            raise Fault(f"line {at}: syntax")
-        if record[0] >= len(plan.vertices) or plan.vertices[record[0]].kind != "input":
-            raise Fault(f"line {at}: no such input")
-        current.append(record)
+        current.append(record_of(plan, at, line))
     if current:
         raise Fault(f"line {first + len(lines)}: epoch not closed")
     return closed
+
+
+def record_of(plan, at, line):
+    """The record that a line with this number writes."""
+    said = words(line)
+    if not is_printable(line) or len(said) != 3:
+        raise Fault(f"line {at}: syntax")
+    record = (number(said[0]), natural(said[1]), integer(said[2]))
+    if None in record:
+        raise Fault(f"line {at}: syntax")
+    if record[0] >= len(plan.vertices) or plan.vertices[record[0]].kind != "input":
+        raise Fault(f"line {at}: no such input")
+    return record
 
 
 # The meaning of a plan: whole bags, turn by turn
@@ -380,6 +394,106 @@ def wanted(text, every_plan):
         return 0, answer(text, every_plan).encode(), b""
     except Fault as fault:
         return 1, b"", f"td: {fault}\n".encode()
+
+
+# Disks
+
+
+def read_orders(plan, lines):
+    """What a feed's lines ask for: the request number (0 for none) and the batch of an epoch, or None for a cut."""
+    orders, request, current = [], 0, []
+    for at, line in enumerate(lines, 1):
+        if is_passed_over(line):
+            continue
+        said = words(line) if is_printable(line) else []
+        if said == [b"."]:
+            orders.append((request, current))
+            request, current = 0, []
+        elif said == [b"cut"] or len(said) == 2 and said[0] == b"req" and natural(said[1]):
+            if request or current:
+                raise Fault(f"line {at}: syntax")
+            if said == [b"cut"]:
+                orders.append(None)
+            else:
+                request = natural(said[1])
+        else:
+            current.append(record_of(plan, at, line))
+    if request or current:
+        raise Fault(f"line {len(lines) + 1}: epoch not closed")
+    return orders
+
+
+class Disk:
+    """What a disk of a plan and a shape has: a version, a checkpoint with its states and its request number, and epochs after it."""
+
+    def __init__(self, plan, shape, version):
+        self.plan, self.shape, self.version = plan, shape, version
+        self.kept, self.states, self.kept_last, self.epochs = 0, {}, 0, []
+
+    def told(self):
+        return self.kept + len(self.epochs)
+
+    def last(self):
+        return max([self.kept_last, *[request for request, _ in self.epochs]])
+
+    def show(self):
+        lines = [f"kept {self.kept}", f"told {self.told()}"] + [f"last {self.last()}"] * (self.last() > 0)
+        lines += [f"state {vertex} {key} {a} {b}" for (vertex, key), (a, b) in sorted(self.states.items())]
+        return lines + [f"epoch {at} {len(batch)}" for at, (_, batch) in enumerate(self.epochs, self.kept + 1)]
+
+    def meaning(self):
+        """The states after the last epoch, and the output lines of each epoch after the checkpoint."""
+        states, outputs = dict(self.states), []
+        for at, (_, batch) in enumerate(self.epochs, self.kept + 1):
+            epoch = Epoch(batch, states)
+            epoch.turn(self.plan.outermost, 0, None, {})
+            outputs.append([f"{at} {n} {key} {val}" for n, key, val in sorted(epoch.outputs)])
+        return states, outputs
+
+    def feed(self, text):
+        """The lines that a feed writes, and its first fault or None; the disk has then what it put there."""
+        written = []
+        try:
+            self.obey(read_orders(self.plan, lines_of(text)), written)
+        except Fault as fault:
+            return written, fault
+        return written, None
+
+    def obey(self, orders, written):
+        done = self.kept
+        for order in orders:
+            if order is None:
+                done = self.settle(done, written)
+                self.cut(written)
+            else:
+                written.append(self.submit(*order))
+        self.settle(done, written)
+
+    def submit(self, request, batch):
+        """The line for an epoch."""
+        records, cells, _ = self.shape
+        if request and self.version == 1:
+            raise Fault("old version")
+        if request and request <= self.last():
+            return f"again {request}"
+        if len(batch) > records:
+            raise Fault("too many records")
+        if len(self.epochs) == cells:
+            raise Fault("journal full")
+        self.epochs.append((request, batch))
+        return f"ack {self.told()}"
+
+    def settle(self, done, written):
+        """Writes the output lines of the epochs after one, and answers the last epoch."""
+        written += [line for lines in self.meaning()[1][done - self.kept:] for line in lines]
+        return self.told()
+
+    def cut(self, written):
+        states = self.meaning()[0]
+        if len(states) > self.shape[2]:
+            raise Fault("too many keys")
+        self.kept, self.states, self.kept_last, self.epochs = self.told(), states, self.last(), []
+        written.append(f"cut {self.kept}")
 
 
 # Random inputs
@@ -515,6 +629,101 @@ def with_mistakes(rng, text):
     return text
 
 
+ODD_FEED_LINES = [
+    b"req", b"req 0", b"req 01", b"req +5", b"req -5", b"req 5 6", b"req 18446744073709551616", b"req x", b"Req 5", b"req\t5", b"# req 5",
+    b" req  7 ", b"req 7", b"req 8", b"cut", b"cut", b" cut ", b"cut 1", b"--", b"0 1", b".",
+]
+
+
+def random_number(rng, last):
+    """A request number, 0 for none: most of them rise, and some are repeated or lower."""
+    above = rng.choice([last + 1, last + 1, last + rng.randrange(2, 9), last + 2 if rng.randrange(20) else 2**64 - 1])
+    return rng.choice([0, last, max(0, last - 1), rng.randrange(last + 1), *[min(above, 2**64 - 1)] * 4])
+
+
+def random_feed(rng, inputs, disk):
+    """The text of a feed of some epochs, with a mistake in some."""
+    last, lines = disk.last(), []
+    for _ in range(rng.randrange(6)):
+        request = random_number(rng, last) if disk.version == 2 or rng.randrange(4) == 0 else 0
+        last = max(last, request)
+        records = [f"{rng.choice(inputs)} {rng.randrange(4)} {rng.randrange(-9, 10)}" for _ in range(rng.choice([0, 1, 2, 3, 5]))]
+        epoch = [f"req {request}"] * (request > 0) + records + ["."]
+        lines += epoch * rng.choice([1, 1, 1, 2]) + ["cut"] * (rng.randrange(3) == 0)
+    lines = [line.encode() for line in lines]
+    for _ in range(rng.choice([0, 0, 0, 0, 0, 1])):
+        lines.insert(rng.randrange(len(lines) + 1), rng.choice(ODD_FEED_LINES))
+    text = b"\n".join(lines)
+    if rng.randrange(12) == 0:
+        at = rng.randrange(len(text) + 1)
+        text = text[:at] + bytes([rng.choice(ODD_BYTES)]) + text[at + rng.randrange(2):]
+    return text + rng.choice([b"\n", b""])
+
+
+def random_disk(rng, every_plan):
+    """The text of a plan without faults, its inputs, and an empty disk for it."""
+    while True:
+        made = RandomPlan(rng, every_plan)
+        text = "\n".join(made.lines).encode()
+        try:
+            plan = read_plan(lines_of(text), every_plan)
+            check_codes(plan)
+        except Fault:
+            continue
+        shape = rng.choice([1, 3, 5, 9]), rng.choice([1, 3, 6, 12]), rng.choice([1, 4, 8, 30])
+        return text, made.inputs(), Disk(plan, shape, 1 if rng.randrange(3) == 0 else 2)
+
+
+def expect(said, text, want):
+    """The script ends where a command on a disk answers otherwise."""
+    got = answered(said, text)
+    if got != want:
+        sys.exit(f"td {' '.join(map(str, said))}\n{text!r}\nwanted {want}\n   got {got}")
+
+
+def lines_as(lines, fault=None):
+    """What a command answers that writes these lines, and then has a fault or none."""
+    output = "".join(f"{line}\n" for line in lines).encode()
+    return (0, output, b"") if fault is None else (1, output, f"td: {fault}\n".encode())
+
+
+def feed_random_disk(rng, every_plan, folder, met):
+    """Makes a disk, and feeds and raises it at random."""
+    text, inputs, disk = random_disk(rng, every_plan)
+    plan, file = pathlib.Path(folder) / "plan", pathlib.Path(folder) / "disk"
+    plan.write_bytes(text)
+    expect(["format", file, plan, *map(str, disk.shape)], b"", lines_as([]))
+    if disk.version == 1:
+        with open(file, "r+b") as opened:
+            opened.seek(7)
+            opened.write(b"\x01")
+    for _ in range(rng.randrange(1, 5)):
+        if rng.randrange(4) == 0:
+            disk.version = 2
+            expect(["upgrade", file, plan], b"", lines_as(["version 2"]))
+        fed = random_feed(rng, inputs, disk)
+        written, fault = disk.feed(fed)
+        expect(["feed", file, plan, "--workers", str(rng.choice(WORKERS))], fed, lines_as(written, fault))
+        expect(["show", file, plan], b"", lines_as(disk.show()))
+        what = re.sub(r"\d+", "N", f"td: {fault}") if fault else "no fault"
+        met[f"a feed, {what}"] += 1
+        met["epochs that were there already"] += sum(line.startswith("again ") for line in written)
+
+
+def feed_disks(rng, every_plan, count):
+    """Feeds so many disks; a plan whose answer takes long is left out."""
+    met = collections.Counter()
+    for _ in range(count):
+        with tempfile.TemporaryDirectory(prefix="td-feeds-") as folder:
+            try:
+                feed_random_disk(rng, every_plan, folder, met)
+            except TooLarge:
+                continue
+    print(f"{count} disks, fed as they should be:")
+    for what, times in met.most_common():
+        print(f"{times:8} {what}")
+
+
 def commands(rng, hall):
     """The words with which the program is run on an input."""
     yield ["batch"]
@@ -535,6 +744,7 @@ def main():
     given = sys.argv[1:]
     every_plan = "--every-plan" in given
     hall = "--hall" in given
+    feeds = "--feeds" in given
     given = [word for word in given if not word.startswith("--")]
     count = int(given[0]) if given else 2000
     rng = random.Random(given[1] if len(given) > 1 else "td")
@@ -555,6 +765,8 @@ def main():
     print(f"{count} inputs, all answered alike:")
     for what, times in met.most_common():
         print(f"{times:8} {what}")
+    if feeds:
+        feed_disks(rng, every_plan, count // INPUTS_OF_A_DISK)
 
 
 main()

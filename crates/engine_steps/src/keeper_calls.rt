@@ -1,6 +1,8 @@
 //! Calls of a keeper, each with its answer.
 use crate::error::StepError;
-use crate::keeper_lines::{print_number, print_submitted, print_written};
+use crate::keeper_lines::{
+    print_number, print_received, print_submitted, print_upgraded, print_written,
+};
 use crate::release::batch_of;
 use std::alloc::Global;
 use td_calls::Law;
@@ -25,6 +27,37 @@ pub(crate) fn submit<D: Disk, L: Law>(
     text: &str,
 ) -> Result<(), StepError> {
     print_submitted(rt, keeper.submit(batch_of(alloc, text)?))
+}
+
+/// Submits under a request number the batch of entries that a text writes.
+pub(crate) fn submit_as<D: Disk, L: Law>(
+    rt: &impl Print,
+    alloc: Global,
+    keeper: &mut Keeper<D, L>,
+    request: u64,
+    text: &str,
+) -> Result<(), StepError> {
+    print_received(rt, keeper.submit_as(request, batch_of(alloc, text)?))
+}
+
+/// Raises the disk to the version of the format that has request numbers.
+pub(crate) fn upgrade<D: Disk, L: Law>(
+    rt: &impl Print,
+    keeper: &mut Keeper<D, L>,
+) -> Result<(), StepError> {
+    print_upgraded(rt, keeper.upgrade())
+}
+
+/// Prints the last request number, and the version of the format.
+pub(crate) fn numbers<D: Disk, L: Law>(
+    rt: &impl Print,
+    keeper: &Keeper<D, L>,
+) -> Result<(), StepError> {
+    Ok(println!(rt;
+        "last {}, version {}",
+        keeper.last_request(),
+        keeper.version()
+    )?)
 }
 
 pub(crate) fn release_by<D: Disk, L: Law>(

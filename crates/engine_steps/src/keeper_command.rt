@@ -7,6 +7,11 @@ pub(crate) enum KeeperCall<'a> {
     Opening(u8),
     /// `submit INPUT KEY VAL, ..`
     Submit(&'a str),
+    /// `submit_as REQUEST INPUT KEY VAL, ..`
+    SubmitAs(u64, &'a str),
+    Upgrade,
+    /// `numbers`: the last request number, and the version of the format.
+    Numbers,
     /// `keeper release`
     Release,
     /// `keeper collect`
@@ -27,6 +32,12 @@ pub(crate) fn keeper_call_of<'a>(name: &str, words: &'a str) -> Option<KeeperCal
     match (name, words) {
         ("opening", workers) => Some(KeeperCall::Opening(workers.parse().ok()?)),
         ("submit", entries) => Some(KeeperCall::Submit(entries)),
+        ("submit_as", words) => {
+            let (request, entries) = requested(words)?;
+            Some(KeeperCall::SubmitAs(request, entries))
+        }
+        ("upgrade", "") => Some(KeeperCall::Upgrade),
+        ("numbers", "") => Some(KeeperCall::Numbers),
         ("keeper", "release") => Some(KeeperCall::Release),
         ("keeper", "collect") => Some(KeeperCall::Collect),
         ("next_out", "") => Some(KeeperCall::NextOut),
@@ -37,4 +48,10 @@ pub(crate) fn keeper_call_of<'a>(name: &str, words: &'a str) -> Option<KeeperCal
         ("detach", "") => Some(KeeperCall::Detach),
         _ => None,
     }
+}
+
+/// The request number with which words begin, and the words after it.
+pub(crate) fn requested(words: &str) -> Option<(u64, &str)> {
+    let (request, rest) = words.split_once(' ').unwrap_or((words, ""));
+    Some((request.parse().ok()?, rest))
 }

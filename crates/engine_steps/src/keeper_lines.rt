@@ -1,6 +1,7 @@
 //! The answers of a keeper.
 use crate::error::StepError;
 use crate::lines::{print_entries, print_epoch, print_states};
+use td_keeper::Receipt;
 use td_stamp::{Batch, EpochOut, States};
 use td_standing::KeeperError;
 
@@ -36,11 +37,49 @@ pub(crate) fn print_submitted(
 ) -> Result<(), StepError> {
     match submitted {
         Ok(epoch) => Ok(println!(rt; "ack {epoch}")?),
-        Err((KeeperError::Memory, _batch)) => Err(StepError::Memory),
-        Err((refusal, batch)) => {
+        Err(refused) => print_back(rt, refused),
+    }
+}
+
+/// `ack EPOCH`, or `already LAST`; or why the batch is refused, and the entries that come back.
+pub(crate) fn print_received(
+    rt: &impl Print,
+    received: Result<Receipt, (KeeperError, Batch)>,
+) -> Result<(), StepError> {
+    match received {
+        Ok(receipt) => print_receipt(rt, receipt),
+        Err(refused) => print_back(rt, refused),
+    }
+}
+
+/// `ack EPOCH`, or `already LAST`.
+pub(crate) fn print_receipt(rt: &impl Print, receipt: Receipt) -> Result<(), StepError> {
+    match receipt {
+        Receipt::New(epoch) => Ok(println!(rt; "ack {epoch}")?),
+        Receipt::Already(last) => Ok(println!(rt; "already {last}")?),
+    }
+}
+
+/// Why a batch is refused, but for want of memory, and the entries that come back.
+fn print_back(rt: &impl Print, refused: (KeeperError, Batch)) -> Result<(), StepError> {
+    match refused {
+        (KeeperError::Memory, _batch) => Err(StepError::Memory),
+        (refusal, batch) => {
             print!(rt; "refused: {refusal}, back came")?;
             print_entries(rt, &batch)
         }
+    }
+}
+
+/// `upgraded`, or `none` where the disk was of version 2.
+pub(crate) fn print_upgraded(
+    rt: &impl Print,
+    upgraded: Result<bool, KeeperError>,
+) -> Result<(), StepError> {
+    match upgraded {
+        Ok(true) => Ok(println!(rt; "upgraded")?),
+        Ok(false) => Ok(println!(rt; "none")?),
+        Err(refusal) => print_keeper_refusal(rt, refusal),
     }
 }
 

@@ -1,6 +1,7 @@
 //! Commands of a keeper beside the workers of a pool.
 use crate::error::StepError;
 use crate::gate::Passage;
+use crate::keeper_command::requested;
 use crate::release::batch_of;
 use std::alloc::Global;
 use td_keeper::Command;
@@ -31,6 +32,10 @@ pub(crate) fn commands_of(alloc: Global, text: &str) -> Result<Vec<Command>, Ste
 fn command_of(alloc: Global, line: &str) -> Result<Command, StepError> {
     match line.split_once(' ').unwrap_or((line, "")) {
         ("submit", entries) => Ok(Command::Submit(batch_of(alloc, entries)?)),
+        ("submit_as", words) => {
+            let (request, entries) = requested(words).ok_or(StepError::Syntax)?;
+            Ok(Command::SubmitAs(request, batch_of(alloc, entries)?))
+        }
         ("release", "") => Ok(Command::Release),
         ("settle", "") => Ok(Command::Settle),
         ("collect", "") => Ok(Command::Collect),

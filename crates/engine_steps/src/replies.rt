@@ -1,6 +1,6 @@
 //! The replies of a keeper that is driven, and how its workers ended.
 use crate::error::StepError;
-use crate::keeper_lines::{print_next_out, print_number, print_written};
+use crate::keeper_lines::{print_next_out, print_number, print_receipt, print_written};
 use crate::lines::print_entries;
 use crate::worker::Replies;
 use td_keeper::Reply;
@@ -24,6 +24,7 @@ pub(crate) fn print_replies(rt: &impl Print, replies: Replies) -> Result<(), Ste
 fn print_reply(rt: &impl Print, reply: Reply) -> Result<(), StepError> {
     match reply {
         Reply::Submitted(epoch) => print_number(rt, "ack", Ok(epoch)),
+        Reply::SubmittedAs(receipt) => print_receipt(rt, receipt),
         Reply::Released(count) => print_number(rt, "released", Ok(count)),
         Reply::Settled => Ok(println!(rt; "settled")?),
         Reply::Collected(count) => print_number(rt, "collected", Ok(count)),

@@ -6,7 +6,9 @@ use crate::error::StepError;
 use crate::gate::Passage;
 use crate::hall_command::HallCall;
 use crate::hands::Hands;
-use crate::keeper_calls::{checkpoint, collect_by, cut_by, release_by, submit, write_cut};
+use crate::keeper_calls::{
+    checkpoint, collect_by, cut_by, numbers, release_by, submit, submit_as, upgrade, write_cut,
+};
 use crate::keeper_command::KeeperCall;
 use crate::keeper_lines::print_next_out;
 use crate::lines::{
@@ -125,6 +127,11 @@ impl Stage {
         match call {
             KeeperCall::Opening(workers) => self.open_at_checkpoint(workers),
             KeeperCall::Submit(entries) => submit(rt, self.alloc, keeper, entries),
+            KeeperCall::SubmitAs(request, entries) => {
+                submit_as(rt, self.alloc, keeper, request, entries)
+            }
+            KeeperCall::Upgrade => upgrade(rt, keeper),
+            KeeperCall::Numbers => numbers(rt, keeper),
             KeeperCall::Release => release_by(rt, keeper, hall_of(&mut self.hall)?),
             KeeperCall::Collect => collect_by(rt, keeper, hall_of(&mut self.hall)?),
             KeeperCall::NextOut => print_next_out(rt, keeper.next_out()),

@@ -3,9 +3,10 @@
 use std::fs::File;
 use std::io;
 use std::rt::Files;
+use td_calls::Stock;
 use td_console::{Fault, StdReader, StdWriter};
 use td_disk::{FileDisk, ReadAhead};
-use td_feed::{format, read_plan, shape_of, show};
+use td_feed::{format, read_plan, shape_of, show, upgrade};
 use td_plan::Plan;
 
 /// Makes a disk of this shape in the file at `disk`, formatted for the plan in the file at `plan`.
@@ -34,6 +35,17 @@ pub(crate) fn show_disk<R: Files<File = File> + Print + AllocGlobal>(
     let (mut disk, plan) = open_disk(rt, disk, plan)?;
     let mut writer = StdWriter(io::writer(rt));
     show(rt.alloc(), &mut disk, &plan, &mut writer)
+}
+
+/// Raises the disk in the file at `disk` to the version of the format that has request numbers.
+pub(crate) fn upgrade_disk<R: Files<File = File> + Print + AllocGlobal>(
+    rt: &R,
+    disk: &str,
+    plan: &str,
+) -> Result<(), Fault> {
+    let (disk, plan) = open_disk(rt, disk, plan)?;
+    let mut writer = StdWriter(io::writer(rt));
+    upgrade::<_, Stock, _>(rt.alloc(), disk, &plan, &mut writer).1
 }
 
 /// The disk in the file at `disk`, which is read a block at a time, and the plan in the file at `plan`.

@@ -1,5 +1,5 @@
 -- The batches that are submitted name input vertices alone.
-use Rattle.std.proofs.Common.{◌≡◌, ℕ, ◌+◌, Bool, true, false, ◌&&◌, List, [], ◌∷◌, ◌++◌, Option, Some, None, Result, Ok, Err, refl, cond, All, IsTrue, subst, ap, ◌∙◌}
+use Rattle.std.proofs.Common.{◌≡◌, ℕ, zero, suc, ◌+◌, Bool, true, false, ◌&&◌, List, [], ◌∷◌, ◌++◌, Option, Some, None, Result, Ok, Err, refl, cond, All, IsTrue, subst, ap, ◌∙◌}
 use Rattle.std.specs.declared.cmp.Ordering.{Ordering}
 use Rattle.std.specs.declared.cmp.Ordering.TheVariants.{Less, Equal, Greater}
 use Rattle.std.specs.List.{list_all}
@@ -16,10 +16,10 @@ use Rattle.td_console.specs.declared.faults.LineFault.TheVariants.{NoSuchInput}
 use Rattle.td_console.specs.declared.faults.Fault.{Fault}
 use Rattle.td_console.specs.declared.faults.Fault.TheVariants.{Line}
 use Rattle.td_feed.specs.declared.order.FeedLine.{FeedLine}
-use Rattle.td_feed.specs.declared.order.FeedLine.TheVariants.{Data, Cut}
+use Rattle.td_feed.specs.declared.order.FeedLine.TheVariants.{Data, Request, Cut}
 use Rattle.td_feed.specs.declared.order.Order.{Order}
 use Rattle.td_feed.specs.declared.order.Order.TheVariants as order
-use Rattle.td_feed.specs.Orders.{Orders, IsAccepted, with_cut, with_line, and_then, ended, orders_from, orders_of, feed_line_of}
+use Rattle.td_feed.specs.Orders.{Orders, IsAccepted, is_between, order_for, with_cut, with_request, with_line, and_then, ended, orders_from, orders_of, feed_line_of}
 
 -- entries that all name inputs
 abbrev AreInputs : List PlanLine → List Entry → Type 0
@@ -48,42 +48,52 @@ bagged test (x ∷ xs) = inserted test x (bag_of entry_cmp xs) ∙ ap (λ b. tes
 pushed : (plan : List PlanLine) (orders : List Order) (o : Order) → All (IsAccepted plan) orders → IsAccepted plan o → All (IsAccepted plan) (orders ++ o ∷ [])
 pushed plan orders o h k = All-append (IsAccepted plan) orders (o ∷ []) h (All-cons (IsAccepted plan) o [] k (All-nil (IsAccepted plan)))
 
-at_end : (plan : List PlanLine) (n : ℕ) (orders : List Order) (current : List Entry) (os : List Order) → All (IsAccepted plan) orders → ended n orders current ≡ Ok os → All (IsAccepted plan) os
-at_end plan n orders [] os h e = let same : orders ≡ os = cc in subst (All (IsAccepted plan)) same h
-at_end plan n orders (x ∷ current) os h e = cc
+at_end : (plan : List PlanLine) (n : ℕ) (orders : List Order) (between : Bool) (os : List Order) → All (IsAccepted plan) orders → ended n orders between ≡ Ok os → All (IsAccepted plan) os
+at_end plan n orders true os h e = let same : orders ≡ os = cc in subst (All (IsAccepted plan)) same h
+at_end plan n orders false os h e = cc
+
+-- what submits a batch is accepted where the batch is
+submits : (plan : List PlanLine) (request : ℕ) (batch : List Entry) → AreInputs plan batch → IsAccepted plan (order_for request batch)
+submits plan zero batch inputs = inputs
+submits plan (suc q) batch inputs = inputs
 
 -- one line more, where it holds of those after it
-step : (plan : List PlanLine) (n : ℕ) (orders : List Order) (current : List Entry) (os : List Order) (next : Orders → Result (List Order) Fault) →
-    ((orders : List Order) (current : List Entry) → All (IsAccepted plan) orders → AreInputs plan current → next (record { orders = orders; current = current }) ≡ Ok os → All (IsAccepted plan) os) →
+step : (plan : List PlanLine) (n : ℕ) (orders : List Order) (request : ℕ) (current : List Entry) (os : List Order) (next : Orders → Result (List Order) Fault) →
+    ((orders : List Order) (request : ℕ) (current : List Entry) → All (IsAccepted plan) orders → AreInputs plan current → next (record { orders = orders; request = request; current = current }) ≡ Ok os → All (IsAccepted plan) os) →
     (o : Option FeedLine) → All (IsAccepted plan) orders → AreInputs plan current →
-    and_then next (with_line plan n (record { orders = orders; current = current }) o) ≡ Ok os → All (IsAccepted plan) os
-step plan n orders current os next more None h k e = cc
-step plan n orders current os next more (Some Cut) h k e = by current e
+    and_then next (with_line plan n (record { orders = orders; request = request; current = current }) o) ≡ Ok os → All (IsAccepted plan) os
+step plan n orders request current os next more None h k e = cc
+step plan n orders request current os next more (Some Cut) h k e = by (is_between (record { orders = orders; request = request; current = current })) e
   where
-    by : (entries : List Entry) → and_then next (with_cut n (record { orders = orders; current = current }) entries) ≡ Ok os → All (IsAccepted plan) os
-    by [] f = more (orders ++ order.Cut ∷ []) [] (pushed plan orders order.Cut h tt) refl f
-    by (x ∷ entries) f = cc
-step plan n orders current os next more (Some (Data PassedOver)) h k e = more orders current h k e
-step plan n orders current os next more (Some (Data Close)) h k e =
+    by : (between : Bool) → and_then next (with_cut n (record { orders = orders; request = request; current = current }) between) ≡ Ok os → All (IsAccepted plan) os
+    by true f = more (orders ++ order.Cut ∷ []) request current (pushed plan orders order.Cut h tt) k f
+    by false f = cc
+step plan n orders request current os next more (Some (Request q)) h k e = by (is_between (record { orders = orders; request = request; current = current })) e
+  where
+    by : (between : Bool) → and_then next (with_request n q (record { orders = orders; request = request; current = current }) between) ≡ Ok os → All (IsAccepted plan) os
+    by true f = more orders q current h k f
+    by false f = cc
+step plan n orders request current os next more (Some (Data PassedOver)) h k e = more orders request current h k e
+step plan n orders request current os next more (Some (Data Close)) h k e =
     let bag = bag_of entry_cmp current in
     let inputs : AreInputs plan bag = bagged (λ x. is_input_of plan x.input) current ∙ k in
-    more (orders ++ order.Submit bag ∷ []) [] (pushed plan orders (order.Submit bag) h inputs) refl e
-step plan n orders current os next more (Some (Data (Record input rec))) h k e = by (is_input_of plan input) refl e
+    more (orders ++ order_for request bag ∷ []) 0 [] (pushed plan orders (order_for request bag) h (submits plan request bag inputs)) refl e
+step plan n orders request current os next more (Some (Data (Record input rec))) h k e = by (is_input_of plan input) refl e
   where
     by : (b : Bool) → is_input_of plan input ≡ b →
-        and_then next (cond b (Ok (record { orders = orders; current = current ++ record { input = input; rec = rec } ∷ [] })) (Err (Line n NoSuchInput))) ≡ Ok os → All (IsAccepted plan) os
+        and_then next (cond b (Ok (record { orders = orders; request = request; current = current ++ record { input = input; rec = rec } ∷ [] })) (Err (Line n NoSuchInput))) ≡ Ok os → All (IsAccepted plan) os
     by true is f =
         let one = record { input = input; rec = rec } ∷ [] in
         let inputs : AreInputs plan (current ++ one) = list_all-append (λ x. is_input_of plan x.input) current one ∙ rw (k, is) refl in
-        more orders (current ++ one) h inputs f
+        more orders request (current ++ one) h inputs f
     by false is f = cc
 
-from : (plan : List PlanLine) (n : ℕ) (orders : List Order) (current : List Entry) (lines : List (List ℕ)) (os : List Order) →
-    All (IsAccepted plan) orders → AreInputs plan current → orders_from plan n (record { orders = orders; current = current }) lines ≡ Ok os → All (IsAccepted plan) os
-from plan n orders current [] os h k e = at_end plan n orders current os h e
-from plan n orders current (line ∷ lines) os h k e =
-    step plan n orders current os (λ more. orders_from plan (n + 1) more lines) (λ orders current. from plan (n + 1) orders current lines os) (feed_line_of line) h k e
+from : (plan : List PlanLine) (n : ℕ) (orders : List Order) (request : ℕ) (current : List Entry) (lines : List (List ℕ)) (os : List Order) →
+    All (IsAccepted plan) orders → AreInputs plan current → orders_from plan n (record { orders = orders; request = request; current = current }) lines ≡ Ok os → All (IsAccepted plan) os
+from plan n orders request current [] os h k e = at_end plan n orders (is_between (record { orders = orders; request = request; current = current })) os h e
+from plan n orders request current (line ∷ lines) os h k e =
+    step plan n orders request current os (λ more. orders_from plan (n + 1) more lines) (λ orders request current. from plan (n + 1) orders request current lines os) (feed_line_of line) h k e
 
 -- THE ORDERS OF AN INPUT are accepted
 pub accepted : (plan : List PlanLine) (input : List ℕ) (os : List Order) → orders_of plan input ≡ Ok os → All (IsAccepted plan) os
-accepted plan input os e = from plan 1 [] [] (text_lines input) os (All-nil (IsAccepted plan)) refl e
+accepted plan input os e = from plan 1 [] 0 [] (text_lines input) os (All-nil (IsAccepted plan)) refl e

@@ -1,7 +1,7 @@
 -- How what a feed's calls leave of a keeper comes together.
-use Rattle.std.proofs.Common.{◌≡◌, ◌⊎◌, ⊎_elim, inl, inr, ℕ, zero, suc, ◌+◌, ◌-◌, ◌≤◌, Bool, true, false, List, [], ◌∷◌, ◌++◌, length, take, refl, sym, ap, ◌∙◌, subst, arith}
+use Rattle.std.proofs.Common.{◌≡◌, ◌⊎◌, ⊎_elim, inl, inr, ℕ, suc, ◌+◌, ◌-◌, ◌≤◌, Bool, false, List, [], ◌∷◌, ◌++◌, length, take, drop, refl, sym, ap, ◌∙◌, subst, arith}
 use Rattle.std.specs.Prelude.{Option, Some, None, IfSome, Result, Ok, Err, OnOk, OnErr}
-use Rattle.std.proofs.lemmas.List.{append-nil, append_assoc, length-append, take_at, take-append-le, take_all, take-map, length-drop}
+use Rattle.std.proofs.lemmas.List.{append-nil, append_assoc, length-append, take_at, take-append-le, take_all, take-map, take-append-drop, length-drop}
 use Rattle.std.proofs.Math.Seq.{take-append-add}
 use Rattle.std.proofs.Math.Nat.{add-suc}
 use Rattle.td_stamp.specs.declared.values.Entry.{Entry}
@@ -14,8 +14,9 @@ use Rattle.td_disk.specs.Disk.{DiskState}
 use Rattle.td_gate.specs.CrashSafe.{CrashSafe, Unchanged}
 use Rattle.td_head.specs.declared.head.Head.{Head}
 use Rattle.td_journal.specs.declared.submitted.Submitted.{Submitted}
-use Rattle.td_standing.specs.Standing.{Standing, last_epoch, submission, batches_of, with_more, cut_at}
-use Rattle.td_standing.specs.Stops.{Advance, Begins, Holds, Stands}
+use Rattle.td_journal.specs.Numbers.{greatest}
+use Rattle.td_standing.specs.Standing.{Standing, last_epoch, last_request, submission, batches_of, with_more, cut_at}
+use Rattle.td_standing.specs.Stops.{Advance, Begins, Stands}
 use Rattle.td_standing.specs.declared.error.KeeperError.{KeeperError}
 use Rattle.td_standing.specs.Told.{Told}
 use Rattle.td_standing.specs.Tells.{Tells, Keeps}
@@ -23,7 +24,8 @@ use Rattle.td_standing.specs.Advanced.{TellsAdvance, SinceAdvance, HeldWhere, st
 use Rattle.td_keeper.specs.declared.command.Reply.{Reply}
 use Rattle.td_keeper.specs.Keeping.{Keeping, IsKeeping, with_batch, with_checkpoint}
 use Rattle.td_feed.specs.Fed.{TellsHistory, EachTellsHistory, EachTellsSome}
-use Rattle.td_feed.specs.Carried.{StandsFor, Carries, TellsSome, Stopped, Leaves}
+use Rattle.td_feed.specs.Carried.{StandsFor, Carries, Stopped, Leaves}
+use Rattle.td_feed.proofs.Newness.{greatest-append}
 
 -- the law, as it is handed in: what is told after a stop stands for a beginning
 abbrev pub Stands-on : Answers → Type 0
@@ -102,6 +104,7 @@ module _ {D : Type 0} (answers : Answers) where
   unmoved old new plan standing whole = record {
     plan = plan;
     whole = whole;
+    last = ap last_request standing;
     stands = λ history is.
         subst (λ (h : List Submitted). Stands (states_by answers new.plan) new.standing h) (sym (append-nil history))
         (subst (λ (p : List Line). Stands (states_by answers p) new.standing history) (sym plan)
@@ -117,6 +120,7 @@ module _ {D : Type 0} (answers : Answers) where
   then_carries a b c x y first second = record {
     plan = second.plan ∙ first.plan;
     whole = second.whole;
+    last = second.last ∙ (ap (λ (q : ℕ). greatest q y) first.last ∙ sym (greatest-append (last_request a.standing) x y));
     stands = λ history is.
         subst (λ (h : List Submitted). StandsFor answers c h) (append_assoc history x y) (second.stands (history ++ x) (first.stands history is));
   }
@@ -126,12 +130,13 @@ module _ {D : Type 0} (answers : Answers) where
   carried_by old new x is carries = subst (λ (r : Reply). Carries answers old new (x r)) is carries
 
   -- a batch that was submitted
-  pub submitted : (old new : Keeping D) (device : D) (batch : List Entry) → old.broken ≡ false → new ≡ with_batch old device 0 batch → Carries answers old new (submission 0 batch ∷ [])
-  submitted old new device batch whole is =
-      let x : List Submitted = submission 0 batch ∷ [] in
+  pub submitted : (old new : Keeping D) (device : D) (request : ℕ) (batch : List Entry) → old.broken ≡ false → new ≡ with_batch old device request batch → Carries answers old new (submission request batch ∷ [])
+  submitted old new device request batch whole is =
+      let x : List Submitted = submission request batch ∷ [] in
       subst (λ (k : Keeping D). Carries answers old k x) (sym is) (record {
         plan = refl;
         whole = whole;
+        last = greatest-append old.standing.last old.standing.submitted x;
         stands = λ history s. record {
           before = s.before;
           epochs = s.epochs;
@@ -177,6 +182,7 @@ module _ (answers : Answers) (stands_on : Stands-on answers) where
       subst (λ (k : Keeping D). Carries answers old k []) (sym is) (record {
         plan = refl;
         whole = whole;
+        last = sym (greatest-append s.last (take n s.submitted) (drop n s.submitted)) ∙ ap (greatest s.last) (take-append-drop n s.submitted);
         stands = λ history h.
             let next = stands_on (tree_of old.plan) s t history [] h advance in
             let far : length history ≤ length next.0 = omega (arith, as_long answers old.plan s history h, as_long answers old.plan t next.0 next.2, length-drop n s.submitted, most) in

@@ -1,13 +1,12 @@
 -- What a feed counts of the failures of its disk.
-use Rattle.std.proofs.Common.{◌≡◌, ◌⊎◌, inl, inr, ⊎_elim, ℕ, ◌≤◌, Bool, true, false, ◌||◌, List, [], ◌∷◌, refl, sym, ap, ◌∙◌, subst, arith}
-use Rattle.std.specs.Prelude.{Option, Result, Ok, Err, OnOk, IfOk, IfErr}
+use Rattle.std.proofs.Common.{◌≡◌, ◌⊎◌, inl, inr, ⊎_elim, ℕ, ◌≤◌, Bool, true, false, ◌||◌, [], ◌∷◌, refl, sym, ap, ◌∙◌, subst, arith}
+use Rattle.std.specs.Prelude.{Result, Ok, Err, OnOk, IfOk, IfErr}
 use Rattle.std.specs.Result.{IsErrAnd}
-use Rattle.td_stamp.specs.declared.values.Entry.{Entry}
 use Rattle.td_disk.specs.Disk.{Rises, CountsDevice}
 use Rattle.td_standing.specs.declared.error.KeeperError.{KeeperError}
 use Rattle.td_standing.specs.declared.error.KeeperError.TheVariants as error
 use Rattle.td_keeper.specs.declared.command.Reply.{Reply}
-use Rattle.td_keeper.specs.declared.command.Reply.TheVariants.{Submitted, Released, Settled, Collected, Out, CutTaken, Written, Refused}
+use Rattle.td_keeper.specs.declared.command.Reply.TheVariants.{Submitted, SubmittedAs, Released, Settled, Collected, Out, CutTaken, Written, Refused}
 use Rattle.td_keeper.specs.Driven.{is_device, some_failed}
 use Rattle.td_core.specs.declared.error.HallError.TheVariants as hall
 use Rattle.td_pool.specs.declared.error.PoolError.{PoolError}
@@ -92,6 +91,7 @@ pub counts_told : (result : Result Reply Fault) (reply : Reply) (n m : ℕ) → 
     → CountsDevice result (Keeper error.Device) n m
 counts_told (Err f) (Refused e b) n m ok err later rose same = counts_error e f n m err.1 later (λ is. rose (or_false (is_device e) ∙ is)) (λ is. same (or_false (is_device e) ∙ is))
 counts_told (Err f) (Submitted k) n m ok err later rose same = absurd (let not_so = err.0 in cc)
+counts_told (Err f) (SubmittedAs k) n m ok err later rose same = absurd (let not_so = err.0 in cc)
 counts_told (Err f) (Released k) n m ok err later rose same = absurd (let not_so = err.0 in cc)
 counts_told (Err f) Settled n m ok err later rose same = absurd (let not_so = err.0 in cc)
 counts_told (Err f) (Collected k) n m ok err later rose same = absurd (let not_so = err.0 in cc)
@@ -100,6 +100,7 @@ counts_told (Err f) (CutTaken k) n m ok err later rose same = absurd (let not_so
 counts_told (Err f) (Written w) n m ok err later rose same = absurd (let not_so = err.0 in cc)
 counts_told (Ok r) (Refused e b) n m ok err later rose same = absurd (let not_so = ok.1 in cc)
 counts_told (Ok r) (Submitted k) n m ok err later rose same = record { later = later; rises = λ device. absurd (let not_so = device in cc); stays = inr (same refl) }
+counts_told (Ok r) (SubmittedAs k) n m ok err later rose same = record { later = later; rises = λ device. absurd (let not_so = device in cc); stays = inr (same refl) }
 counts_told (Ok r) (Released k) n m ok err later rose same = record { later = later; rises = λ device. absurd (let not_so = device in cc); stays = inr (same refl) }
 counts_told (Ok r) Settled n m ok err later rose same = record { later = later; rises = λ device. absurd (let not_so = device in cc); stays = inr (same refl) }
 counts_told (Ok r) (Collected k) n m ok err later rose same = record { later = later; rises = λ device. absurd (let not_so = device in cc); stays = inr (same refl) }

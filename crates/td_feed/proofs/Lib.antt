@@ -1,4 +1,5 @@
-pub mod Carrying
+pub mod Newness
+mod Carrying
 pub mod Told
 pub mod Released
 pub mod Accepted

@@ -12,16 +12,16 @@ use Rattle.td_disk.specs.Disk.{DiskState}
 use Rattle.td_journal.specs.declared.submitted.Submitted.{Submitted as AnySubmitted}
 use Rattle.td_standing.specs.declared.error.KeeperError.TheVariants as error
 use Rattle.td_keeper.specs.declared.command.Command.{Command}
-use Rattle.td_keeper.specs.declared.command.Command.TheVariants.{Submit, Release, Settle, Collect, NextOut, Cut, WriteCut}
+use Rattle.td_keeper.specs.declared.command.Command.TheVariants.{Submit, SubmitAs, Release, Settle, Collect, NextOut, Cut, WriteCut}
 use Rattle.td_keeper.specs.declared.command.Reply.{Reply}
-use Rattle.td_keeper.specs.declared.command.Reply.TheVariants.{Submitted, Released, Settled, Collected, Out, CutTaken, Written, Refused}
+use Rattle.td_keeper.specs.declared.command.Reply.TheVariants.{Submitted, SubmittedAs, Released, Settled, Collected, Out, CutTaken, Written, Refused}
 use Rattle.td_keeper.specs.Keeping.{Keeping}
 use Rattle.td_keeper.specs.Driven.{submitted_in, submitted_by, Obeys, Driven}
 use Rattle.td_pool.specs.declared.error.PoolError.{PoolError}
 use Rattle.td_console.specs.declared.faults.Fault.{Fault}
 use Rattle.td_console.specs.declared.faults.Fault.TheVariants.{Output, Memory, Keeper}
 use Rattle.td_feed.specs.Fed.{pool_fault}
-use Rattle.td_feed.specs.Said.{line_of, lines_of, Says, SaysSome, SaysBy, SaysFrom, SaysFed, Refuses}
+use Rattle.td_feed.specs.Said.{request_in, line_of, lines_of, Says, SaysSome, SaysBy, SaysFrom, SaysFed, Refuses}
 
 -- whether a command's reply has no line
 abbrev pub is_quiet : Command → Bool
@@ -30,11 +30,6 @@ is_quiet Settle = true
 is_quiet Collect = true
 is_quiet Cut = true
 is_quiet _ = false
-
--- lines of replies, one after another
-pub lines-append : (rs ss : List Reply) → lines_of (rs ++ ss) ≡ lines_of rs ++ lines_of ss
-lines-append [] ss = refl
-lines-append (r ∷ rs) ss = ap (λ (l : List ℕ). line_of r ++ l) (lines-append rs ss) ∙ sym (append_assoc (line_of r) (lines_of rs) (lines_of ss))
 
 module _ {D : Type 0} (is_lawful : D → Type 0) (state : D → DiskState) (failures : D → ℕ) (answers : Answers) where
   -- commands, and then others
@@ -54,19 +49,29 @@ module _ {D : Type 0} (is_lawful : D → Type 0) (state : D → DiskState) (fail
       ap (λ (l : List AnySubmitted). submitted_in x r ++ l) (submitted-append cs rs ds ss first.0 b first.3)
       ∙ sym (append_assoc (submitted_in x r) (submitted_by cs rs) (submitted_by ds ss))
 
+  -- lines of replies, one after another
+  pub lines-append : (cs : List Command) (rs : List Reply) (ds : List Command) (ss : List Reply) (a b : Keeping D) → Driven is_lawful state failures answers cs rs a b
+      → lines_of (cs ++ ds) (rs ++ ss) ≡ lines_of cs rs ++ lines_of ds ss
+  lines-append [] [] ds ss a b is = refl
+  lines-append [] (r ∷ rs) ds ss a b none = absurd none
+  lines-append (x ∷ cs) [] ds ss a b none = absurd none
+  lines-append (x ∷ cs) (r ∷ rs) ds ss a b first =
+      ap (λ (l : List ℕ). line_of (request_in x) r ++ l) (lines-append cs rs ds ss first.0 b first.3)
+      ∙ sym (append_assoc (line_of (request_in x) r) (lines_of cs rs) (lines_of ds ss))
+
   -- nothing was told
   pub says_nothing : (w : Option (List ℕ)) (k : Keeping D) → Says is_lawful state failures answers w w k k []
   says_nothing w k = record { commands = []; replies = []; driven = refl; submitted = refl; said = Appends-nil w }
 
   -- one command was told, and its line was written
   pub says_one : (before after : Option (List ℕ)) (c : Command) (r : Reply) (old new : Keeping D) → Driven is_lawful state failures answers (c ∷ []) (r ∷ []) old new
-      → Appends before after (line_of r) → Says is_lawful state failures answers before after old new (submitted_in c r)
+      → Appends before after (line_of (request_in c) r) → Says is_lawful state failures answers before after old new (submitted_in c r)
   says_one before after c r old new driven said = record {
     commands = c ∷ [];
     replies = r ∷ [];
     driven = driven;
     submitted = append-nil (submitted_in c r);
-    said = subst (λ (l : List ℕ). Appends before after l) (sym (append-nil (line_of r))) said;
+    said = subst (λ (l : List ℕ). Appends before after l) (sym (append-nil (line_of (request_in c) r))) said;
   }
 
   -- one after the other
@@ -78,8 +83,8 @@ module _ {D : Type 0} (is_lawful : D → Type 0) (state : D → DiskState) (fail
     driven = driven-append first.commands first.replies rest.commands rest.replies a b c first.driven rest.driven;
     submitted = submitted-append first.commands first.replies rest.commands rest.replies a b first.driven
         ∙ ap (λ (l : List AnySubmitted). l ++ submitted_by rest.commands rest.replies) first.submitted ∙ ap (λ (l : List AnySubmitted). x ++ l) rest.submitted;
-    said = subst (λ (l : List ℕ). Appends u w l) (sym (lines-append first.replies rest.replies))
-        (Appends-trans u v w (lines_of first.replies) (lines_of rest.replies) first.said rest.said);
+    said = subst (λ (l : List ℕ). Appends u w l) (sym (lines-append first.commands first.replies rest.commands rest.replies a b first.driven))
+        (Appends-trans u v w (lines_of first.commands first.replies) (lines_of rest.commands rest.replies) first.said rest.said);
   }
 
   pub then_some : (u v w : Option (List ℕ)) (a b c : Keeping D) (x : List AnySubmitted) → Says is_lawful state failures answers u v a b x
@@ -88,11 +93,11 @@ module _ {D : Type 0} (is_lawful : D → Type 0) (state : D → DiskState) (fail
     commands = first.commands ++ rest.commands;
     replies = first.replies ++ rest.replies;
     driven = driven-append first.commands first.replies rest.commands rest.replies a b c first.driven rest.driven;
-    text = lines_of first.replies ++ rest.text;
+    text = lines_of first.commands first.replies ++ rest.text;
     unsaid = rest.unsaid;
-    lines = lines-append first.replies rest.replies ∙ ap (λ (l : List ℕ). lines_of first.replies ++ l) rest.lines
-        ∙ sym (append_assoc (lines_of first.replies) rest.text rest.unsaid);
-    said = Appends-trans u v w (lines_of first.replies) rest.text first.said rest.said;
+    lines = lines-append first.commands first.replies rest.commands rest.replies a b first.driven ∙ ap (λ (l : List ℕ). lines_of first.commands first.replies ++ l) rest.lines
+        ∙ sym (append_assoc (lines_of first.commands first.replies) rest.text rest.unsaid);
+    said = Appends-trans u v w (lines_of first.commands first.replies) rest.text first.said rest.said;
   }
 
   -- all is some
@@ -101,16 +106,16 @@ module _ {D : Type 0} (is_lawful : D → Type 0) (state : D → DiskState) (fail
     commands = all.commands;
     replies = all.replies;
     driven = all.driven;
-    text = lines_of all.replies;
+    text = lines_of all.commands all.replies;
     unsaid = [];
-    lines = sym (append-nil (lines_of all.replies));
+    lines = sym (append-nil (lines_of all.commands all.replies));
     said = all.said;
   }
 
   -- the last line was not written
   pub unsaid_one : (w : Option (List ℕ)) (c : Command) (r : Reply) (old new : Keeping D) → Driven is_lawful state failures answers (c ∷ []) (r ∷ []) old new
       → SaysSome is_lawful state failures answers w w old new
-  unsaid_one w c r old new driven = record { commands = c ∷ []; replies = r ∷ []; driven = driven; text = []; unsaid = lines_of (r ∷ []); lines = refl; said = Appends-nil w }
+  unsaid_one w c r old new driven = record { commands = c ∷ []; replies = r ∷ []; driven = driven; text = []; unsaid = lines_of (c ∷ []) (r ∷ []); lines = refl; said = Appends-nil w }
 
   -- a refused command writes nothing
   pub refused_some : (w : Option (List ℕ)) (c : Command) (old new : Keeping D) → Refuses is_lawful state failures answers c old new → SaysSome is_lawful state failures answers w w old new
@@ -139,12 +144,13 @@ module _ {D : Type 0} (is_lawful : D → Type 0) (state : D → DiskState) (fail
   handed_on (Err f) e u v w a b c x y z is first rest = ⊎_elim (λ output. inl (is ∙ output)) (λ some. inr (then_some u v w a b c x first some)) rest
 
   -- a command whose reply has no line
-  pub says_silent : (w : Option (List ℕ)) (c : Command) (r : Reply) (old new : Keeping D) → Driven is_lawful state failures answers (c ∷ []) (r ∷ []) old new → line_of r ≡ []
+  pub says_silent : (w : Option (List ℕ)) (c : Command) (r : Reply) (old new : Keeping D) → Driven is_lawful state failures answers (c ∷ []) (r ∷ []) old new → line_of (request_in c) r ≡ []
       → Says is_lawful state failures answers w w old new (submitted_in c r)
   says_silent w c r old new driven none = says_one w w c r old new driven (subst (λ (l : List ℕ). Appends w w l) (sym none) (Appends-nil w))
 
-  quiet_release : (r : Reply) (old new : Keeping D) → Obeys is_lawful state failures answers Release r old new → line_of r ≡ []
+  quiet_release : (r : Reply) (old new : Keeping D) → Obeys is_lawful state failures answers Release r old new → line_of 0 r ≡ []
   quiet_release (Submitted n) old new not_so = absurd not_so
+  quiet_release (SubmittedAs n) old new not_so = absurd not_so
   quiet_release (Released n) old new is = refl
   quiet_release Settled old new is = refl
   quiet_release (Collected n) old new is = refl
@@ -153,8 +159,9 @@ module _ {D : Type 0} (is_lawful : D → Type 0) (state : D → DiskState) (fail
   quiet_release (Written w) old new not_so = absurd not_so
   quiet_release (Refused e b) old new is = refl
 
-  quiet_settle : (r : Reply) (old new : Keeping D) → Obeys is_lawful state failures answers Settle r old new → line_of r ≡ []
+  quiet_settle : (r : Reply) (old new : Keeping D) → Obeys is_lawful state failures answers Settle r old new → line_of 0 r ≡ []
   quiet_settle (Submitted n) old new not_so = absurd not_so
+  quiet_settle (SubmittedAs n) old new not_so = absurd not_so
   quiet_settle (Released n) old new is = refl
   quiet_settle Settled old new is = refl
   quiet_settle (Collected n) old new is = refl
@@ -163,8 +170,9 @@ module _ {D : Type 0} (is_lawful : D → Type 0) (state : D → DiskState) (fail
   quiet_settle (Written w) old new not_so = absurd not_so
   quiet_settle (Refused e b) old new is = refl
 
-  quiet_collect : (r : Reply) (old new : Keeping D) → Obeys is_lawful state failures answers Collect r old new → line_of r ≡ []
+  quiet_collect : (r : Reply) (old new : Keeping D) → Obeys is_lawful state failures answers Collect r old new → line_of 0 r ≡ []
   quiet_collect (Submitted n) old new not_so = absurd not_so
+  quiet_collect (SubmittedAs n) old new not_so = absurd not_so
   quiet_collect (Released n) old new is = refl
   quiet_collect Settled old new is = refl
   quiet_collect (Collected n) old new is = refl
@@ -173,8 +181,9 @@ module _ {D : Type 0} (is_lawful : D → Type 0) (state : D → DiskState) (fail
   quiet_collect (Written w) old new not_so = absurd not_so
   quiet_collect (Refused e b) old new is = refl
 
-  quiet_cut : (r : Reply) (old new : Keeping D) → Obeys is_lawful state failures answers Cut r old new → line_of r ≡ []
+  quiet_cut : (r : Reply) (old new : Keeping D) → Obeys is_lawful state failures answers Cut r old new → line_of 0 r ≡ []
   quiet_cut (Submitted n) old new not_so = absurd not_so
+  quiet_cut (SubmittedAs n) old new not_so = absurd not_so
   quiet_cut (Released n) old new is = refl
   quiet_cut Settled old new is = refl
   quiet_cut (Collected n) old new is = refl
@@ -191,12 +200,13 @@ module _ {D : Type 0} (is_lawful : D → Type 0) (state : D → DiskState) (fail
   quietly w Collect r old new quiet is driven = says_silent w Collect r old new driven (quiet_collect r old new is)
   quietly w Cut r old new quiet is driven = says_silent w Cut r old new driven (quiet_cut r old new is)
   quietly w (Submit batch) r old new not_so is driven = absurd (let is = not_so in cc)
+  quietly w (SubmitAs request batch) r old new not_so is driven = absurd (let is = not_so in cc)
   quietly w NextOut r old new not_so is driven = absurd (let is = not_so in cc)
   quietly w WriteCut r old new not_so is driven = absurd (let is = not_so in cc)
 
   -- the lines of one reply, where they were to be written
   pub said_by : (result : Result (Unit {0}) Fault) (w v : Option (List ℕ)) (c : Command) (r : Reply) (old new : Keeping D) (x : List AnySubmitted) (P : Type 0)
-      → Driven is_lawful state failures answers (c ∷ []) (r ∷ []) old new → submitted_in c r ≡ x → OnOk result (Appends w v (line_of r))
+      → Driven is_lawful state failures answers (c ∷ []) (r ∷ []) old new → submitted_in c r ≡ x → OnOk result (Appends w v (line_of (request_in c) r))
       → IfErr result (λ f. (f ≡ Output) ⊎ ((f ≡ Memory) × P)) → (P → v ≡ w) → SaysBy is_lawful state failures answers result w v old new x
   said_by (Ok done) w v c r old new x P driven is said none same =
       subst (λ (l : List AnySubmitted). Says is_lawful state failures answers w v old new l) is (says_one w v c r old new driven said)
@@ -230,7 +240,7 @@ module _ {D : Type 0} (is_lawful : D → Type 0) (state : D → DiskState) (fail
 
   -- one reply more, whose lines are held too
   pub holding_more : (u v : Option (List ℕ)) (a b c : Keeping D) (o : Option EpochOut) (held more : List ℕ) → Holding u v a b held
-      → Driven is_lawful state failures answers (NextOut ∷ []) (Out o ∷ []) b c → more ≡ held ++ line_of (Out o) → Holding u v a c more
+      → Driven is_lawful state failures answers (NextOut ∷ []) (Out o ∷ []) b c → more ≡ held ++ line_of 0 (Out o) → Holding u v a c more
   holding_more u v a b c o held more so_far driven is =
       let s = so_far.some in
       record {
@@ -240,10 +250,10 @@ module _ {D : Type 0} (is_lawful : D → Type 0) (state : D → DiskState) (fail
           driven = driven-append s.commands s.replies (NextOut ∷ []) (Out o ∷ []) a b c s.driven driven;
           text = s.text;
           unsaid = more;
-          lines = lines-append s.replies (Out o ∷ [])
-              ∙ ap (λ (l : List ℕ). l ++ lines_of (Out o ∷ [])) s.lines
-              ∙ append_assoc s.text s.unsaid (lines_of (Out o ∷ []))
-              ∙ ap (λ (l : List ℕ). s.text ++ l) (ap (λ (l : List ℕ). l ++ lines_of (Out o ∷ [])) so_far.held_is ∙ ap (λ (l : List ℕ). held ++ l) (append-nil (line_of (Out o))) ∙ sym is);
+          lines = lines-append s.commands s.replies (NextOut ∷ []) (Out o ∷ []) a b s.driven
+              ∙ ap (λ (l : List ℕ). l ++ lines_of (NextOut ∷ []) (Out o ∷ [])) s.lines
+              ∙ append_assoc s.text s.unsaid (lines_of (NextOut ∷ []) (Out o ∷ []))
+              ∙ ap (λ (l : List ℕ). s.text ++ l) (ap (λ (l : List ℕ). l ++ lines_of (NextOut ∷ []) (Out o ∷ [])) so_far.held_is ∙ ap (λ (l : List ℕ). held ++ l) (append-nil (line_of 0 (Out o))) ∙ sym is);
           said = s.said;
         };
         held_is = refl;
@@ -251,7 +261,7 @@ module _ {D : Type 0} (is_lawful : D → Type 0) (state : D → DiskState) (fail
       }
 
   -- a reply that has none
-  pub none_out : (o : Option EpochOut) → ((out : EpochOut) → o ≡ Some out → ⊥) → line_of (Out o) ≡ []
+  pub none_out : (o : Option EpochOut) → ((out : EpochOut) → o ≡ Some out → ⊥) → line_of 0 (Out o) ≡ []
   none_out None not_some = refl
   none_out (Some out) not_some = absurd (not_some out refl)
 
@@ -268,7 +278,7 @@ module _ {D : Type 0} (is_lawful : D → Type 0) (state : D → DiskState) (fail
         driven = driven-append s.commands s.replies (NextOut ∷ []) (r ∷ []) a b c s.driven told.2;
         text = s.text;
         unsaid = s.unsaid;
-        lines = lines-append s.replies (r ∷ []) ∙ append-nil (lines_of s.replies) ∙ s.lines;
+        lines = lines-append s.commands s.replies (NextOut ∷ []) (r ∷ []) a b s.driven ∙ append-nil (lines_of s.commands s.replies) ∙ s.lines;
         said = s.said;
       }
 

@@ -7,7 +7,7 @@ use Rattle.td_standing.specs.Standing.{submission}
 use Rattle.td_machine.specs.State.{HallState}
 use Rattle.td_machine.specs.Active.{has_passed}
 use Rattle.td_machine.specs.Steps.{ends, release_by, release_step, cut_at_by}
-use Rattle.td_keeper.specs.Halls.{with_released, collected_hall, cut_hall, last_passed}
+use Rattle.td_keeper.specs.Halls.{with_released, cut_hall, last_passed}
 use Rattle.td_feed.specs.declared.order.Order.{Order}
 use Rattle.td_feed.specs.declared.order.Order.TheVariants as order
 use Rattle.td_feed.specs.Orders.{submissions}
@@ -33,6 +33,7 @@ cut-plan S = cut_at_by-plan S (has_passed S (last_passed S)) (last_passed S)
 pub submissions-append : (xs ys : List Order) → submissions (xs ++ ys) ≡ submissions xs ++ submissions ys
 submissions-append [] ys = refl
 submissions-append (order.Submit batch ∷ xs) ys = ap (λ (l : List Submitted). submission 0 batch ∷ l) (submissions-append xs ys)
+submissions-append (order.SubmitAs request batch ∷ xs) ys = ap (λ (l : List Submitted). submission request batch ∷ l) (submissions-append xs ys)
 submissions-append (order.Cut ∷ xs) ys = submissions-append xs ys
 
 -- a list at the place that a loop has come to

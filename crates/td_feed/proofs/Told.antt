@@ -1,28 +1,34 @@
 -- What one command leaves of a keeper.
-use Rattle.std.proofs.Common.{◌≡◌, ◌⊎◌, ⊎_elim, inl, inr, ℕ, ◌≤◌, Bool, true, false, List, [], ◌∷◌, ◌++◌, refl, sym, ap, ◌∙◌, subst, arith}
-use Rattle.std.specs.Prelude.{Option, Some, None, Result, Ok, Err, IfOk, IfErr, OnErr, if◌then◌else◌}
+use Rattle.std.proofs.Common.{◌≡◌, ◌⊎◌, ⊎_elim, inr, ℕ, Bool, true, false, List, [], ◌∷◌, ◌++◌, refl, sym, ap, ◌∙◌, subst, arith}
+use Rattle.std.specs.Prelude.{Option, Result, Ok, Err, IfOk, IfErr, OnErr}
 use Rattle.std.proofs.lemmas.List.{append-nil}
 use Rattle.td_stamp.specs.declared.values.Entry.{Entry}
 use Rattle.td_calls.specs.Answers.{Answers}
 use Rattle.td_disk.specs.Disk.{DiskState}
 use Rattle.td_journal.specs.declared.submitted.Submitted.{Submitted as AnySubmitted}
-use Rattle.td_standing.specs.Standing.{last_epoch, submission}
+use Rattle.td_standing.specs.Standing.{last_epoch, last_request, submission}
 use Rattle.td_standing.specs.Advanced.{SinceAdvance}
 use Rattle.td_standing.specs.declared.error.KeeperError.{KeeperError}
 use Rattle.td_standing.specs.declared.error.KeeperError.TheVariants as error
 use Rattle.td_keeper.specs.declared.command.Command.{Command}
-use Rattle.td_keeper.specs.declared.command.Command.TheVariants.{Submit, Release, Settle, Collect, NextOut, Cut, WriteCut}
+use Rattle.td_keeper.specs.declared.command.Command.TheVariants.{Submit, SubmitAs, Release, Settle, Collect, NextOut, Cut, WriteCut}
 use Rattle.td_keeper.specs.declared.command.Reply.{Reply}
-use Rattle.td_keeper.specs.declared.command.Reply.TheVariants.{Submitted, Released, Settled, Collected, Out, CutTaken, Written, Refused}
+use Rattle.td_keeper.specs.declared.command.Reply.TheVariants.{Submitted, SubmittedAs, Released, Settled, Collected, Out, CutTaken, Written, Refused}
+use Rattle.td_keeper.specs.declared.receipt.Receipt.{Receipt}
+use Rattle.td_keeper.specs.declared.receipt.Receipt.TheVariants.{New, Already}
+use Rattle.td_keeper.specs.Received.{IsReceived, received_in}
+use Rattle.td_keeper.specs.Refused.{is_new}
 use Rattle.td_keeper.specs.Keeping.{Keeping, IsKeeping}
 use Rattle.td_keeper.specs.Driven.{submitted_in, submitted_by, may_write, Obeys, Driven, Rests}
-use Rattle.td_feed.specs.Carried.{Carries, Stopped, Leaves, batch_in, is_refused, is_resting}
+use Rattle.td_feed.specs.Carried.{Carries, Stopped, Leaves, batch_in, new_to, is_refused, is_resting}
+use Rattle.td_feed.proofs.Newness.{new_one, old_one}
 use Rattle.td_feed.proofs.Carrying.{Stands-on, Cuts-on, unmoved, submitted, checkpointed, leaves_none, stopped_one, stopped_none}
 
 -- which refusal a reply is
 pub which : (r : Reply) → is_refused r ≡ true → (e : KeeperError) × (b : Option (List Entry)) × (r ≡ Refused e b)
 which (Refused e b) is = (e, b, refl)
 which (Submitted n) is = absurd (let no : false ≡ true = is in cc)
+which (SubmittedAs n) is = absurd (let no : false ≡ true = is in cc)
 which (Released n) is = absurd (let no : false ≡ true = is in cc)
 which Settled is = absurd (let no : false ≡ true = is in cc)
 which (Collected n) is = absurd (let no : false ≡ true = is in cc)
@@ -34,6 +40,7 @@ which (Written w) is = absurd (let no : false ≡ true = is in cc)
 pub none_refused : (r : Reply) → ((e : KeeperError) (b : Option (List Entry)) → r ≡ Refused e b → ⊥) → is_refused r ≡ false
 none_refused (Refused e b) none = absurd (none e b refl)
 none_refused (Submitted n) none = refl
+none_refused (SubmittedAs n) none = refl
 none_refused (Released n) none = refl
 none_refused Settled none = refl
 none_refused (Collected n) none = refl
@@ -79,10 +86,25 @@ module _ {D : Type 0} (is_lawful : D → Type 0) (state : D → DiskState) (fail
   some_reply c [] old new d is = d
   some_reply c (r ∷ rs) old new d is = absurd (let no : r ∷ rs ≡ [] = is in cc)
 
+  -- a receipt, and what is new
+  received_is : (request : ℕ) (batch : List Entry) (receipt : Receipt) (old new : Keeping D) → IsReceived request batch receipt old new → received_in request batch receipt ≡ new_to old (submission request batch ∷ [])
+  received_is request batch (New epoch) old new r = sym (new_one (last_request old.standing) (submission request batch) r.0)
+  received_is request batch (Already last) old new r = sym (old_one (last_request old.standing) (submission request batch) r.0)
+
   -- what a command that was not refused submitted
-  pub submitted_is : (c : Command) (r : Reply) (old new : Keeping D) → Obeys is_lawful state failures answers c r old new → is_refused r ≡ false → submitted_in c r ≡ batch_in c
+  pub submitted_is : (c : Command) (r : Reply) (old new : Keeping D) → Obeys is_lawful state failures answers c r old new → is_refused r ≡ false → submitted_in c r ≡ new_to old (batch_in c)
   submitted_is (Submit batch) (Submitted n) old new obeys done = refl
   submitted_is (Submit batch) (Refused e b) old new obeys done = absurd (let no : true ≡ false = done in cc)
+  submitted_is (SubmitAs request batch) (SubmittedAs receipt) old new obeys done = received_is request batch receipt old new obeys.0.received
+  submitted_is (SubmitAs request batch) (Refused e b) old new obeys done = absurd (let no : true ≡ false = done in cc)
+  submitted_is (SubmitAs request batch) (Submitted n) old new obeys done = absurd obeys.0
+  submitted_is (SubmitAs request batch) (Released n) old new obeys done = absurd obeys.0
+  submitted_is (SubmitAs request batch) Settled old new obeys done = absurd obeys.0
+  submitted_is (SubmitAs request batch) (Collected n) old new obeys done = absurd obeys.0
+  submitted_is (SubmitAs request batch) (Out o) old new obeys done = absurd obeys.0
+  submitted_is (SubmitAs request batch) (CutTaken n) old new obeys done = absurd obeys.0
+  submitted_is (SubmitAs request batch) (Written w) old new obeys done = absurd obeys.0
+  submitted_is (Submit batch) (SubmittedAs n) old new obeys done = absurd obeys.0
   submitted_is (Submit batch) (Released n) old new obeys done = absurd obeys.0
   submitted_is (Submit batch) Settled old new obeys done = absurd obeys.0
   submitted_is (Submit batch) (Collected n) old new obeys done = absurd obeys.0
@@ -102,6 +124,7 @@ module _ {D : Type 0} (is_lawful : D → Type 0) (state : D → DiskState) (fail
   -- A COMMAND THAT WRITES NOTHING, whatever its reply is
   pub rest : Others-rest is_lawful state failures answers → (c : Command) (r : Reply) (old new : Keeping D) → Obeys is_lawful state failures answers c r old new → old.broken ≡ false → is_resting c ≡ true → Carries answers old new []
   rest others (Submit batch) r old new obeys whole is = absurd (let no : false ≡ true = is in cc)
+  rest others (SubmitAs request batch) r old new obeys whole is = absurd (let no : false ≡ true = is in cc)
   rest others Release r old new obeys whole is = rests_carry old new (others Release r old new refl obeys) whole
   rest others Settle r old new obeys whole is = rests_carry old new (others Settle r old new refl obeys) whole
   rest others Collect r old new obeys whole is = rests_carry old new (others Collect r old new refl obeys) whole
@@ -109,11 +132,25 @@ module _ {D : Type 0} (is_lawful : D → Type 0) (state : D → DiskState) (fail
   rest others Cut r old new obeys whole is = rests_carry old new (others Cut r old new refl obeys) whole
   rest others WriteCut r old new obeys whole is = absurd (let no : false ≡ true = is in cc)
 
+  carry_received : (request : ℕ) (batch : List Entry) (receipt : Receipt) (old new : Keeping D) → IsReceived request batch receipt old new → old.broken ≡ false → Carries answers old new (received_in request batch receipt)
+  carry_received request batch (New epoch) old new r whole = submitted answers old new new.device request batch whole r.2
+  carry_received request batch (Already last) old new r whole = unmoved answers old new (ap (λ (k : Keeping D). k.plan) r.2) (ap (λ (k : Keeping D). k.standing) r.2) (ap (λ (k : Keeping D). k.broken) r.2 ∙ whole)
+
   -- A COMMAND THAT WAS NOT REFUSED: the keeper goes on with what it submitted
   pub carry : Others-rest is_lawful state failures answers → Stands-on answers → Cuts-on answers → (c : Command) (r : Reply) (old new : Keeping D) → IsKeeping old answers → Obeys is_lawful state failures answers c r old new
       → old.broken ≡ false → is_refused r ≡ false → Carries answers old new (submitted_in c r)
-  carry others stands_on cuts_on (Submit batch) (Submitted n) old new kept obeys whole done = submitted answers old new new.device batch whole obeys.0.submitted
+  carry others stands_on cuts_on (Submit batch) (Submitted n) old new kept obeys whole done = submitted answers old new new.device 0 batch whole obeys.0.submitted
   carry others stands_on cuts_on (Submit batch) (Refused e b) old new kept obeys whole done = absurd (let no : true ≡ false = done in cc)
+  carry others stands_on cuts_on (SubmitAs request batch) (SubmittedAs receipt) old new kept obeys whole done = carry_received request batch receipt old new obeys.0.received whole
+  carry others stands_on cuts_on (SubmitAs request batch) (Refused e b) old new kept obeys whole done = absurd (let no : true ≡ false = done in cc)
+  carry others stands_on cuts_on (SubmitAs request batch) (Submitted n) old new kept obeys whole done = absurd obeys.0
+  carry others stands_on cuts_on (SubmitAs request batch) (Released n) old new kept obeys whole done = absurd obeys.0
+  carry others stands_on cuts_on (SubmitAs request batch) Settled old new kept obeys whole done = absurd obeys.0
+  carry others stands_on cuts_on (SubmitAs request batch) (Collected n) old new kept obeys whole done = absurd obeys.0
+  carry others stands_on cuts_on (SubmitAs request batch) (Out o) old new kept obeys whole done = absurd obeys.0
+  carry others stands_on cuts_on (SubmitAs request batch) (CutTaken n) old new kept obeys whole done = absurd obeys.0
+  carry others stands_on cuts_on (SubmitAs request batch) (Written w) old new kept obeys whole done = absurd obeys.0
+  carry others stands_on cuts_on (Submit batch) (SubmittedAs n) old new kept obeys whole done = absurd obeys.0
   carry others stands_on cuts_on (Submit batch) (Released n) old new kept obeys whole done = absurd obeys.0
   carry others stands_on cuts_on (Submit batch) Settled old new kept obeys whole done = absurd obeys.0
   carry others stands_on cuts_on (Submit batch) (Collected n) old new kept obeys whole done = absurd obeys.0
@@ -131,6 +168,7 @@ module _ {D : Type 0} (is_lawful : D → Type 0) (state : D → DiskState) (fail
       (λ written. checkpointed answers stands_on cuts_on old new new.device whole kept written.1)
       obeys.0.cut
   carry others stands_on cuts_on WriteCut (Refused e b) old new kept obeys whole done = absurd (let no : true ≡ false = done in cc)
+  carry others stands_on cuts_on WriteCut (SubmittedAs n) old new kept obeys whole done = absurd obeys.0
   carry others stands_on cuts_on WriteCut (Submitted n) old new kept obeys whole done = absurd obeys.0
   carry others stands_on cuts_on WriteCut (Released n) old new kept obeys whole done = absurd obeys.0
   carry others stands_on cuts_on WriteCut Settled old new kept obeys whole done = absurd obeys.0
@@ -152,7 +190,7 @@ module _ {D : Type 0} (is_lawful : D → Type 0) (state : D → DiskState) (fail
   -- A COMMAND THAT WAS REFUSED: nothing was submitted; or the device failed, and its batch stands on the disk or not
   pub refused : Others-rest is_lawful state failures answers → (c : Command) (e : KeeperError) (b : _) → Obeys is_lawful state failures answers c (Refused e b) old new
       → (is_lawful old.device → SinceAdvance answers old.plan old.standing (submitted_in c (Refused e b)) (last_epoch old.standing) (state old.device).moment (state new.device))
-      → Leaves is_lawful state answers old new (batch_in c)
+      → Leaves is_lawful state answers old new (new_to old (batch_in c))
   refused others (Submit batch) e b obeys since =
       ⊎_elim
       (λ is. none_left (submission 0 batch ∷ []) old is refl refl whole)
@@ -168,6 +206,32 @@ module _ {D : Type 0} (is_lawful : D → Type 0) (state : D → DiskState) (fail
       })
       other)
       obeys.0.unchanged
+  refused others (SubmitAs request batch) e b obeys since =
+      ⊎_elim
+      (λ is. none_left more old is refl refl whole)
+      (λ other. ⊎_elim
+      (λ memory. none_left more (record old { device = new.device }) memory.1 refl refl whole)
+      (λ device. record { count = 0; few = omega arith; left = inr (failed device.0 (is_new old.standing request) refl) })
+      other)
+      obeys.0.refused.unchanged
+    where
+      s : AnySubmitted
+      s = submission request batch
+
+      more : List AnySubmitted
+      more = new_to old (s ∷ [])
+
+      never : e ≡ error.Device → (e ≡ error.Broken) ⊎ (e ≡ error.OldVersion) → ⊥
+      never device why = ⊎_elim (λ broken. (let no : error.Device ≡ error.Broken = sym device ∙ broken in absurd cc)) (λ version. (let no : error.Device ≡ error.OldVersion = sym device ∙ version in absurd cc)) why
+
+      failed : e ≡ error.Device → (t : Bool) → is_new old.standing request ≡ t → Stopped is_lawful state answers old new more 0
+      failed device true is =
+          subst (λ (l : List AnySubmitted). Stopped is_lawful state answers old new l 0) (sym (new_one (last_request old.standing) s is))
+          (stopped_one is_lawful state answers stands_on old new before counts s
+          (λ lawful.
+          subst (λ (f : KeeperError). SinceAdvance answers old.plan old.standing (submitted_in (SubmitAs request batch) (Refused f b)) (last_epoch old.standing) (state old.device).moment (state new.device)) device
+          (since lawful)))
+      failed device false is = absurd (never device (obeys.0.repeated is))
   refused others Release e b obeys since = rests_left [] (others Release (Refused e b) old new refl obeys)
   refused others Settle e b obeys since = rests_left [] (others Settle (Refused e b) old new refl obeys)
   refused others Collect e b obeys since = rests_left [] (others Collect (Refused e b) old new refl obeys)

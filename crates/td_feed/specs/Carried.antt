@@ -4,24 +4,28 @@ use Rattle.td_plan.specs.Lines.{Line}
 use Rattle.td_calls.specs.Answers.{Answers}
 use Rattle.td_disk.specs.Disk.{DiskState}
 use Rattle.td_journal.specs.declared.submitted.Submitted.{Submitted}
-use Rattle.td_standing.specs.Standing.{submission}
+use Rattle.td_journal.specs.Numbers.{greatest}
+use Rattle.td_standing.specs.Standing.{last_request, submission}
 use Rattle.td_standing.specs.Stops.{Stands}
 use Rattle.td_standing.specs.Advanced.{states_by}
 use Rattle.td_keeper.specs.Keeping.{Keeping}
 use Rattle.td_keeper.specs.declared.command.Command.{Command}
-use Rattle.td_keeper.specs.declared.command.Command.TheVariants.{Submit, WriteCut}
+use Rattle.td_keeper.specs.declared.command.Command.TheVariants.{Submit, SubmitAs, WriteCut}
 use Rattle.td_keeper.specs.declared.command.Reply.{Reply}
 use Rattle.td_keeper.specs.declared.command.Reply.TheVariants.{Refused}
+use Rattle.td_feed.specs.Orders.{new_after}
 use Rattle.td_feed.specs.Fed.{TellsHistory}
 
 -- a keeper's standing stands for a history
 abbrev pub StandsFor : {D : Type 0} → Answers → Keeping D → List Submitted → Type 0
 StandsFor answers k history = Stands (states_by answers k.plan) k.standing history
 
--- THE KEEPER GOES ON with these batches: the device did not fail, and what stood for a history stands for it and them
+-- THE KEEPER GOES ON with these batches: the device did not fail, what stood for a history stands for it and them, and the
+-- greatest request number is raised by theirs
 pub record Carries {D : Type 0} (answers : Answers) (old new : Keeping D) (x : List Submitted) : Type 0 where
   pub plan : new.plan ≡ old.plan
   pub whole : new.broken ≡ false
+  pub last : last_request new.standing ≡ greatest (last_request old.standing) x
   pub stands : (history : List Submitted) → StandsFor answers old history → StandsFor answers new (history ++ x)
 
 -- an image tells a history with the first n of more batches, or with one more of them
@@ -42,7 +46,12 @@ pub record Leaves {D : Type 0} (is_lawful : D → Type 0) (state : D → DiskSta
 -- what a command would submit
 abbrev pub batch_in : Command → List Submitted
 batch_in (Submit batch) = submission 0 batch ∷ []
+batch_in (SubmitAs request batch) = submission request batch ∷ []
 batch_in _ = []
+
+-- what is new of it to a keeper
+abbrev pub new_to : {D : Type 0} → Keeping D → List Submitted → List Submitted
+new_to k x = new_after (last_request k.standing) x
 
 -- whether a reply is a refusal
 abbrev pub is_refused : Reply → Bool
@@ -52,5 +61,6 @@ is_refused _ = false
 -- whether a command writes nothing to the disk
 abbrev pub is_resting : Command → Bool
 is_resting (Submit batch) = false
+is_resting (SubmitAs request batch) = false
 is_resting WriteCut = false
 is_resting _ = true

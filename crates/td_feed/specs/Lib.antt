@@ -4,3 +4,4 @@ pub mod Shown
 pub mod Fed
 pub mod Carried
 pub mod Said
+pub mod Upgraded

@@ -1,5 +1,5 @@
 -- What the input of a feed asks for, or its first fault.
-use Rattle.std.specs.Prelude.{◌≡◌, ◌⊎◌, ℕ, ◌+◌, Bool, true, false, IsTrue, if◌then◌else◌, List, [], ◌∷◌, ◌++◌, codes, Option, Some, None, option_map, Result, Ok, Err}
+use Rattle.std.specs.Prelude.{◌≡◌, ◌⊎◌, ℕ, zero, suc, ◌+◌, ◌==◌, ◌&&◌, max, Bool, true, false, IsTrue, if◌then◌else◌, List, [], ◌∷◌, ◌++◌, codes, Option, Some, None, option_map, Result, Ok, Err}
 use Rattle.std.specs.List.{list_all}
 use Rattle.std.specs.Str.{bytes_eq}
 use Rattle.std.specs.Char.{is_ascii}
@@ -7,9 +7,10 @@ use Rattle.td_stamp.specs.declared.values.Entry.{Entry}
 use Rattle.td_stamp.specs.Orders.{entry_cmp}
 use Rattle.td_stamp.specs.Bag.{bag_of}
 use Rattle.td_plan.specs.Lines.{Line as PlanLine}
-use Rattle.td_plan.specs.Text.{text_lines, words}
+use Rattle.td_plan.specs.Text.{text_lines, words, natural_of}
 use Rattle.td_plan.specs.Inputs.{is_input_of}
 use Rattle.td_journal.specs.declared.submitted.Submitted.{Submitted}
+use Rattle.td_journal.specs.Numbers.{may_come}
 use Rattle.td_standing.specs.Standing.{submission}
 use Rattle.td_console.specs.declared.data_line.DataLine.TheVariants.{PassedOver, Record, Close}
 use Rattle.td_console.specs.declared.faults.LineFault.TheVariants.{Syntax, NoSuchInput, NotClosed}
@@ -17,7 +18,7 @@ use Rattle.td_console.specs.declared.faults.Fault.{Fault}
 use Rattle.td_console.specs.declared.faults.Fault.TheVariants.{Line, Memory}
 use Rattle.td_console.specs.Data.{data_line_of}
 use Rattle.td_feed.specs.declared.order.FeedLine.{FeedLine}
-use Rattle.td_feed.specs.declared.order.FeedLine.TheVariants.{Data, Cut}
+use Rattle.td_feed.specs.declared.order.FeedLine.TheVariants.{Data, Request, Cut}
 use Rattle.td_feed.specs.declared.order.Order.{Order}
 use Rattle.td_feed.specs.declared.order.Order.TheVariants as order
 
@@ -26,37 +27,74 @@ abbrev pub is_cut : List (List ℕ) → Bool
 is_cut (word ∷ []) = bytes_eq word (codes "cut")
 is_cut _ = false
 
+-- a number that is not 0
+abbrev pub positive : Option ℕ → Option ℕ
+positive None = None
+positive (Some zero) = None
+positive (Some (suc q)) = Some (suc q)
+
+-- the request number of the words `req Q`
+abbrev pub request_of : List (List ℕ) → Option ℕ
+request_of (word ∷ number ∷ []) = if bytes_eq word (codes "req") then positive (natural_of number) else None
+request_of _ = None
+
+-- a request number, or what a data line says
+abbrev pub or_data : List ℕ → Option ℕ → Option FeedLine
+or_data line (Some q) = Some (Request q)
+or_data line None = option_map Data (data_line_of line)
+
 -- what a line says, if it has a form
 abbrev pub feed_line_of : List ℕ → Option FeedLine
 feed_line_of line =
-    if list_all is_ascii line then (if is_cut (words line) then Some Cut else option_map Data (data_line_of line)) else None
+    if list_all is_ascii line then (if is_cut (words line) then Some Cut else or_data line (request_of (words line))) else None
 
--- Orders that were read so far, and the entries of the epoch that is not closed, as they were read
+-- Orders that were read so far; and of the epoch that is not closed its request number, 0 for none, and its entries as they were
+-- read
 pub record Orders : Type 0 where
   pub orders : List Order
+  pub request : ℕ
   pub current : List Entry
 
 -- before the first line
 abbrev pub no_orders : Orders
-no_orders = record { orders = []; current = [] }
+no_orders = record { orders = []; request = 0; current = [] }
 
--- with one order more, and no record after it
+-- with one order more, and nothing after it
 abbrev pub with_order : Order → Orders → Orders
-with_order o read = record { orders = read.orders ++ o ∷ []; current = [] }
+with_order o read = record { orders = read.orders ++ o ∷ []; request = 0; current = [] }
+
+-- an epoch has not begun: neither a request number nor a record stands in it
+abbrev pub has_none : List Entry → Bool
+has_none [] = true
+has_none (entry ∷ entries) = false
+
+abbrev pub is_between : Orders → Bool
+is_between read = (read.request == 0) && has_none read.current
 
 -- a cut stands between epochs alone
-abbrev pub with_cut : ℕ → Orders → List Entry → Result Orders Fault
-with_cut n read [] = Ok (with_order order.Cut read)
-with_cut n read (entry ∷ entries) = Err (Line n Syntax)
+abbrev pub with_cut : ℕ → Orders → Bool → Result Orders Fault
+with_cut n read true = Ok (record { orders = read.orders ++ order.Cut ∷ []; request = read.request; current = read.current })
+with_cut n read false = Err (Line n Syntax)
+
+-- and so does a request number, which is of the epoch after it
+abbrev pub with_request : ℕ → ℕ → Orders → Bool → Result Orders Fault
+with_request n q read true = Ok (record { orders = read.orders; request = q; current = read.current })
+with_request n q read false = Err (Line n Syntax)
+
+-- what submits a batch under a request number, or without one
+abbrev pub order_for : ℕ → List Entry → Order
+order_for zero batch = order.Submit batch
+order_for (suc q) batch = order.SubmitAs (suc q) batch
 
 -- with one line more, which has the number n, or its fault
 abbrev pub with_line : List PlanLine → ℕ → Orders → Option FeedLine → Result Orders Fault
 with_line plan n read None = Err (Line n Syntax)
-with_line plan n read (Some Cut) = with_cut n read read.current
+with_line plan n read (Some Cut) = with_cut n read (is_between read)
+with_line plan n read (Some (Request q)) = with_request n q read (is_between read)
 with_line plan n read (Some (Data PassedOver)) = Ok read
-with_line plan n read (Some (Data Close)) = Ok (with_order (order.Submit (bag_of entry_cmp read.current)) read)
+with_line plan n read (Some (Data Close)) = Ok (with_order (order_for read.request (bag_of entry_cmp read.current)) read)
 with_line plan n read (Some (Data (Record input rec))) =
-    if is_input_of plan input then Ok (record { orders = read.orders; current = read.current ++ record { input = input; rec = rec } ∷ [] })
+    if is_input_of plan input then Ok (record { orders = read.orders; request = read.request; current = read.current ++ record { input = input; rec = rec } ∷ [] })
     else Err (Line n NoSuchInput)
 
 -- what comes after an answer, unless it is a fault
@@ -65,24 +103,30 @@ and_then next (Ok read) = next read
 and_then next (Err fault) = Err fault
 
 -- at the end of the lines, which is counted as the line after the last one
-abbrev pub ended : ℕ → List Order → List Entry → Result (List Order) Fault
-ended n orders [] = Ok orders
-ended n orders (entry ∷ entries) = Err (Line n NotClosed)
+abbrev pub ended : ℕ → List Order → Bool → Result (List Order) Fault
+ended n orders true = Ok orders
+ended n orders false = Err (Line n NotClosed)
 
 -- the orders with some more lines, of which the first has the number n
 abbrev pub orders_from : List PlanLine → ℕ → Orders → List (List ℕ) → Result (List Order) Fault
-orders_from plan n read [] = ended n read.orders read.current
+orders_from plan n read [] = ended n read.orders (is_between read)
 orders_from plan n read (line ∷ lines) = and_then (λ more. orders_from plan (n + 1) more lines) (with_line plan n read (feed_line_of line))
 
 -- THE ORDERS OF AN INPUT, or its first fault
 abbrev pub orders_of : List PlanLine → List ℕ → Result (List Order) Fault
 orders_of plan input = orders_from plan 1 no_orders (text_lines input)
 
--- what an order submits, with no request number
+-- what orders would submit, each with its request number, 0 for none
 abbrev pub submissions : List Order → List Submitted
 submissions [] = []
 submissions (order.Submit batch ∷ orders) = submission 0 batch ∷ submissions orders
+submissions (order.SubmitAs request batch ∷ orders) = submission request batch ∷ submissions orders
 submissions (order.Cut ∷ orders) = submissions orders
+
+-- WHICH OF THESE ARE NEW after a greatest request number: each that has no number, and each whose number is above all before
+abbrev pub new_after : ℕ → List Submitted → List Submitted
+new_after last [] = []
+new_after last (s ∷ more) = if may_come (Some last) s.request then s ∷ new_after (max last s.request) more else new_after last more
 
 -- the epochs of an input without a fault
 abbrev pub submitted_by : Result (List Order) Fault → List Submitted
@@ -92,6 +136,7 @@ submitted_by (Err fault) = []
 -- what an order submits names inputs of the plan
 abbrev pub IsAccepted : List PlanLine → Order → Type 0
 IsAccepted plan (order.Submit batch) = IsTrue (list_all (λ e. is_input_of plan e.input) batch)
+IsAccepted plan (order.SubmitAs request batch) = IsTrue (list_all (λ e. is_input_of plan e.input) batch)
 IsAccepted plan order.Cut = Unit {0}
 
 -- a fault of an input: of a line, or for want of memory

@@ -1,5 +1,5 @@
 -- What a feed writes: the lines of what its keeper replied.
-use Rattle.std.specs.Prelude.{◌≡◌, ◌⊎◌, ℕ, List, [], ◌∷◌, ◌++◌, codes, Option, Some, None, Result, Ok, Err}
+use Rattle.std.specs.Prelude.{◌≡◌, ◌⊎◌, ℕ, List, [], ◌∷◌, ◌++◌, codes, Option, Some, Result, Ok, Err}
 use Rattle.std.specs.Fmt.{decimal}
 use Rattle.std.specs.Io.KnownBytes.{Appends}
 use Rattle.td_stamp.specs.declared.values.Entry.{Entry}
@@ -11,32 +11,46 @@ use Rattle.td_standing.specs.declared.error.KeeperError.{KeeperError}
 use Rattle.td_standing.specs.Told.{Told}
 use Rattle.td_keeper.specs.declared.command.Command.{Command}
 use Rattle.td_keeper.specs.declared.command.Reply.{Reply}
-use Rattle.td_keeper.specs.declared.command.Reply.TheVariants.{Submitted, Out, Written, Refused}
+use Rattle.td_keeper.specs.declared.command.Reply.TheVariants.{Submitted, SubmittedAs, Out, Written, Refused}
+use Rattle.td_keeper.specs.declared.command.Command.TheVariants.{SubmitAs}
+use Rattle.td_keeper.specs.declared.receipt.Receipt.TheVariants.{New, Already}
 use Rattle.td_keeper.specs.Keeping.{Keeping, IsFreshlyOpened}
 use Rattle.td_keeper.specs.Driven.{submitted_by, Driven}
+use Rattle.td_feed.specs.Carried.{new_to}
 use Rattle.td_console.specs.Answer.{output_text}
 use Rattle.td_console.specs.declared.faults.Fault.{Fault}
 use Rattle.td_console.specs.declared.faults.Fault.TheVariants.{Memory, Output}
 use Rattle.td_console.specs.Refusals.{keeper_fault}
 
--- `ack E` and `cut E`
+-- `ack E`, `again Q` and `cut E`
 abbrev pub ack_line : ℕ → List ℕ
 ack_line epoch = codes "ack " ++ decimal epoch ++ 10 ∷ []
+
+abbrev pub again_line : ℕ → List ℕ
+again_line request = codes "again " ++ decimal request ++ 10 ∷ []
 
 abbrev pub cut_line : ℕ → List ℕ
 cut_line epoch = codes "cut " ++ decimal epoch ++ 10 ∷ []
 
--- THE LINES OF A REPLY: that an epoch is on the disk, the outputs of one that is handed out, that a cut is on the disk
-abbrev pub line_of : Reply → List ℕ
-line_of (Submitted epoch) = ack_line epoch
-line_of (Out (Some out)) = output_text (out ∷ [])
-line_of (Written (Some epoch)) = cut_line epoch
-line_of _ = []
+-- the request number of a command, 0 for none
+abbrev pub request_in : Command → ℕ
+request_in (SubmitAs request batch) = request
+request_in _ = 0
 
--- of replies, one after another
-abbrev pub lines_of : List Reply → List ℕ
-lines_of [] = []
-lines_of (reply ∷ replies) = line_of reply ++ lines_of replies
+-- THE LINES OF A REPLY to a command with this request number: that an epoch is on the disk, or was there already; the outputs of
+-- one that is handed out; that a cut is on the disk
+abbrev pub line_of : ℕ → Reply → List ℕ
+line_of request (Submitted epoch) = ack_line epoch
+line_of request (SubmittedAs (New epoch)) = ack_line epoch
+line_of request (SubmittedAs (Already last)) = again_line request
+line_of request (Out (Some out)) = output_text (out ∷ [])
+line_of request (Written (Some epoch)) = cut_line epoch
+line_of request _ = []
+
+-- of replies to commands, one after another
+abbrev pub lines_of : List Command → List Reply → List ℕ
+lines_of (command ∷ commands) (reply ∷ replies) = line_of (request_in command) reply ++ lines_of commands replies
+lines_of _ _ = []
 
 -- the fault for a refusal
 abbrev pub fault_in : Reply → Fault
@@ -50,7 +64,7 @@ module _ {D : Type 0} (is_lawful : D → Type 0) (state : D → DiskState) (fail
     pub replies : List Reply
     pub driven : Driven is_lawful state failures answers commands replies old new
     pub submitted : submitted_by commands replies ≡ x
-    pub said : Appends before after (lines_of replies)
+    pub said : Appends before after (lines_of commands replies)
 
   -- or a beginning of them: no line is written before its reply
   pub record SaysSome (before after : Option (List ℕ)) (old new : Keeping D) : Type 0 where
@@ -59,7 +73,7 @@ module _ {D : Type 0} (is_lawful : D → Type 0) (state : D → DiskState) (fail
     pub driven : Driven is_lawful state failures answers commands replies old new
     pub text : List ℕ
     pub unsaid : List ℕ
-    pub lines : lines_of replies ≡ text ++ unsaid
+    pub lines : lines_of commands replies ≡ text ++ unsaid
     pub said : Appends before after text
 
   -- all of them after Ok, and a beginning at a refusal; of a writer that failed nothing is known
@@ -67,7 +81,8 @@ module _ {D : Type 0} (is_lawful : D → Type 0) (state : D → DiskState) (fail
   SaysBy (Ok done) before after old new x = Says before after old new x
   SaysBy (Err fault) before after old new x = (fault ≡ Output) ⊎ SaysSome before after old new
 
-  -- A FEED OF A DISK: its keeper is what the disk tells, and what was written are the lines of what that keeper replied
+  -- A FEED OF A DISK: its keeper is what the disk tells, and what was written are the lines of what that keeper replied; it was
+  -- told what submits those of these that are new to it
   pub record SaysFrom (result : Result (Unit {0}) Fault) (plan : List PlanLine) (disk left : D) (before after : Option (List ℕ)) (x : List AnySubmitted) : Type 0 where
     pub keeper : Keeping D
     pub fresh : IsFreshlyOpened keeper
@@ -75,7 +90,7 @@ module _ {D : Type 0} (is_lawful : D → Type 0) (state : D → DiskState) (fail
     pub told : is_lawful disk → Told plan (state keeper.device).bytes (Ok keeper.standing)
     pub ended : Keeping D
     pub left_is : left ≡ ended.device
-    pub said : SaysBy result before after keeper ended x
+    pub said : SaysBy result before after keeper ended (new_to keeper x)
 
   -- at a refusal before there is a keeper, or before it is told anything, nothing is written
   abbrev pub SaysFed : Result (Unit {0}) Fault → List PlanLine → D → D → Option (List ℕ) → Option (List ℕ) → List AnySubmitted → Type 0

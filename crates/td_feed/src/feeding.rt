@@ -4,11 +4,12 @@ ghost use Rattle.td_plan.specs.Blocks.{vertices};
 ghost use Rattle.td_calls.specs.Fits.{first_lack};
 ghost use Rattle.td_disk.specs.Disk.{CountsDevice, Rises};
 ghost use Rattle.td_standing.specs.declared.error.KeeperError.TheVariants.{Device};
+ghost use Rattle.td_journal.specs.Numbers.{greatest};
 ghost use Rattle.td_journal.specs.declared.submitted.Submitted.{Submitted as AnySubmitted};
 ghost use Rattle.td_console.specs.Answer.{lack_fault};
-ghost use Rattle.td_feed.specs.Orders.{orders_of, submissions, submitted_by};
+ghost use Rattle.td_feed.specs.Orders.{orders_of, submitted_by, new_after};
 ghost use Rattle.td_feed.specs.Fed.{EachTellsHistory, EachTellsSome};
-ghost use Rattle.td_feed.specs.Carried.{Carries, Leaves};
+ghost use Rattle.td_feed.specs.Carried.{new_to, Carries, Leaves};
 ghost use Rattle.td_feed.specs.Said.{SaysBy, SaysFed};
 
 use crate::order::{Order, read_orders};
@@ -28,7 +29,8 @@ use td_plan::Plan;
 use td_standing::laws;
 
 /// Recovers a disk, and does what the input asks for, line by line: each epoch is put on the disk, `ack E` is written, and it
-/// is released into a hall of so many shards, each with a worker in a thread of its own. A line `cut`, and the end of the input,
+/// is released; one with a request number that is not above all on the disk is passed over, and `again Q` is written. It is
+/// released into a hall of so many shards, each with a worker in a thread of its own. A line `cut`, and the end of the input,
 /// settle and write the output lines of the epochs after the disk's checkpoint that were not written before; a `cut` then cuts,
 /// writes the cut to the disk, and prints `cut E`. What was written before a refusal stays written, and nothing more is written
 /// after it. The workers have ended when the disk comes back.
@@ -66,17 +68,17 @@ pub fn feed<
     // An input with a fault answers an error, with nothing written to the writer.
     ensures fault { IfSome (I.remaining reader.old) (λ input. IfErr (orders_of plan.now input) (λ _. IsErr result.1 × (writer.new ≡ writer.old))) }
 
-    // A DISK THAT STOOD FOR A HISTORY, whatever a crash had left of it, stands for that and each epoch of the input after it,
-    // where the answer is Ok.
+    // A DISK THAT STOOD FOR A HISTORY, whatever a crash had left of it, stands for that and each epoch of the input after it that
+    // is new: has no request number, or one that is above all before; where the answer is Ok.
     ensures fed { OnOk result.1 (IfSome (I.remaining reader.old) (λ input. D.is_lawful disk → (history : List AnySubmitted)
         → EachTellsHistory L.answers plan.now history (D.state disk)
-        → EachTellsHistory L.answers plan.now (history ++ submitted_by (orders_of plan.now input)) (D.state result.0))) }
+        → EachTellsHistory L.answers plan.now (history ++ new_after (greatest 0 history) (submitted_by (orders_of plan.now input))) (D.state result.0))) }
 
-    // At any answer it stands for that and a beginning of the input's epochs: whatever a crash leaves, some number of them,
+    // At any answer it stands for that and a beginning of the input's new epochs: whatever a crash leaves, some number of them,
     // or one more.
     ensures safe { IfSome (I.remaining reader.old) (λ input. D.is_lawful disk → (history : List AnySubmitted)
         → EachTellsHistory L.answers plan.now history (D.state disk)
-        → EachTellsSome L.answers plan.now history (submitted_by (orders_of plan.now input)) (D.state result.0)) }
+        → EachTellsSome L.answers plan.now history (new_after (greatest 0 history) (submitted_by (orders_of plan.now input))) (D.state result.0)) }
 
     // What is written are the lines of what the keeper of the disk replied, one after another: all of them after Ok, and a
     // beginning of them at a refusal, where the writer did not fail.
@@ -125,11 +127,11 @@ fn obey<
     ensures lawful { D.is_lawful keeper.device ↔ D.is_lawful result.0.device }
     ensures fault { IfSome (I.remaining reader.old) (λ input. IfErr (orders_of plan.now input) (λ _. IsErr result.1 × (writer.new ≡ writer.old))) }
     ensures fed { OnOk result.1 (IfSome (I.remaining reader.old) (λ input.
-        Carries L.answers keeper result.0 (submitted_by (orders_of plan.now input)))) }
+        Carries L.answers keeper result.0 (new_to keeper (submitted_by (orders_of plan.now input))))) }
     ensures left { OnErr result.1 (IfSome (I.remaining reader.old) (λ input.
-        Leaves D.is_lawful D.state L.answers keeper result.0 (submitted_by (orders_of plan.now input)))) }
+        Leaves D.is_lawful D.state L.answers keeper result.0 (new_to keeper (submitted_by (orders_of plan.now input))))) }
     ensures said { IfSome (I.remaining reader.old) (λ input.
-        SaysBy D.is_lawful D.state D.failures L.answers result.1 (W.contents writer.old) (W.contents writer.new) keeper result.0 (submitted_by (orders_of plan.now input))) }
+        SaysBy D.is_lawful D.state D.failures L.answers result.1 (W.contents writer.old) (W.contents writer.new) keeper result.0 (new_to keeper (submitted_by (orders_of plan.now input)))) }
     ensures failures { CountsDevice result.1 (Fault.Keeper Device) (D.failures keeper.device) (D.failures result.0.device) }
 {
     match prepared(alloc, &keeper, plan, workers, reader) {

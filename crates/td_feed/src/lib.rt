@@ -1,6 +1,6 @@
-//! The engines behind the commands of the program `td` that have a disk, over any disk, reader and writer: `format`, `feed`
-//! and `show`. Their one contract: a feed that answers Ok leaves a disk that stands for what it stood for before and each
-//! epoch of the input, once; and what `show` writes is what the disk tells.
+//! The engines behind the commands of the program `td` that have a disk, over any disk, reader and writer: `format`, `feed`,
+//! `show` and `upgrade`. Their one contract: a feed that answers Ok leaves a disk that stands for what it stood for before and each
+//! epoch of the input that is new to it, once; and what `show` writes is what the disk tells.
 #![tactic(auto)]
 
 mod feeding;
@@ -11,6 +11,7 @@ mod saying;
 mod showing;
 mod telling;
 mod under_way;
+mod upgrading;
 mod workers;
 
 pub use feeding::feed;
@@ -18,3 +19,4 @@ pub use formatting::{format, shape_of};
 pub use order::{FeedLine, Order, read_orders};
 pub use plan_text::read_plan;
 pub use showing::show;
+pub use upgrading::upgrade;

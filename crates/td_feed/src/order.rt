@@ -1,13 +1,14 @@
 //! What the input of a feed asks for, line by line.
 ghost use Rattle.std.specs.Prelude.{◌≡◌, ◌⊎◌, ◌<◌, ◌^◌, [], true, All, IfOk, IfErr, Some, Ok, Err, length};
 ghost use Rattle.td_plan.specs.Text.{words};
-ghost use Rattle.td_feed.specs.Orders.{is_cut, feed_line_of, with_cut, with_line, orders_of, is_of_input, IsAccepted, Gives};
+ghost use Rattle.td_feed.specs.Orders.{is_cut, request_of, positive, feed_line_of, is_between, order_for, with_cut, with_request, with_line};
+ghost use Rattle.td_feed.specs.Orders.{orders_of, is_of_input, IsAccepted, Gives};
 
 use std::alloc::Global;
 use std::marker::Model;
 use td_console::{DataLine, Fault, LineFault, ascii_text, first_line, is_input, read_data_line};
 use td_plan::Plan;
-use td_plan::text::next_word;
+use td_plan::text::{natural, next_word};
 use td_stamp::{Batch, Entry, Rec};
 
 /// What a line says.
@@ -15,6 +16,8 @@ use td_stamp::{Batch, Entry, Rec};
 pub enum FeedLine {
     /// What data lines say in every input.
     Data(DataLine),
+    /// `req Q`: the epoch that begins has this request number.
+    Request(u64),
     /// `cut`.
     Cut,
 }
@@ -24,14 +27,18 @@ pub enum FeedLine {
 pub enum Order {
     /// The next epoch, with this batch.
     Submit(Batch),
+    /// The next epoch, with this request number and this batch, unless it was submitted before.
+    SubmitAs(u64, Batch),
     /// To settle, cut, and write the cut.
     Cut,
 }
 
-/// Orders that were read, and the entries of the epoch that is not closed, in the order of their lines.
+/// Orders that were read, and of the epoch that is not closed its request number, 0 for none, and its entries in the order of
+/// their lines.
 #[derive(Drop)]
 struct Orders {
     orders: Vec<Order>,
+    request: u64,
     current: Vec<Entry>,
 }
 
@@ -40,11 +47,11 @@ impl Model for Orders {
 
     ghost Value = { Orders };
 
-    ghost view = { λ r. record { orders = r.orders.items; current = r.current.items } };
+    ghost view = { λ r. record { orders = r.orders.items; request = r.request; current = r.current.items } };
 }
 
-/// What an input asks for, in order. A line is a data line, or `cut` where no record stands in the current epoch. Refusals:
-/// the first fault of the lines, which are counted from 1; `Memory`.
+/// What an input asks for, in order. A line is a data line; or, where neither a record nor a request number stands in the current
+/// epoch, `cut` or `req Q`. Refusals: the first fault of the lines, which are counted from 1; `Memory`.
 pub fn read_orders(alloc: Global, plan: &Plan, input: &[u8]) -> Result<Vec<Order>, Fault>
     requires bound { length input.now < 2 ^ 63 }
     ensures ok { IfOk result (λ orders. orders_of plan.now input.now ≡ Ok orders.items) }
@@ -54,6 +61,7 @@ pub fn read_orders(alloc: Global, plan: &Plan, input: &[u8]) -> Result<Vec<Order
 {
     let mut read = Orders {
         orders: Vec::new(alloc),
+        request: 0,
         current: Vec::new(alloc),
     };
     let mut number: u64 = 1;
@@ -63,7 +71,7 @@ pub fn read_orders(alloc: Global, plan: &Plan, input: &[u8]) -> Result<Vec<Order
         number += 1;
         rest = others;
     }
-    if read.current.is_empty() {
+    if is_between(&read) {
         Ok(read.orders)
     } else {
         Err(Fault::Line(number, LineFault::NotClosed))
@@ -83,6 +91,7 @@ fn with_line(
 {
     let said = match read_feed_line(line) {
         Some(FeedLine::Data(said)) => said,
+        Some(FeedLine::Request(request)) => return with_request(read, number, request),
         Some(FeedLine::Cut) => return with_cut(read, number),
         None => return Err(Fault::Line(number, LineFault::Syntax)),
     };
@@ -93,20 +102,43 @@ fn with_line(
     }
 }
 
-/// With a cut. Refusals: `Syntax` where a record stands in the current epoch; `Memory`.
-fn with_cut(read: Orders, number: u64) -> Result<Orders, Fault>
-    ensures gives { Gives result (with_cut number read read.current) }
+/// Whether an epoch has not begun: neither a record nor a request number stands in it.
+fn is_between(read: &Orders) -> bool
+    ensures { result ≡ is_between read.now }
+{
+    read.request == 0 && read.current.is_empty()
+}
+
+/// With a request number for the epoch that begins. Refusal: `Syntax` where it has begun.
+fn with_request(read: Orders, number: u64, request: u64) -> Result<Orders, Fault>
+    ensures gives { Gives result (with_request number request read (is_between read)) }
     ensures of_input { IfErr result (λ f. is_of_input f ≡ true) }
 {
-    let Orders {
-        mut orders,
-        current,
-    } = read;
-    if !current.is_empty() {
+    if !is_between(&read) {
         return Err(Fault::Line(number, LineFault::Syntax));
     }
+    Ok(Orders { request, ..read })
+}
+
+/// With a cut. Refusals: `Syntax` where an epoch has begun; `Memory`.
+fn with_cut(read: Orders, number: u64) -> Result<Orders, Fault>
+    ensures gives { Gives result (with_cut number read (is_between read)) }
+    ensures of_input { IfErr result (λ f. is_of_input f ≡ true) }
+{
+    if !is_between(&read) {
+        return Err(Fault::Line(number, LineFault::Syntax));
+    }
+    let Orders {
+        mut orders,
+        request,
+        current,
+    } = read;
     orders.push(Order::Cut)?;
-    Ok(Orders { orders, current })
+    Ok(Orders {
+        orders,
+        request,
+        current,
+    })
 }
 
 /// With the current epoch closed. Refusal: `Memory`.
@@ -116,13 +148,26 @@ fn close(alloc: Global, read: Orders) -> Result<Orders, Fault>
 {
     let Orders {
         mut orders,
+        request,
         current,
     } = read;
-    orders.push(Order::Submit(Batch::from_vec(alloc, current)))?;
+    orders.push(order_for(request, Batch::from_vec(alloc, current)))?;
     Ok(Orders {
         orders,
+        request: 0,
         current: Vec::new(alloc),
     })
+}
+
+/// What submits a batch under a request number, or without one where that is 0.
+fn order_for(request: u64, batch: Batch) -> Order
+    ensures { result ≡ order_for request batch }
+{
+    if request == 0 {
+        Order::Submit(batch)
+    } else {
+        Order::SubmitAs(request, batch)
+    }
 }
 
 /// With one record more. Refusals: `NoSuchInput`; `Memory`.
@@ -142,10 +187,15 @@ fn with_record(
     let input = input as u8;
     let Orders {
         orders,
+        request,
         mut current,
     } = read;
     current.push(Entry { input, rec })?;
-    Ok(Orders { orders, current })
+    Ok(Orders {
+        orders,
+        request,
+        current,
+    })
 }
 
 /// What a line says, if it has a form.
@@ -156,7 +206,32 @@ fn read_feed_line(line: &[u8]) -> Option<FeedLine>
     if is_cut(text) {
         return Some(FeedLine::Cut);
     }
-    Some(FeedLine::Data(read_data_line(text)?))
+    match read_request(text) {
+        Some(request) => Some(FeedLine::Request(request)),
+        None => Some(FeedLine::Data(read_data_line(text)?)),
+    }
+}
+
+/// The number that a line `req Q` gives, from 1 on, where it is one.
+fn read_request(line: &str) -> Option<u64>
+    ensures { result ≡ request_of (words line.now) }
+{
+    let (word, rest) = next_word(line)?;
+    let (number, rest) = next_word(rest)?;
+    if word != "req" || next_word(rest).is_some() {
+        return None;
+    }
+    positive(natural(number))
+}
+
+/// A number, where it is not 0.
+fn positive(number: Option<u64>) -> Option<u64>
+    ensures { result ≡ positive number }
+{
+    match number {
+        Some(0) | None => None,
+        Some(number) => Some(number),
+    }
 }
 
 /// Whether the one word of a line is `cut`.

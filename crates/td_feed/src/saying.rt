@@ -1,29 +1,48 @@
 //! What a feed writes: the lines of its keeper's replies.
 ghost use Rattle.std.specs.Prelude.{◌≡◌, ◌⊎◌, string_bytes, IfOk, IfErr, OnOk};
 ghost use Rattle.std.specs.Io.KnownBytes.{Appends};
-ghost use Rattle.td_feed.specs.Said.{line_of as line_in};
+ghost use Rattle.td_feed.specs.Said.{line_of as line_in, request_in};
 
 use std::alloc::Global;
 use td_console::{Fault, Sink, print_epoch, write_answer};
-use td_keeper::Reply;
+use td_keeper::{Command, Receipt, Reply};
 
-/// Writes the lines of a reply, where it has some. Refusals: `Memory`, with nothing written, and `Output`.
-pub(crate) fn say<W: Sink>(alloc: Global, reply: &Reply, writer: &mut W) -> Result<(), Fault>
-    ensures said { OnOk result (Appends (W.contents writer.old) (W.contents writer.new) (line_in reply.now)) }
+/// Writes the lines of a reply to a command with this request number, where it has some. Refusals: `Memory`, with nothing written,
+/// and `Output`.
+pub(crate) fn say<W: Sink>(
+    alloc: Global,
+    request: u64,
+    reply: &Reply,
+    writer: &mut W,
+) -> Result<(), Fault>
+    ensures said { OnOk result (Appends (W.contents writer.old) (W.contents writer.new) (line_in request reply.now)) }
     ensures unsaid { IfErr result (λ f. (f ≡ Fault.Output) ⊎ ((f ≡ Fault.Memory) × (writer.new ≡ writer.old))) }
 {
-    let line = line_of(alloc, reply)?;
+    let line = line_of(alloc, request, reply)?;
     write_answer(writer, line.as_str())
 }
 
-/// The lines of a reply: `ack E` where an epoch is on the disk, the output lines of one that is handed out, `cut E` where a cut is
-/// on the disk, and else none. Refusal: `Memory`.
-fn line_of(alloc: Global, reply: &Reply) -> Result<String, Fault>
-    ensures ok { IfOk result (λ line. string_bytes line ≡ line_in reply.now) }
+/// The request number of a command, 0 for none.
+pub(crate) fn request_in(command: &Command) -> u64
+    ensures { result ≡ request_in command.now }
+{
+    match command {
+        Command::SubmitAs(request, _) => *request,
+        _ => 0,
+    }
+}
+
+/// The lines of a reply: `ack E` where an epoch is on the disk, `again Q` where one with this request number or a greater was there
+/// already, the output lines of one that is handed out, `cut E` where a cut is on the disk, and else none. Refusal: `Memory`.
+fn line_of(alloc: Global, request: u64, reply: &Reply) -> Result<String, Fault>
+    ensures ok { IfOk result (λ line. string_bytes line ≡ line_in request reply.now) }
     ensures err { IfErr result (λ f. f ≡ Fault.Memory) }
 {
     match reply {
-        Reply::Submitted(epoch) => Ok(format!(in alloc; "ack {epoch}\n")?),
+        Reply::Submitted(epoch) | Reply::SubmittedAs(Receipt::New(epoch)) => {
+            Ok(format!(in alloc; "ack {epoch}\n")?)
+        }
+        Reply::SubmittedAs(Receipt::Already(_)) => Ok(format!(in alloc; "again {request}\n")?),
         Reply::Written(Some(epoch)) => Ok(format!(in alloc; "cut {epoch}\n")?),
         Reply::Out(Some(out)) => {
             let mut lines = String::new(alloc);

@@ -2,7 +2,6 @@
 ghost use Rattle.std.specs.Prelude.{◌≡◌, ◌≢◌, ◌⊎◌, ◌↔◌, ◌++◌, ◌+◌, ◌<◌, ◌^◌, ℕ, Ok, length, string_bytes, IfOk, IfErr, OnOk};
 ghost use Rattle.td_disk.specs.Disk.{IsDurable, Rises};
 ghost use Rattle.td_gate.specs.CrashSafe.{CrashSafe, Unchanged};
-ghost use Rattle.td_journal.specs.Numbers.{greatest};
 ghost use Rattle.td_standing.specs.Standing.{Standing, standing_from};
 ghost use Rattle.td_standing.specs.Read.{standing_of, Refused};
 ghost use Rattle.td_standing.specs.Told.{Told};
@@ -14,7 +13,7 @@ use std::alloc::Global;
 use std::fmt::Write;
 use td_console::{Fault, Sink, write_answer};
 use td_disk::Disk;
-use td_journal::Submitted;
+use td_journal::{Submitted, greatest_request};
 use td_plan::Plan;
 use td_slots::Checkpoint;
 use td_stamp::{State, States};
@@ -79,7 +78,7 @@ fn print_head(
     let told = kept + submitted.len() as u64;
     writeln!(text, "kept {kept}")?;
     writeln!(text, "told {told}")?;
-    print_last(text, last_request(checkpoint.last, submitted))
+    print_last(text, greatest_request(checkpoint.last, submitted))
 }
 
 /// Appends `last Q`, where there is a request number. Refusal: `Memory`.
@@ -91,17 +90,6 @@ fn print_last(text: &mut String, last: u64) -> Result<(), Fault>
         writeln!(text, "last {last}")?;
     }
     Ok(())
-}
-
-/// The greatest of a request number and those of some epochs.
-fn last_request(last: u64, submitted: &[Submitted]) -> u64
-    ensures { result ≡ greatest last submitted.now }
-{
-    let mut greatest = last;
-    for each in submitted {
-        greatest = greatest.max(each.request);
-    }
-    greatest
 }
 
 /// Appends the lines of states. Refusal: `Memory`.

@@ -4,10 +4,10 @@ ghost use Rattle.td_disk.specs.Disk.{CountsDevice};
 ghost use Rattle.td_standing.specs.declared.error.KeeperError.TheVariants.{Device};
 ghost use Rattle.td_keeper.specs.declared.command.Reply.{Reply as AnyReply};
 ghost use Rattle.td_keeper.specs.Driven.{submitted_in, Obeys, Driven};
-ghost use Rattle.td_feed.specs.Carried.{batch_in, is_refused, is_resting, Carries, Leaves};
+ghost use Rattle.td_feed.specs.Carried.{batch_in, new_to, is_refused, is_resting, Carries, Leaves};
 ghost use Rattle.td_feed.specs.Said.{fault_in, Refuses, SaysBy};
 
-use crate::saying::say;
+use crate::saying::{request_in, say};
 use std::alloc::Global;
 use std::sync::Wait;
 use td_calls::Law;
@@ -35,7 +35,7 @@ pub(crate) fn tell<D: Disk, L: Law, K: Crew, R: Wait>(
     ensures size { D.capacity keeper.new.device ≡ D.capacity keeper.old.device }
     ensures lawful { D.is_lawful keeper.old.device ↔ D.is_lawful keeper.new.device }
     ensures carried { IfOk result (λ reply. Carries L.answers keeper.old keeper.new (submitted_in command reply)) }
-    ensures left { OnErr result (Leaves D.is_lawful D.state L.answers keeper.old keeper.new (batch_in command)) }
+    ensures left { OnErr result (Leaves D.is_lawful D.state L.answers keeper.old keeper.new (new_to keeper.old (batch_in command))) }
     ensures rests { is_resting command ≡ true → Carries L.answers keeper.old keeper.new [] }
 {
     laws::advance_stands::<L>();
@@ -67,16 +67,17 @@ pub(crate) fn tell_aloud<D: Disk, L: Law, K: Crew, R: Wait, W: Sink>(
     ensures obeyed { OnOk result ((reply : AnyReply) × Obeys D.is_lawful D.state D.failures L.answers command reply keeper.old keeper.new × (is_refused reply ≡ false)) }
     ensures size { D.capacity keeper.new.device ≡ D.capacity keeper.old.device }
     ensures lawful { D.is_lawful keeper.old.device ↔ D.is_lawful keeper.new.device }
-    ensures carried { OnOk result (Carries L.answers keeper.old keeper.new (batch_in command)) }
-    ensures left { OnErr result (Leaves D.is_lawful D.state L.answers keeper.old keeper.new (batch_in command)) }
+    ensures carried { OnOk result (Carries L.answers keeper.old keeper.new (new_to keeper.old (batch_in command))) }
+    ensures left { OnErr result (Leaves D.is_lawful D.state L.answers keeper.old keeper.new (new_to keeper.old (batch_in command))) }
 
     // Nothing is written but for a command that was obeyed.
-    ensures acknowledged { (writer.new ≡ writer.old) ⊎ Carries L.answers keeper.old keeper.new (batch_in command) }
-    ensures said { SaysBy D.is_lawful D.state D.failures L.answers result (W.contents writer.old) (W.contents writer.new) keeper.old keeper.new (batch_in command) }
+    ensures acknowledged { (writer.new ≡ writer.old) ⊎ Carries L.answers keeper.old keeper.new (new_to keeper.old (batch_in command)) }
+    ensures said { SaysBy D.is_lawful D.state D.failures L.answers result (W.contents writer.old) (W.contents writer.new) keeper.old keeper.new (new_to keeper.old (batch_in command)) }
     ensures failures { CountsDevice result (Fault.Keeper Device) (D.failures keeper.old.device) (D.failures keeper.new.device) }
 {
+    let request = request_in(&command);
     let reply = tell(rt, alloc, keeper, pool, command)?;
-    say(alloc, &reply, writer)
+    say(alloc, request, &reply, writer)
 }
 
 /// A reply that is no refusal; else the fault for that.

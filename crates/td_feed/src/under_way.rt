@@ -2,14 +2,13 @@
 ghost use Rattle.std.specs.Prelude.{◌≡◌, ◌⊎◌, ◌↔◌, ◌+◌, ◌^◌, ◌<◌, ◌≤◌, ℕ, List, Option, [], ◌∷◌, false, IfOk, IfErr, IfSome, IfNone, OnOk, OnErr, string_bytes};
 ghost use Rattle.std.specs.Io.KnownBytes.{Appends};
 ghost use Rattle.td_disk.specs.Disk.{CountsDevice};
-ghost use Rattle.td_standing.specs.Standing.{submission};
 ghost use Rattle.td_standing.specs.declared.error.KeeperError.TheVariants.{Device, Epochs};
 ghost use Rattle.td_keeper.specs.declared.command.Command.TheVariants.{NextOut};
 ghost use Rattle.td_keeper.specs.declared.command.Reply.TheVariants.{Out};
 ghost use Rattle.td_keeper.specs.Driven.{Driven};
 ghost use Rattle.td_feed.specs.Orders.{submissions};
 ghost use Rattle.td_feed.specs.Fed.{hall_fault};
-ghost use Rattle.td_feed.specs.Carried.{Carries, Leaves};
+ghost use Rattle.td_feed.specs.Carried.{batch_in, new_to, Carries, Leaves};
 ghost use Rattle.td_feed.specs.Said.{Refuses, SaysBy};
 
 use crate::order::Order;
@@ -78,40 +77,55 @@ impl Feeding {
         requires whole { keeper.old.broken ≡ false }
         ensures size { D.capacity keeper.new.device ≡ D.capacity keeper.old.device }
         ensures lawful { D.is_lawful keeper.old.device ↔ D.is_lawful keeper.new.device }
-        ensures carried { OnOk result (Carries L.answers keeper.old keeper.new (submissions (order ∷ []))) }
-        ensures left { OnErr result (Leaves D.is_lawful D.state L.answers keeper.old keeper.new (submissions (order ∷ []))) }
-        ensures said { SaysBy D.is_lawful D.state D.failures L.answers result (W.contents writer.old) (W.contents writer.new) keeper.old keeper.new (submissions (order ∷ [])) }
+        ensures carried { OnOk result (Carries L.answers keeper.old keeper.new (new_to keeper.old (submissions (order ∷ [])))) }
+        ensures left { OnErr result (Leaves D.is_lawful D.state L.answers keeper.old keeper.new (new_to keeper.old (submissions (order ∷ [])))) }
+        ensures said { SaysBy D.is_lawful D.state D.failures L.answers result (W.contents writer.old) (W.contents writer.new) keeper.old keeper.new (new_to keeper.old (submissions (order ∷ []))) }
         ensures failures { CountsDevice result (Fault.Keeper Device) (D.failures keeper.old.device) (D.failures keeper.new.device) }
     {
         match order {
-            Order::Submit(batch) => self.submit(rt, alloc, keeper, pool, batch, writer),
+            Order::Submit(batch) => {
+                let weight = weight(&batch);
+                let command = Command::Submit(batch);
+                self.submit(rt, alloc, keeper, pool, command, weight, writer)
+            }
+            Order::SubmitAs(request, batch) => {
+                let weight = weight(&batch);
+                let command = Command::SubmitAs(request, batch);
+                self.submit(rt, alloc, keeper, pool, command, weight, writer)
+            }
             Order::Cut => self.cut(rt, alloc, keeper, pool, writer),
         }
     }
 
-    /// Puts a batch on the disk, and writes `ack E`; and releases what the hall lacks, where it is time.
+    /// Tells the keeper a command that submits a batch of this weight, and writes its line, `ack E` or `again Q`; and releases what
+    /// the hall lacks, where the batch is new and it is time.
     fn submit<D: Disk, L: Law, K: Crew, R: Wait, W: Sink>(
         &mut self,
         rt: &R,
         alloc: Global,
         keeper: &mut Keeper<D, L>,
         pool: &Pool<K, L>,
-        batch: Batch,
+        command: Command,
+        weight: u64,
         writer: &mut W,
     ) -> Result<(), Fault>
         requires whole { keeper.old.broken ≡ false }
         ensures size { D.capacity keeper.new.device ≡ D.capacity keeper.old.device }
         ensures lawful { D.is_lawful keeper.old.device ↔ D.is_lawful keeper.new.device }
-        ensures carried { OnOk result (Carries L.answers keeper.old keeper.new (submission 0 batch ∷ [])) }
+        ensures carried { OnOk result (Carries L.answers keeper.old keeper.new (new_to keeper.old (batch_in command))) }
 
         // Nothing is written but for a batch that is on the disk.
-        ensures acknowledged { (writer.new ≡ writer.old) ⊎ Carries L.answers keeper.old keeper.new (submission 0 batch ∷ []) }
-        ensures left { OnErr result (Leaves D.is_lawful D.state L.answers keeper.old keeper.new (submission 0 batch ∷ [])) }
-        ensures said { SaysBy D.is_lawful D.state D.failures L.answers result (W.contents writer.old) (W.contents writer.new) keeper.old keeper.new (submission 0 batch ∷ []) }
+        ensures acknowledged { (writer.new ≡ writer.old) ⊎ Carries L.answers keeper.old keeper.new (new_to keeper.old (batch_in command)) }
+        ensures left { OnErr result (Leaves D.is_lawful D.state L.answers keeper.old keeper.new (new_to keeper.old (batch_in command))) }
+        ensures said { SaysBy D.is_lawful D.state D.failures L.answers result (W.contents writer.old) (W.contents writer.new) keeper.old keeper.new (new_to keeper.old (batch_in command)) }
         ensures failures { CountsDevice result (Fault.Keeper Device) (D.failures keeper.old.device) (D.failures keeper.new.device) }
     {
-        self.waiting = self.waiting.saturating_add(weight(&batch));
-        tell_aloud(rt, alloc, keeper, pool, Command::Submit(batch), writer)?;
+        let before = keeper.last_epoch();
+        tell_aloud(rt, alloc, keeper, pool, command, writer)?;
+        if keeper.last_epoch() == before {
+            return Ok(());
+        }
+        self.waiting = self.waiting.saturating_add(weight);
         if self.waiting < self.held {
             return Ok(());
         }

@@ -5,7 +5,7 @@ ghost use Rattle.td_pool.specs.declared.error.PoolError.{PoolError as AnyPoolErr
 ghost use Rattle.td_standing.specs.declared.error.KeeperError.TheVariants.{Device, NotPassed};
 ghost use Rattle.td_feed.specs.Orders.{submissions};
 ghost use Rattle.td_feed.specs.Fed.{pool_fault};
-ghost use Rattle.td_feed.specs.Carried.{Carries, Leaves};
+ghost use Rattle.td_feed.specs.Carried.{new_to, Carries, Leaves};
 ghost use Rattle.td_feed.specs.Said.{SaysBy};
 
 use crate::order::Order;
@@ -49,9 +49,9 @@ pub(crate) fn obey_by_workers<
     requires whole { keeper.broken ≡ false }
     ensures size { D.capacity result.0.device ≡ D.capacity keeper.device }
     ensures lawful { D.is_lawful keeper.device ↔ D.is_lawful result.0.device }
-    ensures fed { OnOk result.1 (Carries L.answers keeper result.0 (submissions orders.items)) }
-    ensures left { OnErr result.1 (Leaves D.is_lawful D.state L.answers keeper result.0 (submissions orders.items)) }
-    ensures said { SaysBy D.is_lawful D.state D.failures L.answers result.1 (W.contents writer.old) (W.contents writer.new) keeper result.0 (submissions orders.items) }
+    ensures fed { OnOk result.1 (Carries L.answers keeper result.0 (new_to keeper (submissions orders.items))) }
+    ensures left { OnErr result.1 (Leaves D.is_lawful D.state L.answers keeper result.0 (new_to keeper (submissions orders.items))) }
+    ensures said { SaysBy D.is_lawful D.state D.failures L.answers result.1 (W.contents writer.old) (W.contents writer.new) keeper result.0 (new_to keeper (submissions orders.items)) }
     ensures failures { CountsDevice result.1 (Fault.Keeper Device) (D.failures keeper.device) (D.failures result.0.device) }
 {
     match Pool::<K, L>::new(alloc, hall, blank) {
@@ -84,9 +84,9 @@ fn beside<
     requires whole { keeper.broken ≡ false }
     ensures size { D.capacity result.0.device ≡ D.capacity keeper.device }
     ensures lawful { D.is_lawful keeper.device ↔ D.is_lawful result.0.device }
-    ensures fed { OnOk result.1 (Carries L.answers keeper result.0 (submissions orders.items)) }
-    ensures left { OnErr result.1 (Leaves D.is_lawful D.state L.answers keeper result.0 (submissions orders.items)) }
-    ensures said { SaysBy D.is_lawful D.state D.failures L.answers result.1 (W.contents writer.old) (W.contents writer.new) keeper result.0 (submissions orders.items) }
+    ensures fed { OnOk result.1 (Carries L.answers keeper result.0 (new_to keeper (submissions orders.items))) }
+    ensures left { OnErr result.1 (Leaves D.is_lawful D.state L.answers keeper result.0 (new_to keeper (submissions orders.items))) }
+    ensures said { SaysBy D.is_lawful D.state D.failures L.answers result.1 (W.contents writer.old) (W.contents writer.new) keeper result.0 (new_to keeper (submissions orders.items)) }
     ensures failures { CountsDevice result.1 (Fault.Keeper Device) (D.failures keeper.device) (D.failures result.0.device) }
 {
     let (ended, _writer) = thread::scope(
@@ -97,9 +97,9 @@ fn beside<
             ensures same_writer { result.1.ghost_name ≡ writer.entry.ghost_name }
             ensures size { D.capacity result.0.0.device ≡ D.capacity keeper.device }
             ensures lawful { D.is_lawful keeper.device ↔ D.is_lawful result.0.0.device }
-            ensures fed { OnOk result.0.1 (Carries L.answers keeper result.0.0 (submissions orders.items)) }
-            ensures left { OnErr result.0.1 (Leaves D.is_lawful D.state L.answers keeper result.0.0 (submissions orders.items)) }
-            ensures said { SaysBy D.is_lawful D.state D.failures L.answers result.0.1 (W.contents writer.entry.now) (W.contents result.1.now) keeper result.0.0 (submissions orders.items) }
+            ensures fed { OnOk result.0.1 (Carries L.answers keeper result.0.0 (new_to keeper (submissions orders.items))) }
+            ensures left { OnErr result.0.1 (Leaves D.is_lawful D.state L.answers keeper result.0.0 (new_to keeper (submissions orders.items))) }
+            ensures said { SaysBy D.is_lawful D.state D.failures L.answers result.0.1 (W.contents writer.entry.now) (W.contents result.1.now) keeper result.0.0 (new_to keeper (submissions orders.items)) }
             ensures failures { CountsDevice result.0.1 (Fault.Keeper Device) (D.failures keeper.device) (D.failures result.0.0.device) }
         {
             let mut keeper = keeper;
@@ -169,9 +169,9 @@ fn obey_each<D: Disk, W: Sink, L: Law, K: Crew, R: Wait>(
     requires whole { keeper.old.broken ≡ false }
     ensures size { D.capacity keeper.new.device ≡ D.capacity keeper.old.device }
     ensures lawful { D.is_lawful keeper.old.device ↔ D.is_lawful keeper.new.device }
-    ensures fed { OnOk result (Carries L.answers keeper.old keeper.new (submissions orders.items)) }
-    ensures left { OnErr result (Leaves D.is_lawful D.state L.answers keeper.old keeper.new (submissions orders.items)) }
-    ensures said { SaysBy D.is_lawful D.state D.failures L.answers result (W.contents writer.old) (W.contents writer.new) keeper.old keeper.new (submissions orders.items) }
+    ensures fed { OnOk result (Carries L.answers keeper.old keeper.new (new_to keeper.old (submissions orders.items))) }
+    ensures left { OnErr result (Leaves D.is_lawful D.state L.answers keeper.old keeper.new (new_to keeper.old (submissions orders.items))) }
+    ensures said { SaysBy D.is_lawful D.state D.failures L.answers result (W.contents writer.old) (W.contents writer.new) keeper.old keeper.new (new_to keeper.old (submissions orders.items)) }
     ensures failures { CountsDevice result (Fault.Keeper Device) (D.failures keeper.old.device) (D.failures keeper.new.device) }
 {
     if is_refused {

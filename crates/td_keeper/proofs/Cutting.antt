@@ -1,6 +1,6 @@
 -- The cut that a keeper writes.
-use Rattle.std.proofs.Common.{◌≡◌, ◌==◌, ℕ, ◌+◌, ◌-◌, ◌^◌, ◌<◌, ◌≤◌, true, false, Bool, List, [], length, take, drop, append-nil, refl, sym, ap, ◌∙◌, subst, arith}
-use Rattle.std.specs.Prelude.{Option, Some, None, nat_lt, not, if◌then◌else◌}
+use Rattle.std.proofs.Common.{◌≡◌, ◌==◌, ℕ, zero, suc, ◌+◌, ◌-◌, ◌^◌, ◌<◌, ◌≤◌, true, false, Bool, List, [], ◌∷◌, length, take, drop, append-nil, refl, sym, ap, ◌∙◌, subst, arith}
+use Rattle.std.specs.Prelude.{Option, Some, None, max, nat_lt, not, if◌then◌else◌}
 use Rattle.std.proofs.lemmas.Bool.{ltb-true, ltb-false, le-ltb}
 use Rattle.std.specs.List.{list_all, list_any}
 use Rattle.std.proofs.lemmas.List.{take-map}
@@ -39,6 +39,12 @@ Ordered = (folds : List ℕ) (states : StateList) → AreStates states → list_
 
 abbrev pub Named : Type 0
 Named = (folds : List ℕ) (states : StateList) → are_states folds states ≡ true → list_all (λ s. list_any (λ v. v == s.0.0) folds) states ≡ true
+
+-- the greatest number of the first epochs, and then of the others
+pub cut_last : (q n : ℕ) (w : List Submitted) → greatest (greatest q (take n w)) (drop n w) ≡ greatest q w
+cut_last q zero w = refl
+cut_last q (suc n) [] = refl
+cut_last q (suc n) (s ∷ w) = cut_last (max q s.request) n w
 
 -- no batches more
 pub with_none : (s : Standing) → with_more s [] ≡ s

@@ -11,17 +11,20 @@ use Rattle.td_disk.specs.Disk.{DiskState}
 use Rattle.td_journal.specs.declared.submitted.Submitted.{Submitted as AnySubmitted}
 use Rattle.td_standing.specs.Standing.{Standing, last_epoch, submission, batches_of, with_more, cut_at}
 use Rattle.td_standing.specs.Stops.{Advance}
-use Rattle.td_standing.specs.Advanced.{TellsAdvance, states_by}
+use Rattle.td_standing.specs.Advanced.{TellsAdvance, AdvancesSince, states_by}
 use Rattle.td_standing.specs.declared.error.KeeperError.{KeeperError}
 use Rattle.td_standing.specs.declared.error.KeeperError.TheVariants as error
 use Rattle.td_keeper.specs.declared.command.Command.{Command}
-use Rattle.td_keeper.specs.declared.command.Command.TheVariants.{Submit, Release, Settle, Collect, NextOut, Cut, WriteCut}
+use Rattle.td_keeper.specs.declared.command.Command.TheVariants.{Submit, SubmitAs, Release, Settle, Collect, NextOut, Cut, WriteCut}
 use Rattle.td_keeper.specs.declared.command.Reply.{Reply}
-use Rattle.td_keeper.specs.declared.command.Reply.TheVariants.{Submitted, Released, Settled, Collected, Out, CutTaken, Written, Refused}
-use Rattle.td_keeper.specs.Keeping.{Keeping, IsKeeping, with_checkpoint}
-use Rattle.td_keeper.specs.Refused.{submit_refusal, write_refusal}
+use Rattle.td_keeper.specs.declared.command.Reply.TheVariants.{Submitted, SubmittedAs, Released, Settled, Collected, Out, CutTaken, Written, Refused}
+use Rattle.td_keeper.specs.Keeping.{Keeping, IsKeeping, with_batch, with_checkpoint}
+use Rattle.td_keeper.specs.Refused.{submit_refusal, submit_as_refusal, write_refusal}
+use Rattle.td_keeper.specs.declared.receipt.Receipt.{Receipt}
+use Rattle.td_keeper.specs.declared.receipt.Receipt.TheVariants.{New, Already}
+use Rattle.td_keeper.specs.Received.{IsReceived, received_in}
 use Rattle.td_keeper.specs.Halls.{with_collected, with_cut, collected_hall, cut_hall}
-use Rattle.td_keeper.specs.Driven.{is_device, may_write, submitted_in, submitted_by, Advances, Submits, Releases, Settles, Collects, HandsOut, Cuts, Writes, Obeys, Driven, Rests}
+use Rattle.td_keeper.specs.Driven.{is_device, may_write, submitted_in, submitted_by, Advances, IsNotSubmitted, Submits, SubmitsAs, Releases, Settles, Collects, HandsOut, Cuts, Writes, Obeys, Driven, Rests}
 
 -- whether the device failed, both ways
 pub is_device_is : (e : KeeperError) → is_device e ≡ true → e ≡ error.Device
@@ -46,17 +49,26 @@ device_is : (e : KeeperError) → e ≡ error.Device → is_device e ≡ true
 device_is e is = ap is_device is
 
 -- of a submit that was refused: what holds with its batch where the device failed, and without it else
-pub refused_in : (P : List AnySubmitted → Type 0) (batch : List Entry) (e : KeeperError) (back : Option (List Entry)) → P (submission 0 batch ∷ []) → (e ≡ error.Device) ⊎ P []
-    → P (submitted_in (Submit batch) (Refused e back))
-refused_in P batch e back with_it other = by (is_device e) refl
+pub refused_in : (P : List AnySubmitted → Type 0) (x : List AnySubmitted) (e : KeeperError) → P x → (e ≡ error.Device) ⊎ P [] → P (if is_device e then x else [])
+refused_in P x e with_it other = by (is_device e) refl
   where
-    by : (b : Bool) → is_device e ≡ b → P (if b then submission 0 batch ∷ [] else [])
+    by : (b : Bool) → is_device e ≡ b → P (if b then x else [])
     by true is = with_it
     by false is = ⊎_elim (λ device. absurd (let no : true ≡ false = sym (device_is e device) ∙ is in cc)) (λ p. p) other
+
+-- of a request that was answered: what holds with its batch, or without it where nothing changed
+pub received_since : {D : Type 0} (state : D → DiskState) (answers : Answers) (request : ℕ) (batch : List Entry) (receipt : Receipt) (old new : Keeping D) → IsReceived request batch receipt old new
+    → AdvancesSince answers old.plan old.standing (submission request batch ∷ []) (last_epoch old.standing) (state old.device) (state new.device)
+    → AdvancesSince answers old.plan old.standing (received_in request batch receipt) (last_epoch old.standing) (state old.device) (state new.device)
+received_since state answers request batch (New epoch) old new r further t c le left = further t c le left
+received_since {D = D} state answers request batch (Already last) old new r further t c le left = inl (subst (λ (k : Keeping D). (state k.device).since t c) r.2 left)
 
 -- a keeper that is broken refuses as that
 submit_broken : {D : Type 0} (k : Keeping D) (batch : List Entry) → k.broken ≡ true → submit_refusal k batch ≡ Some error.Broken
 submit_broken k batch is = ap (λ (b : Bool). submit_refusal (record k { broken = b }) batch) is
+
+submit_as_broken : {D : Type 0} (k : Keeping D) (request : ℕ) (batch : List Entry) → k.broken ≡ true → submit_as_refusal k request batch ≡ Some error.Broken
+submit_as_broken k request batch is = ap (λ (b : Bool). submit_as_refusal (record k { broken = b }) request batch) is
 
 write_broken : {D : Type 0} (k : Keeping D) → k.broken ≡ true → write_refusal k ≡ Some error.Broken
 write_broken k is = ap (λ (b : Bool). write_refusal (record k { broken = b })) is
@@ -115,6 +127,7 @@ module _ {D : Type 0} (is_lawful : D → Type 0) (state : D → DiskState) (fail
   releases (Released n) old new r = by old old new r.same (same old)
   releases (Refused e b) old new r = ⊎_elim (λ foreign. by old old new foreign.1.same (same old)) (λ memory. by old old new memory.1.same (same old)) r.1
   releases (Submitted n) old new r = absurd r
+  releases (SubmittedAs n) old new r = absurd r
   releases Settled old new r = absurd r
   releases (Collected n) old new r = absurd r
   releases (Out o) old new r = absurd r
@@ -125,6 +138,7 @@ module _ {D : Type 0} (is_lawful : D → Type 0) (state : D → DiskState) (fail
   settles Settled old new r = by old old new r.same (same old)
   settles (Refused e b) old new r = by old old new r.1.2.same (same old)
   settles (Submitted n) old new r = absurd r
+  settles (SubmittedAs n) old new r = absurd r
   settles (Released n) old new r = absurd r
   settles (Collected n) old new r = absurd r
   settles (Out o) old new r = absurd r
@@ -135,6 +149,7 @@ module _ {D : Type 0} (is_lawful : D → Type 0) (state : D → DiskState) (fail
   collects (Collected n) old new r = by old (with_collected old r.hall) new r.collected (record { device = refl; plan = refl; standing = refl; broken = refl })
   collects (Refused e b) old new r = ⊎_elim (λ foreign. by old old new foreign.1.same (same old)) (λ memory. by old old new memory.1.same (same old)) r.1
   collects (Submitted n) old new r = absurd r
+  collects (SubmittedAs n) old new r = absurd r
   collects (Released n) old new r = absurd r
   collects Settled old new r = absurd r
   collects (Out o) old new r = absurd r
@@ -146,6 +161,7 @@ module _ {D : Type 0} (is_lawful : D → Type 0) (state : D → DiskState) (fail
   hands_out (Out (Some out)) old new r = by old (record old { queue = new.queue }) new r.1 (record { device = refl; plan = refl; standing = refl; broken = refl })
   hands_out (Refused e b) old new r = absurd r
   hands_out (Submitted n) old new r = absurd r
+  hands_out (SubmittedAs n) old new r = absurd r
   hands_out (Released n) old new r = absurd r
   hands_out Settled old new r = absurd r
   hands_out (Collected n) old new r = absurd r
@@ -163,6 +179,7 @@ module _ {D : Type 0} (is_lawful : D → Type 0) (state : D → DiskState) (fail
       other)
       r.1
   cuts (Submitted n) old new r = absurd r
+  cuts (SubmittedAs n) old new r = absurd r
   cuts (Released n) old new r = absurd r
   cuts Settled old new r = absurd r
   cuts (Collected n) old new r = absurd r
@@ -172,6 +189,7 @@ module _ {D : Type 0} (is_lawful : D → Type 0) (state : D → DiskState) (fail
   -- WHAT A COMMAND THAT DOES NOT WRITE leaves
   pub rests : (command : Command) (reply : Reply) (old new : Keeping D) → may_write command ≡ false → Obeys is_lawful state failures answers command reply old new → Rests old new
   rests (Submit batch) reply old new quiet obeys = absurd (cc)
+  rests (SubmitAs request batch) reply old new quiet obeys = absurd (cc)
   rests Release reply old new quiet obeys = releases reply old new obeys
   rests Settle reply old new quiet obeys = settles reply old new obeys
   rests Collect reply old new quiet obeys = collects reply old new obeys
@@ -219,31 +237,61 @@ module _ {D : Type 0} (is_lawful : D → Type 0) (state : D → DiskState) (fail
       ⊎_elim (λ is. (ap (λ k. k.plan) is, ap (λ k. k.standing) is))
       (λ other. ⊎_elim (λ is. (ap (λ k. k.plan) is.1, ap (λ k. k.standing) is.1)) (λ is. (ap (λ k. k.plan) is.1, ap (λ k. k.standing) is.1)) other) left
 
-  submits : (batch : List Entry) (reply : Reply) (old new : Keeping D) → Submits is_lawful state failures answers batch reply old new
-      → Advances is_lawful state failures answers old new (submitted_in (Submit batch) reply) → Goes is_lawful state failures answers old new (submitted_in (Submit batch) reply)
-  submits batch (Submitted n) old new r advances =
-      let standing : new.standing ≡ with_more old.standing (submission 0 batch ∷ []) = ap (λ k. k.standing) r.submitted in
-      let count = length-append old.standing.submitted (submission 0 batch ∷ []) in record {
-        plan = ap (λ k. k.plan) r.submitted;
+  -- where the batch is the next epoch
+  goes_submitted : (request : ℕ) (batch : List Entry) (old new : Keeping D) → new ≡ with_batch old new.device request batch
+      → Advances is_lawful state failures answers old new (submission request batch ∷ []) → Goes is_lawful state failures answers old new (submission request batch ∷ [])
+  goes_submitted request batch old new is advances =
+      let x : List AnySubmitted = submission request batch ∷ [] in
+      let standing : new.standing ≡ with_more old.standing x = ap (λ k. k.standing) is in
+      let count = length-append old.standing.submitted x in record {
+        plan = ap (λ k. k.plan) is;
         advances = advances;
         far = subst (λ (s : Standing). last_epoch old.standing ≤ last_epoch s) (sym standing) (omega (arith, count));
         on = λ whole u y step.
-            submit_on (tree_of old.plan) old.standing u (submission 0 batch ∷ []) y
+            submit_on (tree_of old.plan) old.standing u x y
             (subst (λ (s : Standing). Advance (states_by answers old.plan) (with_more s y) u) standing step);
       }
-  submits batch (Refused e back) old new r advances =
+
+  -- where it is not
+  goes_refused : (refusal : Option KeeperError) (x : List AnySubmitted) (batch : List Entry) (e : KeeperError) (back : Option (List Entry)) (old new : Keeping D)
+      → IsNotSubmitted is_lawful state failures answers refusal batch e back old new
+      → Advances is_lawful state failures answers old new (if is_device e then x else []) → Goes is_lawful state failures answers old new (if is_device e then x else [])
+  goes_refused refusal x batch e back old new r advances =
       let stays = kept_plan old new (e ≡ error.Memory) (e ≡ error.Device) r.unchanged in
-      goes_same old new (submitted_in (Submit batch) (Refused e back)) stays.0 stays.1 (λ whole. none (is_device e) refl whole) advances
+      goes_same old new (if is_device e then x else []) stays.0 stays.1 (λ whole. none (is_device e) refl whole) advances
     where
-      none : (b : Bool) → is_device e ≡ b → new.broken ≡ false → (if b then submission 0 batch ∷ [] else []) ≡ []
+      none : (b : Bool) → is_device e ≡ b → new.broken ≡ false → (if b then x else []) ≡ []
       none true is whole = absurd (let no : true ≡ false = sym (r.device (is_device_is e is)).broken ∙ whole in cc)
       none false is whole = refl
+
+  submits : (batch : List Entry) (reply : Reply) (old new : Keeping D) → Submits is_lawful state failures answers batch reply old new
+      → Advances is_lawful state failures answers old new (submitted_in (Submit batch) reply) → Goes is_lawful state failures answers old new (submitted_in (Submit batch) reply)
+  submits batch (Submitted n) old new r advances = goes_submitted 0 batch old new r.submitted advances
+  submits batch (Refused e back) old new r advances = goes_refused (submit_refusal old batch) (submission 0 batch ∷ []) batch e back old new r advances
+  submits batch (SubmittedAs n) old new r advances = absurd r
   submits batch (Released n) old new r advances = absurd r
   submits batch Settled old new r advances = absurd r
   submits batch (Collected n) old new r advances = absurd r
   submits batch (Out o) old new r advances = absurd r
   submits batch (CutTaken n) old new r advances = absurd r
   submits batch (Written n) old new r advances = absurd r
+
+  answers_as : (request : ℕ) (batch : List Entry) (receipt : Receipt) (old new : Keeping D) → IsReceived request batch receipt old new
+      → Advances is_lawful state failures answers old new (received_in request batch receipt) → Goes is_lawful state failures answers old new (received_in request batch receipt)
+  answers_as request batch (New epoch) old new r advances = goes_submitted request batch old new r.2 advances
+  answers_as request batch (Already last) old new r advances = goes_same old new [] (ap (λ k. k.plan) r.2) (ap (λ k. k.standing) r.2) (λ whole. refl) advances
+
+  submits_as : (request : ℕ) (batch : List Entry) (reply : Reply) (old new : Keeping D) → SubmitsAs is_lawful state failures answers request batch reply old new
+      → Advances is_lawful state failures answers old new (submitted_in (SubmitAs request batch) reply) → Goes is_lawful state failures answers old new (submitted_in (SubmitAs request batch) reply)
+  submits_as request batch (SubmittedAs receipt) old new r advances = answers_as request batch receipt old new r.received advances
+  submits_as request batch (Refused e back) old new r advances = goes_refused (submit_as_refusal old request batch) (submission request batch ∷ []) batch e back old new r.refused advances
+  submits_as request batch (Submitted n) old new r advances = absurd r
+  submits_as request batch (Released n) old new r advances = absurd r
+  submits_as request batch Settled old new r advances = absurd r
+  submits_as request batch (Collected n) old new r advances = absurd r
+  submits_as request batch (Out o) old new r advances = absurd r
+  submits_as request batch (CutTaken n) old new r advances = absurd r
+  submits_as request batch (Written n) old new r advances = absurd r
 
   writes : (reply : Reply) (old new : Keeping D) → IsKeeping old answers → Writes is_lawful state failures answers reply old new
       → Advances is_lawful state failures answers old new [] → Goes is_lawful state failures answers old new []
@@ -271,6 +319,7 @@ module _ {D : Type 0} (is_lawful : D → Type 0) (state : D → DiskState) (fail
       (λ other. ⊎_elim (λ failed. goes_same old new [] (ap (λ k. k.plan) failed.1) (ap (λ k. k.standing) failed.1) (λ whole. refl) advances)
       (λ is. goes_same old new [] (ap (λ k. k.plan) is) (ap (λ k. k.standing) is) (λ whole. refl) advances) other) r.unchanged
   writes (Submitted n) old new kept r advances = absurd r
+  writes (SubmittedAs n) old new kept r advances = absurd r
   writes (Released n) old new kept r advances = absurd r
   writes Settled old new kept r advances = absurd r
   writes (Collected n) old new kept r advances = absurd r
@@ -280,6 +329,7 @@ module _ {D : Type 0} (is_lawful : D → Type 0) (state : D → DiskState) (fail
   one : (command : Command) (reply : Reply) (old new : Keeping D) → IsKeeping old answers → Obeys is_lawful state failures answers command reply old new
       → is_lawful old.device → Goes is_lawful state failures answers old new (submitted_in command reply)
   one (Submit batch) reply old new kept obeys lawful = submits batch reply old new obeys.0 (obeys.1.advances lawful)
+  one (SubmitAs request batch) reply old new kept obeys lawful = submits_as request batch reply old new obeys.0 (obeys.1.advances lawful)
   one Release reply old new kept obeys lawful = goes_rests old new (rests is_lawful state failures answers Release reply old new refl obeys) lawful
   one Settle reply old new kept obeys lawful = goes_rests old new (rests is_lawful state failures answers Settle reply old new refl obeys) lawful
   one Collect reply old new kept obeys lawful = goes_rests old new (rests is_lawful state failures answers Collect reply old new refl obeys) lawful
@@ -296,22 +346,41 @@ module _ {D : Type 0} (is_lawful : D → Type 0) (state : D → DiskState) (fail
   rests_broken : (old new : Keeping D) → Rests old new → old.broken ≡ true → StaysBroken old new
   rests_broken old new rests is = record { device = rests.device; broken = rests.broken ∙ is }
 
-  broken_submits : (batch : List Entry) (reply : Reply) (old new : Keeping D) → Submits is_lawful state failures answers batch reply old new → old.broken ≡ true
-      → StaysBroken old new × (submitted_in (Submit batch) reply ≡ [])
-  broken_submits batch (Submitted n) old new r is = absurd (none_is_broken (submit_refusal old batch) (submit_broken old batch is) r.accepted)
-  broken_submits batch (Refused e back) old new r is =
-      let named : e ≡ error.Broken = is_broken (submit_refusal old batch) e ((e ≡ error.Memory) ⊎ (e ≡ error.Device)) (submit_broken old batch is) r.cause in
-      let none : (if is_device e then submission 0 batch ∷ [] else []) ≡ [] = ap (λ (f : KeeperError). if is_device f then submission 0 batch ∷ [] else []) named in (
+  broken_refused : (refusal : Option KeeperError) (x : List AnySubmitted) (batch : List Entry) (e : KeeperError) (back : Option (List Entry)) (old new : Keeping D)
+      → refusal ≡ Some error.Broken → IsNotSubmitted is_lawful state failures answers refusal batch e back old new → old.broken ≡ true
+      → StaysBroken old new × ((if is_device e then x else []) ≡ [])
+  broken_refused refusal x batch e back old new broken r is =
+      let named : e ≡ error.Broken = is_broken refusal e ((e ≡ error.Memory) ⊎ (e ≡ error.Device)) broken r.cause in
+      let none : (if is_device e then x else []) ≡ [] = ap (λ (f : KeeperError). if is_device f then x else []) named in (
         ⊎_elim (λ old_is. rests_broken old new (by old old new old_is (same old)) is)
             (λ other. ⊎_elim (λ memory. absurd (let no : error.Broken ≡ error.Memory = sym named ∙ memory.0 in cc)) (λ device. absurd (let no : error.Broken ≡ error.Device = sym named ∙ device.0 in cc)) other) r.unchanged,
         none,
       )
+
+  broken_submits : (batch : List Entry) (reply : Reply) (old new : Keeping D) → Submits is_lawful state failures answers batch reply old new → old.broken ≡ true
+      → StaysBroken old new × (submitted_in (Submit batch) reply ≡ [])
+  broken_submits batch (Submitted n) old new r is = absurd (none_is_broken (submit_refusal old batch) (submit_broken old batch is) r.accepted)
+  broken_submits batch (Refused e back) old new r is = broken_refused (submit_refusal old batch) (submission 0 batch ∷ []) batch e back old new (submit_broken old batch is) r is
+  broken_submits batch (SubmittedAs n) old new r is = absurd r
   broken_submits batch (Released n) old new r is = absurd r
   broken_submits batch Settled old new r is = absurd r
   broken_submits batch (Collected n) old new r is = absurd r
   broken_submits batch (Out o) old new r is = absurd r
   broken_submits batch (CutTaken n) old new r is = absurd r
   broken_submits batch (Written n) old new r is = absurd r
+
+  broken_submits_as : (request : ℕ) (batch : List Entry) (reply : Reply) (old new : Keeping D) → SubmitsAs is_lawful state failures answers request batch reply old new → old.broken ≡ true
+      → StaysBroken old new × (submitted_in (SubmitAs request batch) reply ≡ [])
+  broken_submits_as request batch (SubmittedAs n) old new r is = absurd (none_is_broken (submit_as_refusal old request batch) (submit_as_broken old request batch is) r.accepted)
+  broken_submits_as request batch (Refused e back) old new r is =
+      broken_refused (submit_as_refusal old request batch) (submission request batch ∷ []) batch e back old new (submit_as_broken old request batch is) r.refused is
+  broken_submits_as request batch (Submitted n) old new r is = absurd r
+  broken_submits_as request batch (Released n) old new r is = absurd r
+  broken_submits_as request batch Settled old new r is = absurd r
+  broken_submits_as request batch (Collected n) old new r is = absurd r
+  broken_submits_as request batch (Out o) old new r is = absurd r
+  broken_submits_as request batch (CutTaken n) old new r is = absurd r
+  broken_submits_as request batch (Written n) old new r is = absurd r
 
   broken_writes : (reply : Reply) (old new : Keeping D) → Writes is_lawful state failures answers reply old new → old.broken ≡ true → StaysBroken old new
   broken_writes (Written w) old new r is = absurd (none_is_broken (write_refusal old) (write_broken old is) r.accepted)
@@ -320,6 +389,7 @@ module _ {D : Type 0} (is_lawful : D → Type 0) (state : D → DiskState) (fail
       ⊎_elim (λ many. absurd (let no : error.Broken ≡ error.TooManyKeys = sym named ∙ many.0 in cc))
       (λ other. ⊎_elim (λ failed. absurd (let no : error.Broken ≡ error.Device = sym named ∙ failed.0 in cc)) (λ old_is. rests_broken old new (by old old new old_is (same old)) is) other) r.unchanged
   broken_writes (Submitted n) old new r is = absurd r
+  broken_writes (SubmittedAs n) old new r is = absurd r
   broken_writes (Released n) old new r is = absurd r
   broken_writes Settled old new r is = absurd r
   broken_writes (Collected n) old new r is = absurd r
@@ -329,6 +399,7 @@ module _ {D : Type 0} (is_lawful : D → Type 0) (state : D → DiskState) (fail
   broken_one : (command : Command) (reply : Reply) (old new : Keeping D) → Obeys is_lawful state failures answers command reply old new → old.broken ≡ true
       → StaysBroken old new × (submitted_in command reply ≡ [])
   broken_one (Submit batch) reply old new obeys is = broken_submits batch reply old new obeys.0 is
+  broken_one (SubmitAs request batch) reply old new obeys is = broken_submits_as request batch reply old new obeys.0 is
   broken_one Release reply old new obeys is = (rests_broken old new (rests is_lawful state failures answers Release reply old new refl obeys) is, refl)
   broken_one Settle reply old new obeys is = (rests_broken old new (rests is_lawful state failures answers Settle reply old new refl obeys) is, refl)
   broken_one Collect reply old new obeys is = (rests_broken old new (rests is_lawful state failures answers Collect reply old new refl obeys) is, refl)

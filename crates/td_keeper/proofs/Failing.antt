@@ -9,12 +9,15 @@ use Rattle.td_machine.specs.Active.{unpassed}
 use Rattle.td_standing.specs.declared.error.KeeperError.{KeeperError}
 use Rattle.td_standing.specs.declared.error.KeeperError.TheVariants as error
 use Rattle.td_keeper.specs.declared.command.Command.{Command}
-use Rattle.td_keeper.specs.declared.command.Command.TheVariants.{Submit, Release, Settle, Collect, NextOut, Cut, WriteCut}
+use Rattle.td_keeper.specs.declared.command.Command.TheVariants.{Submit, SubmitAs, Release, Settle, Collect, NextOut, Cut, WriteCut}
 use Rattle.td_keeper.specs.declared.command.Reply.{Reply}
-use Rattle.td_keeper.specs.declared.command.Reply.TheVariants.{Submitted, Released, Settled, Collected, Out, CutTaken, Written, Refused}
+use Rattle.td_keeper.specs.declared.command.Reply.TheVariants.{Submitted, SubmittedAs, Released, Settled, Collected, Out, CutTaken, Written, Refused}
 use Rattle.td_keeper.specs.Keeping.{Keeping}
-use Rattle.td_keeper.specs.Refused.{first_unpassed, or_waiting, cut_refusal}
-use Rattle.td_keeper.specs.Driven.{is_device, is_failed, some_failed, Fails, Submits, Releases, Settles, Collects, HandsOut, Cuts, Writes, Obeys, Driven, Rests}
+use Rattle.td_keeper.specs.Refused.{submit_refusal, submit_as_refusal, first_unpassed, or_waiting, cut_refusal}
+use Rattle.td_keeper.specs.declared.receipt.Receipt.{Receipt}
+use Rattle.td_keeper.specs.declared.receipt.Receipt.TheVariants.{New, Already}
+use Rattle.td_keeper.specs.Received.{IsReceived}
+use Rattle.td_keeper.specs.Driven.{is_device, is_failed, some_failed, Fails, IsNotSubmitted, Submits, SubmitsAs, Writes, Obeys, Driven, Rests}
 use Rattle.td_keeper.proofs.Driving.{is_device_is, rests, driven_broken}
 
 -- of an error that is another
@@ -42,6 +45,7 @@ module _ {D : Type 0} (is_lawful : D → Type 0) (state : D → DiskState) (fail
 
   counted : (c : Command) (r : Reply) (old new : Keeping D) → Obeys is_lawful state failures answers c r old new → failures old.device ≤ failures new.device
   counted (Submit batch) r old new obeys = obeys.1.counted
+  counted (SubmitAs request batch) r old new obeys = obeys.1.counted
   counted WriteCut r old new obeys = obeys.1.counted
   counted Release r old new obeys = at_rest old new (rests is_lawful state failures answers Release r old new refl obeys)
   counted Settle r old new obeys = at_rest old new (rests is_lawful state failures answers Settle r old new refl obeys)
@@ -63,6 +67,7 @@ module _ {D : Type 0} (is_lawful : D → Type 0) (state : D → DiskState) (fail
   failed : (c : Command) (e : KeeperError) (b : Option (List Entry)) (old new : Keeping D) → Obeys is_lawful state failures answers c (Refused e b) old new → is_device e ≡ true
       → Fails is_lawful state failures answers old new
   failed (Submit batch) e b old new obeys is = obeys.0.device (is_device_is e is)
+  failed (SubmitAs request batch) e b old new obeys is = obeys.0.refused.device (is_device_is e is)
   failed WriteCut e b old new obeys is = obeys.0.device (is_device_is e is)
   failed Release e b old new obeys is = absurd (⊎_elim (λ foreign. other_error e error.Foreign foreign.0 refl is) (λ memory. other_error e error.Memory memory.0 refl is) obeys.1)
   failed Settle e b old new obeys is = absurd (other_error e (error.NotPassed obeys.1.0) obeys.1.1 refl is)
@@ -76,6 +81,7 @@ module _ {D : Type 0} (is_lawful : D → Type 0) (state : D → DiskState) (fail
   one_failed : (c : Command) (r : Reply) (old new : Keeping D) → Obeys is_lawful state failures answers c r old new → is_failed r ≡ true → Fails is_lawful state failures answers old new
   one_failed c (Refused e b) old new obeys is = failed c e b old new obeys is
   one_failed c (Submitted n) old new obeys is = absurd (cc)
+  one_failed c (SubmittedAs n) old new obeys is = absurd (cc)
   one_failed c (Released n) old new obeys is = absurd (cc)
   one_failed c Settled old new obeys is = absurd (cc)
   one_failed c (Collected n) old new obeys is = absurd (cc)
@@ -109,11 +115,31 @@ module _ {D : Type 0} (is_lawful : D → Type 0) (state : D → DiskState) (fail
           record { broken = there.broken; risen = omega (arith, there.risen, first) }
 
   -- WHERE NONE DOES, the keeper is as whole as it was, and the count stays
-  whole_submit : (batch : List Entry) (r : Reply) (old new : Keeping D) → Submits is_lawful state failures answers batch r old new → is_failed r ≡ false → new.broken ≡ old.broken
-  whole_submit batch (Submitted n) old new r quiet = ap (λ k. k.broken) r.submitted
-  whole_submit batch (Refused e b) old new r quiet =
+  whole_refused : (refusal : Option KeeperError) (batch : List Entry) (e : KeeperError) (b : Option (List Entry)) (old new : Keeping D)
+      → IsNotSubmitted is_lawful state failures answers refusal batch e b old new → is_device e ≡ false → new.broken ≡ old.broken
+  whole_refused refusal batch e b old new r quiet =
       ⊎_elim (λ is. ap (λ k. k.broken) is)
       (λ other. ⊎_elim (λ is. ap (λ k. k.broken) is.1) (λ is. absurd (let both : true ≡ false = sym (ap is_device is.0) ∙ quiet in cc)) other) r.unchanged
+
+  whole_received : (request : ℕ) (batch : List Entry) (receipt : Receipt) (old new : Keeping D) → IsReceived request batch receipt old new → new.broken ≡ old.broken
+  whole_received request batch (New epoch) old new r = ap (λ k. k.broken) r.2
+  whole_received request batch (Already last) old new r = ap (λ k. k.broken) r.2
+
+  whole_submit_as : (request : ℕ) (batch : List Entry) (r : Reply) (old new : Keeping D) → SubmitsAs is_lawful state failures answers request batch r old new → is_failed r ≡ false → new.broken ≡ old.broken
+  whole_submit_as request batch (SubmittedAs receipt) old new r quiet = whole_received request batch receipt old new r.received
+  whole_submit_as request batch (Refused e b) old new r quiet = whole_refused (submit_as_refusal old request batch) batch e b old new r.refused quiet
+  whole_submit_as request batch (Submitted n) old new r quiet = absurd r
+  whole_submit_as request batch (Released n) old new r quiet = absurd r
+  whole_submit_as request batch Settled old new r quiet = absurd r
+  whole_submit_as request batch (Collected n) old new r quiet = absurd r
+  whole_submit_as request batch (Out o) old new r quiet = absurd r
+  whole_submit_as request batch (CutTaken n) old new r quiet = absurd r
+  whole_submit_as request batch (Written w) old new r quiet = absurd r
+
+  whole_submit : (batch : List Entry) (r : Reply) (old new : Keeping D) → Submits is_lawful state failures answers batch r old new → is_failed r ≡ false → new.broken ≡ old.broken
+  whole_submit batch (Submitted n) old new r quiet = ap (λ k. k.broken) r.submitted
+  whole_submit batch (Refused e b) old new r quiet = whole_refused (submit_refusal old batch) batch e b old new r quiet
+  whole_submit batch (SubmittedAs n) old new r quiet = absurd r
   whole_submit batch (Released n) old new r quiet = absurd r
   whole_submit batch Settled old new r quiet = absurd r
   whole_submit batch (Collected n) old new r quiet = absurd r
@@ -127,6 +153,7 @@ module _ {D : Type 0} (is_lawful : D → Type 0) (state : D → DiskState) (fail
       ⊎_elim (λ is. ap (λ k. k.broken) is.1)
       (λ other. ⊎_elim (λ is. absurd (let both : true ≡ false = sym (ap is_device is.0) ∙ quiet in cc)) (λ is. ap (λ k. k.broken) is) other) r.unchanged
   whole_write (Submitted n) old new r quiet = absurd r
+  whole_write (SubmittedAs n) old new r quiet = absurd r
   whole_write (Released n) old new r quiet = absurd r
   whole_write Settled old new r quiet = absurd r
   whole_write (Collected n) old new r quiet = absurd r
@@ -140,6 +167,7 @@ module _ {D : Type 0} (is_lawful : D → Type 0) (state : D → DiskState) (fail
   one_whole : (c : Command) (r : Reply) (old new : Keeping D) → Obeys is_lawful state failures answers c r old new → is_failed r ≡ false
       → (new.broken ≡ old.broken) × (failures new.device ≡ failures old.device)
   one_whole (Submit batch) r old new obeys quiet = (whole_submit batch r old new obeys.0 quiet, obeys.1.stays quiet)
+  one_whole (SubmitAs request batch) r old new obeys quiet = (whole_submit_as request batch r old new obeys.0 quiet, obeys.1.stays quiet)
   one_whole WriteCut r old new obeys quiet = (whole_write r old new obeys.0 quiet, obeys.1.stays quiet)
   one_whole Release r old new obeys quiet = as_whole old new (rests is_lawful state failures answers Release r old new refl obeys)
   one_whole Settle r old new obeys quiet = as_whole old new (rests is_lawful state failures answers Settle r old new refl obeys)

@@ -1,6 +1,6 @@
 -- What commands hand out, and what is left in the queue, is what the batch meaning has.
 use Rattle.std.proofs.Common.{◌≡◌, ⊎_elim, ℕ, zero, suc, ◌+◌, ◌-◌, ◌≤◌, Bool, true, false, List, [], ◌∷◌, ◌++◌, length, take, drop, refl, sym, ap, ◌∙◌, subst, arith}
-use Rattle.std.specs.Prelude.{Some, None, if◌then◌else◌}
+use Rattle.std.specs.Prelude.{Option, Some, None, if◌then◌else◌}
 use Rattle.std.proofs.lemmas.List.{append-nil, append_assoc, length-append, length-map, length-drop, map-append, take-append-le, drop-append-le, drop-drop, length-take-le, take-append-drop, take-map}
 use Rattle.td_stamp.specs.declared.values.Entry.{Entry}
 use Rattle.td_stamp.specs.declared.values.Output.{Output}
@@ -17,12 +17,17 @@ use Rattle.td_disk.specs.Disk.{DiskState}
 use Rattle.td_journal.specs.declared.submitted.Submitted.{Submitted as AnySubmitted}
 use Rattle.td_standing.specs.Standing.{Standing, last_epoch, submission, batches_of, with_more, cut_at}
 use Rattle.td_keeper.specs.declared.command.Command.{Command}
-use Rattle.td_keeper.specs.declared.command.Command.TheVariants.{Submit, Release, Settle, Collect, NextOut, Cut, WriteCut}
+use Rattle.td_keeper.specs.declared.command.Command.TheVariants.{Submit, SubmitAs, Release, Settle, Collect, NextOut, Cut, WriteCut}
 use Rattle.td_keeper.specs.declared.command.Reply.{Reply}
-use Rattle.td_keeper.specs.declared.command.Reply.TheVariants.{Submitted, Released, Settled, Collected, Out, CutTaken, Written, Refused}
-use Rattle.td_keeper.specs.Keeping.{Keeping, IsKeeping}
+use Rattle.td_keeper.specs.declared.command.Reply.TheVariants.{Submitted, SubmittedAs, Released, Settled, Collected, Out, CutTaken, Written, Refused}
+use Rattle.td_keeper.specs.Keeping.{Keeping, IsKeeping, with_batch}
 use Rattle.td_keeper.specs.Halls.{IsOwn, meant_outs, with_collected}
-use Rattle.td_keeper.specs.Driven.{is_device, submitted_in, submitted_by, handed_in, handed_out, outs_beyond, HandsOn, Obeys, Driven}
+use Rattle.td_standing.specs.declared.error.KeeperError.{KeeperError}
+use Rattle.td_keeper.specs.declared.receipt.Receipt.{Receipt}
+use Rattle.td_keeper.specs.declared.receipt.Receipt.TheVariants.{New, Already}
+use Rattle.td_keeper.specs.Received.{IsReceived, received_in}
+use Rattle.td_keeper.specs.Refused.{submit_refusal, submit_as_refusal}
+use Rattle.td_keeper.specs.Driven.{is_device, submitted_in, submitted_by, handed_in, handed_out, outs_beyond, HandsOn, IsNotSubmitted, Obeys, Driven}
 use Rattle.td_keeper.proofs.Collecting.{OutsJoin}
 use Rattle.td_keeper.proofs.Runs.{out_at, length_outs, take_on}
 use Rattle.td_keeper.proofs.Driving.{is_device_is, driven_broken}
@@ -247,29 +252,56 @@ module _ {D : Type 0} (answers : Answers) (outs_join : OutsJoin answers) where
       }
 
 module _ {D : Type 0} (is_lawful : D → Type 0) (state : D → DiskState) (failures : D → ℕ) (answers : Answers) (outs_join : OutsJoin answers) (last : Last) where
-  -- ONE COMMAND, and then others
-  hands : (c : Command) (r : Reply) (old mid new : Keeping D) (y : List AnySubmitted) (hs : List EpochOut) → IsKeeping old answers → IsKeeping mid answers
-      → Obeys is_lawful state failures answers c r old mid → (mid.broken ≡ true → y ≡ []) → HandsOn answers mid new y hs → HandsOn answers old new (submitted_in c r ++ y) (handed_in r ++ hs)
-  hands (Submit batch) (Submitted n) old mid new y hs kept kept_mid obeys none rest =
-      let is = obeys.0.submitted in
-      one_more answers outs_join old mid new (submission 0 batch ∷ []) y hs (ap (λ k. k.plan) is) (ap (λ k. k.standing) is) (ap (λ k. k.collected) is) (ap (λ k. k.queue) is) rest
-  hands (Submit batch) (Refused e b) old mid new y hs kept kept_mid obeys none rest = by (is_device e) refl
+  -- the batch is the next epoch
+  hands_submitted : (request : ℕ) (batch : List Entry) (old mid new : Keeping D) (y : List AnySubmitted) (hs : List EpochOut) → mid ≡ with_batch old mid.device request batch
+      → HandsOn answers mid new y hs → HandsOn answers old new (submission request batch ∷ [] ++ y) hs
+  hands_submitted request batch old mid new y hs is rest =
+      one_more answers outs_join old mid new (submission request batch ∷ []) y hs (ap (λ k. k.plan) is) (ap (λ k. k.standing) is) (ap (λ k. k.collected) is) (ap (λ k. k.queue) is) rest
+
+  -- or it is not
+  hands_refused : (refusal : Option KeeperError) (x : List AnySubmitted) (batch : List Entry) (e : KeeperError) (b : Option (List Entry)) (old mid new : Keeping D) (y : List AnySubmitted) (hs : List EpochOut)
+      → IsKeeping old answers → IsNotSubmitted is_lawful state failures answers refusal batch e b old mid → (mid.broken ≡ true → y ≡ []) → HandsOn answers mid new y hs
+      → HandsOn answers old new ((if is_device e then x else []) ++ y) hs
+  hands_refused refusal x batch e b old mid new y hs kept r none rest = by (is_device e) refl
     where
       alike : (mid.plan ≡ old.plan) × (mid.standing ≡ old.standing) × (mid.collected ≡ old.collected) × (mid.queue ≡ old.queue)
       alike =
           ⊎_elim (λ is. (ap (λ k. k.plan) is, ap (λ k. k.standing) is, ap (λ k. k.collected) is, ap (λ k. k.queue) is))
           (λ other. ⊎_elim (λ is. (ap (λ k. k.plan) is.1, ap (λ k. k.standing) is.1, ap (λ k. k.collected) is.1, ap (λ k. k.queue) is.1))
-          (λ is. (ap (λ k. k.plan) is.1, ap (λ k. k.standing) is.1, ap (λ k. k.collected) is.1, ap (λ k. k.queue) is.1)) other) obeys.0.unchanged
+          (λ is. (ap (λ k. k.plan) is.1, ap (λ k. k.standing) is.1, ap (λ k. k.collected) is.1, ap (λ k. k.queue) is.1)) other) r.unchanged
 
       on : HandsOn answers old new y hs
       on = same_all answers outs_join old mid new y hs alike.0 alike.1 alike.2 alike.3 rest
 
-      by : (d : Bool) → is_device e ≡ d → HandsOn answers old new ((if d then submission 0 batch ∷ [] else []) ++ y) hs
+      by : (d : Bool) → is_device e ≡ d → HandsOn answers old new ((if d then x else []) ++ y) hs
       by false is = on
       by true is =
-          let no : y ≡ [] = none (obeys.0.device (is_device_is e is)).broken in
-          subst (λ (l : List AnySubmitted). HandsOn answers old new ((submission 0 batch ∷ []) ++ l) hs) (sym no)
-          (perhaps answers outs_join old new (submission 0 batch ∷ []) hs kept (subst (λ (l : List AnySubmitted). HandsOn answers old new l hs) no on))
+          let no : y ≡ [] = none (r.device (is_device_is e is)).broken in
+          subst (λ (l : List AnySubmitted). HandsOn answers old new (x ++ l) hs) (sym no)
+          (perhaps answers outs_join old new x hs kept (subst (λ (l : List AnySubmitted). HandsOn answers old new l hs) no on))
+
+  hands_received : (request : ℕ) (batch : List Entry) (receipt : Receipt) (old mid new : Keeping D) (y : List AnySubmitted) (hs : List EpochOut) → IsReceived request batch receipt old mid
+      → HandsOn answers mid new y hs → HandsOn answers old new (received_in request batch receipt ++ y) hs
+  hands_received request batch (New epoch) old mid new y hs r rest = hands_submitted request batch old mid new y hs r.2 rest
+  hands_received request batch (Already last) old mid new y hs r rest = as_it_was answers outs_join old mid new y hs r.2 rest
+
+  -- ONE COMMAND, and then others
+  hands : (c : Command) (r : Reply) (old mid new : Keeping D) (y : List AnySubmitted) (hs : List EpochOut) → IsKeeping old answers → IsKeeping mid answers
+      → Obeys is_lawful state failures answers c r old mid → (mid.broken ≡ true → y ≡ []) → HandsOn answers mid new y hs → HandsOn answers old new (submitted_in c r ++ y) (handed_in r ++ hs)
+  hands (Submit batch) (Submitted n) old mid new y hs kept kept_mid obeys none rest = hands_submitted 0 batch old mid new y hs obeys.0.submitted rest
+  hands (Submit batch) (Refused e b) old mid new y hs kept kept_mid obeys none rest =
+      hands_refused (submit_refusal old batch) (submission 0 batch ∷ []) batch e b old mid new y hs kept obeys.0 none rest
+  hands (SubmitAs request batch) (SubmittedAs receipt) old mid new y hs kept kept_mid obeys none rest = hands_received request batch receipt old mid new y hs obeys.0.received rest
+  hands (SubmitAs request batch) (Refused e b) old mid new y hs kept kept_mid obeys none rest =
+      hands_refused (submit_as_refusal old request batch) (submission request batch ∷ []) batch e b old mid new y hs kept obeys.0.refused none rest
+  hands (SubmitAs request batch) (Submitted n) old mid new y hs kept kept_mid obeys none rest = absurd obeys.0
+  hands (SubmitAs request batch) (Released n) old mid new y hs kept kept_mid obeys none rest = absurd obeys.0
+  hands (SubmitAs request batch) Settled old mid new y hs kept kept_mid obeys none rest = absurd obeys.0
+  hands (SubmitAs request batch) (Collected n) old mid new y hs kept kept_mid obeys none rest = absurd obeys.0
+  hands (SubmitAs request batch) (Out o) old mid new y hs kept kept_mid obeys none rest = absurd obeys.0
+  hands (SubmitAs request batch) (CutTaken n) old mid new y hs kept kept_mid obeys none rest = absurd obeys.0
+  hands (SubmitAs request batch) (Written w) old mid new y hs kept kept_mid obeys none rest = absurd obeys.0
+  hands (Submit batch) (SubmittedAs n) old mid new y hs kept kept_mid obeys none rest = absurd obeys.0
   hands (Submit batch) (Released n) old mid new y hs kept kept_mid obeys none rest = absurd obeys.0
   hands (Submit batch) Settled old mid new y hs kept kept_mid obeys none rest = absurd obeys.0
   hands (Submit batch) (Collected n) old mid new y hs kept kept_mid obeys none rest = absurd obeys.0
@@ -280,6 +312,7 @@ module _ {D : Type 0} (is_lawful : D → Type 0) (state : D → DiskState) (fail
   hands Release (Refused e b) old mid new y hs kept kept_mid obeys none rest =
       ⊎_elim (λ foreign. as_it_was answers outs_join old mid new y hs foreign.1.same rest) (λ memory. as_it_was answers outs_join old mid new y hs memory.1.same rest) obeys.1
   hands Release (Submitted n) old mid new y hs kept kept_mid obeys none rest = absurd obeys
+  hands Release (SubmittedAs n) old mid new y hs kept kept_mid obeys none rest = absurd obeys
   hands Release Settled old mid new y hs kept kept_mid obeys none rest = absurd obeys
   hands Release (Collected n) old mid new y hs kept kept_mid obeys none rest = absurd obeys
   hands Release (Out o) old mid new y hs kept kept_mid obeys none rest = absurd obeys
@@ -288,6 +321,7 @@ module _ {D : Type 0} (is_lawful : D → Type 0) (state : D → DiskState) (fail
   hands Settle Settled old mid new y hs kept kept_mid obeys none rest = as_it_was answers outs_join old mid new y hs obeys.same rest
   hands Settle (Refused e b) old mid new y hs kept kept_mid obeys none rest = as_it_was answers outs_join old mid new y hs obeys.1.2.same rest
   hands Settle (Submitted n) old mid new y hs kept kept_mid obeys none rest = absurd obeys
+  hands Settle (SubmittedAs n) old mid new y hs kept kept_mid obeys none rest = absurd obeys
   hands Settle (Released n) old mid new y hs kept kept_mid obeys none rest = absurd obeys
   hands Settle (Collected n) old mid new y hs kept kept_mid obeys none rest = absurd obeys
   hands Settle (Out o) old mid new y hs kept kept_mid obeys none rest = absurd obeys
@@ -297,6 +331,7 @@ module _ {D : Type 0} (is_lawful : D → Type 0) (state : D → DiskState) (fail
   hands Collect (Refused e b) old mid new y hs kept kept_mid obeys none rest =
       ⊎_elim (λ foreign. as_it_was answers outs_join old mid new y hs foreign.1.same rest) (λ memory. as_it_was answers outs_join old mid new y hs memory.1.same rest) obeys.1
   hands Collect (Submitted n) old mid new y hs kept kept_mid obeys none rest = absurd obeys
+  hands Collect (SubmittedAs n) old mid new y hs kept kept_mid obeys none rest = absurd obeys
   hands Collect (Released n) old mid new y hs kept kept_mid obeys none rest = absurd obeys
   hands Collect Settled old mid new y hs kept kept_mid obeys none rest = absurd obeys
   hands Collect (Out o) old mid new y hs kept kept_mid obeys none rest = absurd obeys
@@ -306,6 +341,7 @@ module _ {D : Type 0} (is_lawful : D → Type 0) (state : D → DiskState) (fail
   hands NextOut (Out (Some out)) old mid new y hs kept kept_mid obeys none rest = handed_first answers outs_join old mid new y hs out obeys.0 obeys.1 rest
   hands NextOut (Refused e b) old mid new y hs kept kept_mid obeys none rest = absurd obeys
   hands NextOut (Submitted n) old mid new y hs kept kept_mid obeys none rest = absurd obeys
+  hands NextOut (SubmittedAs n) old mid new y hs kept kept_mid obeys none rest = absurd obeys
   hands NextOut (Released n) old mid new y hs kept kept_mid obeys none rest = absurd obeys
   hands NextOut Settled old mid new y hs kept kept_mid obeys none rest = absurd obeys
   hands NextOut (Collected n) old mid new y hs kept kept_mid obeys none rest = absurd obeys
@@ -327,6 +363,7 @@ module _ {D : Type 0} (is_lawful : D → Type 0) (state : D → DiskState) (fail
       other)
       obeys.1
   hands Cut (Submitted n) old mid new y hs kept kept_mid obeys none rest = absurd obeys
+  hands Cut (SubmittedAs n) old mid new y hs kept kept_mid obeys none rest = absurd obeys
   hands Cut (Released n) old mid new y hs kept kept_mid obeys none rest = absurd obeys
   hands Cut Settled old mid new y hs kept kept_mid obeys none rest = absurd obeys
   hands Cut (Collected n) old mid new y hs kept kept_mid obeys none rest = absurd obeys
@@ -349,6 +386,7 @@ module _ {D : Type 0} (is_lawful : D → Type 0) (state : D → DiskState) (fail
       other)
       obeys.0.unchanged
   hands WriteCut (Submitted n) old mid new y hs kept kept_mid obeys none rest = absurd obeys.0
+  hands WriteCut (SubmittedAs n) old mid new y hs kept kept_mid obeys none rest = absurd obeys.0
   hands WriteCut (Released n) old mid new y hs kept kept_mid obeys none rest = absurd obeys.0
   hands WriteCut Settled old mid new y hs kept kept_mid obeys none rest = absurd obeys.0
   hands WriteCut (Collected n) old mid new y hs kept kept_mid obeys none rest = absurd obeys.0

@@ -13,3 +13,4 @@ mod Submitting
 mod Driving
 mod Failing
 mod Handing
+mod Receiving

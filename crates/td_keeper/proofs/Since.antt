@@ -1,5 +1,5 @@
 -- What the images since the start of a call tell, and those since an earlier moment, as advances of the standing.
-use Rattle.std.proofs.Common.{◌≡◌, inl, inr, ⊎_elim, ℕ, true, false, List, sym, ◌∙◌, subst, arith}
+use Rattle.std.proofs.Common.{◌≡◌, inl, inr, ⊎_elim, ℕ, true, false, List, [], sym, ◌∙◌, subst, arith}
 use Rattle.std.specs.Prelude.{Ok}
 use Rattle.td_plan.specs.Lines.{Line}
 use Rattle.td_plan.specs.Tree.{Nodes, tree_of}
@@ -79,3 +79,20 @@ by_further {D = D} is_lawful state only answers together not_yet {k = k} {z = z}
     (λ old whole further.
     let keeps = keeps_of k.broken answers k.plan k.head k.side k.standing (state k.device) whole (held old) in
     from_start answers k.plan together k.head k.side k.standing x (state k.device) new (λ c. only k.device c old) (not_yet (tree_of k.plan) k.standing x) keeps further)
+
+-- the standing under one head or another
+module _ (answers : Answers) (plan : List Line) (together : Together) (head other : Head) (side : ℕ) (s : Standing) (old new : DiskState) where
+  -- each image since the start of the call, when each image told the standing, tells it
+  pub told_since : ((c : List ℕ) → old.since old.moment c → old.images c) → Keeps plan head side s old → TellsSince (Tells plan head side s) (Tells plan other side s) old new
+      → (c : List ℕ) → new.since old.moment c → Told plan c (Ok s)
+  told_since only keeps begun c left =
+      ⊎_elim (λ was. together plan head side s c (subst (Tells plan head side s) (sym (keeps.durable c (only c was))) keeps.tells))
+      (λ now. ⊎_elim (λ told. together plan head side s c told) (λ told. together plan other side s c told) now)
+      (begun old.moment c (omega arith) left)
+
+  -- and each since an earlier moment was one by then, or tells it
+  pub told_further : Advance (states_by answers plan) (with_more s []) s → TellsSince (Tells plan head side s) (Tells plan other side s) old new → AdvancesSince answers plan s [] (last_epoch s) old new
+  told_further same begun moment c le left = ⊎_elim
+      (λ was. inl was)
+      (λ now. inr (⊎_elim (λ told. itself answers plan together head side s [] c same told) (λ told. itself answers plan together other side s [] c same told) now))
+      (begun moment c le left)

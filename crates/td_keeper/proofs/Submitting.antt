@@ -1,6 +1,7 @@
 -- A batch that a keeper submits.
-use Rattle.std.proofs.Common.{◌≡◌, ◌==◌, ℕ, ◌+◌, Bool, true, false, nat_le, List, [], ◌∷◌, refl, sym, ◌∙◌, subst, arith, length-append}
-use Rattle.std.specs.Prelude.{Option, Some, None}
+use Rattle.std.proofs.Common.{◌≡◌, ◌==◌, ℕ, ◌+◌, ◌≤◌, Bool, true, false, ◌||◌, nat_le, nat_lt, List, [], ◌∷◌, ◌++◌, refl, sym, ◌∙◌, subst, arith, length-append}
+use Rattle.std.proofs.lemmas.Bool.{le-leb, ltb-false}
+use Rattle.std.specs.Prelude.{Option, Some, None, max}
 use Rattle.std.specs.List.{list_all, list_any}
 use Rattle.td_stamp.specs.declared.values.Entry.{Entry}
 use Rattle.td_stamp.specs.Orders.{entry_cmp}
@@ -10,16 +11,17 @@ use Rattle.td_plan.specs.Faults.{IsPlan}
 use Rattle.td_calls.specs.Answers.{Answers}
 use Rattle.td_disk.specs.Disk.{DiskState}
 use Rattle.td_head.specs.declared.head.Head.{Head}
-use Rattle.td_journal.specs.Numbers.{may_come}
+use Rattle.td_journal.specs.Numbers.{may_come, greatest}
 use Rattle.td_journal.specs.Cell.{is_batch}
 use Rattle.td_journal.specs.declared.submitted.Submitted.{Submitted}
 use Rattle.td_machine.specs.Steps.{accepts}
-use Rattle.td_standing.specs.Standing.{Standing, last_epoch, last_request, with_more}
+use Rattle.td_standing.specs.Standing.{Standing, last_epoch, last_request, submission, with_more}
 use Rattle.td_standing.specs.Told.{inputs_of}
 use Rattle.td_standing.specs.Tells.{Keeps, HasRoom, IsFresh}
 use Rattle.td_standing.specs.Advanced.{HeldWhere}
 use Rattle.td_watch.specs.View.{View}
 use Rattle.td_keeper.specs.Keeping.{Keeping, words_at, IsBelow}
+use Rattle.td_keeper.specs.Refused.{is_new}
 use Rattle.td_keeper.proofs.Accepting.{IsAccepted}
 
 -- where nothing is broken, a keeper's disk keeps its standing
@@ -36,6 +38,32 @@ none_comes false last = refl
 
 pub no_request : (version : ℕ) (s : Standing) → IsFresh version s 0
 no_request version s = none_comes (nat_le 2 version) (last_request s)
+
+-- a number may come after what a keeper stands for, as it sees itself
+pub fresh_in : {D : Type 0} {k z : Keeping D} (request : ℕ) → k ≡ z → IsFresh z.head.version z.standing request → IsFresh k.head.version k.standing request
+fresh_in {D = D} request is fresh = subst (λ (v : Keeping D). IsFresh v.head.version v.standing request) (sym is) fresh
+
+-- in version 2 a new one may
+pub new_comes : {D : Type 0} (k : Keeping D) (request : ℕ) → 2 ≤ k.head.version → is_new k.standing request ≡ true → IsFresh k.head.version k.standing request
+new_comes k request numbered new = comes (nat_le 2 k.head.version) (le-leb 2 k.head.version numbered)
+  where
+    comes : (b : Bool) → b ≡ true → may_come (elim b [ true ↦ Some (last_request k.standing) | false ↦ None ]) request ≡ true
+    comes true is = new
+    comes false is = absurd cc
+
+-- one that is not new is not above the last
+pub old_below : (s : Standing) (request : ℕ) → is_new s request ≡ false → request ≤ last_request s
+old_below s request old = by (request == 0) (nat_lt (last_request s) request) refl old
+  where
+    by : (a b : Bool) → nat_lt (last_request s) request ≡ b → (a || b) ≡ false → request ≤ last_request s
+    by true b is none = absurd cc
+    by false true is none = absurd cc
+    by false false is none = ltb-false (last_request s) request is
+
+-- the greatest number after one epoch more
+pub greatest_more : (q : ℕ) (w : List Submitted) (request : ℕ) (batch : List Entry) → greatest q (w ++ submission request batch ∷ []) ≡ max (greatest q w) request
+greatest_more q [] request batch = refl
+greatest_more q (s ∷ w) request batch = greatest_more (max q s.request) w request batch
 
 -- the laws, as they are handed in
 abbrev pub Inputs : Type 0

@@ -14,16 +14,18 @@ use Rattle.td_machine.specs.Sound.{outs_by}
 use Rattle.td_disk.specs.Disk.{DiskState, Rises}
 use Rattle.td_gate.specs.CrashSafe.{CrashSafe, Unchanged}
 use Rattle.td_standing.specs.declared.error.KeeperError.{KeeperError}
-use Rattle.td_standing.specs.declared.error.KeeperError.TheVariants.{Foreign, NotPassed, TooManyKeys, Device, Memory}
+use Rattle.td_standing.specs.declared.error.KeeperError.TheVariants.{Foreign, NotPassed, TooManyKeys, Broken, Device, Memory, OldVersion}
 use Rattle.td_journal.specs.declared.submitted.Submitted.{Submitted as AnySubmitted}
 use Rattle.td_standing.specs.Standing.{last_epoch, batches_of, submission}
 use Rattle.td_standing.specs.Advanced.{AdvancesSince}
+use Rattle.td_keeper.specs.declared.receipt.Receipt.{Receipt}
 use Rattle.td_keeper.specs.declared.command.Command.{Command}
-use Rattle.td_keeper.specs.declared.command.Command.TheVariants.{Submit, Release, Settle, Collect, NextOut, Cut, WriteCut}
+use Rattle.td_keeper.specs.declared.command.Command.TheVariants.{Submit, SubmitAs, Release, Settle, Collect, NextOut, Cut, WriteCut}
 use Rattle.td_keeper.specs.declared.command.Reply.{Reply}
-use Rattle.td_keeper.specs.declared.command.Reply.TheVariants.{Submitted, Released, Settled, Collected, Out, CutTaken, Written, Refused}
+use Rattle.td_keeper.specs.declared.command.Reply.TheVariants.{Submitted, SubmittedAs, Released, Settled, Collected, Out, CutTaken, Written, Refused}
 use Rattle.td_keeper.specs.Keeping.{Keeping, IsKeeping, since_base, with_batch, with_checkpoint}
-use Rattle.td_keeper.specs.Refused.{submit_refusal, write_refusal, cut_refusal}
+use Rattle.td_keeper.specs.Refused.{is_new, submit_refusal, submit_as_refusal, write_refusal, cut_refusal}
+use Rattle.td_keeper.specs.Received.{IsReceived, received_in}
 use Rattle.td_keeper.specs.Halls.{IsOwn, lacking, with_released, with_collected, with_cut, collected_hall, cut_hall, last_passed, meant_outs}
 
 -- whether the device failed
@@ -43,13 +45,17 @@ some_failed (reply ∷ replies) = is_failed reply || some_failed replies
 -- whether a command may write to the disk
 abbrev pub may_write : Command → Bool
 may_write (Submit batch) = true
+may_write (SubmitAs request batch) = true
 may_write WriteCut = true
 may_write _ = false
 
--- WHAT A COMMAND SUBMITTED, by its reply: its batch, where it was acknowledged, or where the device failed in it
+-- WHAT A COMMAND SUBMITTED, by its reply: its batch, where it was acknowledged, or where the device failed in it; not a request
+-- that was there already
 abbrev pub submitted_in : Command → Reply → List AnySubmitted
 submitted_in (Submit batch) (Submitted epoch) = submission 0 batch ∷ []
 submitted_in (Submit batch) (Refused error back) = if is_device error then submission 0 batch ∷ [] else []
+submitted_in (SubmitAs request batch) (SubmittedAs receipt) = received_in request batch receipt
+submitted_in (SubmitAs request batch) (Refused error back) = if is_device error then submission request batch ∷ [] else []
 submitted_in _ _ = []
 
 -- and what commands did, in order
@@ -108,18 +114,33 @@ module _ {D : Type 0} (is_lawful : D → Type 0) (state : D → DiskState) (fail
     pub submitted : new ≡ with_batch old new.device 0 batch
     pub last : epoch ≡ last_epoch new.standing
 
-  -- or it comes back, and what was kept in memory is as it was
-  pub record IsNotSubmitted (batch : List Entry) (error : KeeperError) (back : Option (List Entry)) (old new : Keeping D) : Type 0 where
+  -- or it comes back, by the first cause of these or for want of memory or of the device, and what was kept in memory is as it was
+  pub record IsNotSubmitted (refusal : Option KeeperError) (batch : List Entry) (error : KeeperError) (back : Option (List Entry)) (old new : Keeping D) : Type 0 where
     pub batch_back : back ≡ Some batch
-    pub cause : (submit_refusal old batch ≡ Some error) ⊎ ((submit_refusal old batch ≡ None) × ((error ≡ Memory) ⊎ (error ≡ Device)))
+    pub cause : (refusal ≡ Some error) ⊎ ((refusal ≡ None) × ((error ≡ Memory) ⊎ (error ≡ Device)))
     pub unchanged : (new ≡ old) ⊎ ((error ≡ Memory) × (new ≡ record old { device = new.device })) ⊎ ((error ≡ Device) × (new ≡ record old { device = new.device; broken = true }))
     pub memory : error ≡ Memory → Unwritten old new
     pub device : error ≡ Device → Fails old new
 
   abbrev pub Submits : List Entry → Reply → Keeping D → Keeping D → Type 0
   Submits batch (Submitted epoch) old new = IsSubmitted batch epoch old new
-  Submits batch (Refused error back) old new = IsNotSubmitted batch error back old new
+  Submits batch (Refused error back) old new = IsNotSubmitted (submit_refusal old batch) batch error back old new
   Submits batch _ old new = ⊥
+
+  -- TO SUBMIT UNDER A REQUEST NUMBER: the batch is acknowledged, or the number is there already
+  pub record IsAnswered (request : ℕ) (batch : List Entry) (receipt : Receipt) (old new : Keeping D) : Type 0 where
+    pub accepted : submit_as_refusal old request batch ≡ None
+    pub received : IsReceived request batch receipt old new
+
+  -- or it is refused; one that is not new for two causes alone
+  pub record IsNotAnswered (request : ℕ) (batch : List Entry) (error : KeeperError) (back : Option (List Entry)) (old new : Keeping D) : Type 0 where
+    pub refused : IsNotSubmitted (submit_as_refusal old request batch) batch error back old new
+    pub repeated : is_new old.standing request ≡ false → (error ≡ Broken) ⊎ (error ≡ OldVersion)
+
+  abbrev pub SubmitsAs : ℕ → List Entry → Reply → Keeping D → Keeping D → Type 0
+  SubmitsAs request batch (SubmittedAs receipt) old new = IsAnswered request batch receipt old new
+  SubmitsAs request batch (Refused error back) old new = IsNotAnswered request batch error back old new
+  SubmitsAs request batch _ old new = ⊥
 
   -- A HALL UNDER THE LOCK, one to which plays lead, was found so, and the keeper is as it was
   pub record Finds (found : HallState → Type 0) (old new : Keeping D) : Type 0 where
@@ -212,6 +233,7 @@ module _ {D : Type 0} (is_lawful : D → Type 0) (state : D → DiskState) (fail
   -- ONE COMMAND, with its reply; and the images since an earlier moment, where it writes
   abbrev pub Obeys : Command → Reply → Keeping D → Keeping D → Type 0
   Obeys (Submit batch) reply old new = Submits batch reply old new × MayWrite reply old new (submitted_in (Submit batch) reply)
+  Obeys (SubmitAs request batch) reply old new = SubmitsAs request batch reply old new × MayWrite reply old new (submitted_in (SubmitAs request batch) reply)
   Obeys Release reply old new = Releases reply old new
   Obeys Settle reply old new = Settles reply old new
   Obeys Collect reply old new = Collects reply old new

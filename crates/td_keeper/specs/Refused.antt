@@ -1,5 +1,5 @@
 -- Where a keeper refuses a call, the device and memory aside.
-use Rattle.std.specs.Prelude.{ℕ, ◌+◌, ◌^◌, Bool, true, false, nat_lt, nat_le, not, List, length, Option, Some, None, if◌then◌else◌}
+use Rattle.std.specs.Prelude.{ℕ, ◌+◌, ◌-◌, ◌^◌, ◌==◌, Bool, true, false, nat_lt, nat_le, not, List, length, Option, Some, None, if◌then◌else◌}
 use Rattle.td_stamp.specs.declared.values.Entry.{Entry}
 use Rattle.td_machine.specs.State.{HallState}
 use Rattle.td_machine.specs.Active.{unpassed}
@@ -7,14 +7,19 @@ use Rattle.td_machine.specs.Steps.{accepts}
 use Rattle.td_slots.specs.declared.error.SlotsError.{SlotsError}
 use Rattle.td_slots.specs.declared.error.SlotsError.TheVariants.{Memory as OutOfMemory}
 use Rattle.td_standing.specs.declared.error.KeeperError.{KeeperError}
-use Rattle.td_standing.specs.declared.error.KeeperError.TheVariants.{Broken, NoSuchInput, TooManyRecords, Epochs, Full, NotPassed, CutWaiting, TooManyKeys}
-use Rattle.td_standing.specs.Standing.{last_epoch}
+use Rattle.td_standing.specs.declared.error.KeeperError.TheVariants.{Broken, NoSuchInput, TooManyRecords, Epochs, Full, NotPassed, CutWaiting, TooManyKeys, OldVersion, LastGeneration}
+use Rattle.td_journal.specs.Numbers.{may_come}
+use Rattle.td_standing.specs.Standing.{Standing, last_epoch, last_request}
 use Rattle.td_keeper.specs.Keeping.{Keeping}
 
 -- whether a cut waits on after its write was refused so
 abbrev pub waits_after : SlotsError → Bool
 waits_after OutOfMemory = true
 waits_after _ = false
+
+-- whether a request is new to a standing: it has no number, or one above all before
+abbrev pub is_new : Standing → ℕ → Bool
+is_new s request = may_come (Some (last_request s)) request
 
 module _ {D : Type 0} (k : Keeping D) where
   -- A SUBMIT: the first of these that holds
@@ -26,6 +31,30 @@ module _ {D : Type 0} (k : Keeping D) where
       else (if nat_le (2 ^ 63) (last_epoch k.standing + 1) then Some Epochs
       else (if nat_le k.head.shape.n (length k.standing.submitted) then Some Full
       else None))))
+
+  -- every request number
+  abbrev pub request_refusal : Option KeeperError
+  request_refusal =
+      if k.broken then Some Broken
+      else (if nat_lt k.head.version 2 then Some OldVersion
+      else None)
+
+  abbrev pub unless_refused : Option KeeperError → Option KeeperError → Option KeeperError
+  unless_refused (Some e) other = Some e
+  unless_refused None other = other
+
+  -- A SUBMIT UNDER A REQUEST NUMBER: the first of these; one that is not new is refused by nothing more
+  abbrev pub submit_as_refusal : ℕ → List Entry → Option KeeperError
+  submit_as_refusal request batch =
+      unless_refused request_refusal (if is_new k.standing request then submit_refusal batch else None)
+
+  -- AN UPGRADE
+  abbrev pub upgrade_refusal : Option KeeperError
+  upgrade_refusal =
+      if k.broken then Some Broken
+      else (if nat_le 2 k.head.version then None
+      else (if k.head.generation == 2 ^ 64 - 1 then Some LastGeneration
+      else None))
 
   -- A CUT THAT IS WRITTEN
   abbrev pub write_refusal : Option KeeperError

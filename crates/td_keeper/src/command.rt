@@ -1,4 +1,5 @@
 //! What a keeper is told to do beside workers, and what it replies.
+use crate::receipt::Receipt;
 use td_stamp::{Batch, EpochOut};
 use td_standing::KeeperError;
 
@@ -7,6 +8,8 @@ use td_standing::KeeperError;
 pub enum Command {
     /// To submit a batch.
     Submit(Batch),
+    /// To submit a batch under a request number.
+    SubmitAs(u64, Batch),
     /// To release into the pool's hall the epochs that it lacks.
     Release,
     /// To wait until every released epoch has passed, or the pool is stopped.
@@ -26,6 +29,8 @@ pub enum Command {
 pub enum Reply {
     /// The batch is acknowledged as this epoch.
     Submitted(u64),
+    /// What the submit under a request number came to.
+    SubmittedAs(Receipt),
     /// So many epochs were released.
     Released(u64),
     /// Every released epoch has passed.

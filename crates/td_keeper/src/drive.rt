@@ -3,7 +3,7 @@ ghost use Rattle.std.specs.Prelude.{◌≡◌, ◌↔◌, ◌≤◌, true, false
 ghost use Rattle.td_disk.specs.Disk.{Rises};
 ghost use Rattle.td_machine.specs.Active.{unpassed};
 ghost use Rattle.td_machine.specs.Reached.{IsReached};
-ghost use Rattle.td_standing.specs.Standing.{last_epoch};
+ghost use Rattle.td_standing.specs.Standing.{last_epoch, last_request};
 ghost use Rattle.td_standing.specs.Advanced.{SinceAdvance};
 ghost use Rattle.td_keeper.specs.Keeping.{IsKeeping};
 ghost use Rattle.td_keeper.specs.Driven.{submitted_by, handed_out, some_failed, HandsOn, Advances, Obeys, Driven};
@@ -45,6 +45,9 @@ impl<D: Disk, L: Law> Keeper<D, L> {
         ensures whole { IfOk result (λ replies. some_failed replies.items ≡ false → (self.new.broken ≡ self.old.broken) × (D.failures self.new.device ≡ D.failures self.old.device)) }
         ensures counted { D.failures self.old.device ≤ D.failures self.new.device }
 
+        // The greatest request number never falls.
+        ensures never_falls { last_request self.old.standing ≤ last_request self.new.standing }
+
         // A keeper that is broken writes nothing, whatever it is told.
         ensures broken { self.old.broken ≡ true → self.new.device ≡ self.old.device }
 
@@ -64,6 +67,7 @@ impl<D: Disk, L: Law> Keeper<D, L> {
         laws::told_in_parts();
         laws::standings_advance::<L>();
         laws::advances_join::<L>();
+        laws::last_request_never_falls::<L>();
         td_batch::laws::run_joins::<L>();
         each_is_kept(self);
         each_disk_holds(self);
@@ -86,6 +90,10 @@ impl<D: Disk, L: Law> Keeper<D, L> {
         match command {
             Command::Submit(batch) => match self.submit(batch) {
                 Ok(epoch) => Reply::Submitted(epoch),
+                Err((error, batch)) => refused(error, Some(batch)),
+            },
+            Command::SubmitAs(request, batch) => match self.submit_as(request, batch) {
+                Ok(receipt) => Reply::SubmittedAs(receipt),
                 Err((error, batch)) => refused(error, Some(batch)),
             },
             Command::Release => {

@@ -16,7 +16,7 @@ use std::marker::{Model, PhantomData};
 use td_calls::Law;
 use td_disk::Disk;
 use td_head::{Head, Shape};
-use td_journal::Submitted;
+use td_journal::{Submitted, greatest_request};
 use td_plan::Plan;
 use td_slots::Checkpoint;
 use td_stamp::{Batch, EpochOut, States};
@@ -42,6 +42,7 @@ pub struct Keeper<D: Disk, L: Law> {
     pub(crate) head: Head,
     pub(crate) checkpoint: Checkpoint,
     pub(crate) submitted: VecDeque<Submitted>,
+    pub(crate) last_request: u64,
     pub(crate) broken: bool,
     pub(crate) taken: Option<Taken>,
     pub(crate) collected: u64,
@@ -51,8 +52,9 @@ pub struct Keeper<D: Disk, L: Law> {
 }
 
 impl<D: Disk, L: Law> Model for Keeper<D, L> {
-    ghost use Rattle.std.specs.Prelude.{◌≤◌};
+    ghost use Rattle.std.specs.Prelude.{◌≡◌, ◌≤◌};
     ghost use Rattle.td_head.specs.Layout.{size_of};
+    ghost use Rattle.td_journal.specs.Numbers.{greatest};
     ghost use Rattle.td_standing.specs.Standing.{standing_from};
     ghost use Rattle.td_standing.specs.Advanced.{HeldWhere};
     ghost use Rattle.td_keeper.specs.Keeping.{Keeping, IsKeeping, keeping_of};
@@ -64,7 +66,8 @@ impl<D: Disk, L: Law> Model for Keeper<D, L> {
     ghost invariant = { λ k. (size_of k.head.shape ≤ D.capacity k.device)
         × IsKeeping (keeping_of k.device k.plan k.head k.checkpoint k.submitted.items k.broken k.taken k.collected k.queue.items k.watch) L.answers
         × (D.is_lawful k.device
-        → HeldWhere k.broken L.answers k.plan k.head k.checkpoint.slot (standing_from k.checkpoint k.submitted.items) (D.state k.device)) };
+        → HeldWhere k.broken L.answers k.plan k.head k.checkpoint.slot (standing_from k.checkpoint k.submitted.items) (D.state k.device))
+        × (k.last_request ≡ greatest k.checkpoint.last k.submitted.items) };
 }
 
 impl<D: Disk, L: Law> Keeper<D, L> {
@@ -108,6 +111,7 @@ impl<D: Disk, L: Law> Keeper<D, L> {
                 collected: 0,
                 checkpoint,
                 submitted: VecDeque::new(alloc),
+                last_request: 0,
                 broken: false,
                 taken: None,
                 queue: VecDeque::new(alloc),
@@ -156,6 +160,7 @@ impl<D: Disk, L: Law> Keeper<D, L> {
                 device,
                 plan,
                 head: recovered.head,
+                last_request: greatest_request(recovered.checkpoint.last, &recovered.submitted),
                 collected: recovered.checkpoint.epoch,
                 checkpoint: recovered.checkpoint,
                 submitted: VecDeque::from(recovered.submitted),
@@ -198,6 +203,7 @@ impl<D: Disk, L: Law> Keeper<D, L> {
             head: _,
             checkpoint: _,
             submitted: _,
+            last_request: _,
             broken: _,
             taken: _,
             collected: _,

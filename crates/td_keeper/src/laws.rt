@@ -1,5 +1,8 @@
 //! Laws of keepers. Each is the contract of a function that does nothing.
-ghost use Rattle.std.specs.Prelude.{◌≡◌, false};
+ghost use Rattle.std.specs.Prelude.{◌≡◌, ◌≤◌, false, List, ℕ};
+ghost use Rattle.td_standing.specs.Standing.{Standing, last_request};
+ghost use Rattle.td_standing.specs.Told.{Told};
+ghost use Rattle.td_standing.specs.Read.{Stood};
 ghost use Rattle.td_standing.specs.Advanced.{HeldWhere};
 ghost use Rattle.td_keeper.specs.Keeping.{Keeping, IsKeeping};
 ghost use Rattle.td_keeper.specs.declared.command.Command.{Command as AnyCommand};
@@ -9,6 +12,7 @@ ghost use Rattle.td_keeper.specs.Driven.{may_write, Obeys, Rests};
 use crate::keeper::Keeper;
 use td_calls::Law;
 use td_disk::Disk;
+use td_standing::laws;
 
 /// Each keeper that anybody can hold keeps its memory right: what it stands for may stand on its disk, and its base is one of
 /// its epochs, with the batch meaning's states.
@@ -27,6 +31,17 @@ pub fn each_disk_holds<D: Disk, L: Law>(keeper: &Keeper<D, L>)
 {
     // Read for its contract alone.
     let _collected = keeper.collected;
+}
+
+/// Whatever a crash leaves of a keeper's lawful disk tells a request number at least as great as the keeper's last one, also
+/// after a fault of the device. So a request that was answered `New` or `Already` is `Already` to each keeper that recovers it.
+pub fn each_has_requests<D: Disk, L: Law>(keeper: &Keeper<D, L>)
+    ensures { D.is_lawful keeper.now.device → (c : List ℕ) → (D.state keeper.now.device).images c
+        → (s : Standing) × Told keeper.now.plan c (Stood s) × (last_request keeper.now.standing ≤ last_request s) }
+{
+    laws::told_in_parts();
+    laws::last_request_never_falls::<L>();
+    each_disk_holds(keeper);
 }
 
 /// A command that does not write leaves the disk, and what a keeper stands for, as it was, whatever the reply is.

@@ -11,11 +11,14 @@ mod keeper;
 pub mod laws;
 mod own;
 mod readers;
+mod receipt;
 mod release;
 mod submit;
+mod upgrade;
 mod watch;
 mod write_cut;
 
 pub use command::{Command, Reply};
 pub use keeper::Keeper;
+pub use receipt::Receipt;
 pub use td_standing::{KeeperError, Part};

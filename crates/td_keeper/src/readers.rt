@@ -1,7 +1,7 @@
 //! How far a keeper has come. All but `kept_states` take no memory.
 ghost use Rattle.std.specs.Prelude.{◌≡◌, ◌+◌, ◌-◌, ◌^◌, length, min, IfOk, IfErr};
 ghost use Rattle.std.specs.List.{sum_by};
-ghost use Rattle.td_standing.specs.Standing.{last_epoch};
+ghost use Rattle.td_standing.specs.Standing.{last_epoch, last_request};
 
 use crate::keeper::Keeper;
 use td_calls::Law;
@@ -15,6 +15,20 @@ impl<D: Disk, L: Law> Keeper<D, L> {
         ensures { result ≡ last_epoch self.now.standing }
     {
         self.checkpoint.epoch + self.submitted.len() as u64
+    }
+
+    /// The greatest request number that the disk has, 0 for none: that of an epoch after the checkpoint, or of one up to it.
+    pub fn last_request(&self) -> u64
+        ensures { result ≡ last_request self.now.standing }
+    {
+        self.last_request
+    }
+
+    /// The version of the format that the disk has: 2, which has request numbers, or 1.
+    pub fn version(&self) -> u32
+        ensures { result ≡ self.now.head.version }
+    {
+        self.head.version
     }
 
     /// The last epoch whose outputs were collected.

@@ -1,20 +1,26 @@
 //! Submitting batches.
-ghost use Rattle.std.specs.Prelude.{◌≡◌, ◌⊎◌, ◌↔◌, ◌+◌, ◌≤◌, [], ◌∷◌, false, true, Some, None, IfOk, IfErr, OnOk};
+ghost use Rattle.std.specs.Prelude.{◌≡◌, ◌⊎◌, ◌↔◌, ◌+◌, ◌≤◌, max, [], ◌∷◌, false, true, Some, None, IfOk, IfErr, OnOk};
 ghost use Rattle.td_disk.specs.Disk.{Rises};
 ghost use Rattle.td_gate.specs.CrashSafe.{CrashSafe, Unchanged};
-ghost use Rattle.td_standing.specs.Standing.{last_epoch, submission};
+ghost use Rattle.td_standing.specs.Standing.{last_epoch, last_request, submission};
+ghost use Rattle.td_standing.specs.Tells.{IsFresh};
 ghost use Rattle.td_standing.specs.Advanced.{SinceAdvance, AdvancesSince};
 ghost use Rattle.td_keeper.specs.Keeping.{with_batch};
-ghost use Rattle.td_keeper.specs.Refused.{submit_refusal};
-ghost use Rattle.td_standing.specs.declared.error.KeeperError.TheVariants.{Memory, Device};
+ghost use Rattle.td_keeper.specs.Received.{IsReceived};
+ghost use Rattle.td_keeper.specs.Refused.{is_new, submit_refusal, request_refusal, submit_as_refusal};
+ghost use Rattle.td_standing.specs.declared.error.KeeperError.TheVariants.{Memory, Device, Broken, OldVersion};
 
 use crate::keeper::Keeper;
+use crate::receipt::Receipt;
 use crate::watch::{publish, words_at};
 use td_calls::Law;
 use td_disk::Disk;
 use td_journal::{JournalError, Submitted};
 use td_stamp::{Batch, EPOCHS_END};
 use td_standing::{KeeperError, laws, ring_of, submit_batch};
+
+/// The first version of the format that has request numbers.
+pub(crate) const NUMBERED: u32 = 2;
 
 impl<D: Disk, L: Law> Keeper<D, L> {
     /// Puts a batch on the journal as the next epoch, and answers its number: from then on it is acknowledged, and whatever a
@@ -59,6 +65,113 @@ impl<D: Disk, L: Law> Keeper<D, L> {
         // After any refusal but `Device` it tells an advance without the batch.
         ensures nothing { IfErr result (λ e. (e.0 ≡ Device) ⊎ (D.is_lawful self.old.device → self.old.broken ≡ false
             → AdvancesSince L.answers self.old.plan self.old.standing [] (last_epoch self.old.standing) (D.state self.old.device) (D.state self.new.device))) }
+
+        // The greatest request number stays, since this epoch has none.
+        ensures last_request { last_request self.new.standing ≡ last_request self.old.standing }
+    {
+        self.submit_next(0, batch)
+    }
+
+    /// Puts a batch on the journal as `submit` does, with a request number, so that a batch that is submitted again stands there
+    /// once. Where the number is not above the greatest that the disk has, an epoch with it is there already, or its producer went
+    /// on to greater ones without it: the answer is `Already` with that greatest number, and nothing is written or changed. Numbers
+    /// begin at 1; a batch with the number 0 has none.
+    ///
+    /// Refusals, with the batch handed back, the first that holds: `Broken`; `OldVersion`, where the disk is of version 1 of the
+    /// format, which has no numbers (`upgrade`); and, where the answer is not `Already`, those of `submit`.
+    pub fn submit_as(&mut self, request: u64, batch: Batch) -> Result<Receipt, (KeeperError, Batch)>
+        ensures received { IfOk result (λ receipt. IsReceived request batch receipt self.old self.new) }
+        ensures accepted { IfOk result (λ _. submit_as_refusal self.old request batch ≡ None) }
+        ensures refused { IfErr result (λ e. (submit_as_refusal self.old request batch ≡ Some e.0)
+            ⊎ ((submit_as_refusal self.old request batch ≡ None) × ((e.0 ≡ Memory) ⊎ (e.0 ≡ Device)))) }
+
+        // A request that is repeated is refused for these two causes alone.
+        ensures repeated { is_new self.old.standing request ≡ false → IfErr result (λ e. (e.0 ≡ Broken) ⊎ (e.0 ≡ OldVersion)) }
+        ensures back { IfErr result (λ e. e.1 ≡ batch) }
+        ensures unchanged { IfErr result (λ e. (self.new ≡ self.old) ⊎ ((e.0 ≡ Memory) × (self.new ≡ record self.old { device = self.new.device }))
+            ⊎ ((e.0 ≡ Device) × (self.new ≡ record self.old { device = self.new.device; broken = true }))) }
+        ensures device { IfErr result (λ e. e.0 ≡ Device → Rises (D.failures self.old.device) (D.failures self.new.device)) }
+        ensures broken { IfErr result (λ e. e.0 ≡ Device → self.new.broken ≡ true) }
+        ensures counted { D.failures self.old.device ≤ D.failures self.new.device }
+        ensures stays { OnOk result (D.failures self.new.device ≡ D.failures self.old.device) }
+        ensures stays_back { IfErr result (λ e. (e.0 ≡ Device) ⊎ (D.failures self.new.device ≡ D.failures self.old.device)) }
+        ensures size { D.capacity self.new.device ≡ D.capacity self.old.device }
+        ensures lawful { D.is_lawful self.old.device ↔ D.is_lawful self.new.device }
+        ensures unwritten { IfErr result (λ e. e.0 ≡ Memory → D.is_lawful self.old.device
+            → CrashSafe Unchanged (D.state self.old.device) (D.state self.new.device)) }
+
+        // What a crash may leave after the call is among what it may leave since the start.
+        ensures later { D.is_lawful self.old.device → (D.state self.old.device).moment ≤ (D.state self.new.device).moment }
+
+        // In each image since the start of the call the disk tells an advance of the standing with this batch, which holds
+        // every epoch of the standing.
+        ensures images { D.is_lawful self.old.device → self.old.broken ≡ false
+            → SinceAdvance L.answers self.old.plan self.old.standing (submission request batch ∷ []) (last_epoch self.old.standing) (D.state self.old.device).moment (D.state self.new.device) }
+
+        // Each image since an earlier moment was one by the start of the call, or the disk tells such an advance in it.
+        ensures further { D.is_lawful self.old.device → self.old.broken ≡ false
+            → AdvancesSince L.answers self.old.plan self.old.standing (submission request batch ∷ []) (last_epoch self.old.standing) (D.state self.old.device) (D.state self.new.device) }
+
+        // After any refusal but `Device` it tells an advance without the batch.
+        ensures nothing { IfErr result (λ e. (e.0 ≡ Device) ⊎ (D.is_lawful self.old.device → self.old.broken ≡ false
+            → AdvancesSince L.answers self.old.plan self.old.standing [] (last_epoch self.old.standing) (D.state self.old.device) (D.state self.new.device))) }
+
+        // The greatest request number never falls, and then it is at least this one.
+        ensures never_falls { last_request self.old.standing ≤ last_request self.new.standing }
+        ensures kept { OnOk result (request ≤ last_request self.new.standing) }
+    {
+        laws::told_in_parts();
+        laws::standings_advance::<L>();
+        laws::last_request_never_falls::<L>();
+        if let Some(refusal) = self.refusal_of_requests() {
+            return Err((refusal, batch));
+        }
+        if !self.is_new(request) {
+            return Ok(Receipt::Already(self.last_request));
+        }
+        match self.submit_next(request, batch) {
+            Ok(epoch) => Ok(Receipt::New(epoch)),
+            Err(refusal) => Err(refusal),
+        }
+    }
+
+    /// Puts a batch on the journal as the next epoch, with a request number that may come after those before, or 0 for none.
+    fn submit_next(&mut self, request: u64, batch: Batch) -> Result<u64, (KeeperError, Batch)>
+        requires fresh { IsFresh self.old.head.version self.old.standing request }
+        ensures acknowledged { IfOk result (λ epoch. epoch ≡ last_epoch self.new.standing) }
+        ensures submitted { IfOk result (λ _. self.new ≡ with_batch self.old self.new.device request batch) }
+        ensures accepted { IfOk result (λ _. submit_refusal self.old batch ≡ None) }
+        ensures refused { IfErr result (λ e. (submit_refusal self.old batch ≡ Some e.0)
+            ⊎ ((submit_refusal self.old batch ≡ None) × ((e.0 ≡ Memory) ⊎ (e.0 ≡ Device)))) }
+        ensures back { IfErr result (λ e. e.1 ≡ batch) }
+        ensures unchanged { IfErr result (λ e. (self.new ≡ self.old) ⊎ ((e.0 ≡ Memory) × (self.new ≡ record self.old { device = self.new.device }))
+            ⊎ ((e.0 ≡ Device) × (self.new ≡ record self.old { device = self.new.device; broken = true }))) }
+        ensures device { IfErr result (λ e. e.0 ≡ Device → Rises (D.failures self.old.device) (D.failures self.new.device)) }
+        ensures broken { IfErr result (λ e. e.0 ≡ Device → self.new.broken ≡ true) }
+        ensures counted { D.failures self.old.device ≤ D.failures self.new.device }
+        ensures stays { OnOk result (D.failures self.new.device ≡ D.failures self.old.device) }
+        ensures stays_back { IfErr result (λ e. (e.0 ≡ Device) ⊎ (D.failures self.new.device ≡ D.failures self.old.device)) }
+        ensures size { D.capacity self.new.device ≡ D.capacity self.old.device }
+        ensures lawful { D.is_lawful self.old.device ↔ D.is_lawful self.new.device }
+        ensures unwritten { IfErr result (λ e. e.0 ≡ Memory → D.is_lawful self.old.device
+            → CrashSafe Unchanged (D.state self.old.device) (D.state self.new.device)) }
+
+        // What a crash may leave after the call is among what it may leave since the start.
+        ensures later { D.is_lawful self.old.device → (D.state self.old.device).moment ≤ (D.state self.new.device).moment }
+
+        // In each image since the start of the call the disk tells an advance of the standing with this batch, which holds
+        // every epoch of the standing.
+        ensures images { D.is_lawful self.old.device → self.old.broken ≡ false
+            → SinceAdvance L.answers self.old.plan self.old.standing (submission request batch ∷ []) (last_epoch self.old.standing) (D.state self.old.device).moment (D.state self.new.device) }
+
+        // Each image since an earlier moment was one by the start of the call, or the disk tells such an advance in it.
+        ensures further { D.is_lawful self.old.device → self.old.broken ≡ false
+            → AdvancesSince L.answers self.old.plan self.old.standing (submission request batch ∷ []) (last_epoch self.old.standing) (D.state self.old.device) (D.state self.new.device) }
+
+        // After any refusal but `Device` it tells an advance without the batch.
+        ensures nothing { IfErr result (λ e. (e.0 ≡ Device) ⊎ (D.is_lawful self.old.device → self.old.broken ≡ false
+            → AdvancesSince L.answers self.old.plan self.old.standing [] (last_epoch self.old.standing) (D.state self.old.device) (D.state self.new.device))) }
+        ensures last_request { OnOk result (last_request self.new.standing ≡ max (last_request self.old.standing) request) }
     {
         laws::told_in_parts();
         laws::standings_advance::<L>();
@@ -76,10 +189,18 @@ impl<D: Disk, L: Law> Keeper<D, L> {
         if self.submitted.reserve(1).is_err() {
             return Err((KeeperError::Memory, batch));
         }
-        match submit_batch(self.alloc, &journal, &mut self.device, epoch, 0, &batch) {
+        match submit_batch(
+            self.alloc,
+            &journal,
+            &mut self.device,
+            epoch,
+            request,
+            &batch,
+        ) {
             Ok(()) => {
                 self.submitted
-                    .push_back_reserved(Submitted { request: 0, batch });
+                    .push_back_reserved(Submitted { request, batch });
+                self.last_request = self.last_request.max(request);
                 let words = words_at(&self.checkpoint, &self.submitted, self.collected);
                 publish(&mut self.watch, words);
                 Ok(epoch)
@@ -94,6 +215,26 @@ impl<D: Disk, L: Law> Keeper<D, L> {
                     unreachable!()
                 }
             },
+        }
+    }
+
+    /// Whether a batch with this request number is not on the disk: it has none, or one above all there.
+    fn is_new(&self, request: u64) -> bool
+        ensures { result ≡ is_new self.now.standing request }
+    {
+        request == 0 || self.last_request < request
+    }
+
+    /// Why every request number is refused, whatever the batch.
+    fn refusal_of_requests(&self) -> Option<KeeperError>
+        ensures { result ≡ request_refusal self.now }
+    {
+        if self.broken {
+            Some(KeeperError::Broken)
+        } else if self.head.version < NUMBERED {
+            Some(KeeperError::OldVersion)
+        } else {
+            None
         }
     }
 

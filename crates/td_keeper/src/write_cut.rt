@@ -2,7 +2,7 @@
 ghost use Rattle.std.specs.Prelude.{◌≡◌, ◌⊎◌, ◌↔◌, ◌≤◌, [], false, true, length, take, drop, Some, None, Ok, IfOk};
 ghost use Rattle.std.specs.Prelude.{IfErr, IfSome, IfNone, IsErrOf};
 ghost use Rattle.td_disk.specs.Disk.{Rises};
-ghost use Rattle.td_standing.specs.Standing.{last_epoch};
+ghost use Rattle.td_standing.specs.Standing.{last_epoch, last_request};
 ghost use Rattle.td_journal.specs.Numbers.{greatest};
 ghost use Rattle.td_standing.specs.Tells.{side_after};
 ghost use Rattle.td_standing.specs.Advanced.{SinceAdvance, AdvancesSince};
@@ -42,6 +42,9 @@ impl<D: Disk, L: Law> Keeper<D, L> {
         ensures size { D.capacity self.new.device ≡ D.capacity self.old.device }
         ensures lawful { D.is_lawful self.old.device ↔ D.is_lawful self.new.device }
 
+        // The greatest request number stays.
+        ensures last_request { last_request self.new.standing ≡ last_request self.old.standing }
+
         // What a crash may leave after the call is among what it may leave since the start.
         ensures later { D.is_lawful self.old.device → (D.state self.old.device).moment ≤ (D.state self.new.device).moment }
 
@@ -55,6 +58,7 @@ impl<D: Disk, L: Law> Keeper<D, L> {
     {
         laws::told_in_parts();
         laws::standings_advance::<L>();
+        laws::last_request_never_falls::<L>();
         td_batch::laws::states_of_folds::<L>();
         td_slots::laws::states_are_in_order();
         // Read for its contract alone.

@@ -1,5 +1,5 @@
 -- What the matches of a parse ask for.
-use Rattle.std.proofs.Common.{◌≡◌, ◌≢◌, ◌⊎◌, inl, inr, ℕ, ◌+◌, ◌<◌, ◌≤◌, ◌^◌, List, [], Option, Some, None, option_map, get_or, Result, Ok, Err, IfOk, IfErr, IfNone, refl, ap, sym, ◌∙◌, subst, arith, codes, lit<}
+use Rattle.std.proofs.Common.{◌≡◌, ◌≢◌, ◌⊎◌, inl, inr, ℕ, ◌<◌, ◌≤◌, ◌^◌, List, [], Option, Some, None, option_map, Result, Ok, Err, IfOk, IfErr, IfNone, refl, ap, sym, ◌∙◌, subst, arith, bytes_eq, codes, lit<}
 use Rattle.std.specs.Borrow.{Bor}
 use Rattle.std.specs.Str.Parse.{ParsesUnsigned, IsNumeral, digits_value, without_leading_plus}
 use Rattle.clap.specs.declared.parser.matches.Found.{Found}
@@ -11,7 +11,7 @@ use Rattle.clap.proofs.WalkLemmas.{one_text-rows}
 use Rattle.clap.specs.Faults.{fault_of}
 use Rattle.clap.specs.Kinds.{IsAmong}
 use Rattle.td_words.specs.declared.job.Job.{Job}
-use Rattle.td_words.specs.declared.job.Job.TheVariants.{Batch, Run, Sim, Format, Feed, Show, Help}
+use Rattle.td_words.specs.declared.job.Job.TheVariants.{Batch, Run, Sim, Format, Feed, Show, Upgrade, Help}
 use Rattle.td_words.specs.declared.job.WordsError.{WordsError}
 use Rattle.td_words.specs.declared.job.WordsError.TheVariants.{Words, Memory}
 use Rattle.td_words.specs.Jobs.{IsHelp, IsOf}
@@ -61,40 +61,34 @@ pub only_memory : (r : Result Job WordsError) (kind : ErrorKind) → IfOk r (λ 
 only_memory (Ok job) kind ok err e = let h = ok.1 in absurd cc
 only_memory (Err error) kind ok err e = elim err [ inl memory ↦ ap Err memory | inr h ↦ absurd (h.2 e) ]
 
--- names are told apart by their first two letters
-mark : Text → ℕ
-mark name = get_or name 0 0 + get_or name 1 0
-
--- the jobs of each name, and their values
+-- the jobs of each name, and their values; that any other job has another name is computed from the two names
 pub only_batch : (rows : List Row) (job : Job) → IsOf (codes "batch") rows job → job ≡ Batch
-unfolding mark
 only_batch rows Batch h = refl
-only_batch rows _ h = let f = ap mark h.0 in absurd (omega (arith, f))
+only_batch rows _ h = let other = ap (bytes_eq (codes "batch")) h.0 in cc
 
 pub only_run : (rows : List Row) (job : Job) → IsOf (codes "run") rows job → (w : ℕ) × (job ≡ Run w) × IsWorkers rows w
-unfolding mark
 only_run rows (Run w) h = (w, refl, h.1)
-only_run rows _ h = let f = ap mark h.0 in absurd (omega (arith, f))
+only_run rows _ h = let other = ap (bytes_eq (codes "run")) h.0 in cc
 
 pub only_sim : (rows : List Row) (job : Job) → IsOf (codes "sim") rows job → (w : ℕ) × (picks : Bor Text) × IsWorkers rows w × (first_of (codes "picks") rows ≡ Some picks.now)
-unfolding mark
 only_sim rows (Sim w picks) h = (w, picks, h.1.0, h.1.1)
-only_sim rows _ h = let f = ap mark h.0 in absurd (omega (arith, f))
+only_sim rows _ h = let other = ap (bytes_eq (codes "sim")) h.0 in cc
 
 pub only_format : (rows : List Row) (job : Job) → IsOf (codes "format") rows job → (disk : Bor Text) × (plan : Bor Text) × (m : ℕ) × (n : ℕ) × (k : ℕ) × (job ≡ Format disk plan m n k) × HasValues rows (Format disk plan m n k)
-unfolding mark
 only_format rows (Format disk plan m n k) h = (disk, plan, m, n, k, refl, h.1)
-only_format rows _ h = let f = ap mark h.0 in absurd (omega (arith, f))
+only_format rows _ h = let other = ap (bytes_eq (codes "format")) h.0 in cc
 
 pub only_feed : (rows : List Row) (job : Job) → IsOf (codes "feed") rows job → (disk : Bor Text) × (plan : Bor Text) × (w : ℕ) × (job ≡ Feed disk plan w) × HasValues rows (Feed disk plan w)
-unfolding mark
 only_feed rows (Feed disk plan w) h = (disk, plan, w, refl, h.1)
-only_feed rows _ h = let f = ap mark h.0 in absurd (omega (arith, f))
+only_feed rows _ h = let other = ap (bytes_eq (codes "feed")) h.0 in cc
 
 pub only_show : (rows : List Row) (job : Job) → IsOf (codes "show") rows job → (disk : Bor Text) × (plan : Bor Text) × HasValues rows (Show disk plan)
-unfolding mark
 only_show rows (Show disk plan) h = (disk, plan, h.1)
-only_show rows _ h = let f = ap mark h.0 in absurd (omega (arith, f))
+only_show rows _ h = let other = ap (bytes_eq (codes "show")) h.0 in cc
+
+pub only_upgrade : (rows : List Row) (job : Job) → IsOf (codes "upgrade") rows job → (disk : Bor Text) × (plan : Bor Text) × HasValues rows (Upgrade disk plan)
+only_upgrade rows (Upgrade disk plan) h = (disk, plan, h.1)
+only_upgrade rows _ h = let other = ap (bytes_eq (codes "upgrade")) h.0 in cc
 
 -- a value that is lacking
 pub lacks : (id : Text) (rows : List Row) (text : Text) → first_of id rows ≡ None → first_of id rows ≡ Some text → ⊥

@@ -1,8 +1,8 @@
 //! The commands of the program, as clap has them.
 ghost use Rattle.std.specs.Prelude.{◌≡◌, false, IfOk, IsOkAnd};
 ghost use Rattle.clap.specs.Words.{app_of, new_app, rule_of, with_rule, with_subcommand};
-ghost use Rattle.td_words.specs.Command.{td, batch_app, run_app, sim_app, format_app, feed_app, show_app, workers_rule};
-ghost use Rattle.td_words.specs.Command.{picks_rule, word_rule, number_rule};
+ghost use Rattle.td_words.specs.Command.{td, batch_app, run_app, sim_app, format_app, feed_app, show_app, upgrade_app};
+ghost use Rattle.td_words.specs.Command.{workers_rule, picks_rule, word_rule, number_rule};
 ghost use Rattle.td_words.specs.Jobs.{has_globals};
 
 use clap::builder::ValueParser;
@@ -29,6 +29,8 @@ const FEED: &str =
 
 const SHOW: &str =
     "Writes what a disk has: the states that the last cut kept, and the epochs after it";
+
+const UPGRADE: &str = "Raises a disk to version 2 of its format, which has request numbers";
 
 /// What help says of the options and of the other arguments.
 const WORKERS: &str = "How many shards, 1 to 16";
@@ -72,8 +74,10 @@ Exit status: 0, or 1 after a fault, which is told on standard error
 Faults are explained in docs/FAULTS.md";
 
 const FEED_MORE: &str = "\
-Reads:  PLAN, DISK, and lines 'INPUT KEY VALUE', where a line '.' closes an epoch, and a line 'cut' between epochs cuts
-Writes: DISK, and lines 'ack EPOCH' once an epoch is on it, 'EPOCH VERTEX KEY VALUE' at a cut and at the end, and 'cut EPOCH'
+Reads:  PLAN, DISK, and lines 'INPUT KEY VALUE', where a line '.' closes an epoch, and a line 'cut' between epochs cuts;
+        a line 'req REQUEST' before the records of an epoch gives it a request number
+Writes: DISK, and lines 'ack EPOCH' once an epoch is on it, 'EPOCH VERTEX KEY VALUE' at a cut and at the end, and 'cut EPOCH';
+        'again REQUEST' for an epoch whose number is not above the last on DISK, which is not put there again
 A cut keeps the states on DISK, and frees the room of the epochs up to it
 Exit status: 0, or 1 after a fault, which is told on standard error
 Faults are explained in docs/FAULTS.md";
@@ -82,6 +86,12 @@ const SHOW_MORE: &str = "\
 Reads:  PLAN and DISK
 Writes: a line 'kept EPOCH', of the last cut, and 'told EPOCH', of the last epoch; 'last REQUEST' where there is one;
         lines 'state VERTEX KEY A B', the states kept, and 'epoch EPOCH RECORDS', the epochs after the cut
+Exit status: 0, or 1 after a fault, which is told on standard error
+Faults are explained in docs/FAULTS.md";
+
+const UPGRADE_MORE: &str = "\
+Reads:  PLAN and DISK
+Writes: DISK, and a line 'version 2', also where it was of version 2 before
 Exit status: 0, or 1 after a fault, which is told on standard error
 Faults are explained in docs/FAULTS.md";
 
@@ -98,7 +108,8 @@ pub(crate) fn command<'a>(alloc: Global) -> Result<Command<'a>, AllocError>
     let td = with_leaf(td, sim_leaf(alloc))?;
     let td = with_leaf(td, format_leaf(alloc))?;
     let td = with_leaf(td, feed_leaf(alloc))?;
-    with_leaf(td, show_leaf(alloc))
+    let td = with_leaf(td, show_leaf(alloc))?;
+    with_leaf(td, upgrade_leaf(alloc))
 }
 
 /// `batch`.
@@ -158,6 +169,16 @@ fn show_leaf<'a>(alloc: Global) -> Result<Command<'a>, AllocError>
     ensures globals { IfOk result (λ c. has_globals c ≡ false) }
 {
     let leaf = new_leaf(alloc, "show", SHOW, SHOW_MORE);
+    let leaf = with_arg(leaf, word_arg(alloc, "disk", "DISK", DISK))?;
+    with_arg(leaf, word_arg(alloc, "plan", "PLAN", PLAN))
+}
+
+/// `upgrade`.
+fn upgrade_leaf<'a>(alloc: Global) -> Result<Command<'a>, AllocError>
+    ensures app { IfOk result (λ c. app_of c ≡ upgrade_app) }
+    ensures globals { IfOk result (λ c. has_globals c ≡ false) }
+{
+    let leaf = new_leaf(alloc, "upgrade", UPGRADE, UPGRADE_MORE);
     let leaf = with_arg(leaf, word_arg(alloc, "disk", "DISK", DISK))?;
     with_arg(leaf, word_arg(alloc, "plan", "PLAN", PLAN))
 }

@@ -29,6 +29,11 @@ pub enum Job<'a> {
         disk: &'a str,
         plan: &'a str,
     },
+    /// To raise the disk `disk` to version 2 of the format, which has request numbers.
+    Upgrade {
+        disk: &'a str,
+        plan: &'a str,
+    },
     /// To print this text.
     Help(String),
 }

@@ -14,9 +14,9 @@ use clap::{ArgMatches, Error};
 use std::alloc::Global;
 
 /// What these words ask for, of which the first is the program's name. The subcommands are `batch`, `run [--workers W]`,
-/// `sim [--workers W] [--picks LIST]`, `format DISK PLAN M N K`, `feed [--workers W] DISK PLAN` and `show DISK PLAN`, where W is
-/// 1 to 16, and 1 where it is not given, LIST is `0` where it is not given, and M, N and K are numbers of 32 bits. Refusals:
-/// `Words` where clap refuses the words, and `Memory`.
+/// `sim [--workers W] [--picks LIST]`, `format DISK PLAN M N K`, `feed [--workers W] DISK PLAN`, `show DISK PLAN` and
+/// `upgrade DISK PLAN`, where W is 1 to 16, and 1 where it is not given, LIST is `0` where it is not given, and M, N and K are
+/// numbers of 32 bits. Refusals: `Words` where clap refuses the words, and `Memory`.
 pub fn words<'a>(alloc: Global, given: &'a [String]) -> Result<Job<'a>, WordsError>
     ensures ok { IfOk result (IsAsked (map string_bytes given.entry.now)) }
     ensures workers { IfOk result HasWorkers }
@@ -60,6 +60,7 @@ fn job_of<'a>(name: &str, matches: &ArgMatches<'a>) -> Option<Job<'a>>
         "format" => format_job(matches),
         "feed" => feed_job(matches),
         "show" => show_job(matches),
+        "upgrade" => upgrade_job(matches),
         _ => None,
     }
 }
@@ -125,6 +126,16 @@ fn show_job<'a>(matches: &ArgMatches<'a>) -> Option<Job<'a>>
     let disk = word_of(matches, "disk")?;
     let plan = word_of(matches, "plan")?;
     Some(Job::Show { disk, plan })
+}
+
+/// The upgrade of a disk that the matches of `upgrade` ask for.
+fn upgrade_job<'a>(matches: &ArgMatches<'a>) -> Option<Job<'a>>
+    ensures some { IfSome result (IsOf (codes "upgrade") (rows_of (found_of matches.now))) }
+    ensures none { IfNone result ((job : AnyJob) → IsOf (codes "upgrade") (rows_of (found_of matches.now)) job → ⊥) }
+{
+    let disk = word_of(matches, "disk")?;
+    let plan = word_of(matches, "plan")?;
+    Some(Job::Upgrade { disk, plan })
 }
 
 /// The word of an argument.

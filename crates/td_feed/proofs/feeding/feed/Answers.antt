@@ -1,7 +1,6 @@
-use Rattle.std.proofs.Common.{◌≡◌, ◌≤◌, ℕ, List, ◌++◌, refl, sym, ap, ◌∙◌, subst, inl, inr, ⊎_elim}
+use Rattle.std.proofs.Common.{◌≡◌, ℕ, List, ◌++◌, refl, sym, ap, ◌∙◌, subst, inl, inr, ⊎_elim}
 use Rattle.td_disk.specs.Disk.{Rises}
 use Rattle.td_console.specs.Refusals.{keeper_fault}
-use Rattle.std.specs.Prelude.{IfSome}
 use Rattle.std.proofs.lemmas.Option.{IfSome_then}
 use Rattle.std.proofs.lemmas.Result.{on_ok_weaker}
 use Rattle.td_plan.specs.Lines.{Line}
@@ -9,9 +8,11 @@ use Rattle.td_gate.specs.CrashSafe.{CrashSafe, Unchanged}
 use Rattle.td_journal.specs.declared.submitted.Submitted.{Submitted}
 use Rattle.td_standing.specs.Stops.{Stands}
 use Rattle.td_standing.specs.Advanced.{states_by}
-use Rattle.td_feed.specs.Orders.{orders_of, submitted_by}
+use Rattle.td_journal.specs.Numbers.{greatest}
+use Rattle.td_feed.specs.Orders.{orders_of, submitted_by, new_after}
 use Rattle.td_feed.specs.Fed.{EachTellsHistory, EachTellsSome}
-use Rattle.td_feed.specs.Carried.{StandsFor, Carries, Leaves}
+use Rattle.td_feed.specs.Carried.{StandsFor, new_to}
+use Rattle.td_feed.proofs.Newness.{last_of_history}
 use Rattle.td_feed.proofs.Carrying.{either_way, in_some, leaves_all, ended_some, ended_all, none_more, still_each, found}
 use Rattle.td_feed.proofs.Counting.{as_err, fault_of, keeper_device, lack_no_device}
 use Rattle.td_feed.proofs.Lines.{fed_says}
@@ -20,7 +21,7 @@ use Rattle.td_feed.proofs.feeding.feed.Goals as goal
 pub returns-in-Err-clause-safe : goal.returns-in-Err-clause-safe
 returns-in-Err-clause-safe g c =
     in_some (g.I.Source.remaining c.args.reader.now) (λ input lawful history told.
-    none_more g.L.Law.answers c.args.plan.now history (submitted_by (orders_of c.args.plan.now input)) (g.D.Disk.state c.args.disk) told)
+    none_more g.L.Law.answers c.args.plan.now history (new_after (greatest 0 history) (submitted_by (orders_of c.args.plan.now input))) (g.D.Disk.state c.args.disk) told)
 
 pub returns-in-Err-recover-clause-safe : goal.returns-in-Err-recover-clause-safe
 returns-in-Err-recover-clause-safe g c =
@@ -31,7 +32,7 @@ returns-in-Err-recover-clause-safe g c =
     let new = c.in-Err-recover.disk in
     let plan = c.args.plan.now in
     let safe : CrashSafe Unchanged (state old) (state new) = c.in-Err-recover.ensures.crash_safe_back lawful in
-    none_more answers plan history (submitted_by (orders_of plan input)) (state new)
+    none_more answers plan history (new_after (greatest 0 history) (submitted_by (orders_of plan input))) (state new)
     (still_each answers plan history (state old) (state new) safe
     (λ i image. g.met.D.Disk.counts_now new (state old).moment i (c.in-Err-recover.ensures.lawful_back.0 lawful) safe.later image) told))
 
@@ -52,11 +53,14 @@ returns-clause-fed g c =
     (λ i image. g.met.D.Disk.counts_now keeper.device (state old).moment i now safe.later image) told
     c.told_in_parts.ensures.one_answer (g.met.D.Disk.reads_image keeper.device now) keeper.standing (c.in-Ok.ensures.told lawful) in
     let by_keeper : StandsFor answers keeper history = subst (λ (p : List Line). Stands (states_by answers p) keeper.standing history) (sym c.in-Ok.ensures.plan) stands in
-    let more : List Submitted = submitted_by (orders_of plan input) in
+    let more : List Submitted = new_to keeper (submitted_by (orders_of plan input)) in
+    let is : more ≡ new_after (greatest 0 history) (submitted_by (orders_of plan input)) =
+    ap (λ (q : ℕ). new_after q (submitted_by (orders_of plan input))) (last_of_history answers plan keeper.standing history stands) in
     let ended : EachTellsHistory answers keeper.plan (history ++ more) (state new.device) =
     ended_all g.D.Disk.is_lawful state answers c.told_in_parts.ensures.together keeper new history more by_keeper carries c.into_disk.ensures.held (c.obey-keeper.ensures.lawful.0 now) in
-    subst (λ (d : g.row.D.Denot). EachTellsHistory answers plan (history ++ more) (state d)) (sym c.into_disk.ensures.disk)
-    (subst (λ (p : List Line). EachTellsHistory answers p (history ++ more) (state new.device)) c.in-Ok.ensures.plan ended)))
+    subst (λ (l : List Submitted). EachTellsHistory answers plan (history ++ l) (state c.into_disk.result)) is
+    (subst (λ (d : g.row.D.Denot). EachTellsHistory answers plan (history ++ more) (state d)) (sym c.into_disk.ensures.disk)
+    (subst (λ (p : List Line). EachTellsHistory answers p (history ++ more) (state new.device)) c.in-Ok.ensures.plan ended))))
     c.obey-keeper.ensures.fed
 
 pub returns-clause-safe : goal.returns-clause-safe
@@ -68,7 +72,7 @@ returns-clause-safe g c =
     let state = g.D.Disk.state in
     IfSome_then (g.I.Source.remaining c.args.reader.now)
     (either_way c.obey-keeper.result.1 (g.I.Source.remaining c.args.reader.now)
-    (λ input carries. leaves_all g.D.Disk.is_lawful state answers keeper new (submitted_by (orders_of plan input)) carries)
+    (λ input carries. leaves_all g.D.Disk.is_lawful state answers keeper new (new_to keeper (submitted_by (orders_of plan input))) carries)
     c.obey-keeper.ensures.fed c.obey-keeper.ensures.left)
     (λ input leaves lawful history told.
     let old = c.args.disk in
@@ -79,11 +83,14 @@ returns-clause-safe g c =
     (λ i image. g.met.D.Disk.counts_now keeper.device (state old).moment i now safe.later image) told
     c.told_in_parts.ensures.one_answer (g.met.D.Disk.reads_image keeper.device now) keeper.standing (c.in-Ok.ensures.told lawful) in
     let by_keeper : StandsFor answers keeper history = subst (λ (p : List Line). Stands (states_by answers p) keeper.standing history) (sym c.in-Ok.ensures.plan) stands in
-    let more : List Submitted = submitted_by (orders_of plan input) in
+    let more : List Submitted = new_to keeper (submitted_by (orders_of plan input)) in
+    let is : more ≡ new_after (greatest 0 history) (submitted_by (orders_of plan input)) =
+    ap (λ (q : ℕ). new_after q (submitted_by (orders_of plan input))) (last_of_history answers plan keeper.standing history stands) in
     let ended : EachTellsSome answers keeper.plan history more (state new.device) =
     ended_some g.D.Disk.is_lawful state answers c.told_in_parts.ensures.together keeper new history more by_keeper leaves c.into_disk.ensures.held (c.obey-keeper.ensures.lawful.0 now) in
-    subst (λ (d : g.row.D.Denot). EachTellsSome answers plan history more (state d)) (sym c.into_disk.ensures.disk)
-    (subst (λ (p : List Line). EachTellsSome answers p history more (state new.device)) c.in-Ok.ensures.plan ended))
+    subst (λ (l : List Submitted). EachTellsSome answers plan history l (state c.into_disk.result)) is
+    (subst (λ (d : g.row.D.Denot). EachTellsSome answers plan history more (state d)) (sym c.into_disk.ensures.disk)
+    (subst (λ (p : List Line). EachTellsSome answers p history more (state new.device)) c.in-Ok.ensures.plan ended)))
 
 pub returns-in-Err-clause-said : goal.returns-in-Err-clause-said
 returns-in-Err-clause-said g c = in_some (g.I.Source.remaining c.args.reader.now) (λ input. inl refl)

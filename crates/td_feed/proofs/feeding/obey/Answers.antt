@@ -5,6 +5,7 @@ use Rattle.td_console.specs.declared.faults.Fault.{Fault}
 use Rattle.td_feed.specs.declared.order.Order.{Order}
 use Rattle.td_feed.specs.Said.{SaysBy}
 use Rattle.td_feed.specs.Orders.{orders_of, submitted_by}
+use Rattle.td_feed.specs.Carried.{new_to}
 use Rattle.td_feed.proofs.Carrying.{in_some, unmoved, leaves_none}
 use Rattle.td_feed.proofs.Counting.{as_err, counts_same, fault_of}
 use Rattle.td_feed.proofs.Lines.{says_nothing, some_of_all}
@@ -14,7 +15,7 @@ pub returns-in-Err-clause-left : goal.returns-in-Err-clause-left
 returns-in-Err-clause-left g c =
     let old = c.args.keeper in
     in_some (g.I.Source.remaining c.args.reader.now) (λ input.
-    leaves_none g.D.Disk.is_lawful g.D.Disk.state g.L.Law.answers old old (submitted_by (orders_of c.args.plan.now input)) (unmoved g.L.Law.answers old old refl refl c.requires.whole))
+    leaves_none g.D.Disk.is_lawful g.D.Disk.state g.L.Law.answers old old (new_to old (submitted_by (orders_of c.args.plan.now input))) (unmoved g.L.Law.answers old old refl refl c.requires.whole))
 
 pub returns-in-Err-clause-said : goal.returns-in-Err-clause-said
 returns-in-Err-clause-said g c =
@@ -37,5 +38,5 @@ returns-in-Ok-clause-said g c =
     let answers = g.L.Law.answers in
     IfSome_then (g.I.Source.remaining c.args.reader.now) c.in-Ok.ensures.orders
     (λ input is.
-    subst (λ (r : Result (List Order) Fault). SaysBy is_lawful state failures answers c.obey_by_workers.result.1 (g.W.Sink.contents c.args.writer.now) (g.W.Sink.contents c.obey_by_workers.new.writer) c.args.keeper c.obey_by_workers.result.0 (submitted_by r))
+    subst (λ (r : Result (List Order) Fault). SaysBy is_lawful state failures answers c.obey_by_workers.result.1 (g.W.Sink.contents c.args.writer.now) (g.W.Sink.contents c.obey_by_workers.new.writer) c.args.keeper c.obey_by_workers.result.0 (new_to c.args.keeper (submitted_by r)))
     (sym is) c.obey_by_workers.ensures.said)

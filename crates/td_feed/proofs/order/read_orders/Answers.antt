@@ -4,7 +4,7 @@ use Rattle.td_feed.specs.Orders.{orders_of}
 use Rattle.td_feed.proofs.Accepted.{accepted}
 use Rattle.td_feed.proofs.order.read_orders.Goals as goal
 
-pub returns-then-is_empty-clause-accepted : goal.returns-then-is_empty-clause-accepted
-returns-then-is_empty-clause-accepted c =
+pub returns-then-is_between-clause-accepted : goal.returns-then-is_between-clause-accepted
+returns-then-is_between-clause-accepted c =
     let read : orders_of c.args.plan.now c.args.input.now ≡ Ok c.read.inside.orders.items = grind (arith, common_steps) in
     accepted c.args.plan.now c.args.input.now c.read.inside.orders.items read

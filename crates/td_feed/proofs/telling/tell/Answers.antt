@@ -1,4 +1,4 @@
-use Rattle.std.proofs.Common.{◌≡◌, ℕ, List, [], ◌∷◌, ◌++◌, true, false, refl, sym, ap, ◌∙◌, subst, inl, inr}
+use Rattle.std.proofs.Common.{◌≡◌, List, [], ◌∷◌, ◌++◌, false, refl, ap, ◌∙◌, subst, inl, inr}
 use Rattle.td_journal.specs.declared.submitted.Submitted.{Submitted}
 use Rattle.td_standing.specs.Standing.{last_epoch}
 use Rattle.td_standing.specs.Advanced.{SinceAdvance}
@@ -8,7 +8,7 @@ use Rattle.td_keeper.specs.declared.command.Reply.TheVariants.{Refused}
 use Rattle.td_keeper.specs.Driven.{submitted_in, submitted_by, some_failed, Obeys, Driven}
 use Rattle.td_console.specs.declared.faults.Fault.{Fault}
 use Rattle.td_console.specs.declared.faults.Fault.TheVariants.{Memory}
-use Rattle.td_feed.specs.Carried.{batch_in, is_refused, Carries, Leaves}
+use Rattle.td_feed.specs.Carried.{batch_in, new_to, is_refused, Carries, Leaves}
 use Rattle.td_feed.proofs.Carrying.{at_err, unmoved, leaves_none}
 use Rattle.td_feed.specs.Said.{fault_in, Refuses}
 use Rattle.td_feed.proofs.Told.{one_reply, one_driven, one_alone, carry, refused, rest, which, ok_of, err_of}
@@ -18,7 +18,7 @@ use Rattle.td_feed.proofs.telling.tell.Goals as goal
 pub returns-in_err-commands-clause-left : goal.returns-in_err-commands-clause-left
 returns-in_err-commands-clause-left g c =
     let old = c.args.keeper.now in
-    at_err c.from_residual.result (leaves_none g.D.Disk.is_lawful g.D.Disk.state g.L.Law.answers old old (batch_in c.args.command) (unmoved g.L.Law.answers old old refl refl c.requires.whole))
+    at_err c.from_residual.result (leaves_none g.D.Disk.is_lawful g.D.Disk.state g.L.Law.answers old old (new_to old (batch_in c.args.command)) (unmoved g.L.Law.answers old old refl refl c.requires.whole))
 
 pub returns-in-Some-clause-obeyed : goal.returns-in-Some-clause-obeyed
 returns-in-Some-clause-obeyed g c =
@@ -80,7 +80,7 @@ returns-in-Some-clause-left g c =
     (subst (λ (l : List Command). Driven is_lawful state failures answers l c.in-Ok.replies.items old new) told c.in-Ok.ensures.driven) in
     let one = one_reply is_lawful state failures answers command reply others old new driven in
     let ens = c.in-Ok.ensures in
-    err_of c.unless_refused.result reply (Leaves is_lawful state answers old new (batch_in command)) (λ f. f ≡ fault_in reply) c.unless_refused.ensures.refused
+    err_of c.unless_refused.result reply (Leaves is_lawful state answers old new (new_to old (batch_in command))) (λ f. f ≡ fault_in reply) c.unless_refused.ensures.refused
     (λ is.
     let w = which reply is in
     let same : submitted_by c.push_reserved.new.self.items c.in-Ok.replies.items ≡ submitted_in command (Refused w.0 w.1) =
@@ -179,3 +179,12 @@ returns-in-Some-clause-failures g c =
     counts_told c.unless_refused.result reply (failures old.device) (failures new.device) c.unless_refused.ensures.ok c.unless_refused.ensures.refused ens.counted
     (λ is. (ens.device (ap some_failed same ∙ is)).1)
     (λ none. (ens.whole (ap some_failed same ∙ none)).1)
+
+pub returns-in-Err-clause-left : goal.returns-in-Err-clause-left
+returns-in-Err-clause-left g c =
+    let answers = g.L.Law.answers in
+    let old = c.args.keeper.now in
+    let new = c.drive.new.self in
+    let same : new ≡ old = c.in-Err.ensures.refused.2 in
+    leaves_none g.D.Disk.is_lawful g.D.Disk.state answers old new (new_to old (batch_in c.args.command))
+    (unmoved answers old new (ap (λ k. k.plan) same) (ap (λ k. k.standing) same) (ap (λ k. k.broken) same ∙ c.requires.whole))

@@ -1,8 +1,10 @@
-use Rattle.std.proofs.Common.{◌≡◌, inr, List, [], subst, sym, ap}
+use Rattle.std.proofs.Common.{◌≡◌, inr, ℕ, List, [], subst, sym, ap}
+use Rattle.std.specs.Prelude.{OnOk}
+use Rattle.std.specs.Io.KnownBytes.{Appends}
+use Rattle.td_feed.specs.Said.{line_of}
 use Rattle.td_journal.specs.declared.submitted.Submitted.{Submitted}
-use Rattle.td_keeper.specs.Driven.{submitted_in}
 use Rattle.td_console.specs.declared.faults.Fault.{Fault}
-use Rattle.td_feed.specs.Carried.{batch_in, Carries}
+use Rattle.td_feed.specs.Carried.{batch_in, new_to, Carries}
 use Rattle.td_feed.proofs.Carrying.{at_ok, at_err, leaves_all}
 use Rattle.td_feed.proofs.Told.{submitted_is}
 use Rattle.td_feed.proofs.Counting.{counts_same, counts_handed, same_count}
@@ -17,7 +19,7 @@ returns-in_err-reply-clause-said g c =
     let answers = g.L.Law.answers in
     let w = g.W.Sink.contents c.args.writer.now in
     let old = c.args.keeper.now in
-    then_refused is_lawful state failures answers c.from_residual.result (λ (f : Fault). f ≡ c.in_err-reply.field-0.0) w w c.args.command old old c.tell.new.keeper [] (batch_in c.args.command)
+    then_refused is_lawful state failures answers c.from_residual.result (λ (f : Fault). f ≡ c.in_err-reply.field-0.0) w w c.args.command old old c.tell.new.keeper [] (new_to c.args.keeper.now (batch_in c.args.command))
     c.from_residual.ensures.1 (says_nothing is_lawful state failures answers w old) c.in_err-reply.ensures.refused
 
 pub returns-in_err-reply-clause-failures : goal.returns-in_err-reply-clause-failures
@@ -44,7 +46,7 @@ returns-clause-left g c =
     let answers = g.L.Law.answers in
     let is = submitted_is is_lawful state failures answers c.args.command c.in_ok-reply.reply c.args.keeper.now c.tell.new.keeper c.in_ok-reply.ensures.obeyed c.in_ok-reply.ensures.done in
     at_err c.say.result
-    (leaves_all is_lawful state answers c.args.keeper.now c.tell.new.keeper (batch_in c.args.command)
+    (leaves_all is_lawful state answers c.args.keeper.now c.tell.new.keeper (new_to c.args.keeper.now (batch_in c.args.command))
     (subst (λ (x : List Submitted). Carries answers c.args.keeper.now c.tell.new.keeper x) is c.in_ok-reply.ensures.carried))
 
 pub returns-clause-acknowledged : goal.returns-clause-acknowledged
@@ -64,7 +66,8 @@ returns-clause-said g c =
     let answers = g.L.Law.answers in
     let is = submitted_is is_lawful state failures answers c.args.command c.in_ok-reply.reply c.args.keeper.now c.tell.new.keeper c.in_ok-reply.ensures.obeyed c.in_ok-reply.ensures.done in
     said_by is_lawful state failures answers c.say.result (g.W.Sink.contents c.args.writer.now) (g.W.Sink.contents c.say.new.writer) c.args.command c.in_ok-reply.reply c.args.keeper.now c.tell.new.keeper
-    (batch_in c.args.command) (c.say.new.writer ≡ c.args.writer.now) c.in_ok-reply.ensures.driven is c.say.ensures.said c.say.ensures.unsaid (λ same. ap g.W.Sink.contents same)
+    (new_to c.args.keeper.now (batch_in c.args.command)) (c.say.new.writer ≡ c.args.writer.now) c.in_ok-reply.ensures.driven is
+    (subst (λ (n : ℕ). OnOk c.say.result (Appends (g.W.Sink.contents c.args.writer.now) (g.W.Sink.contents c.say.new.writer) (line_of n c.in_ok-reply.reply))) c.request_in-request.ensures c.say.ensures.said) c.say.ensures.unsaid (λ same. ap g.W.Sink.contents same)
 
 pub returns-clause-failures : goal.returns-clause-failures
 returns-clause-failures g c =

@@ -39,11 +39,11 @@ loop-text-preserved g c =
     let held = string_bytes c.loop-text.text in
     let so_far = c.loop-text.invariant in
     let o : Option EpochOut = c.in_ok-out.field-0 in
-    let more = holding_more is_lawful state failures answers u v old there new o held (held ++ line_of (Out o)) so_far.said c.in_ok-out.ensures.driven refl in
+    let more = holding_more is_lawful state failures answers u v old there new o held (held ++ line_of 0 (Out o)) so_far.said c.in_ok-out.ensures.driven refl in
     let count = same_count c.in_ok-out.field-0 (g.D.Disk.failures c.loop-text.keeper.device) (g.D.Disk.failures c.next_out.new.keeper.device) c.in_ok-out.ensures.failures ∙ c.loop-text.invariant.count in
-    let printed : string_bytes c.print_epoch.new.text ≡ held ++ line_of (Out (Some c.in-Some.out)) =
+    let printed : string_bytes c.print_epoch.new.text ≡ held ++ line_of 0 (Out (Some c.in-Some.out)) =
     c.in_ok-print_epoch.ensures.ok ∙ ap (λ (l : List ℕ). held ++ l) (sym (append-nil _)) in
-    let is : held ++ line_of (Out o) ≡ string_bytes c.print_epoch.new.text = ap (λ (p : Option EpochOut). held ++ line_of (Out p)) c.in-Some.is ∙ sym printed in
+    let is : held ++ line_of 0 (Out o) ≡ string_bytes c.print_epoch.new.text = ap (λ (p : Option EpochOut). held ++ line_of 0 (Out p)) c.in-Some.is ∙ sym printed in
     record {
       said = holding_piece is_lawful state failures answers g.W.Sink.contents string_bytes u c.loop-text.writer c.write_piece.new.writer old new c.print_epoch.new.text c.write_piece.new.text
           (holding_more is_lawful state failures answers u v old there new o held (string_bytes c.print_epoch.new.text) so_far.said c.in_ok-out.ensures.driven (sym is)) c.in_ok-write_piece.ensures.ok;
@@ -87,7 +87,7 @@ returns-in_err-print_epoch-clause-said g c =
     let held = string_bytes c.loop-text.text in
     let so_far = c.loop-text.invariant in
     let o : Option EpochOut = c.in_ok-out.field-0 in
-    let more = holding_more is_lawful state failures answers u v old there new o held (held ++ line_of (Out o)) so_far.said c.in_ok-out.ensures.driven refl in
+    let more = holding_more is_lawful state failures answers u v old there new o held (held ++ line_of 0 (Out o)) so_far.said c.in_ok-out.ensures.driven refl in
     by_refusal is_lawful state failures answers c.from_residual-in_err-print_epoch.result (λ (f : Fault). f ≡ c.in_err-print_epoch.field-0.0) u v old new [] c.from_residual-in_err-print_epoch.ensures.1
     (λ f is. inr more.some)
 
@@ -137,10 +137,10 @@ returns-then-is_empty-clause-said g c =
     let held = string_bytes c.loop-text.text in
     let so_far = c.loop-text.invariant in
     let o : Option EpochOut = c.in_ok-out.field-0 in
-    let more = holding_more is_lawful state failures answers u v old there new o held (held ++ line_of (Out o)) so_far.said c.in_ok-out.ensures.driven refl in
+    let more = holding_more is_lawful state failures answers u v old there new o held (held ++ line_of 0 (Out o)) so_far.said c.in_ok-out.ensures.driven refl in
     let line = none_out is_lawful state failures answers o c.in_default.not-Some in
     let empty : held ≡ [] = nil_of held (string_len c.loop-text.text) (sym c.is_empty.ensures ∙ c.if-is_empty.true) c.loop-text.text.bytes.ok.0 in
-    all_written is_lawful state failures answers u v old new (held ++ line_of (Out o)) more (ap (λ (l : List ℕ). l ++ line_of (Out o)) empty ∙ line)
+    all_written is_lawful state failures answers u v old new (held ++ line_of 0 (Out o)) more (ap (λ (l : List ℕ). l ++ line_of 0 (Out o)) empty ∙ line)
 
 pub returns-then-is_empty-clause-failures : goal.returns-then-is_empty-clause-failures
 returns-then-is_empty-clause-failures g c =
@@ -160,11 +160,11 @@ returns-clause-said g c =
     let held = string_bytes c.loop-text.text in
     let so_far = c.loop-text.invariant in
     let o : Option EpochOut = c.in_ok-out.field-0 in
-    let more = holding_more is_lawful state failures answers u v old there new o held (held ++ line_of (Out o)) so_far.said c.in_ok-out.ensures.driven refl in
+    let more = holding_more is_lawful state failures answers u v old there new o held (held ++ line_of 0 (Out o)) so_far.said c.in_ok-out.ensures.driven refl in
     let w = g.W.Sink.contents c.write_answer.new.writer in
     let line = none_out is_lawful state failures answers o c.in_default.not-Some in
-    let is : c.as_str.result.now ≡ held ++ line_of (Out o) = c.as_str.ensures.value ∙ sym (append-nil held) ∙ ap (λ (l : List ℕ). held ++ l) (sym line) in
-    last_written is_lawful state failures answers c.write_answer.result u v w old new (held ++ line_of (Out o)) more
+    let is : c.as_str.result.now ≡ held ++ line_of 0 (Out o) = c.as_str.ensures.value ∙ sym (append-nil held) ∙ ap (λ (l : List ℕ). held ++ l) (sym line) in
+    last_written is_lawful state failures answers c.write_answer.result u v w old new (held ++ line_of 0 (Out o)) more
     (subst (λ (t : List ℕ). OnOk c.write_answer.result (Appends v w t)) is c.write_answer.ensures.written) c.write_answer.ensures.err
 
 pub returns-clause-failures : goal.returns-clause-failures

@@ -1,6 +1,7 @@
 use Rattle.std.proofs.Common.{[], refl, inr}
 use Rattle.td_console.specs.declared.faults.Fault.TheVariants.{Memory}
 use Rattle.td_feed.specs.Orders.{submissions}
+use Rattle.td_feed.specs.Carried.{new_to}
 use Rattle.td_feed.proofs.Carrying.{unmoved, leaves_none}
 use Rattle.td_feed.proofs.Counting.{as_err, counts_same}
 use Rattle.td_feed.proofs.Lines.{says_nothing, some_of_all}
@@ -9,7 +10,7 @@ use Rattle.td_feed.proofs.workers.obey_by_workers.Goals as goal
 pub returns-in-Err-clause-left : goal.returns-in-Err-clause-left
 returns-in-Err-clause-left g c =
     let old = c.args.keeper in
-    leaves_none g.D.Disk.is_lawful g.D.Disk.state g.L.Law.answers old old (submissions c.args.orders.items) (unmoved g.L.Law.answers old old refl refl c.requires.whole)
+    leaves_none g.D.Disk.is_lawful g.D.Disk.state g.L.Law.answers old old (new_to old (submissions c.args.orders.items)) (unmoved g.L.Law.answers old old refl refl c.requires.whole)
 
 pub returns-in-Err-clause-said : goal.returns-in-Err-clause-said
 returns-in-Err-clause-said g c =

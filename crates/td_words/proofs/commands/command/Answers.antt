@@ -1,7 +1,7 @@
 use Rattle.std.proofs.Common.{rules, ap, ◌≡◌, ◌∙◌}
 use Rattle.std.proofs.lemmas.Result.{IfOk-weaker}
 use Rattle.clap.specs.Words.{App, Shape, app_of, with_subcommand}
-use Rattle.td_words.specs.Command.{alone, batch_app, run_app, sim_app, format_app, feed_app, show_app}
+use Rattle.td_words.specs.Command.{alone, batch_app, run_app, sim_app, format_app, feed_app, show_app, upgrade_app}
 use Rattle.td_words.proofs.Leaves.{grown}
 use Rattle.td_words.proofs.commands.command.Goals as goal
 
@@ -14,4 +14,5 @@ returns c =
     let sim = grown c.sim_leaf.result _ (app_of c.in_ok-td-2.td) sim_app c.in_ok-td-3.ensures c.sim_leaf.ensures.app ∙ ap (λ (a : App). with a sim_app.top) run in
     let format = grown c.format_leaf.result _ (app_of c.in_ok-td-3.td) format_app c.in_ok-td-4.ensures c.format_leaf.ensures.app ∙ ap (λ (a : App). with a format_app.top) sim in
     let feed = grown c.feed_leaf.result _ (app_of c.in_ok-td-4.td) feed_app c.in_ok-td-5.ensures c.feed_leaf.ensures.app ∙ ap (λ (a : App). with a feed_app.top) format in
-    IfOk-weaker c.with_leaf-6.result _ _ (λ m h. grown c.show_leaf.result _ (app_of c.in_ok-td-5.td) show_app h c.show_leaf.ensures.app ∙ ap (λ (a : App). with a show_app.top) feed) c.with_leaf-6.ensures
+    let show = grown c.show_leaf.result _ (app_of c.in_ok-td-5.td) show_app c.in_ok-td-6.ensures c.show_leaf.ensures.app ∙ ap (λ (a : App). with a show_app.top) feed in
+    IfOk-weaker c.with_leaf-7.result _ _ (λ m h. grown c.upgrade_leaf.result _ (app_of c.in_ok-td-6.td) upgrade_app h c.upgrade_leaf.ensures.app ∙ ap (λ (a : App). with a upgrade_app.top) show) c.with_leaf-7.ensures

@@ -1,4 +1,4 @@
-use Rattle.std.proofs.Common.{◌≡◌, ◌∙◌, [], refl, sym}
+use Rattle.std.proofs.Common.{◌≡◌, ◌∙◌, [], refl}
 use Rattle.td_keeper.specs.declared.command.Command.TheVariants.{Settle, Collect}
 use Rattle.td_console.specs.declared.faults.Fault.{Fault}
 use Rattle.td_feed.proofs.Counting.{counts_handed, counts_after, same_count}

@@ -1,7 +1,6 @@
-use Rattle.std.proofs.Common.{◌≡◌, List, [], ◌∷◌}
+use Rattle.std.proofs.Common.{List, []}
 use Rattle.td_journal.specs.declared.submitted.Submitted.{Submitted}
-use Rattle.td_standing.specs.Standing.{submission}
-use Rattle.td_feed.specs.Carried.{Carries}
+use Rattle.td_feed.specs.Carried.{batch_in, new_to}
 use Rattle.td_feed.proofs.Carrying.{at_err, leaves_all, carries_then}
 use Rattle.td_feed.proofs.Counting.{counts_handed, counts_after, same_count}
 use Rattle.td_feed.proofs.Lines.{says_nothing, handed_on, then_quiet}
@@ -15,7 +14,7 @@ returns-in_err-tell_aloud-clause-said g c =
     let answers = g.L.Law.answers in
     let w = g.W.Sink.contents c.args.writer.now in
     let old = c.args.keeper.now in
-    let x : List Submitted = submission 0 c.args.batch ∷ [] in
+    let x : List Submitted = new_to c.args.keeper.now (batch_in c.args.command) in
     handed_on is_lawful state failures answers c.from_residual.result c.in_err-tell_aloud.field-0.0 w w (g.W.Sink.contents c.tell_aloud.new.writer) old old c.tell_aloud.new.keeper [] x x c.from_residual.ensures.1
     (says_nothing is_lawful state failures answers w old) c.in_err-tell_aloud.ensures.said
 
@@ -29,7 +28,7 @@ returns-clause-left g c =
     let state = g.D.Disk.state in
     let failures = g.D.Disk.failures in
     let answers = g.L.Law.answers in
-    let x : List Submitted = submission 0 c.args.batch ∷ [] in
+    let x : List Submitted = new_to c.args.keeper.now (batch_in c.args.command) in
     at_err c.release.result
     (leaves_all is_lawful state answers c.args.keeper.now c.release.new.keeper x
     (carries_then is_lawful state answers c.args.keeper.now c.tell_aloud.new.keeper c.release.new.keeper x c.in_ok-tell_aloud.ensures.carried c.release.ensures.carried))
@@ -42,7 +41,7 @@ returns-clause-said g c =
     let answers = g.L.Law.answers in
     let w = g.W.Sink.contents c.args.writer.now in
     let v = g.W.Sink.contents c.tell_aloud.new.writer in
-    let x : List Submitted = submission 0 c.args.batch ∷ [] in
+    let x : List Submitted = new_to c.args.keeper.now (batch_in c.args.command) in
     then_quiet is_lawful state failures answers c.release.result w v v c.args.keeper.now c.tell_aloud.new.keeper c.release.new.keeper x c.in_ok-tell_aloud.ensures.said (c.release.ensures.said v)
 
 pub returns-clause-failures : goal.returns-clause-failures

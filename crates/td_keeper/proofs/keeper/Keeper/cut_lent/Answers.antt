@@ -47,6 +47,7 @@ invariant_of-self g c =
           (omega (arith, is.0, c.in-Ok.ensures.epoch, last.after)) (omega (arith, is.0, c.in-Ok.ensures.epoch, last.before)) (omega (arith, is.0, c.in-Ok.ensures.epoch, far))
           c.in-Ok-cut_at_epoch.field-0.states c.in-Ok-cut_at_epoch.ensures.meaning,
       c.self.invariant.2,
+      c.self.invariant.3,
     )
 
 pub returns-clause-own : goal.returns-clause-own

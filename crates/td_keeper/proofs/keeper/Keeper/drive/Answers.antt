@@ -10,6 +10,7 @@ use Rattle.td_keeper.specs.Driven.{submitted_by, handed_out, HandsOn, Advances, 
 use Rattle.td_keeper.proofs.Driving.{driven_more, driven_broken, driven_advances}
 use Rattle.td_keeper.proofs.Failing.{driven_counted, driven_failed, driven_whole}
 use Rattle.td_keeper.proofs.Handing.{driven_hands}
+use Rattle.td_keeper.proofs.Receiving.{driven_rises}
 use Rattle.td_keeper.proofs.Since.{from_start}
 use Rattle.td_keeper.proofs.Submitting.{keeps_of}
 use Rattle.td_keeper.proofs.keeper.Keeper.drive.Goals as goal
@@ -39,6 +40,11 @@ returns-clause-whole g c none =
 pub returns-clause-counted : goal.returns-clause-counted
 returns-clause-counted g c =
     driven_counted g.D.Disk.is_lawful g.D.Disk.state g.D.Disk.failures g.L.Law.answers c.loop-command.yielded c.loop-command.replies.items c.args.self.now c.loop-command.self c.loop-command.invariant.driven
+
+pub returns-clause-never_falls : goal.returns-clause-never_falls
+returns-clause-never_falls g c =
+    let law = c.last_request_never_falls.ensures in
+    driven_rises g.D.Disk.is_lawful g.D.Disk.state g.D.Disk.failures g.L.Law.answers law.submitted law.cut c.loop-command.yielded c.loop-command.replies.items c.args.self.now c.loop-command.self c.loop-command.invariant.driven
 
 pub returns-clause-broken : goal.returns-clause-broken
 returns-clause-broken g c is =

@@ -1,9 +1,9 @@
-use Rattle.std.proofs.Common.{◌≡◌, ◌∙◌, List, true, false, sym, ap, ⊎_elim, inl, inr, refl, Some}
+use Rattle.std.proofs.Common.{◌≡◌, ◌∙◌, List, [], ◌∷◌, true, false, sym, ap, ⊎_elim, inl, inr, refl, Some}
 use Rattle.td_journal.specs.declared.submitted.Submitted.{Submitted}
-use Rattle.td_standing.specs.Standing.{last_epoch}
+use Rattle.td_standing.specs.Standing.{last_epoch, submission}
 use Rattle.td_standing.specs.Advanced.{AdvancesSince}
 use Rattle.td_keeper.specs.Driven.{is_device}
-use Rattle.td_keeper.proofs.Driving.{refused_in}
+use Rattle.td_keeper.proofs.Driving.{refused_in, received_since}
 use Rattle.std.specs.Prelude.{Option, Result, Ok, Err, ℕ}
 use Rattle.td_standing.specs.declared.error.KeeperError.{KeeperError}
 use Rattle.td_standing.specs.declared.error.KeeperError.TheVariants as error
@@ -38,7 +38,7 @@ returns-in-Submit-clause-obeyed g c =
           later = e.later lawful;
           since = λ whole.
               refused_in (λ (x : List Submitted). AdvancesSince g.L.Law.answers old.plan old.standing x (last_epoch old.standing) (state old.device) (state c.submit.new.self.device))
-              c.in-Submit.batch c.in-Err.error (Some c.in-Err.batch) (e.further lawful whole) (⊎_elim inl (λ none. inr (none lawful whole)) e.nothing);
+              (submission 0 c.in-Submit.batch ∷ []) c.in-Err.error (e.further lawful whole) (⊎_elim inl (λ none. inr (none lawful whole)) e.nothing);
         };
       },
     )
@@ -93,6 +93,46 @@ returns-clause-obeyed g c =
           lawful = e.lawful.0 lawful;
           later = e.later lawful;
           since = λ whole. e.further lawful whole;
+        };
+      },
+    )
+
+pub returns-in-Ok-submit_as-clause-obeyed : goal.returns-in-Ok-submit_as-clause-obeyed
+returns-in-Ok-submit_as-clause-obeyed g c =
+    let e = c.in-Ok-submit_as.ensures in
+    rw c.in-SubmitAs.is (
+      record { accepted = e.accepted; received = e.received },
+      record {
+        counted = e.counted;
+        stays = λ quiet. e.stays;
+        advances = λ lawful. record {
+          lawful = e.lawful.0 lawful;
+          later = e.later lawful;
+          since = λ whole.
+              received_since g.D.Disk.state g.L.Law.answers c.in-SubmitAs.request c.in-SubmitAs.batch c.in-Ok-submit_as.receipt c.args.self.now c.submit_as.new.self e.received (e.further lawful whole);
+        };
+      },
+    )
+
+pub returns-in-SubmitAs-clause-obeyed : goal.returns-in-SubmitAs-clause-obeyed
+returns-in-SubmitAs-clause-obeyed g c =
+    let e = c.in-Err-submit_as.ensures in
+    let old = c.args.self.now in
+    let state = g.D.Disk.state in
+    rw (c.in-SubmitAs.is, c.refused-in-Err-submit_as.ensures) (
+      record {
+        refused = record { batch_back = ap Some e.back; cause = e.refused; unchanged = e.unchanged; memory = e.unwritten; device = λ failed. record { broken = e.broken failed; risen = e.device failed } };
+        repeated = e.repeated;
+      },
+      record {
+        counted = e.counted;
+        stays = λ quiet. ⊎_elim (λ failed. absurd (let both : true ≡ false = sym (ap is_device failed) ∙ quiet in cc)) (λ same. same) e.stays_back;
+        advances = λ lawful. record {
+          lawful = e.lawful.0 lawful;
+          later = e.later lawful;
+          since = λ whole.
+              refused_in (λ (x : List Submitted). AdvancesSince g.L.Law.answers old.plan old.standing x (last_epoch old.standing) (state old.device) (state c.submit_as.new.self.device))
+              (submission c.in-SubmitAs.request c.in-SubmitAs.batch ∷ []) c.in-Err-submit_as.error (e.further lawful whole) (⊎_elim inl (λ none. inr (none lawful whole)) e.nothing);
         };
       },
     )

@@ -7,7 +7,7 @@ use Rattle.td_slots.specs.Slot.{are_states}
 use Rattle.td_slots.specs.declared.slots.Slots.{Slots}
 use Rattle.td_slots.specs.declared.error.SlotsError.{SlotsError as AnyError}
 use Rattle.td_journal.specs.Numbers.{greatest}
-use Rattle.td_standing.specs.Standing.{standing_from, last_epoch, with_more, cut_at}
+use Rattle.td_standing.specs.Standing.{standing_from, last_epoch, last_request, with_more, cut_at}
 use Rattle.td_standing.specs.Stops.{Advance, Holds}
 use Rattle.td_standing.specs.Told.{folds_of, slots_of}
 use Rattle.td_standing.specs.Tells.{IsCut, side_after}
@@ -15,7 +15,7 @@ use Rattle.td_standing.specs.Advanced.{AdvancesSince, HeldWhere, states_by}
 use Rattle.td_keeper.specs.declared.keeper.Taken.{Taken}
 use Rattle.td_keeper.specs.Keeping.{Keeping, IsKeeping, keeping_of, with_checkpoint, published}
 use Rattle.td_keeper.specs.Refused.{write_refusal, waits_after}
-use Rattle.td_keeper.proofs.Cutting.{lawful, most, is_cut, advance, as_written, not_above, write_none}
+use Rattle.td_keeper.proofs.Cutting.{lawful, cut_last, most, is_cut, advance, as_written, not_above, write_none}
 use Rattle.td_keeper.proofs.Kept.{written, set_down}
 use Rattle.td_keeper.proofs.Since.{either, from_start, held, by_further}
 use Rattle.td_keeper.proofs.Submitting.{keeps_of, held_of}
@@ -236,6 +236,7 @@ invariant_of-self-in-Ok g c =
           let keeps = keeps_of c.self.inside.broken answers plan head side s (state device) c.if-self.false (c.self.invariant.2 old) in
           subst (λ (z : Keeping g.row.D.Denot). HeldWhere c.self.inside.broken answers plan head z.side z.standing (state new)) (sym now)
           (held_of c.self.inside.broken answers plan head (side_after side n) (cut_at s n cut.states) (state new) c.if-self.false (c.in-Ok.ensures.done old plan head s n slots epoch last is_a_cut keeps)),
+      c.self.invariant.3 ∙ sym ((λ i. greatest ((c.checkpoint_of.ensures.last ∙ last) i) (c.drop_first.ensures i)) ∙ cut_last s.last n w),
     )
 
 pub invariant_of-self-in-Device : goal.invariant_of-self-in-Device
@@ -276,4 +277,13 @@ invariant_of-self-in-Device g c =
           (from_start answers plan c.told_in_parts.ensures.together head side s [] (state device) (state new) (λ d. g.met.D.Disk.only_now device d old) still keeps
           (either answers plan c.told_in_parts.ensures.together head side s [] (state device) (state new) (side_after side n) (cut_at s n cut.states) still next holds
           (c.in-Err.ensures.begun old plan head s n slots epoch last is_a_cut keeps))),
+      c.self.invariant.3,
     )
+
+pub returns-in-Ok-clause-last_request : goal.returns-in-Ok-clause-last_request
+returns-in-Ok-clause-last_request g c =
+    let checkpoint = c.self.inside.checkpoint in
+    let w = c.self.inside.submitted.items in
+    let n = c.in-Some.cut.epoch - checkpoint.epoch in
+    (λ i. greatest ((c.checkpoint_of.ensures.last ∙ c.last_of_first-last.ensures) i) (c.drop_first.ensures i))
+    ∙ (cut_last checkpoint.last n w ∙ ap (λ (z : Keeping g.row.D.Denot). last_request z.standing) c.self.view_is)

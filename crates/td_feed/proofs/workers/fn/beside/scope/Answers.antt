@@ -2,7 +2,7 @@ use Rattle.std.proofs.Common.{◌≡◌, List, refl}
 use Rattle.std.specs.Prelude.{Ok}
 use Rattle.td_journal.specs.declared.submitted.Submitted.{Submitted}
 use Rattle.td_feed.specs.Orders.{submissions}
-use Rattle.td_feed.specs.Carried.{Carries, Leaves}
+use Rattle.td_feed.specs.Carried.{new_to, Carries, Leaves}
 use Rattle.td_feed.proofs.Carrying.{ok_only, ended_ok, ended_err, leaves_all}
 use Rattle.td_feed.proofs.Counting.{ended_counts}
 use Rattle.td_feed.proofs.Lines.{ended_says}
@@ -15,7 +15,7 @@ returns g c =
     let answers = g.L.Law.answers in
     let old = c.captures.keeper in
     let new = c.obey_each-obeyed.new.keeper in
-    let x : List Submitted = submissions c.captures.orders.items in
+    let x : List Submitted = new_to old (submissions c.captures.orders.items) in
     let failures = g.D.Disk.failures in
     let obeyed = c.obey_each-obeyed.ensures in
     let ended = c.ended_as.ensures in record {

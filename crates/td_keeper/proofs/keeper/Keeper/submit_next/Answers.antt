@@ -1,16 +1,17 @@
-use Rattle.std.proofs.Common.{◌≡◌, inl, inr, ⊎_elim, Result, Err, ℕ, ◌+◌, ◌^◌, ◌<◌, ◌≤◌, true, false, List, [], ◌∷◌, ◌++◌, sym, ap, ◌∙◌, subst, arith, rules}
-use Rattle.std.specs.Prelude.{Option, Some, None, length}
+use Rattle.std.proofs.Common.{◌≡◌, inl, inr, Result, Err, ℕ, ◌+◌, ◌^◌, ◌<◌, ◌≤◌, true, false, List, [], ◌∷◌, ◌++◌, sym, ap, ◌∙◌, subst, arith, rules}
+use Rattle.std.specs.Prelude.{Option, Some, None, length, max}
 use Rattle.std.proofs.lemmas.List.{length-append}
 use Rattle.td_watch.specs.View.{View}
 use Rattle.td_watch.specs.Words.{KeepsOrder}
 use Rattle.td_plan.specs.Tree.{tree_of}
 use Rattle.td_gate.specs.CrashSafe.{CrashSafe, Unchanged}
 use Rattle.td_head.specs.Layout.{size_of}
+use Rattle.td_journal.specs.Numbers.{greatest}
 use Rattle.td_journal.specs.Cell.{is_batch}
 use Rattle.td_journal.specs.declared.error.JournalError.{JournalError as AnyError}
 use Rattle.td_journal.specs.declared.error.JournalError.TheVariants as JournalError
 use Rattle.td_journal.specs.declared.submitted.Submitted.{Submitted}
-use Rattle.td_standing.specs.Standing.{standing_from, submission, last_epoch, with_more}
+use Rattle.td_standing.specs.Standing.{standing_from, submission, last_epoch, last_request, with_more}
 use Rattle.td_standing.specs.Stops.{Advance, Holds}
 use Rattle.td_standing.specs.Told.{inputs_of, ring_of}
 use Rattle.td_standing.specs.Tells.{HasRoom}
@@ -20,8 +21,8 @@ use Rattle.td_keeper.specs.Refused.{submit_refusal}
 use Rattle.td_keeper.proofs.Accepting.{IsAccepted, accepted, never_device}
 use Rattle.td_keeper.proofs.Kept.{submitted, elsewhere}
 use Rattle.td_keeper.proofs.Since.{either, from_start, held, by_further, unwritten}
-use Rattle.td_keeper.proofs.Submitting.{keeps_of, held_of, no_request, lawful_batch, has_room, is_none, below_more}
-use Rattle.td_keeper.proofs.keeper.Keeper.submit.Goals as goal
+use Rattle.td_keeper.proofs.Submitting.{keeps_of, held_of, fresh_in, greatest_more, lawful_batch, has_room, is_none, below_more}
+use Rattle.td_keeper.proofs.keeper.Keeper.submit_next.Goals as goal
 
 abbrev as_err : AnyError → Result (Unit {0}) AnyError
 as_err e = Err e
@@ -33,14 +34,14 @@ pub returns-in-Some-clause-images : goal.returns-in-Some-clause-images
 returns-in-Some-clause-images g c old whole =
     let state = g.D.Disk.state in
     by_further g.D.Disk.is_lawful state g.met.D.Disk.only_now g.L.Law.answers c.told_in_parts.ensures.together c.standings_advance.ensures.not_yet c.self.view_is c.self.invariant.2
-    (submission 0 c.args.batch ∷ []) (state c.args.self.now.device) old whole (returns-in-Some-clause-further g c old whole)
+    (submission c.args.request c.args.batch ∷ []) (state c.args.self.now.device) old whole (returns-in-Some-clause-further g c old whole)
 
 pub returns-then-is_err-clause-further : goal.returns-then-is_err-clause-further
 returns-then-is_err-clause-further g c =
     let state = g.D.Disk.state in
     let answers = g.L.Law.answers in
     let device = c.self.inside.device in
-    let x : List Submitted = submission 0 c.args.batch ∷ [] in
+    let x : List Submitted = submission c.args.request c.args.batch ∷ [] in
     subst (λ (z : Keeping g.row.D.Denot). g.D.Disk.is_lawful z.device → z.broken ≡ false → AdvancesSince answers z.plan z.standing x (last_epoch z.standing) (state z.device) (state device)) c.self.view_is
     (λ old whole t f le left. inl left)
 
@@ -48,7 +49,7 @@ pub returns-then-is_err-clause-images : goal.returns-then-is_err-clause-images
 returns-then-is_err-clause-images g c old whole =
     let state = g.D.Disk.state in
     by_further g.D.Disk.is_lawful state g.met.D.Disk.only_now g.L.Law.answers c.told_in_parts.ensures.together c.standings_advance.ensures.not_yet c.self.view_is c.self.invariant.2
-    (submission 0 c.args.batch ∷ []) (state c.self.inside.device) old whole (returns-then-is_err-clause-further g c old whole)
+    (submission c.args.request c.args.batch ∷ []) (state c.self.inside.device) old whole (returns-then-is_err-clause-further g c old whole)
 
 pub returns-in-Ok-clause-further : goal.returns-in-Ok-clause-further
 returns-in-Ok-clause-further g c =
@@ -60,7 +61,7 @@ returns-in-Ok-clause-further g c =
     let s = standing_from c.self.inside.checkpoint c.self.inside.submitted.items in
     let side = c.self.inside.checkpoint.slot in
     let batch = c.args.batch in
-    let x : List Submitted = submission 0 batch ∷ [] in
+    let x : List Submitted = submission c.args.request batch ∷ [] in
     let still : Advance (states_by answers plan) (with_more s x) s = c.standings_advance.ensures.not_yet (tree_of plan) s x in
     let k = keeping_of device plan head c.self.inside.checkpoint c.self.inside.submitted.items c.self.inside.broken c.self.inside.taken c.self.inside.collected c.self.inside.queue.items c.self.inside.watch in
     let none : submit_refusal k batch ≡ None = ap (λ (z : Keeping g.row.D.Denot). submit_refusal z batch) c.self.view_is ∙ (sym c.refusal_of.ensures ∙ is_none c.refusal_of.result c.in_default.not-Some) in
@@ -75,18 +76,18 @@ returns-in-Ok-clause-further g c =
     (λ old whole.
     let keeps = keeps_of c.self.inside.broken answers plan head side s (state device) whole (c.self.invariant.2 old) in
     either answers plan c.told_in_parts.ensures.together head side s x (state device) (state c.submit_batch.new.device) side (with_more s x) still more holds
-    (c.in-Ok.ensures.begun old plan head side s ring room (no_request head.version s) lawful keeps))
+    (c.in-Ok.ensures.begun old plan head side s ring room (fresh_in c.args.request c.self.view_is c.requires.fresh) lawful keeps))
 
 pub returns-in-Ok-clause-images : goal.returns-in-Ok-clause-images
 returns-in-Ok-clause-images g c old whole =
     let state = g.D.Disk.state in
     by_further g.D.Disk.is_lawful state g.met.D.Disk.only_now g.L.Law.answers c.told_in_parts.ensures.together c.standings_advance.ensures.not_yet c.self.view_is c.self.invariant.2
-    (submission 0 c.args.batch ∷ []) (state c.submit_batch.new.device) old whole (returns-in-Ok-clause-further g c old whole)
+    (submission c.args.request c.args.batch ∷ []) (state c.submit_batch.new.device) old whole (returns-in-Ok-clause-further g c old whole)
 
 pub words_at-words-requires : goal.words_at-words-requires
 words_at-words-requires g c =
     let s = standing_from c.self.inside.checkpoint c.self.inside.submitted.items in
-    let x : List Submitted = submission 0 c.args.batch ∷ [] in
+    let x : List Submitted = submission c.args.request c.args.batch ∷ [] in
     let items : c.push_back_reserved.new.self.items ≡ c.self.inside.submitted.items ++ x = c.push_back_reserved.ensures.items ∙ ap (λ (l : List Submitted). l ++ x) c.reserve.ensures.items in
     let k = keeping_of c.self.inside.device c.self.inside.plan c.self.inside.head c.self.inside.checkpoint c.self.inside.submitted.items c.self.inside.broken c.self.inside.taken c.self.inside.collected c.self.inside.queue.items c.self.inside.watch in
     let none : submit_refusal k c.args.batch ≡ None = ap (λ (z : Keeping g.row.D.Denot). submit_refusal z c.args.batch) c.self.view_is ∙ (sym c.refusal_of.ensures ∙ is_none c.refusal_of.result c.in_default.not-Some) in
@@ -97,7 +98,7 @@ words_at-words-requires g c =
 pub publish-requires-clause-ordered : goal.publish-requires-clause-ordered
 publish-requires-clause-ordered g c =
     let s = standing_from c.self.inside.checkpoint c.self.inside.submitted.items in
-    let x : List Submitted = submission 0 c.args.batch ∷ [] in
+    let x : List Submitted = submission c.args.request c.args.batch ∷ [] in
     let items : c.push_back_reserved.new.self.items ≡ c.self.inside.submitted.items ++ x = c.push_back_reserved.ensures.items ∙ ap (λ (l : List Submitted). l ++ x) c.reserve.ensures.items in
     let words : c.words_at-words.result ≡ words_at (with_more s x) c.self.inside.collected =
     c.words_at-words.ensures ∙ ap (λ (v : List Submitted). words_at (standing_from c.self.inside.checkpoint v) c.self.inside.collected) items in
@@ -108,11 +109,11 @@ publish-requires-clause-ordered g c =
 pub publish-requires-clause-rises : goal.publish-requires-clause-rises
 publish-requires-clause-rises g c =
     let s = standing_from c.self.inside.checkpoint c.self.inside.submitted.items in
-    let x : List Submitted = submission 0 c.args.batch ∷ [] in
+    let x : List Submitted = submission c.args.request c.args.batch ∷ [] in
     let items : c.push_back_reserved.new.self.items ≡ c.self.inside.submitted.items ++ x = c.push_back_reserved.ensures.items ∙ ap (λ (l : List Submitted). l ++ x) c.reserve.ensures.items in
     let words : c.words_at-words.result ≡ words_at (with_more s x) c.self.inside.collected =
     c.words_at-words.ensures ∙ ap (λ (v : List Submitted). words_at (standing_from c.self.inside.checkpoint v) c.self.inside.collected) items in
-    subst (IsBelow c.self.inside.watch) (sym words) (below_more c.self.inside.watch s (submission 0 c.args.batch) c.self.inside.collected c.self.invariant.1.watched)
+    subst (IsBelow c.self.inside.watch) (sym words) (below_more c.self.inside.watch s (submission c.args.request c.args.batch) c.self.inside.collected c.self.invariant.1.watched)
 
 pub invariant_of-self-in-Ok : goal.invariant_of-self-in-Ok
 invariant_of-self-in-Ok g c =
@@ -124,7 +125,7 @@ invariant_of-self-in-Ok g c =
     let s = standing_from c.self.inside.checkpoint c.self.inside.submitted.items in
     let side = c.self.inside.checkpoint.slot in
     let batch = c.args.batch in
-    let x : List Submitted = submission 0 batch ∷ [] in
+    let x : List Submitted = submission c.args.request batch ∷ [] in
     let k = keeping_of device plan head c.self.inside.checkpoint c.self.inside.submitted.items c.self.inside.broken c.self.inside.taken c.self.inside.collected c.self.inside.queue.items c.self.inside.watch in
     let none : submit_refusal k batch ≡ None = ap (λ (z : Keeping g.row.D.Denot). submit_refusal z batch) c.self.view_is ∙ (sym c.refusal_of.ensures ∙ is_none c.refusal_of.result c.in_default.not-Some) in
     let taken : IsAccepted k batch = accepted k batch none in
@@ -139,12 +140,13 @@ invariant_of-self-in-Ok g c =
       subst (λ (n : ℕ). size_of head.shape ≤ n) (sym c.in-Ok.ensures.size) c.self.invariant.0,
       subst (λ (v : List Submitted). IsKeeping (keeping_of new plan head c.self.inside.checkpoint v c.self.inside.broken c.self.inside.taken c.self.inside.collected c.self.inside.queue.items c.publish.new.watch) answers) (sym items)
           (subst (λ (o : Option View). IsKeeping (keeping_of new plan head c.self.inside.checkpoint (c.self.inside.submitted.items ++ x) c.self.inside.broken c.self.inside.taken c.self.inside.collected c.self.inside.queue.items o) answers) (sym watch)
-          (submitted answers k new 0 batch c.self.invariant.1 lawful taken.room taken.small)),
+          (submitted answers k new c.args.request batch c.self.invariant.1 lawful taken.room taken.small)),
       λ l.
           let old = c.in-Ok.ensures.lawful.1 l in
           let keeps = keeps_of c.self.inside.broken answers plan head side s (state device) taken.whole (c.self.invariant.2 old) in
           subst (λ (v : List Submitted). HeldWhere c.self.inside.broken answers plan head side (standing_from c.self.inside.checkpoint v) (state new)) (sym items)
-          (held_of c.self.inside.broken answers plan head side (with_more s x) (state new) taken.whole (c.in-Ok.ensures.done old plan head side s ring room (no_request head.version s) lawful keeps)),
+          (held_of c.self.inside.broken answers plan head side (with_more s x) (state new) taken.whole (c.in-Ok.ensures.done old plan head side s ring room (fresh_in c.args.request c.self.view_is c.requires.fresh) lawful keeps)),
+      c.max-self-inside.ensures ∙ (ap (λ (n : ℕ). max n c.args.request) c.self.invariant.3 ∙ (sym (greatest_more c.self.inside.checkpoint.last c.self.inside.submitted.items c.args.request batch) ∙ ap (greatest c.self.inside.checkpoint.last) (sym items))),
     )
 
 pub returns-in-Device-clause-further : goal.returns-in-Device-clause-further
@@ -157,7 +159,7 @@ returns-in-Device-clause-further g c =
     let s = standing_from c.self.inside.checkpoint c.self.inside.submitted.items in
     let side = c.self.inside.checkpoint.slot in
     let batch = c.args.batch in
-    let x : List Submitted = submission 0 batch ∷ [] in
+    let x : List Submitted = submission c.args.request batch ∷ [] in
     let still : Advance (states_by answers plan) (with_more s x) s = c.standings_advance.ensures.not_yet (tree_of plan) s x in
     let k = keeping_of device plan head c.self.inside.checkpoint c.self.inside.submitted.items c.self.inside.broken c.self.inside.taken c.self.inside.collected c.self.inside.queue.items c.self.inside.watch in
     let none : submit_refusal k batch ≡ None = ap (λ (z : Keeping g.row.D.Denot). submit_refusal z batch) c.self.view_is ∙ (sym c.refusal_of.ensures ∙ is_none c.refusal_of.result c.in_default.not-Some) in
@@ -172,13 +174,13 @@ returns-in-Device-clause-further g c =
     (λ old whole.
     let keeps = keeps_of c.self.inside.broken answers plan head side s (state device) whole (c.self.invariant.2 old) in
     either answers plan c.told_in_parts.ensures.together head side s x (state device) (state c.submit_batch.new.device) side (with_more s x) still more holds
-    (c.in-Err.ensures.begun old plan head side s ring room (no_request head.version s) lawful keeps))
+    (c.in-Err.ensures.begun old plan head side s ring room (fresh_in c.args.request c.self.view_is c.requires.fresh) lawful keeps))
 
 pub returns-in-Device-clause-images : goal.returns-in-Device-clause-images
 returns-in-Device-clause-images g c old whole =
     let state = g.D.Disk.state in
     by_further g.D.Disk.is_lawful state g.met.D.Disk.only_now g.L.Law.answers c.told_in_parts.ensures.together c.standings_advance.ensures.not_yet c.self.view_is c.self.invariant.2
-    (submission 0 c.args.batch ∷ []) (state c.submit_batch.new.device) old whole (returns-in-Device-clause-further g c old whole)
+    (submission c.args.request c.args.batch ∷ []) (state c.submit_batch.new.device) old whole (returns-in-Device-clause-further g c old whole)
 
 pub returns-in-Memory-clause-further : goal.returns-in-Memory-clause-further
 returns-in-Memory-clause-further g c =
@@ -190,7 +192,7 @@ returns-in-Memory-clause-further g c =
     let s = standing_from c.self.inside.checkpoint c.self.inside.submitted.items in
     let side = c.self.inside.checkpoint.slot in
     let batch = c.args.batch in
-    let x : List Submitted = submission 0 batch ∷ [] in
+    let x : List Submitted = submission c.args.request batch ∷ [] in
     let still : Advance (states_by answers plan) (with_more s x) s = c.standings_advance.ensures.not_yet (tree_of plan) s x in
     let k = keeping_of device plan head c.self.inside.checkpoint c.self.inside.submitted.items c.self.inside.broken c.self.inside.taken c.self.inside.collected c.self.inside.queue.items c.self.inside.watch in
     let none : submit_refusal k batch ≡ None = ap (λ (z : Keeping g.row.D.Denot). submit_refusal z batch) c.self.view_is ∙ (sym c.refusal_of.ensures ∙ is_none c.refusal_of.result c.in_default.not-Some) in
@@ -205,13 +207,13 @@ returns-in-Memory-clause-further g c =
     (λ old whole.
     let keeps = keeps_of c.self.inside.broken answers plan head side s (state device) whole (c.self.invariant.2 old) in
     either answers plan c.told_in_parts.ensures.together head side s x (state device) (state c.submit_batch.new.device) side (with_more s x) still more holds
-    (c.in-Err.ensures.begun old plan head side s ring room (no_request head.version s) lawful keeps))
+    (c.in-Err.ensures.begun old plan head side s ring room (fresh_in c.args.request c.self.view_is c.requires.fresh) lawful keeps))
 
 pub returns-in-Memory-clause-images : goal.returns-in-Memory-clause-images
 returns-in-Memory-clause-images g c old whole =
     let state = g.D.Disk.state in
     by_further g.D.Disk.is_lawful state g.met.D.Disk.only_now g.L.Law.answers c.told_in_parts.ensures.together c.standings_advance.ensures.not_yet c.self.view_is c.self.invariant.2
-    (submission 0 c.args.batch ∷ []) (state c.submit_batch.new.device) old whole (returns-in-Memory-clause-further g c old whole)
+    (submission c.args.request c.args.batch ∷ []) (state c.submit_batch.new.device) old whole (returns-in-Memory-clause-further g c old whole)
 
 pub invariant_of-self-in-Device : goal.invariant_of-self-in-Device
 invariant_of-self-in-Device g c =
@@ -223,7 +225,7 @@ invariant_of-self-in-Device g c =
     let s = standing_from c.self.inside.checkpoint c.self.inside.submitted.items in
     let side = c.self.inside.checkpoint.slot in
     let batch = c.args.batch in
-    let x : List Submitted = submission 0 batch ∷ [] in
+    let x : List Submitted = submission c.args.request batch ∷ [] in
     let still : Advance (states_by answers plan) (with_more s x) s = c.standings_advance.ensures.not_yet (tree_of plan) s x in
     let k = keeping_of device plan head c.self.inside.checkpoint c.self.inside.submitted.items c.self.inside.broken c.self.inside.taken c.self.inside.collected c.self.inside.queue.items c.self.inside.watch in
     let none : submit_refusal k batch ≡ None = ap (λ (z : Keeping g.row.D.Denot). submit_refusal z batch) c.self.view_is ∙ (sym c.refusal_of.ensures ∙ is_none c.refusal_of.result c.in_default.not-Some) in
@@ -246,7 +248,8 @@ invariant_of-self-in-Device g c =
           (held answers plan head side s x (state device).moment (state new) (λ d now. g.met.D.Disk.counts_now new (state device).moment d l later now)
           (from_start answers plan c.told_in_parts.ensures.together head side s x (state device) (state new) (λ d. g.met.D.Disk.only_now device d old) still keeps
           (either answers plan c.told_in_parts.ensures.together head side s x (state device) (state new) side (with_more s x) still more holds
-          (c.in-Err.ensures.begun old plan head side s ring room (no_request head.version s) lawful keeps)))),
+          (c.in-Err.ensures.begun old plan head side s ring room (fresh_in c.args.request c.self.view_is c.requires.fresh) lawful keeps)))),
+      subst (λ (v : List Submitted). c.self.inside.last_request ≡ greatest c.self.inside.checkpoint.last v) (sym c.reserve.ensures.items) c.self.invariant.3,
     )
 
 pub invariant_of-self-in-Memory : goal.invariant_of-self-in-Memory
@@ -259,7 +262,7 @@ invariant_of-self-in-Memory g c =
     let s = standing_from c.self.inside.checkpoint c.self.inside.submitted.items in
     let side = c.self.inside.checkpoint.slot in
     let batch = c.args.batch in
-    let x : List Submitted = submission 0 batch ∷ [] in
+    let x : List Submitted = submission c.args.request batch ∷ [] in
     let k = keeping_of device plan head c.self.inside.checkpoint c.self.inside.submitted.items c.self.inside.broken c.self.inside.taken c.self.inside.collected c.self.inside.queue.items c.self.inside.watch in
     let none : submit_refusal k batch ≡ None = ap (λ (z : Keeping g.row.D.Denot). submit_refusal z batch) c.self.view_is ∙ (sym c.refusal_of.ensures ∙ is_none c.refusal_of.result c.in_default.not-Some) in
     let taken : IsAccepted k batch = accepted k batch none in
@@ -277,6 +280,7 @@ invariant_of-self-in-Memory g c =
           let memory : c.in-Err.refusal ≡ JournalError.Memory = c.in-Memory.is in
           subst (λ (v : List Submitted). HeldWhere c.self.inside.broken answers plan head side (standing_from c.self.inside.checkpoint v) (state new)) (sym c.reserve.ensures.items)
           (held_of c.self.inside.broken answers plan head side s (state new) taken.whole (c.in-Err.ensures.kept (ap as_err memory) old plan head side s keeps)),
+      subst (λ (v : List Submitted). c.self.inside.last_request ≡ greatest c.self.inside.checkpoint.last v) (sym c.reserve.ensures.items) c.self.invariant.3,
     )
 
 pub returns-in-Memory-clause-unwritten : goal.returns-in-Memory-clause-unwritten
@@ -354,3 +358,11 @@ returns-in-Memory-clause-device g c = search rules
 
 pub returns-in-Memory-clause-broken : goal.returns-in-Memory-clause-broken
 returns-in-Memory-clause-broken g c = search rules
+
+pub returns-in-Ok-clause-last_request : goal.returns-in-Ok-clause-last_request
+returns-in-Ok-clause-last_request g c =
+    let x : List Submitted = submission c.args.request c.args.batch ∷ [] in
+    let checkpoint = c.self.inside.checkpoint in
+    let items : c.push_back_reserved.new.self.items ≡ c.self.inside.submitted.items ++ x = c.push_back_reserved.ensures.items ∙ ap (λ (l : List Submitted). l ++ x) c.reserve.ensures.items in
+    ap (greatest checkpoint.last) items
+    ∙ (greatest_more checkpoint.last c.self.inside.submitted.items c.args.request c.args.batch ∙ ap (λ (z : Keeping g.row.D.Denot). max (last_request z.standing) c.args.request) c.self.view_is)

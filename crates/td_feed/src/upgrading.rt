@@ -1,0 +1,58 @@
+//! Raising a disk to the version of the format that has request numbers.
+ghost use Rattle.std.specs.Prelude.{◌≡◌, ◌⊎◌, ◌↔◌, ◌≤◌, List, ℕ, IfErr, OnOk, IsErrOf};
+ghost use Rattle.std.specs.Io.KnownBytes.{Appends};
+ghost use Rattle.td_disk.specs.Disk.{Rises};
+ghost use Rattle.td_journal.specs.declared.submitted.Submitted.{Submitted as AnySubmitted};
+ghost use Rattle.td_standing.specs.declared.error.KeeperError.TheVariants.{Device};
+ghost use Rattle.td_feed.specs.Fed.{EachTellsHistory};
+ghost use Rattle.td_feed.specs.Upgraded.{version_line, IsNumbered};
+
+use std::alloc::Global;
+use td_calls::Law;
+use td_console::{Fault, Sink, write_answer};
+use td_disk::Disk;
+use td_keeper::Keeper;
+use td_keeper::laws::each_disk_holds;
+use td_plan::Plan;
+use td_standing::laws;
+
+/// Recovers a disk, raises it to version 2 of the format, which has request numbers, and writes `version 2`, also where it was of
+/// version 2 before. What it tells stays as it was.
+///
+/// Refusals: what the disk refuses as it is recovered; `LastGeneration` of the keeper's; `Memory`; and the keeper's `Device`. With
+/// these nothing is written to the writer. Where the writer failed, `Output`, and the disk is of version 2.
+pub fn upgrade<D: Disk, L: Law, W: Sink>(
+    alloc: Global,
+    disk: D,
+    plan: &Plan,
+    writer: &mut W,
+) -> (D, Result<(), Fault>)
+    ensures size { D.capacity result.0 ≡ D.capacity disk }
+    ensures lawful { D.is_lawful disk ↔ D.is_lawful result.0 }
+
+    // A DISK THAT STOOD FOR A HISTORY, whatever a crash had left of it, stands for it at any answer.
+    ensures same { D.is_lawful disk → (history : List AnySubmitted) → EachTellsHistory L.answers plan.now history (D.state disk)
+        → EachTellsHistory L.answers plan.now history (D.state result.0) }
+
+    // After Ok it is of version 2, whatever a crash leaves of it, and that is written.
+    ensures raised { OnOk result.1 (D.is_lawful disk → IsNumbered plan.now (D.state result.0)) }
+    ensures said { OnOk result.1 (Appends (W.contents writer.old) (W.contents writer.new) version_line) }
+    ensures unsaid { IfErr result.1 (λ f. (f ≡ Fault.Output) ⊎ (writer.new ≡ writer.old)) }
+
+    // The device is told to have failed only where its count of failures rose, and with any other answer that stays.
+    ensures device { IsErrOf result.1 (Fault.Keeper Device) → Rises (D.failures disk) (D.failures result.0) }
+    ensures stays { IsErrOf result.1 (Fault.Keeper Device) ⊎ (D.failures result.0 ≡ D.failures disk) }
+{
+    laws::told_in_parts();
+    let mut keeper = match Keeper::<D, L>::recover(alloc, disk, plan) {
+        Ok(keeper) => keeper,
+        Err((refusal, disk)) => return (disk, Err(Fault::from(refusal))),
+    };
+    match keeper.upgrade() {
+        Ok(_was_raised) => {
+            each_disk_holds(&keeper);
+            (keeper.into_disk(), write_answer(writer, "version 2\n"))
+        }
+        Err(refusal) => (keeper.into_disk(), Err(Fault::from(refusal))),
+    }
+}
