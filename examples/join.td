@@ -1,4 +1,4 @@
-# A join of two inputs: for each article that both name, its least price (input 0) and its least fee (input 1) together.
+# A join of two inputs within an epoch: for each article that both name, its least price (input 0) and its least fee (input 1) together.
 0 input
 1 input
 2 group 24 0 1
