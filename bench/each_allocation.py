@@ -13,8 +13,8 @@ must then answer as the row says, but for a line `refused: memory`; or, where th
 call, end with status 1 and no answer.
 Where a feed was refused, which is not made once more, or the disk in memory could not grow its record of calls and failed, the
 run is made again up to there, and a recovery must then tell at least what was acknowledged. A feed and a drive have workers in
-threads, so that no two runs make their allocations in one order: in rows with them each is followed by two recoveries in the
-same run, of which one may be refused. Where a drive or one of its workers was refused, the hall may be gone, and the run then
+threads, so that no two runs make their allocations in one order: in rows with them each, and each recovery, is followed by two
+recoveries in the same run, of which one may be refused. Where a drive or one of its workers was refused, the hall may be gone, and the run then
 ends as one that has none. A row whose workers wait for one another at the gate is left out: one would wait ten seconds and more
 for another that was refused. Each run must end within 30 seconds."""
 
@@ -51,6 +51,8 @@ LEFT_OUT = re.compile(rb"(?m)^(stop|fail|crash) |^drive meet$")
 OTHER_DISK = (b"format", b"blank", b"byte", b"size")
 # Those that have workers in threads.
 WITH_WORKERS = (b"feed ", b"meet ", b"drive ")
+# Those that two recoveries follow, of which one may be refused, in rows with workers.
+FOLLOWED = (*WITH_WORKERS, b"recover\n")
 # The allocations of reading the input hang on its length, so each is filled up to so many bytes more.
 ROOM = 64
 # So many runs in a row that meet no refusal end the count.
@@ -131,7 +133,7 @@ class Played:
         self.plan, self.steps = steps_in(self.text)
         self.has_workers = any(step.startswith(WITH_WORKERS) for step in self.steps)
         if self.has_workers:
-            self.steps = [made for step in self.steps for made in [step, *[b"recover\n"] * 2 * step.startswith(WITH_WORKERS)]]
+            self.steps = [made for step in self.steps for made in [step, *[b"recover\n"] * 2 * step.startswith(FOLLOWED)]]
             self.text = self.plan + b"".join(self.steps)
         self.length = len(self.text) + ROOM
         self.want = command.status, command.text[">"].splitlines(), command.text["!"]
