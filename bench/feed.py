@@ -1,7 +1,7 @@
 #!/usr/bin/env python3
 """Takes the time of `td feed` beside what it cannot be faster than, and beside sqlite3.
 
-    bench/feed.py [--epochs N] [--recovery-only] [FOLDER]     needs crates/td/out/td (see the README) and a C compiler
+    bench/feed.py [--epochs N] [--recovery-only | --numbers-only] [FOLDER]     needs crates/td/out/td (see the README) and a C compiler
 
 TOTAL on a file of FOLDER (by default of the system's folder for such files): 20,000 epochs of 1, 10 and 1,000 records with 100
 keys, and a cut each 1,000 epochs. Beside it, one after the other in each of three rounds:
@@ -10,6 +10,9 @@ keys, and a cut each 1,000 epochs. Beside it, one after the other in each of thr
 - `sqlite`: sqlite3 with synchronous=FULL and a write-ahead log, which keeps the same totals, one transaction an epoch.
 
 It prints epochs a second, of each the best round, and the ratio to the limit. Wanted: at least 0.85.
+
+Then what request numbers cost: epochs of one record without numbers and with them, and the latter fed once more to the same disk, which
+finds each of them there; the seconds of each in the middle of five rounds.
 
 Then recovery: a full journal of 65,536 cells of 16 records is shown and fed nothing, beside a plain read of the file (in pieces of
 64 KiB, from the system's memory); it prints the seconds, and the greatest memory in use beside the records' 24 bytes each. Wanted:
@@ -20,6 +23,7 @@ import os
 import pathlib
 import shutil
 import sqlite3
+import statistics
 import subprocess
 import sys
 import tempfile
@@ -39,9 +43,10 @@ def batches(epochs, size):
     return ([((epoch + at) % KEYS, at % 7 - 3) for at in range(size)] for epoch in range(epochs))
 
 
-def write_input(file, epochs, size):
+def write_input(file, epochs, size, numbered=False):
     with open(file, "w", encoding="ascii") as out:
         for number, batch in enumerate(batches(epochs, size), 1):
+            out.write(f"req {number}\n" if numbered else "")
             out.write("".join(f"0 {key} {value}\n" for key, value in batch) + ".\n")
             if number % CUT_EVERY == 0:
                 out.write("cut\n")
@@ -109,6 +114,22 @@ def compare(folder, limit, epochs):
         print(f"| {size:,} | {td:,.0f} | {low:,.0f} | {other:,.0f} | {td / low:.2f} |", flush=True)
 
 
+def compare_numbers(folder, epochs):
+    plan, disk = folder / "total.plan", folder / "total.disk"
+    plan.write_text(TOTAL)
+    write_input(folder / "plain", epochs, 1)
+    write_input(folder / "numbered", epochs, 1, numbered=True)
+    times = {"without numbers": [], "with numbers": [], "fed again": []}
+    for _ in range(5):
+        for name, file, is_fresh in zip(times, ("plain", "numbered", "numbered"), (True, True, False)):
+            if is_fresh:
+                run(TD, "format", disk, plan, 1, min(CUT_EVERY, epochs), KEYS)
+            with open(folder / file) as given:
+                times[name].append(run(TD, "feed", disk, plan, stdin=given, stdout=subprocess.DEVNULL)[0])
+    disk.unlink()
+    print(f"{epochs:,} epochs of one record: " + ", ".join(f"{name} {statistics.median(each):.3f} s" for name, each in times.items()))
+
+
 def compare_recovery(folder, limit):
     records, cells = 16, 65_536
     plan, disk = folder / "total.plan", folder / "full.disk"
@@ -134,6 +155,7 @@ def main():
     words = argparse.ArgumentParser(description=__doc__, formatter_class=argparse.RawDescriptionHelpFormatter)
     words.add_argument("--epochs", type=int, default=20_000)
     words.add_argument("--recovery-only", action="store_true")
+    words.add_argument("--numbers-only", action="store_true")
     words.add_argument("--sync", choices=("fsync", "fdatasync"), default="fsync", help="what the limit syncs with, as td does")
     words.add_argument("folder", nargs="?")
     given = words.parse_args()
@@ -147,9 +169,12 @@ def main():
         folder = pathlib.Path(name)
         limit = folder / "feed_limit"
         subprocess.run([compiler, "-O2", f"-DSYNC={given.sync}", "-o", limit, ROOT / "bench/feed_limit.c"], check=True)
-        if not given.recovery_only:
+        if not given.recovery_only and not given.numbers_only:
             compare(folder, limit, given.epochs)
-        compare_recovery(folder, limit)
+        if not given.recovery_only:
+            compare_numbers(folder, given.epochs)
+        if not given.numbers_only:
+            compare_recovery(folder, limit)
 
 
 main()
