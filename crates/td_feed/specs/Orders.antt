@@ -63,11 +63,12 @@ no_orders = record { orders = []; request = 0; current = [] }
 abbrev pub with_order : Order → Orders → Orders
 with_order o read = record { orders = read.orders ++ o ∷ []; request = 0; current = [] }
 
--- an epoch has not begun: neither a request number nor a record stands in it
+-- whether there is no record
 abbrev pub has_none : List Entry → Bool
 has_none [] = true
 has_none (entry ∷ entries) = false
 
+-- whether an epoch has not begun: neither a request number nor a record stands in it
 abbrev pub is_between : Orders → Bool
 is_between read = (read.request == 0) && has_none read.current
 
