@@ -24,7 +24,6 @@ use Rattle.td_task.specs.declared.error.TaskError.TheVariants as task_errors
 use Rattle.td_core.specs.declared.floor.Floor.{Floor}
 use Rattle.td_core.specs.declared.drain.Drained.{Drained}
 use Rattle.td_core.specs.declared.error.HallError.{HallError}
-use Rattle.td_core.specs.declared.error.HallError.TheVariants.{Memory}
 use Rattle.td_core.specs.Floor.{state_of, in_mailboxes, with_tasks, IsHall}
 use Rattle.td_core.specs.Given.{IsUntouched}
 use Rattle.td_core.specs.Posted.{HasNoLess, IsRoomier, mails, waits}

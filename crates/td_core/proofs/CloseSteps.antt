@@ -1,11 +1,10 @@
 -- Inputs whose pointstamps are taken off one by one.
-use Rattle.std.proofs.Common.{◌≡◌, ℕ, zero, suc, ◌+◌, ◌<◌, ◌≤◌, Bool, true, false, cond, List, [], ◌∷◌, ◌++◌, map, take, drop, length, slice_index_or, refl, ap, sym, ◌∙◌, subst, arith}
+use Rattle.std.proofs.Common.{◌≡◌, ℕ, ◌+◌, ◌<◌, ◌≤◌, true, false, List, [], ◌∷◌, ◌++◌, map, take, drop, length, slice_index_or, refl, ap, sym, ◌∙◌, subst, arith}
 use Rattle.std.proofs.lemmas.List.{map-append, take_more, take-append-drop}
 use Rattle.td_calls.specs.Answers.{Answers}
 use Rattle.td_reach.specs.declared.stamp.Stamp.{Stamp}
 use Rattle.td_progress.specs.Bag.{occurrences, IsSameBag, input_stamp}
 use Rattle.td_progress.specs.Bag.{Active}
-use Rattle.td_machine.specs.State.{HallState}
 use Rattle.td_machine.specs.Active.{active, stamp_of_message, stamp_of_asked, stamps_of_inputs, inputs_of}
 use Rattle.td_machine.specs.Steps.{close_step}
 use Rattle.td_machine.specs.Steps.Event.{close}

@@ -1,5 +1,5 @@
 -- A drain leads from one floor of a hall to another, turn by turn.
-use Rattle.std.proofs.Common.{◌≡◌, ℕ, ◌+◌, ◌*◌, ◌-◌, ◌==◌, ◌≤◌, ◌<◌, Bool, true, false, not, cond, List, [], ◌∷◌, filter, Option, Some, None, refl, ap, sym, ◌∙◌, subst, arith, eq-eqb, below_more}
+use Rattle.std.proofs.Common.{◌≡◌, ℕ, ◌+◌, ◌*◌, ◌==◌, ◌≤◌, ◌<◌, Bool, true, false, not, cond, List, [], ◌∷◌, filter, Option, Some, None, refl, ap, sym, ◌∙◌, subst, arith, eq-eqb, below_more}
 use Rattle.td_stamp.specs.Time.{Timestamp}
 use Rattle.td_calls.specs.Answers.{Answers}
 use Rattle.td_machine.specs.State.{HallState, Task, Content}

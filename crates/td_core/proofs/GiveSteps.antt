@@ -1,7 +1,6 @@
 -- A hall to which a task is given back takes the machine's step, and one that refuses it stays as it was.
-use Rattle.std.proofs.Common.{◌≡◌, ℕ, zero, suc, ◌+◌, ◌-◌, ◌==◌, ◌≤◌, ◌<◌, ◌↔◌, Bool, true, false, not, cond, List, [], ◌∷◌, ◌++◌, map, flat_map, filter, take, drop, replicate, length, Option, Some, None, refl, ap, sym, ◌∙◌, subst, arith}
+use Rattle.std.proofs.Common.{◌≡◌, ℕ, zero, suc, ◌+◌, ◌==◌, ◌≤◌, ◌<◌, ◌↔◌, Bool, true, false, not, cond, List, [], ◌∷◌, ◌++◌, flat_map, filter, replicate, length, Option, Some, None, refl, ap, sym, ◌∙◌, subst, arith}
 use Rattle.std.specs.List.{AllByRecursion, Contains, slice_get, enumerate_from, remove}
-use Rattle.std.proofs.lemmas.Bool.Decides.{nat_tests}
 use Rattle.td_stamp.specs.declared.values.Rec.{Rec}
 use Rattle.std.proofs.lemmas.List.{length-map}
 use Rattle.std.proofs.lemmas.List.FromFn.{length-enumerate_from}
@@ -20,7 +19,7 @@ use Rattle.td_machine.specs.State.Content.{messages, notification}
 use Rattle.td_machine.specs.Active.{active, inputs_of}
 use Rattle.td_machine.specs.InOrder.{OneAShard}
 use Rattle.td_machine.specs.Moves.{StampsMove, come_given, gone_given}
-use Rattle.td_machine.specs.Steps.{Event, effect, is_given, ends}
+use Rattle.td_machine.specs.Steps.{effect, is_given, ends}
 use Rattle.td_machine.specs.Steps.Event.{give}
 use Rattle.td_machine.specs.Steps.Answer.{has_given}
 use Rattle.td_machine.specs.Steps.Gives.{gives}

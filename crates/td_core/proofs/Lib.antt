@@ -33,11 +33,11 @@ pub mod BatchParts
 pub mod ReleaseParts
 pub mod ReleaseSteps
 pub mod Picking
-pub mod Held
 pub mod TakeLists
 pub mod TakeSteps
 pub mod TakenHall
 pub mod PickNamed
+pub mod NextReady
 pub mod DrainSteps
 pub mod DrainFloors
 pub mod Advance

@@ -1,5 +1,5 @@
 -- A hall to which a notification was given back is a hall still.
-use Rattle.std.proofs.Common.{◌≡◌, ℕ, ◌≤◌, List, ◌++◌, length, refl, sym, ap, ◌∙◌, subst}
+use Rattle.std.proofs.Common.{◌≡◌, ◌≤◌, List, ◌++◌, length, sym, ap, ◌∙◌, subst}
 use Rattle.std.specs.List.{AllByRecursion, Contains, enumerate_from}
 use Rattle.td_calls.specs.Answers.{Answers}
 use Rattle.td_reach.specs.declared.stamp.Stamp.{Stamp}

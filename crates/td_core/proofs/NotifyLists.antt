@@ -1,33 +1,26 @@
 -- What waits in shards without one notification: of the items and of what is asked for, all but those of that notification.
-use Rattle.std.proofs.Common.{◌≡◌, ℕ, ◌+◌, ◌==◌, Bool, true, false, not, ◌&&◌, cond, List, [], ◌∷◌, ◌++◌, map, filter, flat_map, length, refl, sym, ap, ◌∙◌, subst, arith}
+use Rattle.std.proofs.Common.{◌≡◌, ℕ, ◌==◌, Bool, true, false, not, ◌&&◌, cond, List, [], ◌∷◌, ◌++◌, map, filter, flat_map, refl, sym, ap, ◌∙◌, arith}
 use Rattle.std.specs.declared.cmp.Ordering.{Ordering}
 use Rattle.std.specs.declared.cmp.Ordering.TheVariants.{Less, Equal, Greater}
-use Rattle.std.specs.List.{AllByRecursion, IsDistinct, enumerate_from}
+use Rattle.std.specs.List.{AllByRecursion, IsDistinct}
 use Rattle.std.specs.List.Sorted.{IsStrictlySortedBy}
 use Rattle.std.specs.Map.{keys_of, remove_entry}
 use Rattle.std.specs.BTreeMap.{is_at}
 use Rattle.std.specs.Ordering.{nat_cmp, eq_by_cmp, ordering_then, is_eq}
-use Rattle.std.specs.Cmp.{IsEquivalence, eq_by_cmp_equiv}
+use Rattle.std.specs.Cmp.{eq_by_cmp_equiv}
 use Rattle.std.proofs.lemmas.Map.{NonePasses}
 use Rattle.std.proofs.lemmas.Map.Entries.{none_past_head}
 use Rattle.std.proofs.lemmas.Map.Keys.{IsDistinct-from_sorted}
 use Rattle.std.proofs.lemmas.Bool.Decides.{nat_tests}
 use Rattle.std.proofs.lemmas.List.Elements.{filter-append}
-use Rattle.std.proofs.lemmas.List.Kept.{IsStrictlySortedBy-filter}
 use Rattle.td_stamp.specs.declared.values.Arrival.{Arrival}
 use Rattle.td_stamp.specs.Time.{Timestamp, time_cmp}
-use Rattle.td_machine.specs.declared.records.Message.{Message}
-use Rattle.td_machine.specs.declared.records.Notification.{Notification}
-use Rattle.td_machine.specs.State.{HallState, Task, notification_cmp, shard_of_key, is_there}
-use Rattle.td_machine.specs.Steps.{asked_at, is_for, waiting}
-use Rattle.td_machine.specs.Waits.{WaitsByPlace}
+use Rattle.td_machine.specs.State.{HallState, notification_cmp, is_there}
+use Rattle.td_machine.specs.Steps.{asked_at}
 use Rattle.td_shard.specs.declared.noted.Noted.{Noted}
-use Rattle.td_shard.specs.declared.shard.Shard.{Shard}
-use Rattle.td_shard.specs.Asked.{AskedList, noted_cmp, noted_at, without_items}
+use Rattle.td_shard.specs.Asked.{AskedList, noted_cmp, noted_at}
 use Rattle.td_shard.specs.ProvedOrders.{time_total, noted_equiv}
-use Rattle.td_core.specs.Floor.{IsShard, waiting_at, waiting_in, asked_of_shard, asked_in}
-use Rattle.td_core.specs.Posted.{waits}
-use Rattle.td_core.specs.Given.{waiting_without}
+use Rattle.td_core.specs.Floor.{asked_of_shard}
 
 abbrev pub Waits : Type 0
 Waits = Noted × List Arrival

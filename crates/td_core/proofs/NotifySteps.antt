@@ -1,5 +1,5 @@
 -- A hall that is given a notification back takes the machine's step.
-use Rattle.std.proofs.Common.{◌≡◌, ℕ, ◌+◌, ◌==◌, ◌≤◌, Bool, true, false, not, ◌&&◌, cond, List, [], ◌∷◌, ◌++◌, map, flat_map, filter, length, refl, ap, sym, ◌∙◌, subst, arith}
+use Rattle.std.proofs.Common.{◌≡◌, ℕ, ◌+◌, ◌==◌, Bool, true, false, not, ◌&&◌, cond, List, [], ◌∷◌, ◌++◌, map, flat_map, filter, length, refl, ap, sym, ◌∙◌, subst}
 use Rattle.std.specs.List.{AllByRecursion, Contains, enumerate_from}
 use Rattle.std.specs.Map.{keys_of}
 use Rattle.std.specs.Ordering.{is_eq}
@@ -10,11 +10,10 @@ use Rattle.std.specs.List.Sorted.{IsStrictlySortedBy}
 use Rattle.td_stamp.specs.declared.values.Arrival.{Arrival}
 use Rattle.td_stamp.specs.Bag.{bag_of, set_of, join}
 use Rattle.td_stamp.specs.BagLaws.{BagLaws}
-use Rattle.td_stamp.specs.Time.{Timestamp}
 use Rattle.td_calls.specs.Answers.{Answers}
 use Rattle.td_machine.specs.declared.records.Message.{Message}
 use Rattle.td_machine.specs.declared.records.Notification.{Notification}
-use Rattle.td_machine.specs.State.{HallState, Task, KeyItems, message_cmp, notification_cmp, left_cmp, shard_of_key, is_there}
+use Rattle.td_machine.specs.State.{HallState, Task, KeyItems, message_cmp, notification_cmp, left_cmp, shard_of_key}
 use Rattle.td_machine.specs.State.Content.{notification}
 use Rattle.td_machine.specs.InOrder.{OneAShard}
 use Rattle.td_machine.specs.Steps.{effect, is_given, asked_at, is_for, waiting, posts, stamped, leaves, notified_sends}
@@ -24,7 +23,7 @@ use Rattle.td_shard.specs.declared.shard.Shard.{Shard}
 use Rattle.td_shard.specs.Asked.{AskedList, noted_cmp, noted_at, without_items}
 use Rattle.td_core.specs.declared.floor.Floor.{Floor}
 use Rattle.td_core.specs.Floor.{state_of, in_mailboxes, taken_up, with_tasks, waiting_at, waiting_in, asked_of_shard, asked_in}
-use Rattle.td_core.specs.Posted.{mails, mails_with, waits}
+use Rattle.td_core.specs.Posted.{waits}
 use Rattle.td_core.specs.Given.{IsNotified, IsEnded, waiting_without}
 use Rattle.td_core.proofs.NotifyLists.{Waits, here, there_is, asked_is, removed, passes, alike, weaker, still_all, keys_filtered}
 use Rattle.td_core.proofs.OutTasks.{parted}

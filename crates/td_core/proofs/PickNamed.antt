@@ -1,11 +1,11 @@
 -- The task that is taken is the one that the pick names.
-use Rattle.std.proofs.Common.{◌≡◌, ◌⊎◌, inl, inr, ℕ, zero, suc, ◌+◌, ◌-◌, ◌%◌, ◌<◌, ◌≤◌, ◌==◌, Bool, true, false, cond, List, [], ◌∷◌, ◌++◌, map, filter, length, get_or, slice_get, Option, Some, None, is_some, refl, ap, sym, ◌∙◌, subst, arith, Contains, ◌↔◌, length-append, Result, Ok, Err, IfOk, IfSome}
+use Rattle.std.proofs.Common.{◌≡◌, ◌⊎◌, inl, inr, ℕ, zero, suc, ◌+◌, ◌-◌, ◌%◌, ◌<◌, ◌==◌, Bool, true, false, cond, List, [], ◌∷◌, ◌++◌, map, filter, length, get_or, slice_get, Option, Some, None, is_some, refl, ap, sym, ◌∙◌, subst, arith, Contains, length-append, Result, Ok, Err, IfOk, IfSome}
 use Rattle.std.specs.declared.cmp.Ordering.{Ordering}
 use Rattle.std.specs.declared.cmp.Ordering.TheVariants.{Less, Equal, Greater}
 use Rattle.std.specs.Ordering.{is_eq, ordering_reverse}
 use Rattle.std.specs.FinMap.{IsAntisymmetric}
 use Rattle.std.specs.BTreeMap.{is_at}
-use Rattle.std.specs.List.{AllByRecursion, enumerate_from, list_any}
+use Rattle.std.specs.List.{AllByRecursion, enumerate_from}
 use Rattle.std.specs.List.Sorted.{IsStrictlySortedBy}
 use Rattle.std.proofs.lemmas.Bool.Decides.{nat_tests}
 use Rattle.std.proofs.lemmas.Cmp.{tied_itself}
@@ -14,15 +14,12 @@ use Rattle.std.proofs.lemmas.List.Elements.{filter-append}
 use Rattle.std.proofs.lemmas.Map.Keys.{sorted_head, sorted_tail}
 use Rattle.td_stamp.specs.Bag.{bag_insert, bag_of}
 use Rattle.td_stamp.specs.BagLaws.{BagLaws, SetLaws}
-use Rattle.td_stamp.specs.Time.{Timestamp, time_cmp}
+use Rattle.td_stamp.specs.Time.{time_cmp}
 use Rattle.td_calls.specs.Answers.{Answers}
 use Rattle.td_machine.specs.declared.records.Message.{Message}
-use Rattle.td_machine.specs.declared.records.Notification.{Notification}
-use Rattle.td_machine.specs.Active.{Frontier, stamp_at}
 use Rattle.td_machine.specs.InOrder.{ListsInOrder, TasksInOrder, NumbersInOrder}
-use Rattle.td_machine.specs.State.{HallState, Task, Content, message_cmp, notification_cmp, shard_of_key, is_out}
-use Rattle.td_machine.specs.State.Content.{messages, notification}
-use Rattle.td_machine.specs.Steps.{is_asked, with_state_of}
+use Rattle.td_machine.specs.State.{HallState, Task, message_cmp, notification_cmp, shard_of_key, is_out}
+use Rattle.td_machine.specs.Steps.{is_asked}
 use Rattle.td_progress.specs.Bag.{Active}
 use Rattle.td_shard.specs.declared.noted.Noted.{Noted}
 use Rattle.td_shard.specs.declared.shard.Shard.{Shard}
@@ -32,7 +29,7 @@ use Rattle.td_core.specs.declared.error.HallError.{HallError}
 use Rattle.td_core.specs.declared.floor.Floor.{Floor}
 use Rattle.td_core.specs.declared.take.Candidate.{Candidate}
 use Rattle.td_core.specs.declared.take.Candidate.TheVariants as candidates
-use Rattle.td_core.specs.Floor.{state_of, IsHall, IsShard, empty_shard, in_mailboxes, with_tasks}
+use Rattle.td_core.specs.Floor.{state_of, IsHall, empty_shard, in_mailboxes, with_tasks}
 use Rattle.td_core.specs.Posted.{mails}
 use Rattle.td_core.specs.Picks.{IsAt, IsPick, AreOpen, messages_at}
 use Rattle.td_core.specs.Taking.{IsReady, AreReady, IsPicked, IsTaskFor, IsPickTaken, asked_at}
@@ -47,19 +44,19 @@ abbrev pub Among : List Noted → Noted → Type 0
 Among [] n = ⊥
 Among (m ∷ ms) n = (m ≡ n) ⊎ Among ms n
 
-among : (xs : List Noted) (n : Noted) → Contains xs n → Among xs n
+pub among : (xs : List Noted) (n : Noted) → Contains xs n → Among xs n
 among [] n (k, l, e) = absurd (omega (arith, l))
 among (m ∷ ms) n (zero, l, e) = inl e
 among (m ∷ ms) n (suc k, l, e) = inr (among ms n (k, omega (arith, l), e))
 
-contained : (xs : List Noted) (n : Noted) → Among xs n → Contains xs n
+pub contained : (xs : List Noted) (n : Noted) → Among xs n → Contains xs n
 contained [] n h = absurd h
 contained (m ∷ ms) n (inl e) = (0, omega arith, e)
 contained (m ∷ ms) n (inr h) = let rest = contained ms n h in (suc (rest.0), omega (arith, rest.1), rest.2)
 
 -- what is asked for in a shard is among its notifications
 module _ (apart : IsAntisymmetric time_cmp) where
-  is_asked_for : (n : Noted) (es : AskedList) → is_some (items_at es n.vertex n.time) ≡ true → Among (map (λ w. w.0) es) n
+  pub is_asked_for : (n : Noted) (es : AskedList) → is_some (items_at es n.vertex n.time) ≡ true → Among (map (λ w. w.0) es) n
   is_asked_for n [] e = absurd (cc)
   is_asked_for n (w ∷ es) e = by (is_at (noted_cmp n) w.0) refl e (is_asked_for n es)
     where
@@ -73,7 +70,7 @@ module _ (apart : IsAntisymmetric time_cmp) where
       by true here some later = inl (sym (noted_apart apart n w.0 (tie (noted_cmp n w.0) here)))
       by false other some later = inr (later some)
 
-  has_items : (n : Noted) (es : AskedList) → Among (map (λ w. w.0) es) n → is_some (items_at es n.vertex n.time) ≡ true
+  pub has_items : (n : Noted) (es : AskedList) → Among (map (λ w. w.0) es) n → is_some (items_at es n.vertex n.time) ≡ true
   has_items n [] h = absurd h
   has_items n (w ∷ es) (inl e) =
       let here : is_at (noted_cmp n) w.0 ≡ true = ap (λ m. is_at (noted_cmp n) m) e ∙ ap is_eq (tied_itself noted_total n) in

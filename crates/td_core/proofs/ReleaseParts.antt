@@ -1,6 +1,6 @@
 -- What comes with a batch, input by input: its messages are those of the machine's step, and their pointstamps too.
-use Rattle.std.proofs.Common.{◌≡◌, ℕ, zero, suc, ◌+◌, ◌==◌, Bool, true, false, cond, List, [], ◌∷◌, ◌++◌, map, filter, flat_map, replicate, length, refl, ap, sym, ◌∙◌, subst, eqb-true, append-nil, append_assoc, arith}
-use Rattle.std.specs.Prelude.{count_by, Some}
+use Rattle.std.proofs.Common.{◌≡◌, ℕ, ◌+◌, ◌==◌, Bool, true, false, cond, List, [], ◌∷◌, ◌++◌, map, flat_map, replicate, length, refl, ap, sym, ◌∙◌, subst, eqb-true, append-nil, arith}
+use Rattle.std.specs.Prelude.{Some}
 use Rattle.std.specs.List.{AllByRecursion, slice_get}
 use Rattle.std.proofs.lemmas.Grind.{flat_map-append}
 use Rattle.std.proofs.lemmas.List.{map-append}

@@ -1,14 +1,14 @@
 -- A batch that is released takes the machine's step.
-use Rattle.std.proofs.Common.{◌≡◌, ℕ, zero, suc, ◌+◌, ◌<◌, ◌≤◌, ◌==◌, Bool, true, false, List, [], ◌∷◌, ◌++◌, map, flat_map, length, Result, Ok, Err, OnErr, refl, ap, sym, ◌∙◌, subst, arith}
+use Rattle.std.proofs.Common.{◌≡◌, ℕ, ◌+◌, ◌<◌, ◌≤◌, ◌==◌, true, false, List, [], ◌∷◌, ◌++◌, map, flat_map, length, Result, Ok, Err, OnErr, refl, ap, sym, ◌∙◌, subst, arith}
 use Rattle.std.specs.Prelude.{Some}
-use Rattle.std.specs.List.{AllByRecursion, enumerate_from, slice_get}
+use Rattle.std.specs.List.{AllByRecursion, slice_get}
 use Rattle.std.specs.declared.collections.VecDeque.{VecDeque}
 use Rattle.std.specs.declared.alloc.Global.{Global}
 use Rattle.std.proofs.lemmas.Bool.Decides.{nat_tests}
 use Rattle.td_stamp.specs.declared.values.Entry.{Entry}
 use Rattle.td_stamp.specs.Orders.{entry_cmp}
 use Rattle.td_stamp.specs.Rises.{Rises}
-use Rattle.td_stamp.specs.Bag.{bag_of, set_of, join}
+use Rattle.td_stamp.specs.Bag.{bag_of, set_of}
 use Rattle.td_stamp.specs.BagLaws.{BagLaws}
 use Rattle.td_plan.specs.Lines.{Line}
 use Rattle.td_plan.specs.Blocks.{PlacedVertex, vertices}
@@ -27,7 +27,7 @@ use Rattle.td_machine.specs.ByEdge.{StampsByEdge}
 use Rattle.td_machine.specs.Reached.{IsReached}
 use Rattle.td_machine.specs.Sends.{SentOfPlan, ComeOfPlan}
 use Rattle.td_core.specs.declared.floor.Floor.{Floor}
-use Rattle.td_core.specs.Floor.{state_of, IsHall, with_tasks, waiting_in, asked_in}
+use Rattle.td_core.specs.Floor.{state_of, IsHall, with_tasks}
 use Rattle.td_core.specs.Posted.{risen}
 use Rattle.td_core.specs.Released.{loads_in, messages_of, rises_of, IsIn, IsAsBefore}
 use Rattle.td_core.specs.Sites.{IsSites}

@@ -1,16 +1,15 @@
 -- Lists in which what stands at a place is changed, and bags of all members of lists.
-use Rattle.std.proofs.Common.{◌≡◌, ℕ, zero, suc, ◌+◌, ◌<◌, ◌≤◌, Bool, true, false, cond, List, [], ◌∷◌, ◌++◌, map, flat_map, length, get_or, set, slice_get, Option, Some, None, refl, ap, sym, ◌∙◌, subst, arith}
+use Rattle.std.proofs.Common.{◌≡◌, ℕ, zero, suc, ◌+◌, ◌<◌, ◌≤◌, List, [], ◌∷◌, ◌++◌, map, flat_map, length, get_or, set, slice_get, Some, refl, ap, sym, ◌∙◌, subst, arith}
 use Rattle.std.specs.declared.cmp.Ordering.{Ordering}
 use Rattle.std.specs.declared.cmp.Ordering.TheVariants.{Less, Equal, Greater}
 use Rattle.std.specs.List.{AllByRecursion, enumerate_from}
-use Rattle.td_stamp.specs.declared.values.Rec.{Rec}
 use Rattle.td_stamp.specs.Bag.{bag_insert, bag_of, join}
 use Rattle.td_stamp.specs.BagLaws.{BagLaws}
 use Rattle.td_machine.specs.declared.records.Message.{Message}
 use Rattle.td_machine.specs.State.{message_cmp, shard_of_key}
 use Rattle.td_machine.specs.Steps.{coming}
 use Rattle.td_shard.specs.declared.shard.Shard.{Shard}
-use Rattle.td_shard.specs.Messages.{IsBeside, task_at, left_at}
+use Rattle.td_shard.specs.Messages.{IsBeside}
 use Rattle.td_core.specs.Floor.{in_mailboxes}
 use Rattle.td_core.specs.Posted.{mails}
 use Rattle.td_core.specs.Taking.{changed_at}

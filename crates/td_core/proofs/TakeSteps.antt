@@ -1,5 +1,5 @@
 -- A take of a hall is the machine's step.
-use Rattle.std.proofs.Common.{◌≡◌, ◌⊎◌, inl, inr, ℕ, zero, suc, ◌+◌, ◌-◌, ◌<◌, ◌≤◌, ◌==◌, Bool, true, false, not, ◌&&◌, ◌||◌, cond, List, [], ◌∷◌, ◌++◌, map, filter, flat_map, length, get_or, slice_get, HoldsAt, Option, Some, None, is_some, refl, ap, sym, ◌∙◌, subst, arith, append-nil, append_assoc, true≢false, Contains, ◌↔◌}
+use Rattle.std.proofs.Common.{◌≡◌, ◌⊎◌, inl, inr, ℕ, zero, suc, ◌+◌, ◌<◌, ◌≤◌, ◌==◌, Bool, true, false, not, ◌&&◌, ◌||◌, cond, List, [], ◌∷◌, ◌++◌, map, filter, flat_map, length, get_or, HoldsAt, Some, None, is_some, refl, ap, sym, ◌∙◌, subst, arith, append_assoc, true≢false, Contains, ◌↔◌}
 use Rattle.std.specs.declared.cmp.Ordering.{Ordering}
 use Rattle.std.specs.declared.cmp.Ordering.TheVariants.{Less, Equal, Greater}
 use Rattle.std.specs.Ordering.{is_eq, nat_cmp}
@@ -14,9 +14,8 @@ use Rattle.td_stamp.specs.declared.values.Rec.{Rec}
 use Rattle.td_stamp.specs.declared.values.Arrival.{Arrival}
 use Rattle.td_stamp.specs.ProvedOrders.{both_tie}
 use Rattle.td_machine.specs.declared.records.Notification.{Notification}
-use Rattle.td_stamp.specs.Bag.{bag_of, bag_insert, set_of, join, IsBag}
+use Rattle.td_stamp.specs.Bag.{join}
 use Rattle.td_stamp.specs.BagLaws.{BagLaws, SetLaws}
-use Rattle.td_stamp.specs.Groups.{groups}
 use Rattle.td_stamp.specs.Time.{Timestamp, time_cmp}
 use Rattle.td_machine.specs.declared.records.Message.{Message}
 use Rattle.std.proofs.lemmas.Nat.{mod_below}
@@ -30,24 +29,24 @@ use Rattle.td_calls.specs.Callbacks.{is_notified}
 use Rattle.td_machine.specs.Active.{active, kind_of, stamp_at, stamp_of_asked, stamp_of_message, Frontier}
 use Rattle.td_machine.specs.InOrder.{ListsInOrder, TasksInOrder, NumbersInOrder, StillThere}
 use Rattle.td_machine.specs.NoneLeft.{NoneToTake}
-use Rattle.td_machine.specs.State.{HallState, Task, Content, message_cmp, notification_cmp, task_cmp, shard_of_key, is_there, is_out}
+use Rattle.td_machine.specs.State.{HallState, Task, Content, message_cmp, notification_cmp, shard_of_key, is_there, is_out}
 use Rattle.td_machine.specs.State.Content.{messages, notification}
-use Rattle.td_machine.specs.Steps.{asked_at, is_asked, is_for, waiting, with_state_of, to_notify, coming, IsContent, MayTake}
-use Rattle.td_machine.specs.Waits.{WaitsByPlace, WhatWaits}
+use Rattle.td_machine.specs.Steps.{asked_at, is_asked, is_for, waiting, coming, IsContent, MayTake}
+use Rattle.td_machine.specs.Waits.{WaitsByPlace}
 use Rattle.td_progress.specs.Bag.{Active}
 use Rattle.td_shard.specs.declared.noted.Noted.{Noted}
 use Rattle.td_shard.specs.declared.shard.Shard.{Shard}
 use Rattle.td_shard.specs.Asked.{AskedList, noted_cmp, noted_at, items_at}
 use Rattle.td_shard.specs.ProvedOrders.{noted_total}
 use Rattle.td_core.specs.declared.floor.Floor.{Floor}
-use Rattle.td_core.specs.Floor.{state_of, IsHall, IsShard, empty_shard, in_mailboxes, with_tasks, taken_up, waiting_in, waiting_at, asked_in, asked_of_shard}
-use Rattle.td_core.specs.Posted.{mails, waits}
+use Rattle.td_core.specs.Floor.{state_of, IsHall, IsShard, empty_shard, in_mailboxes, with_tasks, taken_up, waiting_at, asked_in, asked_of_shard}
+use Rattle.td_core.specs.Posted.{mails}
 use Rattle.td_core.specs.Taking.{AreAsked, IsReady, AreReady, IsPicked, changed_at, stamp_of_noted}
 use Rattle.td_core.proofs.NotifyLists.{there_is, removed, is_other}
 use Rattle.td_core.proofs.TakeLists.{every, weaker, of_two, of_first, of_second, in_bag, flat, flat_mails, none_of, get_map}
 use Rattle.td_core.proofs.ShardParts.{mail_of}
 use Rattle.td_core.proofs.Waits.{noted_apart, waiting_all, as_messages}
-use Rattle.td_core.proofs.WaitsAll.{waiting_by_lists, IsWaiting}
+use Rattle.td_core.proofs.WaitsAll.{IsWaiting}
 use Rattle.td_core.proofs.WaitsAsked.{asks, is_in, in_two, in_set, asked_here, not_elsewhere}
 
 -- the frontier is that of the bag

@@ -1,5 +1,5 @@
 -- A hall from which a task was taken, and one to which it was put back.
-use Rattle.std.proofs.Common.{◌≡◌, ◌⊎◌, inl, inr, ℕ, zero, suc, ◌+◌, ◌-◌, ◌<◌, ◌≤◌, ◌==◌, Bool, true, false, List, [], ◌∷◌, ◌++◌, map, flat_map, length, get_or, slice_get, HoldsAt, Option, Some, None, is_some, refl, ap, sym, ◌∙◌, subst, arith, append-nil, append_assoc, length-append, pos, Result, Ok, Err, IfOk, IfErr, OnErr}
+use Rattle.std.proofs.Common.{◌≡◌, inl, inr, ℕ, ◌+◌, ◌-◌, ◌<◌, ◌≤◌, true, false, List, [], ◌∷◌, ◌++◌, map, flat_map, length, get_or, slice_get, HoldsAt, Option, Some, None, is_some, refl, ap, sym, ◌∙◌, subst, arith, append-nil, append_assoc, length-append, pos, Result, Ok, Err, IfOk, IfErr, OnErr, IsTrue, true≢false}
 use Rattle.std.specs.declared.cmp.Ordering.{Ordering}
 use Rattle.std.specs.declared.cmp.Ordering.TheVariants.{Less, Equal, Greater}
 use Rattle.std.specs.Ordering.{nat_cmp}
@@ -11,7 +11,7 @@ use Rattle.std.proofs.lemmas.Bool.Decides.{nat_tests}
 use Rattle.std.proofs.lemmas.List.{length-map}
 use Rattle.td_stamp.specs.declared.values.Rec.{Rec}
 use Rattle.td_stamp.specs.declared.values.Arrival.{Arrival}
-use Rattle.td_stamp.specs.Bag.{bag_of, bag_insert, set_of, join, IsBag}
+use Rattle.td_stamp.specs.Bag.{bag_of, bag_insert, set_of, join}
 use Rattle.td_stamp.specs.BagLaws.{BagLaws, SetLaws}
 use Rattle.td_stamp.specs.Groups.{groups}
 use Rattle.td_stamp.specs.Time.{Timestamp, time_cmp}
@@ -19,11 +19,11 @@ use Rattle.td_calls.specs.Answers.{Answers}
 use Rattle.td_progress.specs.Bag.{IsSameBag}
 use Rattle.td_machine.specs.Reached.{IsReached}
 use Rattle.td_machine.specs.declared.records.Message.{Message}
-use Rattle.td_machine.specs.Active.{active, kind_of, stamp_at, Frontier}
+use Rattle.td_machine.specs.Active.{active, kind_of}
 use Rattle.td_machine.specs.InOrder.{ListsInOrder, TasksInOrder, NumbersInOrder, StillThere}
 use Rattle.td_machine.specs.State.{HallState, Task, Content, message_cmp, notification_cmp, task_cmp, shard_of_key, is_out}
 use Rattle.td_machine.specs.State.Content.{messages, notification}
-use Rattle.td_machine.specs.Steps.{Answer, Takes, MayTake, IsContent, coming, with_task, with_state_of, to_notify, is_asked, task_size, ends, waiting}
+use Rattle.td_machine.specs.Steps.{Answer, Takes, MayTake, IsContent, coming, with_task, with_state_of, to_notify, task_size, ends}
 use Rattle.td_machine.specs.Steps.Event.{taking}
 use Rattle.td_machine.specs.Steps.Answer.{has_taken}
 use Rattle.td_machine.specs.Steps.Takes.{takes, has_none, is_spent, is_busy}
@@ -35,20 +35,20 @@ use Rattle.td_core.specs.declared.error.HallError.TheVariants.{Memory}
 use Rattle.td_machine.specs.Waits.{WaitsByPlace, WhatWaits}
 use Rattle.td_shard.specs.declared.noted.Noted.{Noted}
 use Rattle.td_shard.specs.declared.shard.Shard.{Shard}
-use Rattle.td_shard.specs.Asked.{AskedList, noted_cmp, noted_at, items_at}
+use Rattle.td_shard.specs.Asked.{noted_cmp, items_at}
 use Rattle.td_shard.specs.Messages.{IsBeside, task_at, left_at}
 use Rattle.td_core.specs.declared.floor.Floor.{Floor}
 use Rattle.td_core.specs.declared.take.Candidate.{Candidate}
 use Rattle.td_core.specs.declared.take.Candidate.TheVariants as candidates
-use Rattle.td_core.specs.Floor.{state_of, IsHall, IsShard, empty_shard, in_mailboxes, with_tasks, taken_up, waiting_in, waiting_at, asked_in}
+use Rattle.td_core.specs.Floor.{state_of, IsHall, IsShard, empty_shard, in_mailboxes, with_tasks, taken_up}
 use Rattle.td_core.specs.Posted.{mails, waits}
-use Rattle.td_core.specs.Taking.{IsReady, IsPicked, IsFor, IsTaskFor, IsTakenFor, IsSame, IsPickTaken, IsPickRefused, IsTakeRefused, IsLastTake, mails_without, changed_at, stamp_of_noted}
+use Rattle.td_core.specs.Taking.{IsReady, IsPicked, IsTaskFor, IsSame, IsPickTaken, IsPickRefused, IsTakeRefused, IsLastTake, mails_without, changed_at}
 use Rattle.td_core.proofs.CollectSteps.{ReachedByStep}
 use Rattle.td_core.proofs.PostingSteps.{as_many_waits, same_buffered, same_asked}
 use Rattle.td_core.proofs.ShardParts.{IsMail, mail_of, waiting_of, united}
-use Rattle.td_core.proofs.Waits.{waiting_all, as_messages}
+use Rattle.td_core.proofs.Waits.{waiting_all}
 use Rattle.td_core.proofs.WaitsAll.{waiting_by_lists, IsWaiting}
-use Rattle.td_core.proofs.TakeLists.{IsKeyOf, every, weaker, of_two, of_first, of_second, in_bag, of_bag, come_back, flat, flat_mails, less_there, more_there, same_bag, mails_stay, at_own, get_map}
+use Rattle.td_core.proofs.TakeLists.{IsKeyOf, weaker, of_two, of_first, of_second, in_bag, of_bag, come_back, flat, flat_mails, less_there, more_there, same_bag, mails_stay, at_own, get_map}
 use Rattle.td_core.proofs.TakeSteps.{InAnyOrder, key_there, split_all, all_else, items_own, in_state, asked_there, none_here}
 
 -- what is known of the tasks of a mailbox
@@ -294,6 +294,12 @@ module _ (answers : Answers) (floor : Floor) (inv : IsHall answers floor) (bags 
         );
       },
     )
+
+    -- a shard that has a candidate has a task, and the other way round
+    pub has_one : (r : Option Candidate) → HoldsAt (λ x. IsPicked floor.table x pick r) shards s → (IsTrue (is_some r) → (is_out S s ≡ false) × ((task : Task) × MayTake S s task))
+        × ((is_out S s ≡ false) × ((task : Task) × MayTake S s task) → IsTrue (is_some r))
+    has_one None picked = (λ t. absurd (true≢false (sym t)), λ h. absurd (none_here answers floor inv bags sets apart frontier lists tasks numbers none s free l picked h.1.0 h.1.1))
+    has_one (Some c) picked = (λ t. (free, some_task c (picked empty_shard)), λ h. refl)
 
     -- what is no longer in mailboxes is with the task
     mail_moved : (c : Candidate) (new : Floor) (task : Task) → IsPicked floor.table at_shard pick (Some c) → IsTaskFor floor s at_shard c task → mails new.shards.items ≡ mails_without c s (mails shards)

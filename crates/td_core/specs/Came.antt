@@ -1,5 +1,5 @@
 -- What came to the outputs of a plan, epoch by epoch.
-use Rattle.std.specs.Prelude.{ℕ, ◌+◌, ◌-◌, ◌==◌, nat_lt, List, map, filter, flat_map, length, cond, Option, Some, None}
+use Rattle.std.specs.Prelude.{ℕ, ◌+◌, ◌-◌, ◌==◌, nat_lt, List, map, filter, flat_map, cond, Option, Some, None}
 use Rattle.td_stamp.specs.declared.values.Rec.{Rec}
 use Rattle.td_stamp.specs.declared.values.Output.{Output}
 use Rattle.td_stamp.specs.declared.epoch_out.EpochOut.{EpochOut}

@@ -1,5 +1,7 @@
 -- Taking a task of a shard.
-use Rattle.std.specs.Prelude.{◌≡◌, ◌⊎◌, ℕ, zero, suc, ◌+◌, ◌%◌, ◌<◌, ◌≤◌, List, [], ◌∷◌, ◌++◌, map, length, Bool, true, false, Option, Some, None, HoldsAt, get_or, Contains}
+use Rattle.std.specs.Prelude.{◌≡◌, ◌⊎◌, ℕ, zero, suc, ◌+◌, ◌%◌, ◌<◌, ◌≤◌, List, [], ◌∷◌, ◌++◌, ◌&&◌, cond, map, length, Bool, true, Option, Some, None, is_some, HoldsAt, Contains}
+use Rattle.std.specs.declared.cmp.Ordering.TheVariants.{Less}
+use Rattle.std.specs.Ordering.{is_lt}
 use Rattle.std.specs.List.{AllByRecursion}
 use Rattle.std.specs.List.Sorted.{IsStrictlySortedBy}
 use Rattle.td_stamp.specs.declared.values.Rec.{Rec}
@@ -8,6 +10,8 @@ use Rattle.td_stamp.specs.Groups.{groups}
 use Rattle.td_stamp.specs.Time.{Timestamp}
 use Rattle.td_calls.specs.Answers.{Answers}
 use Rattle.td_calls.specs.Callbacks.{is_notified}
+use Rattle.td_reach.specs.declared.stamp.Place.{Place}
+use Rattle.td_reach.specs.declared.stamp.Place.TheVariants as places
 use Rattle.td_reach.specs.declared.stamp.Stamp.{Stamp}
 use Rattle.td_reach.specs.Frontier.{Frontier}
 use Rattle.td_reach.specs.Paths.{IsOf}
@@ -21,16 +25,14 @@ use Rattle.td_machine.specs.Steps.Answer.{has_taken, refused}
 use Rattle.td_machine.specs.Reached.{IsReached}
 use Rattle.td_shard.specs.declared.noted.Noted.{Noted}
 use Rattle.td_shard.specs.declared.shard.Shard.{Shard}
-use Rattle.td_shard.specs.Asked.{items_at, noted_cmp}
+use Rattle.td_shard.specs.Asked.{AskedList, items_at, noted_at, noted_cmp}
 use Rattle.td_shard.specs.Messages.{task_at, left_at}
 use Rattle.td_core.specs.declared.floor.Floor.{Floor}
 use Rattle.td_core.specs.declared.error.HallError.{HallError}
 use Rattle.td_core.specs.declared.error.HallError.TheVariants.{Memory, Spent}
 use Rattle.td_core.specs.declared.take.Candidate.{Candidate}
 use Rattle.td_core.specs.declared.take.Candidate.TheVariants as candidates
-use Rattle.td_core.specs.declared.sites.Sites.{Sites}
 use Rattle.td_core.specs.Floor.{state_of}
-use Rattle.td_core.specs.Sites.{kind_in}
 use Rattle.td_core.specs.Posted.{mails, waits}
 use Rattle.td_core.specs.Refusals.{error_of}
 
@@ -82,13 +84,23 @@ pub record AreAsked (table : Active) (asked : List Noted) : Type 0 where
   pub notified : AllByRecursion (λ n. is_notified (kind_of table.plan n.vertex) ≡ true) asked
   pub once : IsStrictlySortedBy noted_cmp asked
 
--- all counters are 0
-abbrev pub IsFirstTurn : Timestamp → Type 0
-IsFirstTurn t = AllByRecursion (λ k. k ≡ 0) t.turns
+-- of two notifications the earlier, where the second comes after another
+abbrev pub comes_after : Option Noted → Noted → Bool
+comes_after None n = true
+comes_after (Some m) n = is_lt (noted_cmp m n)
 
--- each vertex is held that has notifications
-abbrev pub AreAllHeld : Sites → List Bool → Type 0
-AreAllHeld sites held = (v : ℕ) → is_notified (kind_in sites v) ≡ true → get_or held v false ≡ true
+abbrev pub comes_before : Noted → Option Noted → Bool
+comes_before n None = true
+comes_before n (Some m) = is_lt (noted_cmp n m)
+
+abbrev pub earlier : Option Noted → Option Noted → Option Noted → Option Noted
+earlier first after None = first
+earlier first after (Some n) = cond (comes_after after n && comes_before n first) (Some n) first
+
+-- the notification of a pointstamp, where it is asked for
+abbrev pub asked_of : AskedList → Place → Timestamp → Option Noted
+asked_of asked (places.Vertex v) t = cond (is_some (items_at asked v t)) (Some (noted_at v t)) None
+asked_of asked (places.Edge e) t = None
 
 module _ (active : Active) where
   -- in the frontier
@@ -99,6 +111,11 @@ module _ (active : Active) where
   abbrev pub AreReady : List Noted → List Noted → Type 0
   AreReady [] ready = ready ≡ []
   AreReady (n ∷ asked) ready = ((IsReady n → ⊥) × AreReady asked ready) ⊎ (IsReady n × ((rest : List Noted) × (ready ≡ n ∷ rest) × AreReady asked rest))
+
+  -- the first of them that comes after another
+  abbrev pub IsNextReady : List Noted → Option Noted → Option Noted → Type 0
+  IsNextReady asked after None = (n : Noted) → Contains asked n → IsReady n → comes_after after n ≡ true → ⊥
+  IsNextReady asked after (Some m) = Contains asked m × IsReady m × (comes_after after m ≡ true) × ((n : Noted) → Contains asked n → IsReady n → comes_after after n ≡ true → noted_cmp n m ≡ Less → ⊥)
 
   -- the one at a place among these: as many are before it
   abbrev pub IsReadyAt : List Noted → ℕ → Option Noted → Type 0

@@ -1,15 +1,13 @@
 //! Taking tasks.
 ghost use Rattle.std.specs.Prelude.{◌≡◌, ◌<◌, ◌≤◌, ◌+◌, ◌-◌, ◌++◌, ◌∷◌, [], ◌↔◌, IsTrue, ℕ, List, HoldsAt, IfOk, IfErr};
-ghost use Rattle.std.specs.Prelude.{IfSome, OnErr, Some, filter, map, length, nat_le, ◌==◌, ◌⊎◌, get_or, false, true};
-ghost use Rattle.std.specs.List.{list_all, list_any};
+ghost use Rattle.std.specs.Prelude.{IfSome, OnErr, Some, filter, map, length, nat_le, ◌==◌, ◌⊎◌, false, true};
+ghost use Rattle.std.specs.List.{list_any};
 ghost use Rattle.td_stamp.specs.Groups.{groups};
 ghost use Rattle.td_stamp.specs.States.{state_of as kept_of};
 ghost use Rattle.td_stamp.specs.declared.values.Arrival.{Arrival as AnyArrival};
 ghost use Rattle.td_shard.specs.declared.noted.Noted.{Noted as AnyNoted};
-ghost use Rattle.td_calls.specs.Callbacks.{is_notified as is_notified_kind};
-ghost use Rattle.td_reach.specs.Paths.{IsOf};
 ghost use Rattle.td_machine.specs.State.{HallState, Task as AnyTask, is_out, with_left};
-ghost use Rattle.td_machine.specs.Steps.{Takes, with_state_of, ends};
+ghost use Rattle.td_machine.specs.Steps.{Takes, MayTake, with_state_of, ends};
 ghost use Rattle.td_machine.specs.Steps.Answer.{has_taken};
 ghost use Rattle.td_task.specs.KeyLists.{with_state, without_state};
 ghost use Rattle.td_shard.specs.Asked.{items_at};
@@ -18,7 +16,7 @@ ghost use Rattle.td_core.specs.Sites.{IsSites};
 ghost use Rattle.td_core.specs.Posted.{mails, waits};
 ghost use Rattle.td_core.specs.Picks.{IsPick};
 ghost use Rattle.td_core.specs.Taking.{changed_at, IsThere, IsTakeRefused, IsSame, IsTakenIf, HasRoomBack, IsLastTake};
-ghost use Rattle.td_core.specs.Taking.{stamp_of_noted, asked_at, AreAsked, IsFirstTurn, AreAllHeld, IsReady, AreReady};
+ghost use Rattle.td_core.specs.Taking.{asked_at, AreAsked, AreReady, IsNextReady, comes_after, comes_before, earlier, asked_of};
 ghost use Rattle.td_core.specs.Taking.{IsReadyAt, IsPlaceOf, IsPicked, IsTaskFor, mails_without, room_of, IsTakenFor};
 ghost use Rattle.td_core.specs.Taking.{IsPickTaken, IsChosen, IsPickRefused};
 ghost use Rattle.td_core.specs.declared.take.Candidate.TheVariants.{Message, Notification};
@@ -27,7 +25,6 @@ ghost use Rattle.td_core.specs.declared.error.HallError.TheVariants.{Memory};
 use crate::error::HallError;
 use crate::floor::Floor;
 use crate::hall::Hall;
-use crate::sites::Sites;
 use std::alloc::Global;
 use std::sync::Arc;
 use td_calls::Law;
@@ -35,7 +32,6 @@ use td_machine::laws::{
     active_of_plan, asked_where_notified, bags_of_states, none_left, reached, reached_in_order,
     what_waits,
 };
-use td_plan::Kind;
 use td_progress::Table;
 use td_progress::laws::{counted, in_any_order};
 use td_reach::{Place, Stamp};
@@ -47,9 +43,6 @@ use td_task::{KeyedItems, Task, Work};
 
 /// Tasks are numbered up to this.
 const MOST_TASKS: u64 = 1 << 63;
-
-/// How many numbers a `u8` has, so that each vertex has a place in a list of so many.
-const NUMBERS: usize = 256;
 
 /// What may be taken of a shard.
 #[derive(Debug, Drop)]
@@ -63,9 +56,9 @@ impl<L: Law> Hall<L> {
     /// Takes a task of a shard, if it has one: messages, or a notification that is in the frontier (Naiad, section 2.3). The
     /// candidates are the shard's messages in the order posted, then its notifications in the frontier by epoch, counters and
     /// vertex; the one at place `pick` is taken, counted round, and a message with the others of its edge and time in the order
-    /// posted, 64 at most. With pick 0 it costs O(1) for each message, and notifications are looked at only where no message
-    /// waits: those up to one with no counter above 0 of each group and fold, which holds back all that follow there. A shard that
-    /// the hall does not have has no task.
+    /// posted, 64 at most. With pick 0 it costs O(1) for each message, and notifications are looked for only where no message
+    /// waits, among the pointstamps that are in the frontier: what that costs does not grow with the open epochs. A shard that the
+    /// hall does not have has no task.
     ///
     /// Refusals, with nothing changed: `Busy`, where a task of the shard is out; `Spent`, where there is a candidate and all
     /// numbers of tasks are used; and `Memory`.
@@ -77,6 +70,14 @@ impl<L: Law> Hall<L> {
         ensures err { OnErr result (self.new ≡ self.old) }
     {
         take_floor::<L>(&mut self.floor, shard, pick)
+    }
+
+    /// Whether a shard at which no task is out has one that may be taken: a message that waits there, or a notification in the
+    /// frontier. It takes no memory, and what it costs does not grow with the open epochs.
+    pub fn has_task(&self, shard: u8) -> bool
+        ensures { IsTrue result ↔ ((is_out self.now shard ≡ false) × ((task : AnyTask) × MayTake self.now shard task)) }
+    {
+        has_task_at::<L>(&self.floor, shard)
     }
 }
 
@@ -113,6 +114,40 @@ pub(crate) fn take_floor<L: Law>(
         return Ok(None);
     }
     take_there(floor, shard, pick)
+}
+
+/// Whether a shard at which no task is out has one that may be taken.
+fn has_task_at<L: Law>(floor: &Floor, shard: u8) -> bool
+    requires hall { IsHall L.answers floor.now }
+    ensures { IsTrue result ↔ ((is_out (state_of floor.now) shard ≡ false) × ((task : AnyTask) × MayTake (state_of floor.now) shard task)) }
+{
+    reached::<L>();
+    reached_in_order::<L>();
+    active_of_plan::<L>();
+    asked_where_notified::<L>();
+    bags_of_states();
+    none_left();
+    what_waits();
+    tasks();
+    counted();
+    in_any_order();
+    time_list_order();
+    if is_busy(floor.out.as_slice(), shard) {
+        return false;
+    }
+    if usize::from(shard) >= floor.shards.len() {
+        return false;
+    }
+    first_candidate(floor, shard).is_some()
+}
+
+/// The first candidate of a shard, if there is one.
+fn first_candidate(floor: &Floor, shard: u8) -> Option<Candidate>
+    requires within { shard < length floor.now.shards.items }
+    requires asked { HoldsAt (λ s. AreAsked floor.now.table (asked_at s)) floor.now.shards.items shard }
+    ensures { HoldsAt (λ s. IsPicked floor.now.table s 0 result) floor.now.shards.items shard }
+{
+    picked(&floor.table, &floor.shards[usize::from(shard)], 0)
 }
 
 /// Whether a task is out at a shard.
@@ -155,7 +190,7 @@ fn chosen(floor: &Floor, shard: u8, pick: u64) -> Result<Option<(Candidate, Task
     ensures refused { IfErr result (IsPickRefused shard pick floor.now) }
 {
     let there = &floor.shards[usize::from(shard)];
-    let Some(candidate) = picked(&floor.table, &floor.sites, there, pick) else {
+    let Some(candidate) = picked(&floor.table, there, pick) else {
         return Ok(None);
     };
     if floor.taken == MOST_TASKS {
@@ -167,156 +202,131 @@ fn chosen(floor: &Floor, shard: u8, pick: u64) -> Result<Option<(Candidate, Task
 
 /// The candidate of a shard that a pick names, if there is one. Where the pick is below the number of its messages, the
 /// notifications are not looked at.
-fn picked(table: &Table, sites: &Sites, shard: &Shard, pick: u64) -> Option<Candidate>
+fn picked(table: &Table, shard: &Shard, pick: u64) -> Option<Candidate>
     requires asked { AreAsked table.now (asked_at shard.now) }
-    requires sites { IsSites table.now.plan sites.now }
     ensures { IsPicked table.now shard.now pick result }
 {
     let messages = shard.mailbox.len() as u64;
-    let place = place_of(table, sites, shard, pick);
+    let place = place_of(table, shard, pick);
     if place < messages {
         return Some(Candidate::Message(place as usize));
     }
-    match ready_at(table, sites, &shard.waiting, place - messages) {
+    match ready_at(table, &shard.waiting, place - messages) {
         Some(noted) => Some(Candidate::Notification(noted)),
         None => None,
     }
 }
 
 /// The place that a pick names. Where it is 0, or below the number of messages, it need not be counted round.
-fn place_of(table: &Table, sites: &Sites, shard: &Shard, pick: u64) -> u64
+fn place_of(table: &Table, shard: &Shard, pick: u64) -> u64
     requires asked { AreAsked table.now (asked_at shard.now) }
-    requires sites { IsSites table.now.plan sites.now }
     ensures { IsPlaceOf table.now shard.now pick result }
 {
     let messages = shard.mailbox.len() as u64;
     if pick < messages.max(1) {
         return pick;
     }
-    let count = u128::from(messages) + u128::from(ready_count(table, sites, &shard.waiting));
+    let count = u128::from(messages) + u128::from(ready_count(table, &shard.waiting));
     if count == 0 {
         return pick;
     }
     (u128::from(pick) % count) as u64
 }
 
-/// How many notifications of a shard are in the frontier. Once each vertex is held, those that follow are not looked at.
-fn ready_count(table: &Table, sites: &Sites, waiting: &Waiting) -> u64
+/// How many notifications of a shard are in the frontier.
+fn ready_count(table: &Table, waiting: &Waiting) -> u64
     requires asked { AreAsked table.now (map (λ w. w.0) waiting.now) }
-    requires sites { IsSites table.now.plan sites.now }
     ensures { (ready : List AnyNoted) → AreReady table.now (map (λ w. w.0) waiting.now) ready → result ≡ length ready }
 {
+    time_list_order();
+    counted();
     let _few = waiting.len();
-    let mut held = [false; NUMBERS];
     let mut count = 0;
-    for noted in waiting.asked() {
-        if is_ready(table, &held, noted) {
+    for stamp in table.frontier() {
+        if asked_of(waiting, &stamp).is_some() {
             count += 1;
-        }
-        if hold(sites, &mut held, noted) {
-            return count;
         }
     }
     count
 }
 
-/// The notification at a place among those of a shard that are in the frontier. Once each vertex is held, those that follow
-/// are not looked at.
-fn ready_at(table: &Table, sites: &Sites, waiting: &Waiting, place: u64) -> Option<Noted>
+/// The notification at a place among those of a shard that are in the frontier: each place before it costs one more walk over the
+/// frontier.
+fn ready_at(table: &Table, waiting: &Waiting, place: u64) -> Option<Noted>
     requires asked { AreAsked table.now (map (λ w. w.0) waiting.now) }
-    requires sites { IsSites table.now.plan sites.now }
     ensures { IsReadyAt table.now (map (λ w. w.0) waiting.now) place result }
 {
-    let mut held = [false; NUMBERS];
-    let mut left = place;
-    for noted in waiting.asked() {
-        if is_ready(table, &held, noted) {
-            if left == 0 {
-                let time = noted.time.copy();
-                return Some(Noted {
-                    time,
-                    vertex: noted.vertex,
-                });
-            }
-            left -= 1;
-        }
-        if hold(sites, &mut held, noted) {
+    let mut next = next_ready(table, waiting, &None);
+    for _passed in 0..place {
+        if next.is_none() {
             return None;
         }
+        next = next_ready(table, waiting, &next);
     }
-    None
+    next
 }
 
-/// Whether a notification is in the frontier. The table is not asked where its vertex is held: then it is not.
-fn is_ready(table: &Table, held: &[bool], noted: &Noted) -> bool
-    requires of_plan { IsOf table.now.plan (stamp_of_noted noted.now) }
-    requires held { get_or held.now noted.now.vertex false ≡ true → IsReady table.now noted.now → ⊥ }
-    ensures { IsTrue result ↔ IsReady table.now noted.now }
+/// The first notification of a shard that is in the frontier and comes after another, or the first of all.
+fn next_ready(table: &Table, waiting: &Waiting, after: &Option<Noted>) -> Option<Noted>
+    ensures { IsNextReady table.now (map (λ w. w.0) waiting.now) after.now result }
 {
-    if is_held(held, usize::from(noted.vertex)) {
-        return false;
+    time_list_order();
+    counted();
+    let mut first = None;
+    for stamp in table.frontier() {
+        first = earlier(first, after, asked_of(waiting, &stamp));
     }
-    table.in_frontier(&Stamp {
-        time: noted.time.copy(),
-        place: Place::Vertex(noted.vertex),
+    first
+}
+
+/// The earlier of two notifications, of which the other counts only where it comes after a third.
+fn earlier(first: Option<Noted>, after: &Option<Noted>, other: Option<Noted>) -> Option<Noted>
+    ensures { result ≡ earlier first after.now other }
+{
+    let Some(noted) = other else {
+        return first;
+    };
+    if comes_after(after, &noted) && comes_before(&noted, &first) {
+        Some(noted)
+    } else {
+        first
+    }
+}
+
+/// Whether a notification comes after another, if there is one.
+fn comes_after(after: &Option<Noted>, noted: &Noted) -> bool
+    ensures { result ≡ comes_after after.now noted.now }
+{
+    match after {
+        Some(after) => after.cmp(noted).is_lt(),
+        None => true,
+    }
+}
+
+/// Whether a notification comes before another, if there is one.
+fn comes_before(noted: &Noted, first: &Option<Noted>) -> bool
+    ensures { result ≡ comes_before noted.now first.now }
+{
+    match first {
+        Some(first) => noted.cmp(first).is_lt(),
+        None => true,
+    }
+}
+
+/// The notification of a pointstamp, where a shard asked for it.
+fn asked_of(waiting: &Waiting, stamp: &Stamp) -> Option<Noted>
+    ensures { result ≡ asked_of waiting.now stamp.now.place stamp.now.time }
+{
+    let Place::Vertex(vertex) = stamp.place else {
+        return None;
+    };
+    if !waiting.is_asked(vertex, &stamp.time) {
+        return None;
+    }
+    Some(Noted {
+        time: stamp.time.copy(),
+        vertex,
     })
-}
-
-/// Marks the vertex of a notification as held, where all its counters are 0: it is active, and could result in each that
-/// follows at its vertex. Answers true where that was the last vertex that was not held and has notifications.
-fn hold(sites: &Sites, held: &mut [bool; NUMBERS], noted: &Noted) -> bool
-    ensures held { (v : ℕ) → get_or held.new v false ≡ true → (get_or held.old v false ≡ true) ⊎ ((v ≡ noted.now.vertex) × IsFirstTurn noted.now.time) }
-    ensures all { IsTrue result → AreAllHeld sites.now held.new }
-{
-    let vertex = usize::from(noted.vertex);
-    if held[vertex] || !is_first_turn(&noted.time) {
-        return false;
-    }
-    held[vertex] = true;
-    are_all_held(sites, held)
-}
-
-/// Whether all counters of a time are 0.
-fn is_first_turn(time: &Time) -> bool
-    ensures { IsTrue result → IsFirstTurn time.now }
-{
-    are_all_0(time.turns())
-}
-
-/// Whether all counters are 0.
-fn are_all_0(turns: &[u32]) -> bool
-    ensures { result ≡ list_all (λ k. k == 0) turns.now }
-{
-    turns.iter().all(|turn| *turn == 0)
-}
-
-/// Whether each vertex is held that has notifications.
-fn are_all_held(sites: &Sites, held: &[bool]) -> bool
-    ensures { IsTrue result → AreAllHeld sites.now held.now }
-{
-    for (vertex, site) in sites.sites.iter().enumerate() {
-        if is_notified(site.kind) && !is_held(held, vertex) {
-            return false;
-        }
-    }
-    true
-}
-
-/// Whether a vertex of this kind has notifications.
-fn is_notified(kind: Kind) -> bool
-    ensures { result ≡ is_notified_kind kind }
-{
-    matches!(kind, Kind::Group(_) | Kind::Fold(_))
-}
-
-/// Whether a vertex is held.
-fn is_held(held: &[bool], vertex: usize) -> bool
-    ensures { result ≡ get_or held.now vertex false }
-{
-    match held.get(vertex) {
-        Some(is_held) => *is_held,
-        None => false,
-    }
 }
 
 /// A task for a candidate of a shard. Refusal: `Memory`.

@@ -7,7 +7,7 @@ use Rattle.td_machine.specs.State.Content.{messages, notification}
 use Rattle.td_machine.specs.declared.records.Message.{Message}
 use Rattle.td_plan.specs.declared.vertex.Kind.{Kind}
 use Rattle.td_batch.specs.Flow.{numbers_from}
-use Rattle.td_machine.specs.Steps.{Answer, Gives, Takes, release_by, cut_by, cut_at_by, delivered, all_delivered, effect, coming}
+use Rattle.td_machine.specs.Steps.{Gives, Takes, release_by, cut_by, cut_at_by, delivered, all_delivered, effect, coming}
 use Rattle.td_machine.specs.Steps.Answer.{has_given, has_taken}
 
 -- a release

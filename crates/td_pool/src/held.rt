@@ -1,9 +1,10 @@
 //! What lies under a pool's lock.
-ghost use Rattle.std.specs.Prelude.{◌≡◌, ◌⊎◌, ◌+◌, ◌-◌, ◌<◌, ◌≤◌, true, false, None, Contains, IfOk, IfSome, IfErr, OnOk, OnErr};
+ghost use Rattle.std.specs.Prelude.{◌≡◌, ◌⊎◌, ◌+◌, ◌-◌, ◌<◌, ◌≤◌, IsTrue, true, false, None, Contains, IfOk, IfSome, IfErr, OnOk, OnErr};
 ghost use Rattle.crossbeam_utils.specs.Padded.{padded_value};
 ghost use Rattle.td_machine.specs.Active.{has_passed, unpassed};
 ghost use Rattle.td_machine.specs.Sound.{run_states};
-ghost use Rattle.td_machine.specs.Steps.{Refusal, Gives, Takes, accepts, ends, release_step, collect_step, cut_at_by, cut_by, close_step};
+ghost use Rattle.td_machine.specs.State.{Task as AnyTask};
+ghost use Rattle.td_machine.specs.Steps.{Refusal, Gives, Takes, MayTake, accepts, ends, release_step, collect_step, cut_at_by, cut_by, close_step};
 ghost use Rattle.td_machine.specs.Steps.Answer.{refused, has_released, has_taken, has_given, has_collected, has_cut, has_closed};
 ghost use Rattle.td_core.specs.Refusals.{IsRefused, error_of};
 ghost use Rattle.td_core.specs.Meant.{IsMeant};
@@ -30,6 +31,8 @@ use td_task::{Done, Task};
 pub struct Held<K: Crew, L: Law> {
     hall: Hall<L>,
     pub(crate) is_stopped: bool,
+    /// Of each shard, whether its worker waits for something to take.
+    sleeps: Vec<bool>,
     pub(crate) gives: Book<K>,
     pub(crate) rest: Share<K>,
 }
@@ -47,13 +50,14 @@ impl<K: Crew, L: Law> Model for Held<K, L> {
 
 impl<K: Crew, L: Law> Held<K, L> {
     /// A hall to which as many tasks were given as the book begins with.
-    pub(crate) fn new(hall: Hall<L>, gives: Book<K>, rest: Share<K>) -> Self
+    pub(crate) fn new(hall: Hall<L>, sleeps: Vec<bool>, gives: Book<K>, rest: Share<K>) -> Self
         requires { (hall.given ≡ K.start + gives.total) × (rest.parts ≡ 0) × (rest.amount ≡ 0) }
         ensures { result ≡ lent hall false }
     {
         Held {
             hall,
             is_stopped: false,
+            sleeps,
             gives,
             rest,
         }
@@ -68,6 +72,7 @@ impl<K: Crew, L: Law> Held<K, L> {
         let Held {
             hall,
             is_stopped: _,
+            sleeps: _,
             gives,
             rest,
         } = self;
@@ -88,6 +93,35 @@ impl<K: Crew, L: Law> Held<K, L> {
         self.is_stopped
     }
 
+    /// Notes whether the worker of a shard waits for something to take.
+    pub(crate) fn set_asleep(&mut self, shard: u8, is_asleep: bool)
+        ensures { self.new ≡ self.old }
+    {
+        if let Some(sleeps) = self.sleeps.get_mut(usize::from(shard)) {
+            *sleeps = is_asleep;
+        }
+    }
+
+    /// Whether the worker of a shard waits and has something to take; it is then no longer said to wait.
+    pub(crate) fn rouses(&mut self, shard: u8) -> bool
+        ensures same { self.new ≡ self.old }
+        ensures due { IsTrue result → (task : AnyTask) × MayTake self.old.hall shard task }
+    {
+        let is_due = self.is_asleep(shard) && self.hall.has_task(shard);
+        if is_due {
+            self.set_asleep(shard, false);
+        }
+        is_due
+    }
+
+    /// Whether the worker of a shard waits for something to take.
+    fn is_asleep(&self, shard: u8) -> bool {
+        match self.sleeps.get(usize::from(shard)) {
+            Some(is_asleep) => *is_asleep,
+            None => false,
+        }
+    }
+
     /// Takes a task of a shard, its first, if it has one.
     pub(crate) fn take(&mut self, shard: u8) -> Result<Option<Task>, HallError>
         ensures taken { IfOk result (λ task. Takes self.old.hall shard (has_taken task) self.new.hall) }
@@ -97,6 +131,21 @@ impl<K: Crew, L: Law> Held<K, L> {
         ensures stopped { self.new.stopped ≡ self.old.stopped }
     {
         self.hall.take(shard, 0)
+    }
+
+    /// The next task of a shard, if there is one that can be taken and the pool is not stopped.
+    pub(crate) fn next(&mut self, shard: u8) -> Option<Task>
+        ensures none { result ≡ None → self.new ≡ self.old }
+        ensures some { IfSome result (λ task. Takes self.old.hall shard (has_taken (Some task)) self.new.hall) }
+        ensures stopped { self.new.stopped ≡ self.old.stopped }
+    {
+        if self.is_stopped {
+            return None;
+        }
+        match self.take(shard) {
+            Ok(task) => task,
+            Err(_) => None,
+        }
     }
 
     /// Takes a task back that was run, as `Hall::give` does. Nothing else raises the hall's count of gives, and the seat's rises with
@@ -115,6 +164,7 @@ impl<K: Crew, L: Law> Held<K, L> {
         let Held {
             hall,
             is_stopped: _,
+            sleeps: _,
             gives,
             rest: _,
         } = self;

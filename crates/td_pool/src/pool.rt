@@ -11,7 +11,7 @@ ghost use Rattle.td_pool.specs.declared.error.PoolError.TheVariants.{NotAll, Mem
 use crate::error::PoolError;
 use crate::held::Held;
 use crate::seat::{Crew, Seat};
-use std::alloc::Global;
+use std::alloc::{AllocError, Global};
 use std::sync::ledger::Blank;
 use std::sync::{Condvar, Mutex, MutexGuard, Wait};
 use td_calls::Law;
@@ -21,9 +21,9 @@ use td_core::Hall;
 #[derive(Drop)]
 pub struct Pool<K: Crew, L: Law> {
     pub(crate) held: Mutex<Held<K, L>>,
-    /// There may be something to take, or the pool was stopped.
-    pub(crate) has_work: Condvar,
-    /// A worker found nothing to take, or the pool was stopped.
+    /// Of each shard: there may be something to take, or the pool was stopped.
+    has_work: Vec<Condvar>,
+    /// All released epochs have passed, or the pool was stopped.
     pub(crate) has_rest: Condvar,
     shards: u8,
     ghost shards_is: { shards ≡ K.shards },
@@ -50,13 +50,19 @@ impl<K: Crew, L: Law> Pool<K, L> {
         let Ok(mut seats) = Vec::with_capacity(alloc, shards as usize) else {
             return Err((PoolError::Memory, hall));
         };
+        let Ok(has_work) = bells(alloc, shards) else {
+            return Err((PoolError::Memory, hall));
+        };
+        let Ok(sleeps) = Vec::from_elem(alloc, false, shards as usize) else {
+            return Err((PoolError::Memory, hall));
+        };
         for shard in 0..shards {
             let share = rest.split_off(1, 0);
             seats.push_reserved(Seat::new(shard, share));
         }
         let pool = Pool {
-            held: Mutex::new(Held::new(hall, book, rest)),
-            has_work: Condvar::new(),
+            held: Mutex::new(Held::new(hall, sleeps, book, rest)),
+            has_work,
             has_rest: Condvar::new(),
             shards,
         };
@@ -70,7 +76,43 @@ impl<K: Crew, L: Law> Pool<K, L> {
 
     /// Wakes the workers that wait for something to take, as is to be done after a release.
     pub fn wake(&self) {
-        self.has_work.notify_all();
+        for has_work in &self.has_work {
+            has_work.notify_all();
+        }
+    }
+
+    /// Waits, with the lock let go, until there may be something to take of a shard.
+    pub(crate) fn wait_for_work<'a, R: Wait>(
+        &'a self,
+        rt: &R,
+        mut held: MutexGuard<'a, Held<K, L>>,
+        shard: u8,
+    ) -> MutexGuard<'a, Held<K, L>> {
+        let Some(has_work) = self.has_work.get(usize::from(shard)) else {
+            return held;
+        };
+        held.set_asleep(shard, true);
+        let mut held = has_work.wait(rt, held);
+        held.set_asleep(shard, false);
+        held
+    }
+
+    /// Wakes those of the workers that wait for whose shards there is something to take.
+    pub(crate) fn wake_for_tasks(&self, held: &mut Held<K, L>)
+        ensures { held.new ≡ held.old }
+    {
+        for shard in 0..self.shards {
+            if held.rouses(shard) {
+                self.wake_worker(shard);
+            }
+        }
+    }
+
+    /// Wakes the worker of a shard, where it waits.
+    fn wake_worker(&self, shard: u8) {
+        if let Some(has_work) = self.has_work.get(usize::from(shard)) {
+            has_work.notify_all();
+        }
     }
 
     /// Stops the workers: each ends its `work` once it has given what it holds.
@@ -78,7 +120,7 @@ impl<K: Crew, L: Law> Pool<K, L> {
         let mut held = self.held.lock(rt);
         held.is_stopped = true;
         drop(held);
-        self.has_work.notify_all();
+        self.wake();
         self.has_rest.notify_all();
     }
 
@@ -130,6 +172,15 @@ impl<K: Crew, L: Law> Pool<K, L> {
         book.audit(&mut all);
         Ok(hall)
     }
+}
+
+/// One for each shard. Refusal: `AllocError`.
+fn bells(alloc: Global, shards: u8) -> Result<Vec<Condvar>, AllocError> {
+    let mut bells = Vec::new(alloc);
+    for _shard in 0..shards {
+        bells.push(Condvar::new())?;
+    }
+    Ok(bells)
 }
 
 /// Whether these are so many seats, none of which holds anything.

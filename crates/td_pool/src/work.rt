@@ -5,7 +5,7 @@ ghost use Rattle.td_calls.specs.Fits.{lacking_code};
 ghost use Rattle.td_machine.specs.State.{Task as AnyTask};
 ghost use Rattle.td_core.specs.declared.error.HallError.TheVariants.{Stranger, Busy, Spent};
 ghost use Rattle.td_pool.specs.Hands.{is_empty, task_of, Stays};
-ghost use Rattle.td_pool.specs.declared.hand.Hand.TheVariants.{Ready};
+ghost use Rattle.td_pool.specs.declared.hand.Hand.TheVariants.{Taken, Ready};
 ghost use Rattle.td_pool.specs.declared.error.PoolError.TheVariants.{Hall as OfHall, Memory};
 
 use crate::error::PoolError;
@@ -44,7 +44,7 @@ impl<K: Crew, L: Law> Pool<K, L> {
     {
         for _turn in rt.forever() {
             if !seat.hand().is_empty() {
-                self.finish(rt, alloc, seat, calls)?;
+                self.finish(rt, alloc, seat, calls, gate)?;
             } else if !self.take(rt, seat, gate)? {
                 return Ok(());
             }
@@ -69,8 +69,7 @@ impl<K: Crew, L: Law> Pool<K, L> {
         let Some(task) = self.next_task(rt, seat.shard)? else {
             return Ok(false);
         };
-        gate.enter(rt, task.shard(), task.number());
-        seat.hand = Hand::Taken(task);
+        pass(rt, seat, gate, task);
         Ok(true)
     }
 
@@ -90,45 +89,57 @@ impl<K: Crew, L: Law> Pool<K, L> {
                 Err(HallError::Memory) => return Err(PoolError::Memory),
                 Err(error) => return Err(PoolError::Hall(error)),
             }
-            self.has_rest.notify_all();
-            held = self.has_work.wait(rt, held);
+            if held.hall().unpassed().is_none() {
+                self.has_rest.notify_all();
+            }
+            held = self.wait_for_work(rt, held, shard);
         }
         unreachable!()
     }
 
-    /// Runs the task that a seat holds, if it was not run yet, and gives it. Refusals: `NoCall` and `Memory`, with the task left in
-    /// the seat, and `Hall` with `Stranger`, with the task dropped.
-    fn finish<C: Closures<L>, R: Wait>(
+    /// Runs the task that a seat holds, if it was not run yet, and gives it; then it passes the gate with the next one, if there is
+    /// one. Refusals: `NoCall` and `Memory`, with the task left in the seat, and `Hall` with `Stranger`, with the task dropped.
+    fn finish<C: Closures<L>, G: Gate<R>, R: Wait>(
         &self,
         rt: &R,
         alloc: Global,
         seat: &mut Seat<K, L>,
         calls: &C,
+        gate: &G,
     ) -> Result<(), PoolError>
         requires { is_empty seat.old.hand ≡ false }
         ensures shard { seat.new.shard ≡ seat.old.shard }
         ensures counted { OnOk result (padded_value seat.new.gives ≡ padded_value seat.old.gives + 1) }
         ensures same { OnErr result (padded_value seat.new.gives ≡ padded_value seat.old.gives) }
-        ensures ok { OnOk result (is_empty seat.new.hand ≡ true) }
         ensures stays { let lacks = lacking_code (C.has_map calls.now) (C.has_group calls.now) (C.has_fold calls.now) in IfErr result (λ e. Stays lacks e seat.new.hand) }
         ensures kept { IfErr result (λ e. (e ≡ OfHall Stranger) ⊎ (task_of seat.new.hand ≡ task_of seat.old.hand)) }
     {
-        match mem::replace(&mut seat.hand, Hand::Empty) {
+        let next = match mem::replace(&mut seat.hand, Hand::Empty) {
             Hand::Empty => unreachable!(),
             Hand::Taken(task) => match task.run::<L, C>(alloc, calls) {
-                Ok(done) => self.give(rt, seat, done),
+                Ok(done) => self.give(rt, seat, done)?,
                 Err((error, task)) => {
                     seat.hand = Hand::Taken(task);
-                    Err(PoolError::from(error))
+                    return Err(PoolError::from(error));
                 }
             },
-            Hand::Ready(done) => self.give(rt, seat, done),
+            Hand::Ready(done) => self.give(rt, seat, done)?,
+        };
+        if let Some(task) = next {
+            pass(rt, seat, gate, task);
         }
+        Ok(())
     }
 
-    /// Gives a task, and wakes the workers. Refusals: `Memory`, with the task put back into the seat, and `Hall` with `Stranger`,
-    /// with the task dropped.
-    fn give<R: Wait>(&self, rt: &R, seat: &mut Seat<K, L>, done: Done<L>) -> Result<(), PoolError>
+    /// Gives a task and takes the next one of the seat's shard, if there is one, under one hold of the lock, and wakes those of the
+    /// workers that wait for which there is something to take now. What hinders the take is told by the next one. Refusals: `Memory`,
+    /// with the task put back into the seat, and `Hall` with `Stranger`, with the task dropped.
+    fn give<R: Wait>(
+        &self,
+        rt: &R,
+        seat: &mut Seat<K, L>,
+        done: Done<L>,
+    ) -> Result<Option<Task>, PoolError>
         requires { is_empty seat.old.hand ≡ true }
         ensures shard { seat.new.shard ≡ seat.old.shard }
         ensures counted { OnOk result (padded_value seat.new.gives ≡ padded_value seat.old.gives + 1) }
@@ -137,12 +148,11 @@ impl<K: Crew, L: Law> Pool<K, L> {
         ensures refused { IfErr result (λ e. ((e ≡ Memory) × (seat.new.hand ≡ Ready done)) ⊎ ((e ≡ OfHall Stranger) × (is_empty seat.new.hand ≡ true))) }
     {
         let mut held = self.held.lock(rt);
-        let given = held.give(seat, done);
-        drop(held);
-        match given {
+        match held.give(seat, done) {
             Ok(()) => {
-                self.has_work.notify_all();
-                Ok(())
+                let next = held.next(seat.shard);
+                self.wake_for_tasks(&mut held);
+                Ok(next)
             }
             Err((HallError::Memory, done)) => {
                 seat.hand = Hand::Ready(done);
@@ -151,4 +161,13 @@ impl<K: Crew, L: Law> Pool<K, L> {
             Err((error, _stranger)) => Err(PoolError::Hall(error)),
         }
     }
+}
+
+/// Passes the gate with a task, and puts it into its seat.
+fn pass<K: Crew, L: Law, G: Gate<R>, R: Wait>(rt: &R, seat: &mut Seat<K, L>, gate: &G, task: Task)
+    ensures hand { seat.new.hand ≡ Taken task }
+    ensures same { (seat.new.shard ≡ seat.old.shard) × (padded_value seat.new.gives ≡ padded_value seat.old.gives) }
+{
+    gate.enter(rt, task.shard(), task.number());
+    seat.hand = Hand::Taken(task);
 }

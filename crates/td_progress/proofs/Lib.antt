@@ -7,6 +7,7 @@ pub mod Between
 pub mod HeldBags
 pub mod Could
 pub mod HeldCounts
+pub mod Firsts
 pub mod HeldSteps
 pub mod HeldMoves
 pub mod Marked

@@ -1,5 +1,5 @@
 -- How a table keeps precursor counts: for each place and counters with active pointstamps, their epochs and gaps.
-use Rattle.std.specs.Prelude.{◌≡◌, ℕ, zero, suc, ◌<◌, ◌≤◌, nat_lt, Bool, true, false, ◌&&◌, cond, List, [], ◌∷◌, map, length, slice_get, Option, Some, None, is_some}
+use Rattle.std.specs.Prelude.{◌≡◌, ◌==◌, ℕ, zero, suc, ◌<◌, ◌≤◌, nat_lt, Bool, true, false, ◌&&◌, cond, List, [], ◌∷◌, map, filter_map, length, slice_get, Option, Some, None, is_some, option_map}
 use Rattle.std.specs.List.{AllByRecursion, IsDistinct, flat_map, sum_by}
 use Rattle.std.specs.Map.{lookup, keys_of}
 use Rattle.std.specs.Option.{unwrap_or}
@@ -75,6 +75,15 @@ first_shifted plan c e f (suc n) (k ∷ chains) = shifted plan c e f k ∷ first
 -- the first of its place and counters, with only itself in its gap
 abbrev pub IsFirst : Stamp → List (Stamp × List (ℕ × ℕ)) → Type 0
 IsFirst p chains = slice_get (chain_at (class_of p) chains) 0 ≡ Some (p.time.epoch, 1)
+
+-- the first epoch of a chain, where it has only itself in its gap
+abbrev pub first_alone : List (ℕ × ℕ) → Option ℕ
+first_alone [] = None
+first_alone (g ∷ gaps) = cond (g.1 == 1) (Some g.0) None
+
+-- of each place and counters the first, where it has only itself in its gap
+abbrev pub firsts : List (Stamp × List (ℕ × ℕ)) → List Stamp
+firsts chains = filter_map (λ k. option_map (λ e. at e k.0) (first_alone k.1)) chains
 
 -- of an active pointstamp, the gaps up to it add up to at least 1, and to no more than there are pointstamps
 abbrev pub IsCounted : Stamp → List (Stamp × List (ℕ × ℕ)) → Type 0

@@ -3,7 +3,7 @@ ghost use Rattle.std.specs.Prelude.{◌≡◌, ◌^◌, ◌<◌, ◌≤◌, ◌�
 ghost use Rattle.std.specs.List.{AllByRecursion};
 ghost use Rattle.td_progress.specs.Gaps.{within, sum_to, first_from, start_of, changed_at, changed_from, plus, minus};
 ghost use Rattle.td_progress.specs.Gaps.{has_epoch, count_to, with_epoch, without_epoch};
-ghost use Rattle.td_progress.specs.Held.{stepped};
+ghost use Rattle.td_progress.specs.Held.{stepped, first_alone};
 
 use std::alloc::{AllocError, Global};
 use std::collections::BTreeMap;
@@ -64,6 +64,16 @@ impl Chain {
         match self.gaps.first_key_value() {
             Some((first, gap)) => *first == epoch && *gap == 1,
             None => false,
+        }
+    }
+
+    /// The first epoch, where its gap is one.
+    pub(crate) fn first_alone(&self) -> Option<u64>
+        ensures { result ≡ first_alone self.now }
+    {
+        match self.gaps.first_key_value() {
+            Some((first, gap)) if *gap == 1 => Some(*first),
+            _ => None,
         }
     }
 

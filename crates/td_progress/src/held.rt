@@ -9,9 +9,10 @@ ghost use Rattle.td_progress.specs.Bag.{is_stamp, occurrences, IsSameBag};
 ghost use Rattle.td_progress.specs.Gaps.{has_epoch, sum_to, start_of, within};
 ghost use Rattle.td_reach.specs.Tables.{could_test};
 ghost use Rattle.td_progress.specs.Held.{class_of, held, total, between, chain_at, with_stamp, without_stamp};
-ghost use Rattle.td_progress.specs.Held.{stepped, shifted, shifted_at, is_ahead, AreHeld, IsFirst, IsCounted, count_of};
+ghost use Rattle.td_progress.specs.Held.{stepped, shifted, shifted_at, is_ahead, AreHeld, IsFirst, IsCounted, count_of, firsts};
 
 use crate::chain::{Chain, Step};
+use crate::frontier::FrontierStamps;
 use indexmap::IndexMap;
 use std::alloc::{AllocError, Global};
 use std::marker::Model;
@@ -96,6 +97,13 @@ impl Held {
             Some(chain) => chain.is_first(stamp.time.epoch()),
             None => false,
         }
+    }
+
+    /// The first of each place and counters, where it has nothing but itself in its gap.
+    pub(crate) fn firsts(&self) -> FrontierStamps<'_>
+        ensures { result ≡ firsts self.now }
+    {
+        FrontierStamps::of(&self.chains)
     }
 
     /// What the gaps up to a pointstamp add up to, without itself, where it is active.

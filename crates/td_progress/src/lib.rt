@@ -4,10 +4,12 @@
 mod chain;
 mod counts;
 mod error;
+mod frontier;
 mod held;
 pub mod laws;
 mod table;
 mod tally;
 
 pub use error::ProgressError;
+pub use frontier::FrontierStamps;
 pub use table::Table;

@@ -1,11 +1,13 @@
 //! The table of active pointstamps.
-ghost use Rattle.std.specs.Prelude.{◌≡◌, ◌+◌, ◌^◌, ◌<◌, ◌≤◌, ◌∷◌, ◌++◌, ◌↔◌, IsTrue, IfOk, IfSome, OnOk, OnErr, None, map, replicate};
-ghost use Rattle.std.specs.List.{AllByRecursion};
+ghost use Rattle.std.specs.Prelude.{◌≡◌, ◌+◌, ◌^◌, ◌<◌, ◌≤◌, ◌∷◌, ◌++◌, ◌↔◌, IsTrue, IfOk, IfSome, OnOk, OnErr, None, Contains, map, replicate};
+ghost use Rattle.std.specs.List.{AllByRecursion, IsDistinct};
+ghost use Rattle.td_reach.specs.declared.stamp.Stamp.{Stamp as AnyStamp};
 ghost use Rattle.td_reach.specs.Paths.{IsOf};
 ghost use Rattle.td_reach.specs.Frontier.{Frontier, Precursors, has_passed};
-ghost use Rattle.td_progress.specs.Bag.{occurrences, IsSameBag, input_stamp};
+ghost use Rattle.td_progress.specs.Bag.{is_stamp, occurrences, IsSameBag, input_stamp};
 
 use crate::error::ProgressError;
+use crate::frontier::FrontierStamps;
 use crate::held::Held;
 use crate::tally::Tally;
 use std::alloc::Global;
@@ -157,6 +159,18 @@ impl Table {
         could_order();
         let _plan = self.tally.reach().plan().vertices();
         self.held.is_first(stamp)
+    }
+
+    /// The frontier: each active pointstamp that no other active one could result in, once, in no certain order. It takes no memory,
+    /// and looks at each place and counters once that have active pointstamps, however many epochs are open there.
+    pub fn frontier(&self) -> FrontierStamps<'_>
+        ensures each { (p : AnyStamp) → Contains result p ↔ Frontier self.now.plan self.now.stamps p }
+        ensures once { IsDistinct is_stamp result }
+    {
+        could_tested();
+        could_order();
+        let _plan = self.tally.reach().plan().vertices();
+        self.held.firsts()
     }
 
     /// How many other active pointstamps could result in this one, None where it is not active. It takes no memory, and adds up

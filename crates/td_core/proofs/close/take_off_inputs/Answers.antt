@@ -1,7 +1,5 @@
-use Rattle.std.proofs.Common.{◌≡◌, ℕ, ◌<◌, ◌++◌, [], ◌∷◌, map, refl, ap, sym, ◌∙◌, subst, slice_index_or, arith}
+use Rattle.std.proofs.Common.{◌<◌, ◌++◌, [], ◌∷◌, map, refl, ap, sym, ◌∙◌, subst, slice_index_or, arith}
 use Rattle.std.proofs.lemmas.List.{take_all}
-use Rattle.td_stamp.specs.Time.{Timestamp}
-use Rattle.td_reach.specs.declared.stamp.Stamp.{Stamp}
 use Rattle.td_reach.specs.declared.stamp.Place.TheVariants as places
 use Rattle.td_progress.specs.Bag.{occurrences, input_stamp}
 use Rattle.td_core.proofs.CloseSteps.{is_there, next_off}

@@ -1,4 +1,4 @@
-use Rattle.std.proofs.Common.{◌≡◌, ◌++◌, [], ◌∷◌, None, get_or, ap, sym, ◌∙◌, arith}
+use Rattle.std.proofs.Common.{◌++◌, [], ◌∷◌, None, get_or, ap, sym, ◌∙◌, arith}
 use Rattle.td_task.specs.KeyAts.{key_items}
 use Rattle.td_core.proofs.NotifyShards.{none_left, left_more}
 use Rattle.td_core.proofs.notify.left_for.Goals as goal

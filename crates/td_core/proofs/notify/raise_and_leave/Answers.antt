@@ -1,4 +1,4 @@
-use Rattle.std.proofs.Common.{◌≡◌, ◌++◌, arith}
+use Rattle.std.proofs.Common.{arith}
 use Rattle.td_core.specs.Posted.{risen}
 use Rattle.td_core.proofs.notify.raise_and_leave.Goals as goal
 

@@ -1,4 +1,4 @@
-use Rattle.std.proofs.Common.{◌≡◌, ◌<◌, sym, ap, ◌∙◌, subst, arith}
+use Rattle.std.proofs.Common.{◌∙◌, arith}
 use Rattle.td_shard.specs.Asked.{without_items}
 use Rattle.td_core.proofs.NotifyShards.{same_mails, taken_out}
 use Rattle.td_core.proofs.notify.take_waiting.Goals as goal

@@ -1,4 +1,4 @@
-use Rattle.std.proofs.Common.{◌≡◌, ◌<◌, ◌≤◌, ◌+◌, ◌*◌, ◌%◌, List, [], length, drop, get_or, set, pos, sym, ap, ◌∙◌, subst, arith}
+use Rattle.std.proofs.Common.{◌≡◌, ◌<◌, ◌+◌, ◌*◌, ◌%◌, length, get_or, set, pos, ap, ◌∙◌, arith}
 use Rattle.std.proofs.lemmas.List.{length-set, drop_all}
 use Rattle.td_core.specs.Posted.{count_of, only_in}
 use Rattle.td_core.proofs.PostRuns.{count_next, count_after}

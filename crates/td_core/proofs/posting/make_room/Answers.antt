@@ -1,10 +1,7 @@
-use Rattle.std.proofs.Common.{◌≡◌, ◌+◌, ◌*◌, ◌<◌, ◌≤◌, ℕ, length, get_or, sym, ap, ◌∙◌, subst, arith}
-use Rattle.std.specs.declared.result.Result.{Result}
-use Rattle.std.specs.declared.result.Result.TheVariants.{Ok, Err}
-use Rattle.std.specs.Prelude.{OnOk}
-use Rattle.td_core.specs.Posted.{HaveRoom, HaveRoomFor, count_of}
+use Rattle.std.proofs.Common.{◌≡◌, ◌*◌, length, sym, ap, ◌∙◌, arith}
+use Rattle.td_core.specs.Posted.{count_of}
 use Rattle.td_core.proofs.PostingSteps.{as_many_mails, roomier_same}
-use Rattle.td_core.proofs.PostRuns.{room_weaker_there, none_yet, room_once_counted}
+use Rattle.td_core.proofs.PostRuns.{none_yet, room_once_counted}
 use Rattle.td_core.proofs.posting.make_room.Goals as goal
 
 pub returns-in_err-count-clause-same : goal.returns-in_err-count-clause-same

@@ -1,6 +1,6 @@
-use Rattle.std.proofs.Common.{◌≡◌, ◌+◌, ◌<◌, max, length, get_or, set, sym, ap, ◌∙◌, subst, arith}
+use Rattle.std.proofs.Common.{◌≡◌, ◌+◌, ◌<◌, max, length, get_or, set, ap, ◌∙◌, subst, arith}
 use Rattle.td_shard.specs.declared.shard.Shard.{Shard}
-use Rattle.td_core.specs.Posted.{HasRoom, HaveRoomFor}
+use Rattle.td_core.specs.Posted.{HasRoom}
 use Rattle.td_core.proofs.PostingSteps.{roomier_same, roomier_then, as_many_mails}
 use Rattle.td_core.proofs.PostRuns.{one_roomier, one_more_room, room_by_place}
 use Rattle.td_core.proofs.posting.make_room_for.Goals as goal

@@ -1,4 +1,4 @@
-use Rattle.std.proofs.Common.{◌≡◌, ◌+◌, ◌*◌, length, sym, subst}
+use Rattle.std.proofs.Common.{◌+◌, ◌*◌, length, subst}
 use Rattle.td_core.specs.Posted.{IsPosted, HaveRoomFor, count_of}
 use Rattle.td_core.proofs.PostRuns.{single}
 use Rattle.td_core.proofs.posting.post.Goals as goal

@@ -1,4 +1,4 @@
-use Rattle.std.proofs.Common.{◌≡◌, ◌<◌, ℕ, flat_map, get_or, length, map, take}
+use Rattle.std.proofs.Common.{◌≡◌, ◌<◌, ℕ, flat_map, get_or, map, take}
 use Rattle.td_core.specs.Posted.{count_of}
 use Rattle.td_core.specs.Released.{load_of, recs_out}
 use Rattle.td_core.proofs.release.make_room_for_loads.Given as goal

@@ -1,4 +1,4 @@
-use Rattle.std.proofs.Common.{◌≡◌, map, ap, ◌∙◌}
+use Rattle.std.proofs.Common.{map, ap, ◌∙◌}
 use Rattle.td_stamp.specs.Orders.{arrival_cmp}
 use Rattle.td_stamp.specs.Bag.{bag_of}
 use Rattle.td_stamp.specs.Groups.{groups}

@@ -1,4 +1,4 @@
-use Rattle.std.proofs.Common.{◌≡◌, refl, ap, sym, ◌∙◌}
+use Rattle.std.proofs.Common.{ap, sym, ◌∙◌}
 use Rattle.td_task.specs.Contents.{content_of}
 use Rattle.td_machine.specs.Active.{kind_of}
 use Rattle.td_machine.specs.Steps.{coming}

@@ -1,6 +1,5 @@
-use Rattle.std.proofs.Common.{◌≡◌, ◌-◌, map, filter, nat_le, List, [], ◌∷◌, ℕ, refl, ap, sym, ◌∙◌}
+use Rattle.std.proofs.Common.{◌≡◌, ◌-◌, map, filter, nat_le, List, [], ◌∷◌, refl, ap, sym, ◌∙◌}
 use Rattle.td_task.specs.Contents.{content_of}
-use Rattle.td_stamp.specs.declared.values.Item.{Item}
 use Rattle.td_stamp.specs.Groups.{groups}
 use Rattle.td_machine.specs.State.Content.{notification}
 use Rattle.td_machine.specs.State.{with_left}

@@ -1,4 +1,4 @@
-use Rattle.std.proofs.Common.{◌≡◌, ◌-◌, ◌∙◌, arith}
+use Rattle.std.proofs.Common.{◌-◌, arith}
 use Rattle.td_core.proofs.take.picked.Goals as goal
 
 pub returns-in-Some : goal.returns-in-Some

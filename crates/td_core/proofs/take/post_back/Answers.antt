@@ -1,4 +1,4 @@
-use Rattle.std.proofs.Common.{◌≡◌, ◌++◌, get_or, refl, ap, sym, ◌∙◌, append-nil, arith}
+use Rattle.std.proofs.Common.{◌≡◌, ◌++◌, ap, sym, ◌∙◌, append-nil, arith}
 use Rattle.td_machine.specs.Steps.{coming}
 use Rattle.td_shard.specs.declared.shard.Shard.{Shard}
 use Rattle.td_task.specs.Contents.{content_of}

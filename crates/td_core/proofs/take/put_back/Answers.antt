@@ -1,6 +1,4 @@
-use Rattle.std.proofs.Common.{◌≡◌, ◌++◌, ◌∷◌, [], Some, None, ap, sym, ◌∙◌, append-nil, arith}
-use Rattle.std.specs.Option.{option_to_list}
-use Rattle.td_core.specs.declared.floor.Floor.{Floor}
+use Rattle.std.proofs.Common.{arith}
 use Rattle.td_core.proofs.TakenHall.{some_out, some_taken, is_back, hall_back}
 use Rattle.td_core.proofs.take.put_back.Goals as goal
 

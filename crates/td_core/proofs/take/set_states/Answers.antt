@@ -1,4 +1,4 @@
-use Rattle.std.proofs.Common.{◌≡◌, ◌+◌, suc, List, length, set, slice_get, nat_le, filter, Some, refl, ap, sym, ◌∙◌, subst, arith}
+use Rattle.std.proofs.Common.{◌≡◌, ◌+◌, suc, length, set, slice_get, nat_le, filter, Some, ap, sym, ◌∙◌, subst, arith}
 use Rattle.td_stamp.specs.States.{state_of}
 use Rattle.td_machine.specs.State.{KeyItems, with_left}
 use Rattle.td_task.specs.KeyAts.{key_items}

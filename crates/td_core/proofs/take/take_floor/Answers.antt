@@ -1,4 +1,4 @@
-use Rattle.std.proofs.Common.{◌≡◌, ◌≤◌, ◌==◌, false, refl, ap, sym, ◌∙◌, subst, arith, inr, true}
+use Rattle.std.proofs.Common.{◌==◌, refl, ap, sym, ◌∙◌, arith, inr}
 use Rattle.td_machine.specs.Steps.Takes.{is_busy, has_none}
 use Rattle.td_machine.specs.Steps.Refusal.{busy}
 use Rattle.std.specs.List.{list_any}

@@ -1,4 +1,4 @@
-use Rattle.std.proofs.Common.{◌≡◌, get_or, ap, sym, ◌∙◌, subst}
+use Rattle.std.proofs.Common.{get_or, subst}
 use Rattle.td_core.specs.Taking.{IsChosen}
 use Rattle.td_core.proofs.Picking.{is_there}
 use Rattle.td_core.proofs.take.take_there.Goals as goal

@@ -1,6 +1,6 @@
-use Rattle.std.proofs.Common.{◌≡◌, ◌≤◌, ◌++◌, map, sym, ap, ◌∙◌, subst}
+use Rattle.std.proofs.Common.{◌≤◌, ◌++◌, map, sym, ap, ◌∙◌, subst}
 use Rattle.td_progress.specs.Bag.{occurrences, input_stamp}
-use Rattle.td_core.proofs.CloseSteps.{parted, closes}
+use Rattle.td_core.proofs.CloseSteps.{closes}
 use Rattle.td_core.proofs.CloseSteps.{enough}
 use Rattle.td_core.proofs.hall.Hall.close.Goals as goal
 

@@ -1,4 +1,4 @@
-use Rattle.std.proofs.Common.{◌≡◌, ◌<◌, ◌≤◌, true, length, ap, sym, ◌∙◌, subst, arith}
+use Rattle.std.proofs.Common.{◌≡◌, ◌<◌, true, ap, sym, ◌∙◌, subst, arith}
 use Rattle.td_machine.specs.Steps.{accepts, release_step, ends}
 use Rattle.td_machine.specs.Steps.Answer.{has_released}
 use Rattle.td_core.specs.Floor.{state_of}

@@ -1,4 +1,4 @@
-use Rattle.std.proofs.Common.{◌≡◌, ◌∙◌, ◌==◌, not, filter, Some, None, sym, ap}
+use Rattle.std.proofs.Common.{◌∙◌, ◌==◌, not, filter, sym, ap}
 use Rattle.td_stamp.specs.Orders.{output_cmp}
 use Rattle.td_stamp.specs.Bag.{bag_of}
 use Rattle.td_core.specs.Came.{came, came_at}
