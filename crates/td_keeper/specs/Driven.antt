@@ -1,5 +1,5 @@
 -- What a keeper does beside workers: the hall under their lock is any hall at each command.
-use Rattle.std.specs.Prelude.{◌≡◌, ◌⊎◌, ℕ, ◌+◌, ◌-◌, ◌≤◌, Bool, true, false, ◌||◌, List, [], ◌∷◌, ◌++◌, length, take, drop, Option, Some, None}
+use Rattle.std.specs.Prelude.{◌≡◌, ◌⊎◌, ℕ, ◌+◌, ◌-◌, ◌≤◌, Bool, true, false, ◌||◌, List, [], ◌∷◌, ◌++◌, length, take, drop, Option, Some, None, Result, Ok, Err}
 use Rattle.std.specs.Prelude.{if◌then◌else◌}
 use Rattle.td_stamp.specs.declared.values.Entry.{Entry}
 use Rattle.td_stamp.specs.declared.epoch_out.EpochOut.{EpochOut}
@@ -27,6 +27,23 @@ use Rattle.td_keeper.specs.Keeping.{Keeping, IsKeeping, since_base, with_batch, 
 use Rattle.td_keeper.specs.Refused.{is_new, submit_refusal, submit_as_refusal, write_refusal, cut_refusal}
 use Rattle.td_keeper.specs.Received.{IsReceived, received_in}
 use Rattle.td_keeper.specs.Halls.{IsOwn, lacking, with_released, with_collected, with_cut, collected_hall, cut_hall, last_passed, meant_outs}
+
+-- the replies of the calls that work on a pool's hall
+abbrev pub released : Result ℕ KeeperError → Reply
+released (Ok n) = Released n
+released (Err error) = Refused error None
+
+abbrev pub settled : Result (Unit {0}) KeeperError → Reply
+settled (Ok done) = Settled
+settled (Err error) = Refused error None
+
+abbrev pub collected : Result ℕ KeeperError → Reply
+collected (Ok n) = Collected n
+collected (Err error) = Refused error None
+
+abbrev pub cut : Result ℕ KeeperError → Reply
+cut (Ok e) = CutTaken e
+cut (Err error) = Refused error None
 
 -- whether the device failed
 abbrev pub is_device : KeeperError → Bool

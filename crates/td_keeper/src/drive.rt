@@ -1,8 +1,6 @@
 //! A keeper beside the workers of a pool.
 ghost use Rattle.std.specs.Prelude.{◌≡◌, ◌↔◌, ◌≤◌, true, false, IfOk, IfErr};
 ghost use Rattle.td_disk.specs.Disk.{Rises};
-ghost use Rattle.td_machine.specs.Active.{unpassed};
-ghost use Rattle.td_machine.specs.Reached.{IsReached};
 ghost use Rattle.td_standing.specs.Standing.{last_epoch, last_request};
 ghost use Rattle.td_standing.specs.Advanced.{SinceAdvance};
 ghost use Rattle.td_keeper.specs.Keeping.{IsKeeping};
@@ -15,8 +13,7 @@ use crate::laws::{each_disk_holds, each_is_kept};
 use std::sync::Wait;
 use td_calls::Law;
 use td_disk::Disk;
-use td_pool::laws::each_is_sound;
-use td_pool::{AnyHall, Crew, Pool};
+use td_pool::{Crew, Pool};
 use td_stamp::Batch;
 use td_standing::{KeeperError, laws};
 
@@ -96,26 +93,20 @@ impl<D: Disk, L: Law> Keeper<D, L> {
                 Ok(receipt) => Reply::SubmittedAs(receipt),
                 Err((error, batch)) => refused(error, Some(batch)),
             },
-            Command::Release => {
-                let mut held = pool.hall(rt);
-                let released = self.release_lent(&mut *held);
-                drop(held);
-                pool.wake();
-                match released {
-                    Ok(count) => Reply::Released(count),
-                    Err(error) => refused(error, None),
-                }
-            }
-            Command::Settle => match unpassed_in(&*pool.settle(rt)) {
-                None => Reply::Settled,
-                Some(epoch) => refused(KeeperError::NotPassed(epoch), None),
+            Command::Release => match self.release_in(rt, pool) {
+                Ok(count) => Reply::Released(count),
+                Err(error) => refused(error, None),
             },
-            Command::Collect => match self.collect_lent(&mut *pool.hall(rt)) {
+            Command::Settle => match self.settle_in(rt, pool) {
+                Ok(()) => Reply::Settled,
+                Err(error) => refused(error, None),
+            },
+            Command::Collect => match self.collect_in(rt, pool) {
                 Ok(count) => Reply::Collected(count),
                 Err(error) => refused(error, None),
             },
             Command::NextOut => Reply::Out(self.next_out()),
-            Command::Cut => match self.cut_lent(&mut *pool.hall(rt)) {
+            Command::Cut => match self.cut_in(rt, pool) {
                 Ok(epoch) => Reply::CutTaken(epoch),
                 Err(error) => refused(error, None),
             },
@@ -125,15 +116,6 @@ impl<D: Disk, L: Law> Keeper<D, L> {
             },
         }
     }
-}
-
-/// The first released epoch that has not passed in a hall that is lent, if there is one.
-fn unpassed_in<L: Law, H: AnyHall<L>>(hall: &H) -> Option<u64>
-    ensures reached { IsReached L.answers (H.state hall.now) }
-    ensures unpassed { result ≡ unpassed (H.state hall.now) }
-{
-    each_is_sound(hall);
-    hall.hall().unpassed()
 }
 
 /// A refusal, with the batch that was to be submitted.

@@ -3,6 +3,7 @@
 //! every epoch that was acknowledged.
 #![tactic(auto)]
 
+mod beside;
 mod collect;
 mod command;
 mod cut;

@@ -1,0 +1,75 @@
+//! The calls of a keeper that work on the hall of a pool, beside its workers.
+ghost use Rattle.std.specs.Prelude.{◌≡◌};
+ghost use Rattle.td_machine.specs.Active.{unpassed};
+ghost use Rattle.td_machine.specs.Reached.{IsReached};
+ghost use Rattle.td_keeper.specs.Driven.{Releases, Settles, Collects, Cuts, released, settled, collected, cut};
+
+use crate::keeper::Keeper;
+use std::sync::Wait;
+use td_calls::Law;
+use td_disk::Disk;
+use td_pool::laws::each_is_sound;
+use td_pool::{AnyHall, Crew, Pool};
+use td_standing::KeeperError;
+
+/// Each of these is done under one hold of the pool's lock. Between two of them the hall is any that workers may leave.
+impl<D: Disk, L: Law> Keeper<D, L> {
+    /// Releases into the pool's hall the epochs on the journal that it lacks, as `release`, and answers how many these are. The
+    /// workers that wait are woken. Refusals: `Foreign` and `Memory`.
+    pub fn release_in<K: Crew, R: Wait>(
+        &self,
+        rt: &R,
+        pool: &Pool<K, L>,
+    ) -> Result<u64, KeeperError>
+        ensures { Releases L.answers (released result) self.now self.now }
+    {
+        let mut held = pool.hall(rt);
+        let count = self.release_lent(&mut *held);
+        drop(held);
+        pool.wake();
+        count
+    }
+
+    /// Waits, with the lock let go, until every epoch that was released into the pool's hall has passed. Refusal: `NotPassed` of
+    /// the first that has not, where the pool was stopped before.
+    pub fn settle_in<K: Crew, R: Wait>(&self, rt: &R, pool: &Pool<K, L>) -> Result<(), KeeperError>
+        ensures { Settles L.answers (settled result) self.now self.now }
+    {
+        match unpassed_in(&*pool.settle(rt)) {
+            None => Ok(()),
+            Some(epoch) => Err(KeeperError::NotPassed(epoch)),
+        }
+    }
+
+    /// Takes into the queue what has come to the outputs of the pool's hall for epochs that have passed, as `collect`, and answers
+    /// for how many epochs. Refusals: `Foreign` and `Memory`.
+    pub fn collect_in<K: Crew, R: Wait>(
+        &mut self,
+        rt: &R,
+        pool: &Pool<K, L>,
+    ) -> Result<u64, KeeperError>
+        ensures { Collects L.answers (collected result) self.old self.new }
+    {
+        self.collect_lent(&mut *pool.hall(rt))
+    }
+
+    /// Cuts the pool's hall, as `cut`, and answers at which epoch: the cut waits to be written. Refusals: those of `cut`.
+    pub fn cut_in<K: Crew, R: Wait>(
+        &mut self,
+        rt: &R,
+        pool: &Pool<K, L>,
+    ) -> Result<u64, KeeperError>
+        ensures { Cuts L.answers (cut result) self.old self.new }
+    {
+        self.cut_lent(&mut *pool.hall(rt))
+    }
+}
+
+/// The first released epoch that has not passed in a hall that is lent, if there is one.
+fn unpassed_in<L: Law, H: AnyHall<L>>(hall: &H) -> Option<u64>
+    ensures reached { IsReached L.answers (H.state hall.now) }
+    ensures unpassed { result ≡ unpassed (H.state hall.now) }
+{
+    each_is_sound(hall);
+    hall.hall().unpassed()
+}
