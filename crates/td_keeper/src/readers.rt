@@ -1,5 +1,5 @@
 //! How far a keeper has come. All but `kept_states` take no memory.
-ghost use Rattle.std.specs.Prelude.{◌≡◌, ◌+◌, ◌-◌, ◌^◌, length, min, IfOk, IfErr};
+ghost use Rattle.std.specs.Prelude.{◌≡◌, ◌↔◌, ◌≤◌, ◌+◌, ◌-◌, ◌^◌, IsTrue, length, min, IfOk, IfErr};
 ghost use Rattle.std.specs.List.{sum_by};
 ghost use Rattle.td_standing.specs.Standing.{last_epoch, last_request};
 
@@ -29,6 +29,13 @@ impl<D: Disk, L: Law> Keeper<D, L> {
         ensures { result ≡ self.now.head.version }
     {
         self.head.version
+    }
+
+    /// Whether the journal has no room for an epoch more: a cut that is written makes room.
+    pub fn is_full(&self) -> bool
+        ensures { IsTrue result ↔ (self.now.head.shape.n ≤ length self.now.standing.submitted) }
+    {
+        u64::from(self.head.shape.cells()) <= self.submitted.len() as u64
     }
 
     /// The last epoch whose outputs were collected.
