@@ -21,7 +21,7 @@ impl<D: Disk, L: Law> Keeper<D, L> {
         rt: &R,
         pool: &Pool<K, L>,
     ) -> Result<u64, KeeperError>
-        ensures { Releases L.answers (released result) self.now self.now }
+        ensures { Releases D.is_lawful D.state D.failures L.answers (released result) self.now self.now }
     {
         let mut held = pool.hall(rt);
         let count = self.release_lent(&mut *held);
@@ -33,7 +33,7 @@ impl<D: Disk, L: Law> Keeper<D, L> {
     /// Waits, with the lock let go, until every epoch that was released into the pool's hall has passed. Refusal: `NotPassed` of
     /// the first that has not, where the pool was stopped before.
     pub fn settle_in<K: Crew, R: Wait>(&self, rt: &R, pool: &Pool<K, L>) -> Result<(), KeeperError>
-        ensures { Settles L.answers (settled result) self.now self.now }
+        ensures { Settles D.is_lawful D.state D.failures L.answers (settled result) self.now self.now }
     {
         match unpassed_in(&*pool.settle(rt)) {
             None => Ok(()),
@@ -48,7 +48,7 @@ impl<D: Disk, L: Law> Keeper<D, L> {
         rt: &R,
         pool: &Pool<K, L>,
     ) -> Result<u64, KeeperError>
-        ensures { Collects L.answers (collected result) self.old self.new }
+        ensures { Collects D.is_lawful D.state D.failures L.answers (collected result) self.old self.new }
     {
         self.collect_lent(&mut *pool.hall(rt))
     }
@@ -59,7 +59,7 @@ impl<D: Disk, L: Law> Keeper<D, L> {
         rt: &R,
         pool: &Pool<K, L>,
     ) -> Result<u64, KeeperError>
-        ensures { Cuts L.answers (cut result) self.old self.new }
+        ensures { Cuts D.is_lawful D.state D.failures L.answers (cut result) self.old self.new }
     {
         self.cut_lent(&mut *pool.hall(rt))
     }

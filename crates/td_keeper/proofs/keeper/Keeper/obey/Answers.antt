@@ -23,8 +23,8 @@ as_error : (e : KeeperError) → as_err e ≡ as_err error.Device → e ≡ erro
 unfolding error_of
 as_error e is = ap error_of is
 
-pub returns-in-Submit-clause-obeyed : goal.returns-in-Submit-clause-obeyed
-returns-in-Submit-clause-obeyed g c =
+pub returns-in-Err-clause-obeyed : goal.returns-in-Err-clause-obeyed
+returns-in-Err-clause-obeyed g c =
     let e = c.in-Err.ensures in
     let old = c.args.self.now in
     let state = g.D.Disk.state in
@@ -75,8 +75,8 @@ returns-in-Ok-write_cut-clause-obeyed g c =
       },
     )
 
-pub returns-clause-obeyed : goal.returns-clause-obeyed
-returns-clause-obeyed g c =
+pub returns-in-Err-write_cut-clause-obeyed : goal.returns-in-Err-write_cut-clause-obeyed
+returns-in-Err-write_cut-clause-obeyed g c =
     let e = c.in-Err-write_cut.ensures in
     rw (c.in-WriteCut.is, c.refused-in-Err-write_cut.ensures) (
       record {
@@ -114,8 +114,8 @@ returns-in-Ok-submit_as-clause-obeyed g c =
       },
     )
 
-pub returns-in-SubmitAs-clause-obeyed : goal.returns-in-SubmitAs-clause-obeyed
-returns-in-SubmitAs-clause-obeyed g c =
+pub returns-in-Err-submit_as-clause-obeyed : goal.returns-in-Err-submit_as-clause-obeyed
+returns-in-Err-submit_as-clause-obeyed g c =
     let e = c.in-Err-submit_as.ensures in
     let old = c.args.self.now in
     let state = g.D.Disk.state in
