@@ -8,7 +8,7 @@ use Rattle.std.specs.List.{AllByRecursion, IsDistinct, filter_map, cons_option}
 use Rattle.std.specs.List.Sorted.{IsStrictlySortedBy}
 use Rattle.std.proofs.lemmas.Cmp.{tied_itself}
 use Rattle.std.proofs.lemmas.Map.Keys.{sorted_head, sorted_tail}
-use Rattle.td_stamp.specs.Time.{time_cmp}
+use Rattle.td_stamp.specs.Time.{Timestamp, time_cmp}
 use Rattle.td_reach.specs.declared.stamp.Place.{Place}
 use Rattle.td_reach.specs.declared.stamp.Place.TheVariants as places
 use Rattle.td_reach.specs.declared.stamp.Stamp.{Stamp}
@@ -473,3 +473,11 @@ module _ (active : Active) where
       → IsNextReady active asked found next → IsReadyAt active asked (place + 1) next
   next_place asked place None next some once at is = absurd (true≢false (sym some))
   next_place asked place (Some last) next some once at is = next_at asked place last next once at is
+
+-- A VERTEX that has no notifications is asked for none
+pub none_asked : IsAntisymmetric time_cmp → (es : AskedList) (notified : ℕ → Bool) → AllByRecursion (λ n. notified n.vertex ≡ true) (keys es) → (v : ℕ) (t : Timestamp) → notified v ≡ false → is_some (items_at es v t) ≡ false
+none_asked apart es notified all v t is = by (is_some (items_at es v t)) refl
+  where
+    by : (b : Bool) → is_some (items_at es v t) ≡ b → b ≡ false
+    by true asked = absurd (true≢false (sym (of_among (λ n. notified n.vertex ≡ true) (keys es) (noted_at v t) all (is_asked_for apart (noted_at v t) es asked)) ∙ is))
+    by false none = refl

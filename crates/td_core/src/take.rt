@@ -6,6 +6,7 @@ ghost use Rattle.td_stamp.specs.Groups.{groups};
 ghost use Rattle.td_stamp.specs.States.{state_of as kept_of};
 ghost use Rattle.td_stamp.specs.declared.values.Arrival.{Arrival as AnyArrival};
 ghost use Rattle.td_shard.specs.declared.noted.Noted.{Noted as AnyNoted};
+ghost use Rattle.td_calls.specs.Callbacks.{is_notified as is_notified_kind};
 ghost use Rattle.td_machine.specs.State.{HallState, Task as AnyTask, is_out, with_left};
 ghost use Rattle.td_machine.specs.Steps.{Takes, MayTake, with_state_of, ends};
 ghost use Rattle.td_machine.specs.Steps.Answer.{has_taken};
@@ -25,6 +26,7 @@ ghost use Rattle.td_core.specs.declared.error.HallError.TheVariants.{Memory};
 use crate::error::HallError;
 use crate::floor::Floor;
 use crate::hall::Hall;
+use crate::sites::Sites;
 use std::alloc::Global;
 use std::sync::Arc;
 use td_calls::Law;
@@ -32,6 +34,7 @@ use td_machine::laws::{
     active_of_plan, asked_where_notified, bags_of_states, none_left, reached, reached_in_order,
     what_waits,
 };
+use td_plan::Kind;
 use td_progress::Table;
 use td_progress::laws::{counted, in_any_order};
 use td_reach::{Place, Stamp};
@@ -144,10 +147,12 @@ fn has_task_at<L: Law>(floor: &Floor, shard: u8) -> bool
 /// The first candidate of a shard, if there is one.
 fn first_candidate(floor: &Floor, shard: u8) -> Option<Candidate>
     requires within { shard < length floor.now.shards.items }
+    requires sites { IsSites floor.now.table.plan floor.now.sites }
     requires asked { HoldsAt (λ s. AreAsked floor.now.table (asked_at s)) floor.now.shards.items shard }
     ensures { HoldsAt (λ s. IsPicked floor.now.table s 0 result) floor.now.shards.items shard }
 {
-    picked(&floor.table, &floor.shards[usize::from(shard)], 0)
+    let there = &floor.shards[usize::from(shard)];
+    picked(&floor.table, &floor.sites, there, 0)
 }
 
 /// Whether a task is out at a shard.
@@ -190,7 +195,7 @@ fn chosen(floor: &Floor, shard: u8, pick: u64) -> Result<Option<(Candidate, Task
     ensures refused { IfErr result (IsPickRefused shard pick floor.now) }
 {
     let there = &floor.shards[usize::from(shard)];
-    let Some(candidate) = picked(&floor.table, there, pick) else {
+    let Some(candidate) = picked(&floor.table, &floor.sites, there, pick) else {
         return Ok(None);
     };
     if floor.taken == MOST_TASKS {
@@ -202,31 +207,33 @@ fn chosen(floor: &Floor, shard: u8, pick: u64) -> Result<Option<(Candidate, Task
 
 /// The candidate of a shard that a pick names, if there is one. Where the pick is below the number of its messages, the
 /// notifications are not looked at.
-fn picked(table: &Table, shard: &Shard, pick: u64) -> Option<Candidate>
+fn picked(table: &Table, sites: &Sites, shard: &Shard, pick: u64) -> Option<Candidate>
     requires asked { AreAsked table.now (asked_at shard.now) }
+    requires sites { IsSites table.now.plan sites.now }
     ensures { IsPicked table.now shard.now pick result }
 {
     let messages = shard.mailbox.len() as u64;
-    let place = place_of(table, shard, pick);
+    let place = place_of(table, sites, shard, pick);
     if place < messages {
         return Some(Candidate::Message(place as usize));
     }
-    match ready_at(table, &shard.waiting, place - messages) {
+    match ready_at(table, sites, &shard.waiting, place - messages) {
         Some(noted) => Some(Candidate::Notification(noted)),
         None => None,
     }
 }
 
 /// The place that a pick names. Where it is 0, or below the number of messages, it need not be counted round.
-fn place_of(table: &Table, shard: &Shard, pick: u64) -> u64
+fn place_of(table: &Table, sites: &Sites, shard: &Shard, pick: u64) -> u64
     requires asked { AreAsked table.now (asked_at shard.now) }
+    requires sites { IsSites table.now.plan sites.now }
     ensures { IsPlaceOf table.now shard.now pick result }
 {
     let messages = shard.mailbox.len() as u64;
     if pick < messages.max(1) {
         return pick;
     }
-    let count = u128::from(messages) + u128::from(ready_count(table, &shard.waiting));
+    let count = u128::from(messages) + u128::from(ready_count(table, sites, &shard.waiting));
     if count == 0 {
         return pick;
     }
@@ -234,8 +241,9 @@ fn place_of(table: &Table, shard: &Shard, pick: u64) -> u64
 }
 
 /// How many notifications of a shard are in the frontier.
-fn ready_count(table: &Table, waiting: &Waiting) -> u64
+fn ready_count(table: &Table, sites: &Sites, waiting: &Waiting) -> u64
     requires asked { AreAsked table.now (map (λ w. w.0) waiting.now) }
+    requires sites { IsSites table.now.plan sites.now }
     ensures { (ready : List AnyNoted) → AreReady table.now (map (λ w. w.0) waiting.now) ready → result ≡ length ready }
 {
     time_list_order();
@@ -243,7 +251,7 @@ fn ready_count(table: &Table, waiting: &Waiting) -> u64
     let _few = waiting.len();
     let mut count = 0;
     for stamp in table.frontier() {
-        if asked_of(waiting, &stamp).is_some() {
+        if asked_of(table, sites, waiting, &stamp).is_some() {
             count += 1;
         }
     }
@@ -252,29 +260,37 @@ fn ready_count(table: &Table, waiting: &Waiting) -> u64
 
 /// The notification at a place among those of a shard that are in the frontier: each place before it costs one more walk over the
 /// frontier.
-fn ready_at(table: &Table, waiting: &Waiting, place: u64) -> Option<Noted>
+fn ready_at(table: &Table, sites: &Sites, waiting: &Waiting, place: u64) -> Option<Noted>
     requires asked { AreAsked table.now (map (λ w. w.0) waiting.now) }
+    requires sites { IsSites table.now.plan sites.now }
     ensures { IsReadyAt table.now (map (λ w. w.0) waiting.now) place result }
 {
-    let mut next = next_ready(table, waiting, &None);
+    let mut next = next_ready(table, sites, waiting, &None);
     for _passed in 0..place {
         if next.is_none() {
             return None;
         }
-        next = next_ready(table, waiting, &next);
+        next = next_ready(table, sites, waiting, &next);
     }
     next
 }
 
 /// The first notification of a shard that is in the frontier and comes after another, or the first of all.
-fn next_ready(table: &Table, waiting: &Waiting, after: &Option<Noted>) -> Option<Noted>
+fn next_ready(
+    table: &Table,
+    sites: &Sites,
+    waiting: &Waiting,
+    after: &Option<Noted>,
+) -> Option<Noted>
+    requires asked { AreAsked table.now (map (λ w. w.0) waiting.now) }
+    requires sites { IsSites table.now.plan sites.now }
     ensures { IsNextReady table.now (map (λ w. w.0) waiting.now) after.now result }
 {
     time_list_order();
     counted();
     let mut first = None;
     for stamp in table.frontier() {
-        first = earlier(first, after, asked_of(waiting, &stamp));
+        first = earlier(first, after, asked_of(table, sites, waiting, &stamp));
     }
     first
 }
@@ -313,13 +329,20 @@ fn comes_before(noted: &Noted, first: &Option<Noted>) -> bool
     }
 }
 
-/// The notification of a pointstamp, where a shard asked for it.
-fn asked_of(waiting: &Waiting, stamp: &Stamp) -> Option<Noted>
+/// The notification of a pointstamp, where a shard asked for it. Vertices that have none are not looked up: an input is always in the
+/// frontier.
+fn asked_of(table: &Table, sites: &Sites, waiting: &Waiting, stamp: &Stamp) -> Option<Noted>
+    requires asked { AreAsked table.now (map (λ w. w.0) waiting.now) }
+    requires sites { IsSites table.now.plan sites.now }
     ensures { result ≡ asked_of waiting.now stamp.now.place stamp.now.time }
 {
+    time_list_order();
     let Place::Vertex(vertex) = stamp.place else {
         return None;
     };
+    if !is_notified(sites.kind(vertex)) {
+        return None;
+    }
     if !waiting.is_asked(vertex, &stamp.time) {
         return None;
     }
@@ -327,6 +350,13 @@ fn asked_of(waiting: &Waiting, stamp: &Stamp) -> Option<Noted>
         time: stamp.time.copy(),
         vertex,
     })
+}
+
+/// Whether a vertex of this kind has notifications.
+fn is_notified(kind: Kind) -> bool
+    ensures { result ≡ is_notified_kind kind }
+{
+    matches!(kind, Kind::Group(_) | Kind::Fold(_))
 }
 
 /// A task for a candidate of a shard. Refusal: `Memory`.
