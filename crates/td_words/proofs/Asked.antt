@@ -11,7 +11,7 @@ use Rattle.clap.proofs.WalkLemmas.{one_text-rows}
 use Rattle.clap.specs.Faults.{fault_of}
 use Rattle.clap.specs.Kinds.{IsAmong}
 use Rattle.td_words.specs.declared.job.Job.{Job}
-use Rattle.td_words.specs.declared.job.Job.TheVariants.{Batch, Run, Sim, Format, Feed, Show, Upgrade, Help}
+use Rattle.td_words.specs.declared.job.Job.TheVariants.{Batch, Run, Sim, Format, Feed, Show, Upgrade, Stream, Help}
 use Rattle.td_words.specs.declared.job.WordsError.{WordsError}
 use Rattle.td_words.specs.declared.job.WordsError.TheVariants.{Words, Memory}
 use Rattle.td_words.specs.Jobs.{IsHelp, IsOf}
@@ -103,6 +103,7 @@ pub has_workers : (met : Option (Text × List Row)) (job : Job) → IsNamed met 
 has_workers met (Run w) n = (n.2.4, n.2.5)
 has_workers met (Sim w picks) n = (n.2.0.4, n.2.0.5)
 has_workers met (Feed disk plan w) n = (n.2.2.4, n.2.2.5)
+has_workers met (Stream disk plan w cut_every) n = (n.2.2.4, n.2.2.5)
 has_workers met _ n = tt
 
 -- help is asked for, where the parse failed with help
@@ -162,10 +163,10 @@ pub batch_met : (met : Option (Text × List Row)) → option_map (λ p. p.0) met
 batch_met met e = let m = met_some met (codes "batch") e in (m.0, m.1, tt)
 
 -- a number of one digit, which is there
-abbrev OneDigit : ℕ → Text → ℕ → Type 0
+abbrev pub OneDigit : ℕ → Text → ℕ → Type 0
 OneDigit radix text number = IsNumeral radix (without_leading_plus text) × (number ≡ digits_value radix (without_leading_plus text))
 
-one : OneDigit 10 (codes "1") 1
+pub one : OneDigit 10 (codes "1") 1
 one = ((omega arith, (lit< tt, tt)), refl)
 
 two : OneDigit 10 (codes "2") 2
@@ -174,10 +175,10 @@ two = ((omega arith, (lit< tt, tt)), refl)
 three : OneDigit 10 (codes "3") 3
 three = ((omega arith, (lit< tt, tt)), refl)
 
-four : OneDigit 10 (codes "4") 4
+pub four : OneDigit 10 (codes "4") 4
 four = ((omega arith, (lit< tt, tt)), refl)
 
-number_there : (id : Text) (least most : ℕ) (rows : List Row) (text : Text) (n : ℕ) → one_of id rows ≡ Some text → OneDigit 10 text n → least ≤ n → n ≤ most → IsNumber id least most rows n
+pub number_there : (id : Text) (least most : ℕ) (rows : List Row) (text : Text) (n : ℕ) → one_of id rows ≡ Some text → OneDigit 10 text n → least ≤ n → n ≤ most → IsNumber id least most rows n
 number_there id least most rows text n at digit low high = (text, at, digit.0, digit.1, low, high)
 
 pub run_met : (met : Option (Text × List Row)) → option_map (λ p. p.0) met ≡ Some (codes "run") → option_map (λ p. one_of (codes "workers") p.1) met ≡ Some (Some (codes "1")) → IsNamed met (Run 1)
@@ -213,7 +214,7 @@ format_met met name values =
       ),
     )
 
-some_is : (a b : Text) (o : Option Text) → o ≡ Some a → o ≡ Some b → a ≡ b
+pub some_is : (a b : Text) (o : Option Text) → o ≡ Some a → o ≡ Some b → a ≡ b
 some_is a b o e h = cc
 
 pub named_format : (met : Option (Text × List Row)) (job : Job) → IsNamed met job → option_map (λ p. p.0) met ≡ Some (codes "format") → option_map (λ p. format_values p.1) met ≡ Some given_format → IsFormat (codes "d") (codes "p") 4 2 3 job

@@ -1,5 +1,5 @@
 -- What clap makes of the program's words, of which the first is the program's name.
-use Rattle.std.specs.Prelude.{◌≡◌, ◌≢◌, ℕ, ◌≤◌, pos, List, [], ◌∷◌, Option, Some, true, codes}
+use Rattle.std.specs.Prelude.{◌≡◌, ◌≢◌, ℕ, ◌≤◌, pos, List, [], ◌∷◌, Option, Some, None, true, codes}
 use Rattle.std.specs.Str.Parse.{IsNumeral, digits_value, without_leading_plus}
 use Rattle.clap.specs.Words.{App, Row, Rule, Text, new_app, new_rule, with_rule, with_subcommand, subcommand_of, one_of, first_of}
 use Rattle.clap.specs.Faults.{fault_of}
@@ -7,7 +7,7 @@ use Rattle.clap.specs.Kinds.{IsAmong}
 use Rattle.clap.specs.declared.builder.value_parser.ValueParser.TheVariants as parser
 use Rattle.clap.specs.declared.error.kind.ErrorKind.TheVariants.{DisplayHelp}
 use Rattle.td_words.specs.declared.job.Job.{Job}
-use Rattle.td_words.specs.declared.job.Job.TheVariants.{Batch, Run, Sim, Format, Feed, Show, Upgrade, Help}
+use Rattle.td_words.specs.declared.job.Job.TheVariants.{Batch, Run, Sim, Format, Feed, Show, Upgrade, Stream, Help}
 
 -- `--workers W`, a number of 1 to 16, and 1 where it is not given
 abbrev pub workers_rule : Rule
@@ -34,6 +34,14 @@ word_rule id = record (new_rule id) { value_names = 1; required = true }
 abbrev pub number_rule : Text → Rule
 number_rule id = record (word_rule id) { parser = Some (parser.Unsigned 0 4294967295) }
 
+-- `--cut-every E`, a number of 1 to 65536, which may be left out
+abbrev pub cut_every_rule : Rule
+cut_every_rule = record (new_rule (codes "cut-every")) {
+  long = Some (codes "cut-every");
+  value_names = 1;
+  parser = Some (parser.Unsigned 1 65536);
+}
+
 -- the subcommands
 abbrev pub batch_app : App
 batch_app = new_app (codes "batch")
@@ -59,12 +67,15 @@ show_app = with_files (new_app (codes "show"))
 abbrev pub upgrade_app : App
 upgrade_app = with_files (new_app (codes "upgrade"))
 
+abbrev pub stream_app : App
+stream_app = with_rule (with_rule (with_files (new_app (codes "stream"))) workers_rule) cut_every_rule
+
 -- `td`, which needs one of them
 abbrev pub alone : App
 alone = let named = new_app (codes "td") in record named { top = record named.top { subcommand_required = true } }
 
 abbrev pub td : App
-td = with_subcommand (with_subcommand (with_subcommand (with_subcommand (with_subcommand (with_subcommand (with_subcommand alone batch_app.top) run_app.top) sim_app.top) format_app.top) feed_app.top) show_app.top) upgrade_app.top
+td = with_subcommand (with_subcommand (with_subcommand (with_subcommand (with_subcommand (with_subcommand (with_subcommand (with_subcommand alone batch_app.top) run_app.top) sim_app.top) format_app.top) feed_app.top) show_app.top) upgrade_app.top) stream_app.top
 
 abbrev pub batch_words : List (List ℕ)
 batch_words = codes "td" ∷ codes "batch" ∷ []
@@ -78,6 +89,12 @@ format_words = codes "td" ∷ codes "format" ∷ codes "d" ∷ codes "p" ∷ cod
 abbrev pub feed_words : List (List ℕ)
 feed_words = codes "td" ∷ codes "feed" ∷ codes "d" ∷ codes "p" ∷ []
 
+abbrev pub stream_words : List (List ℕ)
+stream_words = codes "td" ∷ codes "stream" ∷ codes "d" ∷ codes "p" ∷ []
+
+abbrev pub cutting_words : List (List ℕ)
+cutting_words = codes "td" ∷ codes "stream" ∷ codes "d" ∷ codes "p" ∷ codes "--cut-every" ∷ codes "4" ∷ []
+
 -- the number that a subcommand has at a name, where clap says so: in decimal, as Rust reads it, and between these
 abbrev pub IsNumber : Text → ℕ → ℕ → List Row → ℕ → Type 0
 IsNumber id least most rows number = (text : List ℕ) × (one_of id rows ≡ Some text)
@@ -86,6 +103,11 @@ IsNumber id least most rows number = (text : List ℕ) × (one_of id rows ≡ So
 -- the number of shards, 1 to 16
 abbrev pub IsWorkers : List Row → ℕ → Type 0
 IsWorkers = IsNumber (codes "workers") 1 16
+
+-- the number of epochs after which there is a cut, 1 to 65536, or none
+abbrev pub IsCutEvery : List Row → Option ℕ → Type 0
+IsCutEvery rows (Some every) = IsNumber (codes "cut-every") 1 65536 rows every
+IsCutEvery rows None = one_of (codes "cut-every") rows ≡ None
 
 -- the name of a job's subcommand, and its values there
 abbrev pub name_of : Job → Text
@@ -96,6 +118,7 @@ name_of (Format disk plan m n k) = codes "format"
 name_of (Feed disk plan workers) = codes "feed"
 name_of (Show disk plan) = codes "show"
 name_of (Upgrade disk plan) = codes "upgrade"
+name_of (Stream disk plan workers cut_every) = codes "stream"
 name_of (Help text) = codes "help"
 
 abbrev pub HasValues : List Row → Job → Type 0
@@ -107,6 +130,8 @@ HasValues rows (Format disk plan m n k) = (first_of (codes "disk") rows ≡ Some
 HasValues rows (Feed disk plan workers) = (first_of (codes "disk") rows ≡ Some disk.now) × (first_of (codes "plan") rows ≡ Some plan.now) × IsWorkers rows workers
 HasValues rows (Show disk plan) = (first_of (codes "disk") rows ≡ Some disk.now) × (first_of (codes "plan") rows ≡ Some plan.now)
 HasValues rows (Upgrade disk plan) = (first_of (codes "disk") rows ≡ Some disk.now) × (first_of (codes "plan") rows ≡ Some plan.now)
+HasValues rows (Stream disk plan workers cut_every) = (first_of (codes "disk") rows ≡ Some disk.now) × (first_of (codes "plan") rows ≡ Some plan.now)
+    × IsWorkers rows workers × IsCutEvery rows cut_every
 HasValues rows (Help text) = ⊥
 
 -- the subcommand at which a parse arrived is the job's, and has its values
@@ -123,13 +148,14 @@ abbrev pub HasWorkers : Job → Type 0
 HasWorkers (Run workers) = (1 ≤ workers) × (workers ≤ 16)
 HasWorkers (Sim workers picks) = (1 ≤ workers) × (workers ≤ 16)
 HasWorkers (Feed disk plan workers) = (1 ≤ workers) × (workers ≤ 16)
+HasWorkers (Stream disk plan workers cut_every) = (1 ≤ workers) × (workers ≤ 16)
 HasWorkers _ = Unit {0}
 
 -- the words ask for no job, nor for help alone
 abbrev pub IsRefused : List (List ℕ) → Type 0
 IsRefused words = ((job : Job) → IsNamed (subcommand_of td words) job → fault_of td words ≡ [] → ⊥) × (fault_of td words ≢ DisplayHelp ∷ [])
 
--- a formatting with these values, and a feed
+-- a formatting with these values, a feed, and one as its lines come
 abbrev pub IsFormat : Text → Text → ℕ → ℕ → ℕ → Job → Type 0
 IsFormat a b x y z (Format disk plan m n k) = (disk.now ≡ a) × (plan.now ≡ b) × (m ≡ x) × (n ≡ y) × (k ≡ z)
 IsFormat a b x y z _ = ⊥
@@ -137,3 +163,7 @@ IsFormat a b x y z _ = ⊥
 abbrev pub IsFeed : Text → Text → ℕ → Job → Type 0
 IsFeed a b w (Feed disk plan workers) = (disk.now ≡ a) × (plan.now ≡ b) × (workers ≡ w)
 IsFeed a b w _ = ⊥
+
+abbrev pub IsStream : Text → Text → ℕ → Option ℕ → Job → Type 0
+IsStream a b w e (Stream disk plan workers cut_every) = (disk.now ≡ a) × (plan.now ≡ b) × (workers ≡ w) × (cut_every ≡ e)
+IsStream a b w e _ = ⊥

@@ -3,6 +3,7 @@ ghost use Rattle.std.specs.Prelude.{◌≡◌, false, IfOk, IsOkAnd};
 ghost use Rattle.clap.specs.Words.{app_of, new_app, rule_of, with_rule, with_subcommand};
 ghost use Rattle.td_words.specs.Command.{td, batch_app, run_app, sim_app, format_app, feed_app, show_app, upgrade_app};
 ghost use Rattle.td_words.specs.Command.{workers_rule, picks_rule, word_rule, number_rule};
+ghost use Rattle.td_words.specs.Command.{stream_app, cut_every_rule};
 ghost use Rattle.td_words.specs.Jobs.{has_globals};
 
 use clap::builder::ValueParser;
@@ -32,6 +33,8 @@ const SHOW: &str =
 
 const UPGRADE: &str = "Raises a disk to version 2 of its format, which has request numbers";
 
+const STREAM: &str = "Does what feed does, epoch by epoch as standard input comes";
+
 /// What help says of the options and of the other arguments.
 const WORKERS: &str = "How many shards, 1 to 16";
 
@@ -49,6 +52,8 @@ const RECORDS: &str = "How many records an epoch may have, 1 to 65536";
 const CELLS: &str = "How many epochs there may be after a cut, 1 to 65536";
 
 const STATES: &str = "How many states a cut may keep, 1 to 1048576";
+
+const CUT_EVERY: &str = "Cut after each E epochs, 1 to 65536";
 
 /// What help says at its end.
 const TD_MORE: &str = "\
@@ -95,6 +100,15 @@ Writes: DISK, and a line 'version 2', also where it was of version 2 before
 Exit status: 0, or 1 after a fault, which is told on standard error
 Faults are explained in docs/FAULTS.md";
 
+const STREAM_MORE: &str = "\
+Reads:  PLAN, DISK and lines, as td feed does
+Writes: DISK, and, as each epoch is closed and before the next line is read, 'ack EPOCH' (or 'again REQUEST') and then its
+        output lines 'EPOCH VERTEX KEY VALUE'; 'cut EPOCH' where a line 'cut' asks for a cut, after each E epochs with
+        --cut-every E, and in any case before the room for epochs on DISK is full
+A cut keeps the states on DISK, and frees the room of the epochs up to it
+Exit status: 0, or 1 after a fault, which is told on standard error
+Faults are explained in docs/FAULTS.md";
+
 /// `td` with its subcommands.
 pub(crate) fn command<'a>(alloc: Global) -> Result<Command<'a>, AllocError>
     ensures { IfOk result (λ c. app_of c ≡ td) }
@@ -109,7 +123,8 @@ pub(crate) fn command<'a>(alloc: Global) -> Result<Command<'a>, AllocError>
     let td = with_leaf(td, format_leaf(alloc))?;
     let td = with_leaf(td, feed_leaf(alloc))?;
     let td = with_leaf(td, show_leaf(alloc))?;
-    with_leaf(td, upgrade_leaf(alloc))
+    let td = with_leaf(td, upgrade_leaf(alloc))?;
+    with_leaf(td, stream_leaf(alloc))
 }
 
 /// `batch`.
@@ -181,6 +196,18 @@ fn upgrade_leaf<'a>(alloc: Global) -> Result<Command<'a>, AllocError>
     let leaf = new_leaf(alloc, "upgrade", UPGRADE, UPGRADE_MORE);
     let leaf = with_arg(leaf, word_arg(alloc, "disk", "DISK", DISK))?;
     with_arg(leaf, word_arg(alloc, "plan", "PLAN", PLAN))
+}
+
+/// `stream`.
+fn stream_leaf<'a>(alloc: Global) -> Result<Command<'a>, AllocError>
+    ensures app { IfOk result (λ c. app_of c ≡ stream_app) }
+    ensures globals { IfOk result (λ c. has_globals c ≡ false) }
+{
+    let leaf = new_leaf(alloc, "stream", STREAM, STREAM_MORE);
+    let leaf = with_arg(leaf, word_arg(alloc, "disk", "DISK", DISK))?;
+    let leaf = with_arg(leaf, word_arg(alloc, "plan", "PLAN", PLAN))?;
+    let leaf = with_arg(leaf, workers_arg(alloc))?;
+    with_arg(leaf, cut_every_arg(alloc))
 }
 
 /// A subcommand without arguments, with what help says of it, in one line and at its end.
@@ -261,4 +288,16 @@ fn number_arg<'a>(alloc: Global, id: &'a str, name: &'a str, help: &'a str) -> A
         .required(true)
         .value_parser(ValueParser::unsigned(0, 4_294_967_295))
         .help(help)
+}
+
+/// `--cut-every E`, which may be left out.
+fn cut_every_arg<'a>(alloc: Global) -> Arg<'a>
+    ensures rule { rule_of result ≡ cut_every_rule }
+    ensures local { result.global ≡ false }
+{
+    Arg::new(alloc, "cut-every")
+        .long("cut-every")
+        .value_name("E")
+        .value_parser(ValueParser::unsigned(1, 65_536))
+        .help(CUT_EVERY)
 }

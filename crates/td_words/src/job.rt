@@ -34,6 +34,14 @@ pub enum Job<'a> {
         disk: &'a str,
         plan: &'a str,
     },
+    /// To feed the epochs of standard input to the disk `disk` as they come, by a hall of so many shards, with a cut after each
+    /// `cut_every` epochs, if there is such a number.
+    Stream {
+        disk: &'a str,
+        plan: &'a str,
+        workers: u8,
+        cut_every: Option<u32>,
+    },
     /// To print this text.
     Help(String),
 }

@@ -1,10 +1,11 @@
 //! What the program is asked to do, from the words that it is given.
 ghost use Rattle.std.specs.Prelude.{◌≡◌, ◌≢◌, ◌⊎◌, ◌↔◌, ◌≤◌, ℕ, IsTrue, IfOk, IfErr, IfSome, IfNone, map, string_bytes};
-ghost use Rattle.std.specs.Prelude.{Ok, Err, Some, None, codes};
+ghost use Rattle.std.specs.Prelude.{Option, Ok, Err, Some, None, codes};
 ghost use Rattle.clap.specs.Words.{found_of, first_of, kind_of, rows_of, subcommand_rows_of};
 ghost use Rattle.td_words.specs.declared.job.Job.{Job as AnyJob};
 ghost use Rattle.td_words.specs.Command.{batch_words, run_words, format_words, feed_words, IsAsked, IsNamed, IsNumber};
 ghost use Rattle.td_words.specs.Command.{IsWorkers, HasWorkers, IsRefused, IsFormat, IsFeed};
+ghost use Rattle.td_words.specs.Command.{stream_words, cutting_words, IsCutEvery, IsStream};
 ghost use Rattle.td_words.specs.Jobs.{IsHelp, IsOf};
 
 use crate::commands::command;
@@ -14,9 +15,10 @@ use clap::{ArgMatches, Error};
 use std::alloc::Global;
 
 /// What these words ask for, of which the first is the program's name. The subcommands are `batch`, `run [--workers W]`,
-/// `sim [--workers W] [--picks LIST]`, `format DISK PLAN M N K`, `feed [--workers W] DISK PLAN`, `show DISK PLAN` and
-/// `upgrade DISK PLAN`, where W is 1 to 16, and 1 where it is not given, LIST is `0` where it is not given, and M, N and K are
-/// numbers of 32 bits. Refusals: `Words` where clap refuses the words, and `Memory`.
+/// `sim [--workers W] [--picks LIST]`, `format DISK PLAN M N K`, `feed [--workers W] DISK PLAN`, `show DISK PLAN`,
+/// `upgrade DISK PLAN` and `stream [--workers W] [--cut-every E] DISK PLAN`, where W is 1 to 16, and 1 where it is not given,
+/// LIST is `0` where it is not given, M, N and K are numbers of 32 bits, and E is 1 to 65536, and none where it is not given.
+/// Refusals: `Words` where clap refuses the words, and `Memory`.
 pub fn words<'a>(alloc: Global, given: &'a [String]) -> Result<Job<'a>, WordsError>
     ensures ok { IfOk result (IsAsked (map string_bytes given.entry.now)) }
     ensures workers { IfOk result HasWorkers }
@@ -25,6 +27,8 @@ pub fn words<'a>(alloc: Global, given: &'a [String]) -> Result<Job<'a>, WordsErr
     ensures run { map string_bytes given.entry.now ≡ run_words → (result ≡ Ok (Job.Run 1)) ⊎ (result ≡ Err WordsError.Memory) }
     ensures format { map string_bytes given.entry.now ≡ format_words → IfOk result (IsFormat (codes "d") (codes "p") 4 2 3) × IfErr result (λ e. e ≡ WordsError.Memory) }
     ensures feed { map string_bytes given.entry.now ≡ feed_words → IfOk result (IsFeed (codes "d") (codes "p") 1) × IfErr result (λ e. e ≡ WordsError.Memory) }
+    ensures stream { map string_bytes given.entry.now ≡ stream_words → IfOk result (IsStream (codes "d") (codes "p") 1 None) × IfErr result (λ e. e ≡ WordsError.Memory) }
+    ensures cutting { map string_bytes given.entry.now ≡ cutting_words → IfOk result (IsStream (codes "d") (codes "p") 1 (Some 4)) × IfErr result (λ e. e ≡ WordsError.Memory) }
 {
     let Ok(command) = command(alloc) else {
         return Err(WordsError::Memory);
@@ -61,6 +65,7 @@ fn job_of<'a>(name: &str, matches: &ArgMatches<'a>) -> Option<Job<'a>>
         "feed" => feed_job(matches),
         "show" => show_job(matches),
         "upgrade" => upgrade_job(matches),
+        "stream" => stream_job(matches),
         _ => None,
     }
 }
@@ -138,6 +143,23 @@ fn upgrade_job<'a>(matches: &ArgMatches<'a>) -> Option<Job<'a>>
     Some(Job::Upgrade { disk, plan })
 }
 
+/// The feed, as its lines come, that the matches of `stream` ask for.
+fn stream_job<'a>(matches: &ArgMatches<'a>) -> Option<Job<'a>>
+    ensures some { IfSome result (IsOf (codes "stream") (rows_of (found_of matches.now))) }
+    ensures none { IfNone result ((job : AnyJob) → IsOf (codes "stream") (rows_of (found_of matches.now)) job → ⊥) }
+{
+    let disk = word_of(matches, "disk")?;
+    let plan = word_of(matches, "plan")?;
+    let workers = workers_of(matches)?;
+    let cut_every = cut_every_of(matches)?;
+    Some(Job::Stream {
+        disk,
+        plan,
+        workers,
+        cut_every,
+    })
+}
+
 /// The word of an argument.
 fn word_of<'a>(matches: &ArgMatches<'a>, id: &str) -> Option<&'a str>
     ensures some { IfSome result (λ word. first_of id.now (rows_of (found_of matches.now)) ≡ Some word.now) }
@@ -165,6 +187,25 @@ fn workers_of(matches: &ArgMatches<'_>) -> Option<u8>
     } else {
         None
     }
+}
+
+/// The number of epochs after which matches ask for a cut, where they have one. Clap has refused any that is not 1 to 65536.
+fn cut_every_of(matches: &ArgMatches<'_>) -> Option<Option<u32>>
+    ensures some { IfSome result (IsCutEvery (rows_of (found_of matches.now))) }
+    ensures none { IfNone result ((every : Option ℕ) → IsCutEvery (rows_of (found_of matches.now)) every → ⊥) }
+{
+    match matches.try_get_one::<u32>("cut-every") {
+        Ok(None) => Some(None),
+        Ok(Some(every)) if is_cut_distance(every) => Some(Some(every)),
+        _ => None,
+    }
+}
+
+/// Whether cuts may be so many epochs apart.
+fn is_cut_distance(epochs: u32) -> bool
+    ensures { IsTrue result ↔ ((1 ≤ epochs) × (epochs ≤ 65536)) }
+{
+    1 <= epochs && epochs <= 65_536
 }
 
 /// Whether a hall may have so many shards.
