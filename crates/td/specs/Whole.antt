@@ -1,6 +1,6 @@
 -- Which closures are stored.
 use Rattle.td.specs.declared.engine.Engine.{Engine}
-use Rattle.td.specs.declared.engine.Engine.TheVariants.{Batch, Run, Sim, Feed}
+use Rattle.td.specs.declared.engine.Engine.TheVariants.{Batch, Run, Sim, Feed, Stream}
 use Rattle.std.specs.Prelude.{◌≡◌, ◌≤◌, ◌<◌, length, ℕ, true, List, [], ◌∷◌, ◌++◌, map}
 use Rattle.std.specs.List.{AllByRecursion}
 use Rattle.td_calls.specs.Codes.{has_code}
@@ -29,4 +29,5 @@ abbrev pub IsLawfulEngine : Engine → Type 0
 IsLawfulEngine Batch = Unit {0}
 IsLawfulEngine (Run workers) = (1 ≤ workers) × (workers ≤ 16)
 IsLawfulEngine (Feed disk plan workers) = (1 ≤ workers) × (workers ≤ 16)
+IsLawfulEngine (Stream disk plan workers cut_every) = (1 ≤ workers) × (workers ≤ 16)
 IsLawfulEngine (Sim workers picks) = (1 ≤ workers) × (workers ≤ 16) × (0 < length picks.items)

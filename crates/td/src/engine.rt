@@ -3,12 +3,13 @@
 use td_disk::{FileDisk, ReadAhead};
 use td_plan::Plan;
 
-/// Which engine is to answer: the plain evaluator, or a hall of so many shards; `Sim` takes tasks by these picks, and `Feed`
-/// works on a disk for a plan.
+/// Which engine is to answer: the plain evaluator, or a hall of so many shards; `Sim` takes tasks by these picks, `Feed`
+/// works on a disk for a plan, and `Stream` does as the input comes, with a cut after so many epochs.
 #[derive(Drop)]
 pub(crate) enum Engine {
     Batch,
     Run(u8),
     Sim(u8, Vec<u64>),
     Feed(ReadAhead<FileDisk>, Plan, u8),
+    Stream(ReadAhead<FileDisk>, Plan, u8, Option<u32>),
 }

@@ -21,7 +21,7 @@ use std::thread::Threads;
 use std::{env, io};
 use td_calls::{Calls, FoldBox, GroupBox, MapBox, Stock, StockCalls};
 use td_console::{Fault, StdReader, StdWriter, batch, fault_line, read_picks, run, sim};
-use td_feed::feed;
+use td_feed::{feed, stream};
 use td_stamp::{Item, Rec, State};
 use td_words::{Job, WordsError, words};
 
@@ -64,6 +64,15 @@ fn done<R: Files<File = File> + Input + Print + AllocGlobal + Threads + Wait + S
         } => {
             let (disk, plan) = open_disk(rt, disk, plan)?;
             run_engine(rt, Engine::Feed(disk, plan, workers))
+        }
+        Job::Stream {
+            disk,
+            plan,
+            workers,
+            cut_every,
+        } => {
+            let (disk, plan) = open_disk(rt, disk, plan)?;
+            run_engine(rt, Engine::Stream(disk, plan, workers, cut_every))
         }
         Job::Show { disk, plan } => show_disk(rt, disk, plan),
         Job::Upgrade { disk, plan } => upgrade_disk(rt, disk, plan),
@@ -182,6 +191,20 @@ fn answer<R: Input + Print + AllocGlobal + Threads + Wait + Sync>(
                 &plan,
                 workers,
                 &mut reader,
+                &mut writer,
+                calls,
+            )
+            .1
+        }
+        Engine::Stream(disk, plan, workers, cut_every) => {
+            stream::<_, _, _, Stock, StockCalls, _>(
+                rt,
+                rt.alloc(),
+                disk,
+                &plan,
+                workers,
+                cut_every,
+                reader,
                 &mut writer,
                 calls,
             )

@@ -8,3 +8,5 @@ pub mod Narrowed
 pub mod Refused
 pub mod Lines
 pub mod Counting
+pub mod Asked
+pub mod Obeyed

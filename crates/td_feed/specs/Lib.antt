@@ -5,3 +5,4 @@ pub mod Fed
 pub mod Carried
 pub mod Said
 pub mod Upgraded
+pub mod Asked

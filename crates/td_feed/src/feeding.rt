@@ -12,10 +12,12 @@ ghost use Rattle.td_feed.specs.Fed.{EachTellsHistory, EachTellsSome};
 ghost use Rattle.td_feed.specs.Carried.{new_to, Carries, Leaves};
 ghost use Rattle.td_feed.specs.Said.{SaysBy, SaysFed};
 
+use crate::asking::Listed;
 use crate::order::{Order, read_orders};
-use crate::under_way::{Feeding, open};
+use crate::under_way::{Feeding, Pace, open};
 use crate::workers::obey_by_workers;
 use std::alloc::Global;
+use std::collections::VecDeque;
 use std::marker::Brand;
 use std::sync::Wait;
 use std::sync::ledger::Blank;
@@ -137,8 +139,18 @@ fn obey<
     match prepared(alloc, &keeper, plan, workers, reader) {
         Ok((orders, hall, feeding)) => {
             let blank = Blank::new(u64::from(hall.workers()));
-            obey_by_workers::<_, _, _, _, Brand, _>(
-                rt, alloc, keeper, hall, blank, feeding, orders, writer, calls,
+            let orders = Listed(VecDeque::from(orders));
+            obey_by_workers::<_, _, _, _, _, Brand, _>(
+                rt,
+                alloc,
+                keeper,
+                hall,
+                blank,
+                feeding,
+                orders,
+                Pace::AtEnd,
+                writer,
+                calls,
             )
         }
         Err(fault) => (keeper, Err(fault)),

@@ -3,12 +3,15 @@
 //! epoch of the input that is new to it, once; and what `show` writes is what the disk tells.
 #![tactic(auto)]
 
+mod asking;
 mod feeding;
 mod formatting;
+mod line_reader;
 mod order;
 mod plan_text;
 mod saying;
 mod showing;
+mod streaming;
 mod telling;
 mod under_way;
 mod upgrading;
@@ -19,4 +22,5 @@ pub use formatting::{format, shape_of};
 pub use order::{FeedLine, Order, read_orders};
 pub use plan_text::read_plan;
 pub use showing::show;
+pub use streaming::stream;
 pub use upgrading::upgrade;

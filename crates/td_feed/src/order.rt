@@ -2,7 +2,7 @@
 ghost use Rattle.std.specs.Prelude.{◌≡◌, ◌⊎◌, ◌<◌, ◌^◌, [], true, All, IfOk, IfErr, Some, Ok, Err, length};
 ghost use Rattle.td_plan.specs.Text.{words};
 ghost use Rattle.td_feed.specs.Orders.{is_cut, request_of, positive, feed_line_of, is_between, order_for, with_cut, with_request, with_line};
-ghost use Rattle.td_feed.specs.Orders.{orders_of, is_of_input, IsAccepted, Gives};
+ghost use Rattle.td_feed.specs.Orders.{no_orders, orders_of, is_of_input, IsAccepted, Gives};
 
 use std::alloc::Global;
 use std::marker::Model;
@@ -36,8 +36,8 @@ pub enum Order {
 /// Orders that were read, and of the epoch that is not closed its request number, 0 for none, and its entries in the order of
 /// their lines.
 #[derive(Drop)]
-struct Orders {
-    orders: Vec<Order>,
+pub(crate) struct Orders {
+    pub(crate) orders: Vec<Order>,
     request: u64,
     current: Vec<Entry>,
 }
@@ -59,11 +59,7 @@ pub fn read_orders(alloc: Global, plan: &Plan, input: &[u8]) -> Result<Vec<Order
     ensures err { IfErr result (λ f. (f ≡ Fault.Memory) ⊎ (orders_of plan.now input.now ≡ Err f)) }
     ensures of_input { IfErr result (λ f. is_of_input f ≡ true) }
 {
-    let mut read = Orders {
-        orders: Vec::new(alloc),
-        request: 0,
-        current: Vec::new(alloc),
-    };
+    let mut read = no_orders(alloc);
     let mut number: u64 = 1;
     let mut rest = input;
     while let Some((line, others)) = first_line(rest) {
@@ -78,8 +74,19 @@ pub fn read_orders(alloc: Global, plan: &Plan, input: &[u8]) -> Result<Vec<Order
     }
 }
 
+/// Before the first line.
+pub(crate) fn no_orders(alloc: Global) -> Orders
+    ensures { result ≡ no_orders }
+{
+    Orders {
+        orders: Vec::new(alloc),
+        request: 0,
+        current: Vec::new(alloc),
+    }
+}
+
 /// What was read, and what one line more adds, which has this number. Refusals: its fault; `Memory`.
-fn with_line(
+pub(crate) fn with_line(
     alloc: Global,
     plan: &Plan,
     read: Orders,
@@ -103,7 +110,7 @@ fn with_line(
 }
 
 /// Whether an epoch has not begun: neither a record nor a request number stands in it.
-fn is_between(read: &Orders) -> bool
+pub(crate) fn is_between(read: &Orders) -> bool
     ensures { result ≡ is_between read.now }
 {
     read.request == 0 && read.current.is_empty()

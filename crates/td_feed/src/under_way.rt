@@ -28,6 +28,15 @@ use td_standing::KeeperError;
 /// Output lines are written where they have so many bytes.
 const PIECE: usize = 65_536;
 
+/// When outputs are written, and cuts are taken that no order asks for.
+#[derive(Clone, Copy, Debug, PartialEq, Eq)]
+pub(crate) enum Pace {
+    /// Outputs at a cut and at the end.
+    AtEnd,
+    /// Outputs after each order; and a cut where so many epochs stand on the journal, if a number is given, and where it is full.
+    Live(Option<u32>),
+}
+
 /// How much the pool's hall has since its base, and how much the keeper has beyond that, each epoch and each record counted as
 /// one. A release compares all that the hall has, so it waits until as much is new.
 #[derive(Drop)]
@@ -65,7 +74,7 @@ pub(crate) fn open<D: Disk, L: Law>(
 
 impl Feeding {
     /// Does what an order asks for. Refusals: those of the keeper and of the writer.
-    pub(crate) fn obey<D: Disk, L: Law, K: Crew, R: Wait, W: Sink>(
+    fn obey<D: Disk, L: Law, K: Crew, R: Wait, W: Sink>(
         &mut self,
         rt: &R,
         alloc: Global,
@@ -133,7 +142,7 @@ impl Feeding {
     }
 
     /// Releases the epochs that the hall lacks.
-    pub(crate) fn release<D: Disk, L: Law, K: Crew, R: Wait>(
+    fn release<D: Disk, L: Law, K: Crew, R: Wait>(
         &mut self,
         rt: &R,
         alloc: Global,
@@ -178,6 +187,83 @@ impl Feeding {
         write_outs(rt, alloc, keeper, pool, writer)
     }
 
+    /// Does what is due before the first order, at this pace: releases the epochs that the hall lacks, or writes their outputs too.
+    pub(crate) fn begin<D: Disk, L: Law, K: Crew, R: Wait, W: Sink>(
+        &mut self,
+        rt: &R,
+        alloc: Global,
+        keeper: &mut Keeper<D, L>,
+        pool: &Pool<K, L>,
+        pace: Pace,
+        writer: &mut W,
+    ) -> Result<(), Fault>
+        requires whole { keeper.old.broken ≡ false }
+        ensures size { D.capacity keeper.new.device ≡ D.capacity keeper.old.device }
+        ensures lawful { D.is_lawful keeper.old.device ↔ D.is_lawful keeper.new.device }
+        ensures carried { OnOk result (Carries L.answers keeper.old keeper.new []) }
+        ensures left { OnErr result (Leaves D.is_lawful D.state L.answers keeper.old keeper.new []) }
+        ensures said { SaysBy D.is_lawful D.state D.failures L.answers result (W.contents writer.old) (W.contents writer.new) keeper.old keeper.new [] }
+        ensures failures { CountsDevice result (Fault.Keeper Device) (D.failures keeper.old.device) (D.failures keeper.new.device) }
+    {
+        match pace {
+            Pace::AtEnd => self.release(rt, alloc, keeper, pool),
+            Pace::Live(_) => self.keep_pace(rt, alloc, keeper, pool, pace, writer),
+        }
+    }
+
+    /// Does what an order asks for, and what is due after it at this pace.
+    pub(crate) fn obey_at_pace<D: Disk, L: Law, K: Crew, R: Wait, W: Sink>(
+        &mut self,
+        rt: &R,
+        alloc: Global,
+        keeper: &mut Keeper<D, L>,
+        pool: &Pool<K, L>,
+        order: Order,
+        pace: Pace,
+        writer: &mut W,
+    ) -> Result<(), Fault>
+        requires whole { keeper.old.broken ≡ false }
+        ensures size { D.capacity keeper.new.device ≡ D.capacity keeper.old.device }
+        ensures lawful { D.is_lawful keeper.old.device ↔ D.is_lawful keeper.new.device }
+        ensures carried { OnOk result (Carries L.answers keeper.old keeper.new (new_to keeper.old (submissions (order ∷ [])))) }
+        ensures left { OnErr result (Leaves D.is_lawful D.state L.answers keeper.old keeper.new (new_to keeper.old (submissions (order ∷ [])))) }
+        ensures said { SaysBy D.is_lawful D.state D.failures L.answers result (W.contents writer.old) (W.contents writer.new) keeper.old keeper.new (new_to keeper.old (submissions (order ∷ []))) }
+        ensures failures { CountsDevice result (Fault.Keeper Device) (D.failures keeper.old.device) (D.failures keeper.new.device) }
+    {
+        self.obey(rt, alloc, keeper, pool, order, writer)?;
+        self.keep_pace(rt, alloc, keeper, pool, pace, writer)
+    }
+
+    /// Does what is due after an order, at this pace: nothing; or settles, and cuts where it is time.
+    fn keep_pace<D: Disk, L: Law, K: Crew, R: Wait, W: Sink>(
+        &mut self,
+        rt: &R,
+        alloc: Global,
+        keeper: &mut Keeper<D, L>,
+        pool: &Pool<K, L>,
+        pace: Pace,
+        writer: &mut W,
+    ) -> Result<(), Fault>
+        requires whole { keeper.old.broken ≡ false }
+        ensures size { D.capacity keeper.new.device ≡ D.capacity keeper.old.device }
+        ensures lawful { D.is_lawful keeper.old.device ↔ D.is_lawful keeper.new.device }
+        ensures carried { OnOk result (Carries L.answers keeper.old keeper.new []) }
+        ensures left { OnErr result (Leaves D.is_lawful D.state L.answers keeper.old keeper.new []) }
+        ensures said { SaysBy D.is_lawful D.state D.failures L.answers result (W.contents writer.old) (W.contents writer.new) keeper.old keeper.new [] }
+        ensures failures { CountsDevice result (Fault.Keeper Device) (D.failures keeper.old.device) (D.failures keeper.new.device) }
+    {
+        match pace {
+            Pace::AtEnd => Ok(()),
+            Pace::Live(every) => {
+                if is_cut_due(keeper, every) {
+                    self.cut(rt, alloc, keeper, pool, writer)
+                } else {
+                    self.settle(rt, alloc, keeper, pool, writer)
+                }
+            }
+        }
+    }
+
     /// Settles, cuts, writes the cut to the disk, and writes `cut E`.
     fn cut<D: Disk, L: Law, K: Crew, R: Wait, W: Sink>(
         &mut self,
@@ -200,6 +286,17 @@ impl Feeding {
         tell(rt, alloc, keeper, pool, Command::Cut)?;
         self.held = 0;
         tell_aloud(rt, alloc, keeper, pool, Command::WriteCut, writer)
+    }
+}
+
+/// Whether it is time for a cut: so many epochs stand on the journal, or it is full.
+fn is_cut_due<D: Disk, L: Law>(keeper: &Keeper<D, L>, every: Option<u32>) -> bool {
+    if keeper.is_full() {
+        return true;
+    }
+    match every {
+        Some(every) => u64::from(every) <= keeper.last_epoch().saturating_sub(keeper.kept()),
+        None => false,
     }
 }
 

@@ -1,5 +1,5 @@
 //! A feed beside the workers, each in a thread of its own.
-ghost use Rattle.std.specs.Prelude.{◌≡◌, ◌⊎◌, ◌↔◌, ℕ, false, Ok, Err, IfErr, OnOk, OnErr};
+ghost use Rattle.std.specs.Prelude.{◌≡◌, ◌⊎◌, ◌↔◌, ℕ, true, false, Ok, Err, IfErr, IfSome, OnOk, OnErr};
 ghost use Rattle.td_disk.specs.Disk.{CountsDevice};
 ghost use Rattle.td_pool.specs.declared.error.PoolError.{PoolError as AnyPoolError};
 ghost use Rattle.td_standing.specs.declared.error.KeeperError.TheVariants.{Device, NotPassed};
@@ -8,8 +8,8 @@ ghost use Rattle.td_feed.specs.Fed.{pool_fault};
 ghost use Rattle.td_feed.specs.Carried.{new_to, Carries, Leaves};
 ghost use Rattle.td_feed.specs.Said.{SaysBy};
 
-use crate::order::Order;
-use crate::under_way::Feeding;
+use crate::asking::Asking;
+use crate::under_way::{Feeding, Pace};
 use std::alloc::Global;
 use std::sync::Wait;
 use std::sync::ledger::Blank;
@@ -23,10 +23,11 @@ use td_keeper::Keeper;
 use td_pool::{Crew, OpenGate, Pool, PoolError, Seat};
 use td_standing::KeeperError;
 
-/// Obeys orders by a hall on which workers work, and settles. Refusals: those of the keeper and of the writer; that of a worker,
+/// Obeys orders by a hall on which workers work, at this pace, and settles. Refusals: those of what asks for the orders, of the keeper and of the writer; that of a worker,
 /// in place of epochs that did not pass for it; and `Memory`, also where a thread could not be made.
 pub(crate) fn obey_by_workers<
     D: Disk + Drop,
+    S: Asking + Drop,
     W: Sink,
     L: Law + Send + Sync,
     C: Closures<L> + Sync,
@@ -39,7 +40,8 @@ pub(crate) fn obey_by_workers<
     hall: Hall<L>,
     blank: Blank,
     feeding: Feeding,
-    orders: Vec<Order>,
+    orders: S,
+    pace: Pace,
     writer: &mut W,
     calls: &C,
 ) -> (Keeper<D, L>, Result<(), Fault>)
@@ -49,14 +51,15 @@ pub(crate) fn obey_by_workers<
     requires whole { keeper.broken ≡ false }
     ensures size { D.capacity result.0.device ≡ D.capacity keeper.device }
     ensures lawful { D.is_lawful keeper.device ↔ D.is_lawful result.0.device }
-    ensures fed { OnOk result.1 (Carries L.answers keeper result.0 (new_to keeper (submissions orders.items))) }
-    ensures left { OnErr result.1 (Leaves D.is_lawful D.state L.answers keeper result.0 (new_to keeper (submissions orders.items))) }
-    ensures said { SaysBy D.is_lawful D.state D.failures L.answers result.1 (W.contents writer.old) (W.contents writer.new) keeper result.0 (new_to keeper (submissions orders.items)) }
+    ensures sound { OnOk result.1 (IfSome (S.script orders) (λ script. script.is_sound ≡ true)) }
+    ensures fed { OnOk result.1 (IfSome (S.script orders) (λ script. Carries L.answers keeper result.0 (new_to keeper (submissions script.orders)))) }
+    ensures left { OnErr result.1 (IfSome (S.script orders) (λ script. Leaves D.is_lawful D.state L.answers keeper result.0 (new_to keeper (submissions script.orders)))) }
+    ensures said { IfSome (S.script orders) (λ script. SaysBy D.is_lawful D.state D.failures L.answers result.1 (W.contents writer.old) (W.contents writer.new) keeper result.0 (new_to keeper (submissions script.orders))) }
     ensures failures { CountsDevice result.1 (Fault.Keeper Device) (D.failures keeper.device) (D.failures result.0.device) }
 {
     match Pool::<K, L>::new(alloc, hall, blank) {
         Ok((pool, seats)) => beside(
-            rt, alloc, keeper, &pool, seats, feeding, orders, writer, calls,
+            rt, alloc, keeper, &pool, seats, feeding, orders, pace, writer, calls,
         ),
         Err((_memory, _hall)) => (keeper, Err(Fault::Memory)),
     }
@@ -65,6 +68,7 @@ pub(crate) fn obey_by_workers<
 /// Obeys orders beside a worker for each seat, and stops the workers.
 fn beside<
     D: Disk + Drop,
+    S: Asking + Drop,
     W: Sink,
     L: Law + Send + Sync,
     C: Closures<L> + Sync,
@@ -77,16 +81,18 @@ fn beside<
     pool: &Pool<K, L>,
     seats: Vec<Seat<K, L>>,
     feeding: Feeding,
-    orders: Vec<Order>,
+    orders: S,
+    pace: Pace,
     writer: &mut W,
     calls: &C,
 ) -> (Keeper<D, L>, Result<(), Fault>)
     requires whole { keeper.broken ≡ false }
     ensures size { D.capacity result.0.device ≡ D.capacity keeper.device }
     ensures lawful { D.is_lawful keeper.device ↔ D.is_lawful result.0.device }
-    ensures fed { OnOk result.1 (Carries L.answers keeper result.0 (new_to keeper (submissions orders.items))) }
-    ensures left { OnErr result.1 (Leaves D.is_lawful D.state L.answers keeper result.0 (new_to keeper (submissions orders.items))) }
-    ensures said { SaysBy D.is_lawful D.state D.failures L.answers result.1 (W.contents writer.old) (W.contents writer.new) keeper result.0 (new_to keeper (submissions orders.items)) }
+    ensures sound { OnOk result.1 (IfSome (S.script orders) (λ script. script.is_sound ≡ true)) }
+    ensures fed { OnOk result.1 (IfSome (S.script orders) (λ script. Carries L.answers keeper result.0 (new_to keeper (submissions script.orders)))) }
+    ensures left { OnErr result.1 (IfSome (S.script orders) (λ script. Leaves D.is_lawful D.state L.answers keeper result.0 (new_to keeper (submissions script.orders)))) }
+    ensures said { IfSome (S.script orders) (λ script. SaysBy D.is_lawful D.state D.failures L.answers result.1 (W.contents writer.old) (W.contents writer.new) keeper result.0 (new_to keeper (submissions script.orders))) }
     ensures failures { CountsDevice result.1 (Fault.Keeper Device) (D.failures keeper.device) (D.failures result.0.device) }
 {
     let (ended, _writer) = thread::scope(
@@ -97,12 +103,14 @@ fn beside<
             ensures same_writer { result.1.ghost_name ≡ writer.entry.ghost_name }
             ensures size { D.capacity result.0.0.device ≡ D.capacity keeper.device }
             ensures lawful { D.is_lawful keeper.device ↔ D.is_lawful result.0.0.device }
-            ensures fed { OnOk result.0.1 (Carries L.answers keeper result.0.0 (new_to keeper (submissions orders.items))) }
-            ensures left { OnErr result.0.1 (Leaves D.is_lawful D.state L.answers keeper result.0.0 (new_to keeper (submissions orders.items))) }
-            ensures said { SaysBy D.is_lawful D.state D.failures L.answers result.0.1 (W.contents writer.entry.now) (W.contents result.1.now) keeper result.0.0 (new_to keeper (submissions orders.items)) }
+            ensures sound { OnOk result.0.1 (IfSome (S.script orders) (λ script. script.is_sound ≡ true)) }
+            ensures fed { OnOk result.0.1 (IfSome (S.script orders) (λ script. Carries L.answers keeper result.0.0 (new_to keeper (submissions script.orders)))) }
+            ensures left { OnErr result.0.1 (IfSome (S.script orders) (λ script. Leaves D.is_lawful D.state L.answers keeper result.0.0 (new_to keeper (submissions script.orders)))) }
+            ensures said { IfSome (S.script orders) (λ script. SaysBy D.is_lawful D.state D.failures L.answers result.0.1 (W.contents writer.entry.now) (W.contents result.1.now) keeper result.0.0 (new_to keeper (submissions script.orders))) }
             ensures failures { CountsDevice result.0.1 (Fault.Keeper Device) (D.failures keeper.device) (D.failures result.0.0.device) }
         {
             let mut keeper = keeper;
+            let mut orders = orders;
             let mut workers = Vec::new(alloc);
             let mut is_refused = false;
             for seat in seats {
@@ -125,7 +133,8 @@ fn beside<
                 pool,
                 is_refused,
                 feeding,
-                orders,
+                &mut orders,
+                pace,
                 writer,
             );
             pool.stop(rt);
@@ -154,34 +163,39 @@ fn serve<L: Law, C: Closures<L>, K: Crew, R: Wait>(
     worked
 }
 
-/// Obeys each order in turn, and settles. Refusals: `Memory`, before anything else, where a worker was refused a thread; those of the
-/// keeper and of the writer.
-fn obey_each<D: Disk, W: Sink, L: Law, K: Crew, R: Wait>(
+/// Obeys each order in turn, at this pace, and settles. Refusals: `Memory`, before anything else, where a worker was refused a thread;
+/// those of what asks for the orders, of the keeper and of the writer.
+fn obey_each<D: Disk, S: Asking, W: Sink, L: Law, K: Crew, R: Wait>(
     rt: &R,
     alloc: Global,
     keeper: &mut Keeper<D, L>,
     pool: &Pool<K, L>,
     is_refused: bool,
     mut feeding: Feeding,
-    orders: Vec<Order>,
+    orders: &mut S,
+    pace: Pace,
     writer: &mut W,
 ) -> Result<(), Fault>
     requires whole { keeper.old.broken ≡ false }
     ensures size { D.capacity keeper.new.device ≡ D.capacity keeper.old.device }
     ensures lawful { D.is_lawful keeper.old.device ↔ D.is_lawful keeper.new.device }
-    ensures fed { OnOk result (Carries L.answers keeper.old keeper.new (new_to keeper.old (submissions orders.items))) }
-    ensures left { OnErr result (Leaves D.is_lawful D.state L.answers keeper.old keeper.new (new_to keeper.old (submissions orders.items))) }
-    ensures said { SaysBy D.is_lawful D.state D.failures L.answers result (W.contents writer.old) (W.contents writer.new) keeper.old keeper.new (new_to keeper.old (submissions orders.items)) }
+    ensures sound { OnOk result (IfSome (S.script orders.old) (λ script. script.is_sound ≡ true)) }
+    ensures fed { OnOk result (IfSome (S.script orders.old) (λ script. Carries L.answers keeper.old keeper.new (new_to keeper.old (submissions script.orders)))) }
+    ensures left { OnErr result (IfSome (S.script orders.old) (λ script. Leaves D.is_lawful D.state L.answers keeper.old keeper.new (new_to keeper.old (submissions script.orders)))) }
+    ensures said { IfSome (S.script orders.old) (λ script. SaysBy D.is_lawful D.state D.failures L.answers result (W.contents writer.old) (W.contents writer.new) keeper.old keeper.new (new_to keeper.old (submissions script.orders))) }
     ensures failures { CountsDevice result (Fault.Keeper Device) (D.failures keeper.old.device) (D.failures keeper.new.device) }
 {
     if is_refused {
         return Err(Fault::Memory);
     }
-    feeding.release(rt, alloc, keeper, pool)?;
-    for order in orders {
-        feeding.obey(rt, alloc, keeper, pool, order, writer)?;
+    feeding.begin(rt, alloc, keeper, pool, pace, writer)?;
+    for _order in rt.forever() {
+        let Some(order) = orders.next_order(alloc)? else {
+            return feeding.settle(rt, alloc, keeper, pool, writer);
+        };
+        feeding.obey_at_pace(rt, alloc, keeper, pool, order, pace, writer)?;
     }
-    feeding.settle(rt, alloc, keeper, pool, writer)
+    unreachable!()
 }
 
 /// How a feed ended: as a worker's refusal says, in place of epochs that did not pass for it.

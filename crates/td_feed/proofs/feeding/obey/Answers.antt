@@ -1,4 +1,4 @@
-use Rattle.std.proofs.Common.{List, [], refl, inr, sym, ap, subst, Err}
+use Rattle.std.proofs.Common.{List, [], refl, inr, sym, ap, ◌∙◌, subst, Ok, Err}
 use Rattle.std.specs.Prelude.{Result}
 use Rattle.std.proofs.lemmas.Option.{IfSome_then}
 use Rattle.td_console.specs.declared.faults.Fault.{Fault}
@@ -10,6 +10,9 @@ use Rattle.td_feed.proofs.Carrying.{in_some, unmoved, leaves_none}
 use Rattle.td_feed.proofs.Counting.{as_err, counts_same, fault_of}
 use Rattle.td_feed.proofs.Lines.{says_nothing, some_of_all}
 use Rattle.td_feed.proofs.feeding.obey.Goals as goal
+
+abbrev as_read : List Order → Result (List Order) Fault
+as_read orders = Ok orders
 
 pub returns-in-Err-clause-left : goal.returns-in-Err-clause-left
 returns-in-Err-clause-left g c =
@@ -39,4 +42,4 @@ returns-in-Ok-clause-said g c =
     IfSome_then (g.I.Source.remaining c.args.reader.now) c.in-Ok.ensures.orders
     (λ input is.
     subst (λ (r : Result (List Order) Fault). SaysBy is_lawful state failures answers c.obey_by_workers.result.1 (g.W.Sink.contents c.args.writer.now) (g.W.Sink.contents c.obey_by_workers.new.writer) c.args.keeper c.obey_by_workers.result.0 (new_to c.args.keeper (submitted_by r)))
-    (sym is) c.obey_by_workers.ensures.said)
+    (sym (is ∙ ap as_read (sym c.from-in-Ok.ensures.0))) c.obey_by_workers.ensures.said)

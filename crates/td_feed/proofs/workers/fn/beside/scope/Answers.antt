@@ -1,6 +1,7 @@
-use Rattle.std.proofs.Common.{◌≡◌, List, refl}
+use Rattle.std.proofs.Common.{◌≡◌, true, refl}
 use Rattle.std.specs.Prelude.{Ok}
-use Rattle.td_journal.specs.declared.submitted.Submitted.{Submitted}
+use Rattle.std.specs.Option.{IfSome}
+use Rattle.std.proofs.lemmas.Option.{IfSome_then}
 use Rattle.td_feed.specs.Orders.{submissions}
 use Rattle.td_feed.specs.Carried.{new_to, Carries, Leaves}
 use Rattle.td_feed.proofs.Carrying.{ok_only, ended_ok, ended_err, leaves_all}
@@ -15,15 +16,20 @@ returns g c =
     let answers = g.L.Law.answers in
     let old = c.captures.keeper in
     let new = c.obey_each-obeyed.new.keeper in
-    let x : List Submitted = new_to old (submissions c.captures.orders.items) in
+    let script = g.S.Asking.script c.captures.orders in
     let failures = g.D.Disk.failures in
     let obeyed = c.obey_each-obeyed.ensures in
-    let ended = c.ended_as.ensures in record {
+    let ended = c.ended_as.ensures in
+    let ok = ok_only (c.obey_each-obeyed.result ≡ Ok tt) (c.loop-worker.worked ≡ Ok tt) c.ended_as.result ended.ok in record {
       same_writer = refl;
       size = obeyed.size;
       lawful = obeyed.lawful;
-      fed = ended_ok (Carries answers old new x) tt c.obey_each-obeyed.result c.ended_as.result (ok_only (c.obey_each-obeyed.result ≡ Ok tt) (c.loop-worker.worked ≡ Ok tt) c.ended_as.result ended.ok) obeyed.fed;
-      left = ended_err (Carries answers old new x) (Leaves is_lawful state answers old new x) c.obey_each-obeyed.result c.ended_as.result (leaves_all is_lawful state answers old new x) obeyed.fed obeyed.left;
-      said = ended_says is_lawful state failures answers (g.W.Sink.contents c.captures.writer.now) (g.W.Sink.contents c.obey_each-obeyed.new.writer) old new x c.obey_each-obeyed.result c.ended_as.result c.loop-worker.worked ended.ok ended.err obeyed.said;
+      sound = ended_ok (IfSome script (λ s. s.is_sound ≡ true)) tt c.obey_each-obeyed.result c.ended_as.result ok obeyed.sound;
+      fed = ended_ok (IfSome script (λ s. Carries answers old new (new_to old (submissions s.orders)))) tt c.obey_each-obeyed.result c.ended_as.result ok obeyed.fed;
+      left = ended_err (IfSome script (λ s. Carries answers old new (new_to old (submissions s.orders)))) (IfSome script (λ s. Leaves is_lawful state answers old new (new_to old (submissions s.orders))))
+          c.obey_each-obeyed.result c.ended_as.result (λ h. IfSome_then script h (λ s whole. leaves_all is_lawful state answers old new (new_to old (submissions s.orders)) whole)) obeyed.fed obeyed.left;
+      said = IfSome_then script obeyed.said
+          (λ s says. ended_says is_lawful state failures answers (g.W.Sink.contents c.captures.writer.now) (g.W.Sink.contents c.obey_each-obeyed.new.writer) old new (new_to old (submissions s.orders)) c.obey_each-obeyed.result
+          c.ended_as.result c.loop-worker.worked ended.ok ended.err says);
       failures = ended_counts c.obey_each-obeyed.result c.ended_as.result c.loop-worker.worked (failures old.device) (failures new.device) ended.ok ended.err obeyed.failures;
     }

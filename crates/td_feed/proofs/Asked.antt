@@ -1,0 +1,289 @@
+-- Reading what is asked for line by line.
+use Rattle.std.proofs.Common.{◌≡◌, ◌⊎◌, inl, inr, ℕ, ◌+◌, ◌<◌, ◌↔◌, ◌==◌, Bool, true, false, cond, List, [], ◌∷◌, ◌++◌, length, length-append, arith, Option, Some, None, Result, Ok, Err, All, refl, sym, ap, ◌∙◌, subst, true≢false, append_assoc, append-nil}
+use Rattle.std.specs.Prelude.{if◌then◌else◌}
+use Rattle.std.specs.List.{slice_split, onto_first}
+use Rattle.std.specs.Io.KnownBytes.{prepend_known, Consumes, IsAtEnd}
+use Rattle.std.specs.Option.{IsSome, option_to_list, option_map}
+use Rattle.std.proofs.lemmas.List.Elements.{All-append}
+use Rattle.std.proofs.lemmas.List.Splits.{slice_split_none, slice_split_at}
+use Rattle.td_stamp.specs.declared.values.Entry.{Entry}
+use Rattle.td_stamp.specs.Orders.{entry_cmp}
+use Rattle.td_stamp.specs.Bag.{bag_of}
+use Rattle.td_plan.specs.Lines.{Line as PlanLine}
+use Rattle.td_plan.specs.Inputs.{is_input_of}
+use Rattle.td_plan.specs.Text.{text_lines, without_empty_last}
+use Rattle.td_console.specs.declared.data_line.DataLine.TheVariants.{PassedOver, Record, Close}
+use Rattle.td_console.specs.declared.faults.LineFault.TheVariants.{Syntax, NoSuchInput}
+use Rattle.td_console.specs.declared.faults.Fault.{Fault}
+use Rattle.td_console.specs.declared.faults.Fault.TheVariants.{Line}
+use Rattle.td_feed.specs.declared.order.FeedLine.{FeedLine}
+use Rattle.td_feed.specs.declared.order.FeedLine.TheVariants.{Data, Request, Cut}
+use Rattle.td_feed.specs.declared.order.Order.{Order}
+use Rattle.td_feed.specs.declared.order.Order.TheVariants as order
+use Rattle.td_feed.specs.Orders.{Orders, no_orders, with_order, order_for, is_between, with_cut, with_request, with_line, feed_line_of, orders_from, orders_of, and_then, ended}
+use Rattle.td_feed.specs.Asked.{Script, script_after, script_from, script_of, after_order, Completes, TakesLine, Asks, SameScript, script_left}
+
+-- there is always a part
+some_part : (p : ℕ → Bool) (xs : List ℕ) → (part : List ℕ) × (parts : List (List ℕ)) × (slice_split p xs ≡ part ∷ parts)
+some_part p [] = ([], [], refl)
+some_part p (x ∷ xs) = by (p x) (slice_split p xs)
+  where
+    by : (b : Bool) (rest : List (List ℕ)) → (part : List ℕ) × (parts : List (List ℕ)) × (cond b ([] ∷ rest) (onto_first x rest) ≡ part ∷ parts)
+    by true rest = ([], rest, refl)
+    by false [] = (x ∷ [], [], refl)
+    by false (part ∷ parts) = (x ∷ part, parts, refl)
+
+without-more : (part next : List ℕ) (parts : List (List ℕ)) → without_empty_last (part ∷ next ∷ parts) ≡ part ∷ without_empty_last (next ∷ parts)
+without-more [] next parts = refl
+without-more (b ∷ bs) next parts = refl
+
+-- LINES, as they come: one with a line feed after it, and the last one
+whole_line : (part rest : List ℕ) → All (λ b. (b == 10) ≡ false) part → text_lines (part ++ 10 ∷ rest) ≡ part ∷ text_lines rest
+whole_line part rest lacks =
+    let some = some_part (λ b. b == 10) rest in
+    ap without_empty_last (slice_split_at (λ b. b == 10) part 10 rest lacks refl ∙ ap (λ parts. part ∷ parts) some.2)
+    ∙ without-more part some.0 some.1 ∙ ap (λ parts. part ∷ without_empty_last parts) (sym some.2)
+
+last_line : (part : List ℕ) → All (λ b. (b == 10) ≡ false) part → (part ≡ [] → ⊥) → text_lines part ≡ part ∷ []
+last_line [] lacks some = absurd (some refl)
+last_line (b ∷ bs) lacks some = ap without_empty_last (slice_split_none (λ b. b == 10) (b ∷ bs) lacks)
+
+-- a line so far, which has no line feed
+pub record IsSoFar (whole left : Option (List ℕ)) (line : List ℕ) : Type 0 where
+  pub lost : Consumes whole left line
+  pub lacks : All (λ b. (b == 10) ≡ false) line
+
+-- a list by its length
+pub is_none : (xs : List ℕ) → length xs ≡ 0 → xs ≡ []
+is_none [] e = refl
+is_none (x ∷ xs) e = absurd (omega (arith, e))
+
+pub is_some_line : (xs : List ℕ) → (length xs ≡ 0 → ⊥) → xs ≡ [] → ⊥
+is_some_line xs some none = some (ap length none)
+
+module _ (whole : Option (List ℕ)) where
+  -- more of the line, without a line feed
+  pub goes_on : (rest left : Option (List ℕ)) (line part bytes more : List ℕ) → IsSoFar whole (prepend_known bytes rest) line → All (λ b. (b == 10) ≡ false) bytes → more ≡ line ++ bytes
+      → Consumes rest left part → IsSoFar whole (prepend_known part left) more
+  goes_on rest left line part bytes more so lacks is lost = record {
+    lost = by whole rest left so.lost lost;
+    lacks = subst (All (λ b. (b == 10) ≡ false)) (sym is) (All-append (λ b. (b == 10) ≡ false) line bytes so.lacks lacks);
+  }
+    where
+      by : (whole rest left : Option (List ℕ)) → Consumes whole (prepend_known bytes rest) line → Consumes rest left part → Consumes whole (prepend_known part left) more
+      by None rest left a b = tt
+      by (Some w) None left a b = absurd a
+      by (Some w) (Some r) None a b = absurd b
+      by (Some w) (Some r) (Some l) a b = a ∙ ap (λ x. line ++ (bytes ++ x)) b ∙ sym (append_assoc line bytes (part ++ l)) ∙ ap (λ x. x ++ (part ++ l)) (sym is)
+
+  -- the line feed after it
+  pub fed : (rest : Option (List ℕ)) (line part bytes left more : List ℕ) → IsSoFar whole (prepend_known bytes rest) line → All (λ b. (b == 10) ≡ false) part → bytes ≡ part ++ 10 ∷ left → more ≡ line ++ part
+      → TakesLine whole (prepend_known left rest) (Some more)
+  fed rest line part bytes left more so lacks is same = by whole rest so.lost
+    where
+      by : (whole rest : Option (List ℕ)) → Consumes whole (prepend_known bytes rest) line → TakesLine whole (prepend_known left rest) (Some more)
+      by None rest a = tt
+      by (Some w) None a = absurd a
+      by (Some w) (Some r) a =
+          ap text_lines (a ∙ ap (λ x. line ++ (x ++ r)) is ∙ ap (λ x. line ++ x) (append_assoc part (10 ∷ left) r) ∙ sym (append_assoc line part (10 ∷ (left ++ r))) ∙ ap (λ x. x ++ (10 ∷ (left ++ r))) (sym same))
+          ∙ whole_line more (left ++ r) (subst (All (λ b. (b == 10) ≡ false)) (sym same) (All-append (λ b. (b == 10) ≡ false) line part so.lacks lacks))
+
+  -- the end of the input after it
+  pub at_end : (left : Option (List ℕ)) (line : List ℕ) → IsSoFar whole (prepend_known [] left) line → IsAtEnd left → (line ≡ [] → ⊥) → TakesLine whole (prepend_known [] left) (Some line)
+  at_end left line so end some = by whole left so.lost end
+    where
+      by : (whole left : Option (List ℕ)) → Consumes whole (prepend_known [] left) line → IsAtEnd left → TakesLine whole (prepend_known [] left) (Some line)
+      by None left a b = tt
+      by (Some w) None a b = absurd a
+      by (Some w) (Some l) a b = ap text_lines (a ∙ ap (λ x. line ++ x) b ∙ append-nil line) ∙ last_line line so.lacks some ∙ ap (λ x. line ∷ text_lines x) (sym b)
+
+  pub at_end_none : (left : Option (List ℕ)) (line : List ℕ) → IsSoFar whole (prepend_known [] left) line → IsAtEnd left → line ≡ [] → TakesLine whole (prepend_known [] left) None
+  at_end_none left line so end none = by whole left so.lost end
+    where
+      by : (whole left : Option (List ℕ)) → Consumes whole (prepend_known [] left) line → IsAtEnd left → TakesLine whole (prepend_known [] left) None
+      by None left a b = tt
+      by (Some w) None a b = absurd a
+      by (Some w) (Some l) a b = ap text_lines (a ∙ (λ i. none i ++ b i))
+
+  -- either way
+  pub ends : (left : Option (List ℕ)) (line part : List ℕ) (taken : Option (List ℕ)) → IsSoFar whole (prepend_known part left) line → IsAtEnd left → part ≡ []
+      → ((line ≡ []) × (taken ≡ None)) ⊎ ((line ≡ [] → ⊥) × (taken ≡ Some line)) → TakesLine whole (prepend_known part left) taken
+  ends left line part taken so end none (inl empty) =
+      subst (λ (o : Option (List ℕ)). TakesLine whole (prepend_known part left) o) (sym empty.1)
+      (subst (λ p. TakesLine whole (prepend_known p left) None) (sym none) (at_end_none left line (subst (λ p. IsSoFar whole (prepend_known p left) line) none so) end empty.0))
+  ends left line part taken so end none (inr some) =
+      subst (λ (o : Option (List ℕ)). TakesLine whole (prepend_known part left) o) (sym some.1)
+      (subst (λ p. TakesLine whole (prepend_known p left) (Some line)) (sym none) (at_end left line (subst (λ p. IsSoFar whole (prepend_known p left) line) none so) end some.0))
+
+-- orders that were read before others
+abbrev prefixed : List Order → Orders → Orders
+prefixed os read = record { orders = os ++ read.orders; request = read.request; current = read.current }
+
+abbrev prefixed_if : List Order → Result Orders Fault → Result Orders Fault
+prefixed_if os (Ok read) = Ok (prefixed os read)
+prefixed_if os (Err fault) = Err fault
+
+abbrev prefixed_script : List Order → Script → Script
+prefixed_script os script = record { orders = os ++ script.orders; is_sound = script.is_sound }
+
+module _ (plan : List PlanLine) (os : List Order) where
+  line_prefixed : (n : ℕ) (read : Orders) (said : Option FeedLine) → with_line plan n (prefixed os read) said ≡ prefixed_if os (with_line plan n read said)
+  line_prefixed n read None = refl
+  line_prefixed n read (Some Cut) = by (is_between read)
+    where
+      by : (b : Bool) → with_cut n (prefixed os read) b ≡ prefixed_if os (with_cut n read b)
+      by true = λ i. Ok (record { orders = append_assoc os read.orders (order.Cut ∷ []) i; request = read.request; current = read.current })
+      by false = refl
+  line_prefixed n read (Some (Request q)) = by (is_between read)
+    where
+      by : (b : Bool) → with_request n q (prefixed os read) b ≡ prefixed_if os (with_request n q read b)
+      by true = refl
+      by false = refl
+  line_prefixed n read (Some (Data PassedOver)) = refl
+  line_prefixed n read (Some (Data Close)) =
+      λ i. Ok (record { orders = append_assoc os read.orders (order_for read.request (bag_of entry_cmp read.current) ∷ []) i; request = 0; current = [] })
+  line_prefixed n read (Some (Data (Record input rec))) = by (is_input_of plan input)
+    where
+      by : (b : Bool) → (if b then Ok (record { orders = os ++ read.orders; request = read.request; current = read.current ++ record { input = input; rec = rec } ∷ [] }) else Err (Line n NoSuchInput))
+          ≡ prefixed_if os (if b then Ok (record { orders = read.orders; request = read.request; current = read.current ++ record { input = input; rec = rec } ∷ [] }) else Err (Line n NoSuchInput))
+      by true = refl
+      by false = refl
+
+  script_prefixed : (n : ℕ) (read : Orders) (lines : List (List ℕ)) → script_from plan n (prefixed os read) lines ≡ prefixed_script os (script_from plan n read lines)
+  script_prefixed n read [] = refl
+  script_prefixed n read (line ∷ lines) =
+      ap (script_after (prefixed os read) (λ more. script_from plan (n + 1) more lines)) (line_prefixed n read (feed_line_of line))
+      ∙ by (with_line plan n read (feed_line_of line)) (λ more. script_prefixed (n + 1) more lines)
+    where
+      by : (r : Result Orders Fault) → ((more : Orders) → script_from plan (n + 1) (prefixed os more) lines ≡ prefixed_script os (script_from plan (n + 1) more lines))
+          → script_after (prefixed os read) (λ more. script_from plan (n + 1) more lines) (prefixed_if os r) ≡ prefixed_script os (script_after read (λ more. script_from plan (n + 1) more lines) r)
+      by (Ok more) rest = rest more
+      by (Err fault) rest = refl
+
+abbrev first_or : Order → List Order → Order
+first_or o [] = o
+first_or o (x ∷ xs) = x
+
+abbrev orders_or : Result Orders Fault → List Order
+orders_or (Ok read) = read.orders
+orders_or (Err fault) = []
+
+orders_in : {a b : Orders} → ◌≡◌ {A = Result Orders Fault} (Ok a) (Ok b) → a.orders ≡ b.orders
+orders_in e = ap orders_or e
+
+module _ (plan : List PlanLine) (n : ℕ) where
+  -- a line completes one order at most
+  one_at_most : (read next : Orders) (said : Option FeedLine) → read.orders ≡ [] → with_line plan n read said ≡ Ok next → (next.orders ≡ []) ⊎ ((order : Order) × (next.orders ≡ order ∷ []))
+  one_at_most read next None none is = absurd (let no = is in cc)
+  one_at_most read next (Some Cut) none is = by (is_between read) is
+    where
+      by : (b : Bool) → with_cut n read b ≡ Ok next → (next.orders ≡ []) ⊎ ((order : Order) × (next.orders ≡ order ∷ []))
+      by true e = inr (order.Cut, sym (orders_in e) ∙ ap (λ l. l ++ order.Cut ∷ []) none)
+      by false e = absurd (let no = e in cc)
+  one_at_most read next (Some (Request q)) none is = by (is_between read) is
+    where
+      by : (b : Bool) → with_request n q read b ≡ Ok next → (next.orders ≡ []) ⊎ ((order : Order) × (next.orders ≡ order ∷ []))
+      by true e = inl (sym (orders_in e) ∙ none)
+      by false e = absurd (let no = e in cc)
+  one_at_most read next (Some (Data PassedOver)) none is = inl (sym (orders_in is) ∙ none)
+  one_at_most read next (Some (Data Close)) none is = inr (order_for read.request (bag_of entry_cmp read.current), sym (orders_in is) ∙ ap (λ l. l ++ order_for read.request (bag_of entry_cmp read.current) ∷ []) none)
+  one_at_most read next (Some (Data (Record input rec))) none is = by (is_input_of plan input) is
+    where
+      by : (b : Bool) → (if b then Ok (record { orders = read.orders; request = read.request; current = read.current ++ record { input = input; rec = rec } ∷ [] }) else Err (Line n NoSuchInput)) ≡ Ok next
+          → (next.orders ≡ []) ⊎ ((order : Order) × (next.orders ≡ order ∷ []))
+      by true e = inl (sym (orders_in e) ∙ none)
+      by false e = absurd (let no = e in cc)
+
+  -- ONE LINE MORE, after which the last order was taken out, if there is one
+  pub completes : (read next : Orders) (line : List ℕ) (left : List Order) (taken : Option Order) → read.orders ≡ [] → with_line plan n read (feed_line_of line) ≡ Ok next
+      → next.orders ≡ left ++ option_to_list taken → (IsSome taken ↔ (0 < length next.orders)) → (left ≡ [])
+      × Completes plan n read (n + 1) (record { orders = left; request = next.request; current = next.current }) line taken
+  completes read next line left taken none is parts some = by (one_at_most read next (feed_line_of line) none is) taken parts some
+    where
+      follows : (more : List (List ℕ)) → script_from plan n read (line ∷ more) ≡ script_from plan (n + 1) next more
+      follows more = ap (script_after read (λ r. script_from plan (n + 1) r more)) is
+
+      nothing : (xs : List Order) → (0 < length xs → ⊥) → xs ≡ []
+      nothing [] no_more = refl
+      nothing (x ∷ xs) no_more = absurd (no_more (omega arith))
+
+      nothing_before : (xs : List Order) (o p : Order) → p ∷ [] ≡ xs ++ o ∷ [] → (xs ≡ []) × (p ≡ o)
+      nothing_before [] o p e = (refl, ap (first_or p) e)
+      nothing_before (x ∷ []) o p e = absurd (let long = ap length e in omega (arith, long))
+      nothing_before (x ∷ y ∷ xs) o p e = absurd (let long = ap length e in let rest = length-append xs (o ∷ []) in omega (arith, long, rest))
+
+      by : (next.orders ≡ []) ⊎ ((order : Order) × (next.orders ≡ order ∷ [])) → (taken : Option Order) → next.orders ≡ left ++ option_to_list taken → (IsSome taken ↔ (0 < length next.orders))
+          → (left ≡ []) × Completes plan n read (n + 1) (record { orders = left; request = next.request; current = next.current }) line taken
+      by which None e some =
+          let gone : next.orders ≡ [] = nothing next.orders (λ more. absurd (let is_some = some.1 more in cc)) in
+          let empty : left ≡ [] = sym (append-nil left) ∙ sym e ∙ gone in (
+            empty,
+            λ more. follows more ∙ ap (λ (r : Orders). script_from plan (n + 1) r more) (λ i. record { orders = (gone ∙ sym empty) i; request = next.request; current = next.current }),
+          )
+      by (inl gone) (Some o) e some = absurd (let long = ap length (sym gone ∙ e) in let rest = length-append left (o ∷ []) in omega (arith, long, rest))
+      by (inr one) (Some o) e some =
+          let both = nothing_before left o one.0 (sym one.1 ∙ e) in (
+            both.0,
+            λ more. follows more
+                ∙ ap (λ (r : Orders). script_from plan (n + 1) r more) (λ i. record { orders = (one.1 ∙ ap (λ x. x ∷ []) both.1 ∙ ap (λ l. o ∷ l) (sym both.0)) i; request = next.request; current = next.current })
+                ∙ script_prefixed plan (o ∷ []) (n + 1) (record { orders = left; request = next.request; current = next.current }) more,
+          )
+
+-- what was asked for, as lines are taken
+pub same_itself : (s : Option Script) → SameScript s s
+same_itself None = tt
+same_itself (Some s) = refl
+
+module _ (plan : List PlanLine) (n m : ℕ) (read next : Orders) (rest left : Option (List ℕ)) where
+  pub on_none : (s : Option Script) (line : List ℕ) → SameScript s (script_left rest plan n read) → TakesLine rest left (Some line) → Completes plan n read m next line None
+      → SameScript s (script_left left plan m next)
+  on_none s line same takes is = by s rest left same takes
+    where
+      by : (s : Option Script) (rest left : Option (List ℕ)) → SameScript s (script_left rest plan n read) → TakesLine rest left (Some line) → SameScript s (script_left left plan m next)
+      by None rest left same takes = tt
+      by (Some s) None left same takes = absurd same
+      by (Some s) (Some r) None same takes = absurd takes
+      by (Some s) (Some r) (Some l) same takes = same ∙ ap (script_from plan n read) takes ∙ is (text_lines l)
+
+  pub on_some : (s : Option Script) (line : List ℕ) (order : Order) → SameScript s (script_left rest plan n read) → TakesLine rest left (Some line) → Completes plan n read m next line (Some order)
+      → Asks s (script_left left plan m next) (Some order)
+  on_some s line order same takes is = by s rest left same takes
+    where
+      by : (s : Option Script) (rest left : Option (List ℕ)) → SameScript s (script_left rest plan n read) → TakesLine rest left (Some line) → Asks s (script_left left plan m next) (Some order)
+      by None rest left same takes = tt
+      by (Some s) None left same takes = absurd same
+      by (Some s) (Some r) None same takes = absurd takes
+      by (Some s) (Some r) (Some l) same takes =
+          let is_so : s ≡ after_order (Some order) (script_from plan m next (text_lines l)) = same ∙ ap (script_from plan n read) takes ∙ is (text_lines l) in
+          (ap (λ (t : Script). t.orders) is_so, ap (λ (t : Script). t.is_sound) is_so)
+
+  pub on_end : (s : Option Script) → SameScript s (script_left rest plan n read) → TakesLine rest left None → read.orders ≡ [] → is_between read ≡ true → Asks s (script_left left plan n read) None
+  on_end s same takes none between = by s rest left same takes
+    where
+      by : (s : Option Script) (rest left : Option (List ℕ)) → SameScript s (script_left rest plan n read) → TakesLine rest left None → Asks s (script_left left plan n read) None
+      by None rest left same takes = tt
+      by (Some s) None left same takes = absurd same
+      by (Some s) (Some r) None same takes = absurd takes
+      by (Some s) (Some r) (Some l) same takes =
+          let is_so : s ≡ record { orders = read.orders; is_sound = is_between read } = same ∙ ap (script_from plan n read) takes in
+          (ap (λ (t : Script). t.orders) is_so ∙ none, ap (λ (t : Script). t.is_sound) is_so ∙ between)
+
+abbrev got : Result (List Order) Fault → List Order
+got (Ok os) = os
+got (Err fault) = []
+
+-- AN INPUT WITHOUT A FAULT: its script is its orders
+pub script_is : (plan : List PlanLine) (n : ℕ) (read : Orders) (lines : List (List ℕ)) (orders : List Order) → orders_from plan n read lines ≡ Ok orders
+    → ◌≡◌ {A = Script} (script_from plan n read lines) (record { orders = orders; is_sound = true })
+script_is plan n read [] orders is = by (is_between read) refl is
+  where
+    by : (b : Bool) → is_between read ≡ b → ended n read.orders b ≡ Ok orders → ◌≡◌ {A = Script} (record { orders = read.orders; is_sound = is_between read }) (record { orders = orders; is_sound = true })
+    by true e h = λ i. record { orders = ap got h i; is_sound = e i }
+    by false e h = absurd (let no = h in cc)
+script_is plan n read (line ∷ lines) orders is = by (with_line plan n read (feed_line_of line)) is (λ more. script_is plan (n + 1) more lines orders)
+  where
+    by : (r : Result Orders Fault) → and_then (λ more. orders_from plan (n + 1) more lines) r ≡ Ok orders
+        → ((more : Orders) → orders_from plan (n + 1) more lines ≡ Ok orders → ◌≡◌ {A = Script} (script_from plan (n + 1) more lines) (record { orders = orders; is_sound = true }))
+        → ◌≡◌ {A = Script} (script_after read (λ more. script_from plan (n + 1) more lines) r) (record { orders = orders; is_sound = true })
+    by (Ok more) h rest = rest more h
+    by (Err fault) h rest = absurd (let no = h in cc)

@@ -1,0 +1,127 @@
+//! The lines of a reader, as they come.
+ghost use Rattle.std.specs.Prelude.{◌≡◌, ◌⊎◌, ◌++◌, ◌∷◌, ◌==◌, List, ℕ, [], true, false, All, IfOk, IfErr, option_map};
+ghost use Rattle.std.specs.Io.KnownBytes.{Consumes, IsAtEnd};
+ghost use Rattle.td_feed.specs.Asked.{TakesLine, unread};
+
+use std::alloc::Global;
+use std::io::ErrorKind;
+use std::marker::Model;
+use td_console::{Fault, Source};
+
+/// How many bytes are read at a time, at most.
+const PIECE: usize = 4096;
+
+/// How many reads one line may take.
+const READS: u64 = 1 << 32;
+
+/// Bytes that were read and are in no line yet. Contracts see these alone.
+#[derive(Drop)]
+struct Unread {
+    bytes: Vec<u8>,
+    start: usize,
+}
+
+impl Model for Unread {
+    ghost use Rattle.std.specs.Prelude.{List, ℕ, ◌≤◌, drop, length};
+
+    ghost Value = { List ℕ };
+
+    ghost view = { λ u. drop u.start u.bytes.items };
+
+    ghost invariant = { λ u. u.start ≤ length u.bytes.items };
+}
+
+impl Unread {
+    /// Adds to a line what belongs to it, and answers whether that ends it: then a line feed was there, which is passed over.
+    /// Refusal: `Memory`.
+    fn cut(&mut self, line: &mut Vec<u8>) -> Result<bool, Fault>
+        ensures found { IfOk result (λ found. found ≡ true → (part : List ℕ) × All (λ b. (b == 10) ≡ false) part × (line.new.items ≡ line.old.items ++ part) × (self.old ≡ part ++ 10 ∷ self.new)) }
+        ensures all { IfOk result (λ found. found ≡ false → All (λ b. (b == 10) ≡ false) self.old × (line.new.items ≡ line.old.items ++ self.old) × (self.new ≡ [])) }
+        ensures err { IfErr result (λ f. f ≡ Fault.Memory) }
+    {
+        let unread = &self.bytes[self.start..];
+        match unread.iter().position(|b| *b == b'\n') {
+            Some(end) => {
+                line.extend_from_slice(&unread[..end])?;
+                self.start += end + 1;
+                Ok(true)
+            }
+            None => {
+                line.extend_from_slice(unread)?;
+                self.bytes.clear();
+                self.start = 0;
+                Ok(false)
+            }
+        }
+    }
+
+    /// Takes in bytes that were read, where none are left. Refusal: `Memory`.
+    fn take_in(&mut self, piece: &[u8]) -> Result<(), Fault>
+        requires { self.old ≡ [] }
+        ensures ok { IfOk result (λ _. self.new ≡ piece.now) }
+        ensures err { IfErr result (λ f. f ≡ Fault.Memory) }
+    {
+        self.bytes.clear();
+        self.start = 0;
+        self.bytes.extend_from_slice(piece)?;
+        Ok(())
+    }
+}
+
+/// A reader whose lines are taken one by one. It holds a piece of what it has read, and no more of the input than that and one line.
+#[derive(Drop)]
+pub(crate) struct Lines<I: Source> {
+    reader: I,
+    unread: Unread,
+}
+
+impl<I: Source> Lines<I> {
+    /// The lines of a reader.
+    pub(crate) fn new(alloc: Global, reader: I) -> Lines<I>
+        ensures { unread (I.remaining result.reader) result.unread ≡ I.remaining reader }
+    {
+        Lines {
+            reader,
+            unread: Unread {
+                bytes: Vec::new(alloc),
+                start: 0,
+            },
+        }
+    }
+
+    /// The next line, without its line feed; None at the end. It waits for no more of the input than the line. Refusals: `Input`,
+    /// `Memory`.
+    pub(crate) fn next_line(&mut self, alloc: Global) -> Result<Option<Vec<u8>>, Fault>
+        ensures line { IfOk result (λ line. TakesLine (unread (I.remaining self.old.reader) self.old.unread) (unread (I.remaining self.new.reader) self.new.unread) (option_map (λ l. l.items) line)) }
+        ensures err { IfErr result (λ f. (f ≡ Fault.Input) ⊎ (f ≡ Fault.Memory)) }
+    {
+        let mut line = Vec::new(alloc);
+        for _read in 0..READS {
+            if self.unread.cut(&mut line)? {
+                return Ok(Some(line));
+            }
+            if self.is_at_end()? {
+                return Ok(if line.is_empty() { None } else { Some(line) });
+            }
+        }
+        Err(Fault::Input)
+    }
+
+    /// Reads some bytes, where none are left, and answers whether the input has ended instead. Refusals: `Input`, `Memory`.
+    fn is_at_end(&mut self) -> Result<bool, Fault>
+        requires { self.old.unread ≡ [] }
+        ensures read { IfOk result (λ ended. Consumes (I.remaining self.old.reader) (I.remaining self.new.reader) self.new.unread) }
+        ensures ended { IfOk result (λ ended. ended ≡ true → IsAtEnd (I.remaining self.new.reader) × (self.new.unread ≡ [])) }
+        ensures err { IfErr result (λ f. (f ≡ Fault.Input) ⊎ (f ≡ Fault.Memory)) }
+    {
+        let mut piece = [0u8; PIECE];
+        match self.reader.read_piece(&mut piece) {
+            Ok(count) => {
+                self.unread.take_in(&piece[..count])?;
+                Ok(count == 0)
+            }
+            Err(error) if error.kind() == ErrorKind::Interrupted => Ok(false),
+            Err(_) => Err(Fault::Input),
+        }
+    }
+}

@@ -1,0 +1,149 @@
+//! Streaming epochs to a disk, line by line.
+ghost use Rattle.std.specs.Prelude.{◌≡◌, ◌⊎◌, ◌↔◌, ◌++◌, ◌≤◌, List, true, false, None, OnOk, OnErr, IfSome, IsErrOf, Err};
+ghost use Rattle.td_plan.specs.Blocks.{vertices};
+ghost use Rattle.td_calls.specs.Fits.{first_lack};
+ghost use Rattle.td_disk.specs.Disk.{CountsDevice, Rises};
+ghost use Rattle.td_standing.specs.declared.error.KeeperError.TheVariants.{Device};
+ghost use Rattle.td_journal.specs.Numbers.{greatest};
+ghost use Rattle.td_journal.specs.declared.submitted.Submitted.{Submitted as AnySubmitted};
+ghost use Rattle.td_console.specs.Answer.{lack_fault};
+ghost use Rattle.td_feed.specs.Orders.{submissions, new_after};
+ghost use Rattle.td_feed.specs.Asked.{script_of};
+ghost use Rattle.td_feed.specs.Fed.{EachTellsHistory, EachTellsSome};
+ghost use Rattle.td_feed.specs.Carried.{new_to, Carries, Leaves};
+ghost use Rattle.td_feed.specs.Said.{SaysBy, SaysFed};
+
+use crate::asking::Streamed;
+use crate::under_way::{Pace, open};
+use crate::workers::obey_by_workers;
+use std::alloc::Global;
+use std::marker::Brand;
+use std::sync::Wait;
+use std::sync::ledger::Blank;
+use std::thread::Threads;
+use td_calls::{Closures, Law};
+use td_console::{Fault, Sink, Source, lack_fault};
+use td_disk::Disk;
+use td_keeper::Keeper;
+use td_plan::Plan;
+use td_standing::laws;
+
+/// Does what `feed` does, order by order as the input comes. The output lines of the epochs that the disk tells are written first.
+/// When an epoch is closed it is put on the disk, `ack E` is written, or `again Q`, and once it has passed its output lines are
+/// written, all before the next line is read. A cut is taken and written at a line `cut`; where `cut_every` epochs stand after the
+/// last one, if that is given; and where the journal is full, so that one more epoch finds room wherever the cut's states do. Of the
+/// input no more is in memory than a line, and the epoch that it is in.
+///
+/// Refusals: a missing closure, before anything else; what the disk refuses as it is recovered; and then the first of what a line,
+/// the reader, the keeper, a worker or the writer refuse, after all that was asked for before it. What was written stays written.
+/// `Memory` also where a thread could not be made.
+pub fn stream<
+    D: Disk + Drop,
+    I: Source + Drop,
+    W: Sink,
+    L: Law + Send + Sync,
+    C: Closures<L> + Sync,
+    R: Threads + Wait + Sync,
+>(
+    rt: &R,
+    alloc: Global,
+    disk: D,
+    plan: &Plan,
+    workers: u8,
+    cut_every: Option<u32>,
+    reader: I,
+    writer: &mut W,
+    calls: &C,
+) -> (D, Result<(), Fault>)
+    requires some { 1 ≤ workers }
+    requires most { workers ≤ 16 }
+    ensures size { D.capacity result.0 ≡ D.capacity disk }
+    ensures lawful { D.is_lawful disk ↔ D.is_lawful result.0 }
+
+    // A missing closure comes first: nothing was written.
+    ensures lack { IfSome (first_lack (C.has_map calls.now) (C.has_group calls.now) (C.has_fold calls.now) (vertices plan.now)) (λ lack.
+        (result.1 ≡ Err (lack_fault lack)) × (result.0 ≡ disk) × (writer.new ≡ writer.old)) }
+    ensures fits { OnOk result.1 (first_lack (C.has_map calls.now) (C.has_group calls.now) (C.has_fold calls.now) (vertices plan.now) ≡ None) }
+
+    // Ok is answered only to an input without a fault.
+    ensures sound { OnOk result.1 (IfSome (I.remaining reader) (λ input. (script_of plan.now input).is_sound ≡ true)) }
+
+    // A DISK THAT STOOD FOR A HISTORY stands for that and each epoch of the input after it that is new, where the answer is Ok.
+    ensures fed { OnOk result.1 (IfSome (I.remaining reader) (λ input. D.is_lawful disk → (history : List AnySubmitted)
+        → EachTellsHistory L.answers plan.now history (D.state disk)
+        → EachTellsHistory L.answers plan.now (history ++ new_after (greatest 0 history) (submissions (script_of plan.now input).orders)) (D.state result.0))) }
+
+    // At any answer it stands for that and a beginning of the new epochs before the input's first fault.
+    ensures safe { IfSome (I.remaining reader) (λ input. D.is_lawful disk → (history : List AnySubmitted)
+        → EachTellsHistory L.answers plan.now history (D.state disk)
+        → EachTellsSome L.answers plan.now history (new_after (greatest 0 history) (submissions (script_of plan.now input).orders)) (D.state result.0)) }
+
+    // What is written are the lines of what the keeper of the disk replied, one after another: so `ack E` only for an epoch that is
+    // on the disk, and output lines only of such.
+    ensures said { IfSome (I.remaining reader) (λ input.
+        SaysFed D.is_lawful D.state D.failures L.answers result.1 plan.now disk result.0 (W.contents writer.old) (W.contents writer.new) (submissions (script_of plan.now input).orders)) }
+
+    // The device is told to have failed only where its count of failures rose, and with any other answer that stays.
+    ensures device { IsErrOf result.1 (Fault.Keeper Device) → Rises (D.failures disk) (D.failures result.0) }
+    ensures stays { IsErrOf result.1 (Fault.Keeper Device) ⊎ (D.failures result.0 ≡ D.failures disk) }
+{
+    laws::told_in_parts();
+    if let Err(lack) = calls.fits(plan) {
+        return (disk, Err(lack_fault(lack)));
+    }
+    let keeper = match Keeper::<D, L>::recover(alloc, disk, plan) {
+        Ok(keeper) => keeper,
+        Err((refusal, disk)) => return (disk, Err(Fault::from(refusal))),
+    };
+    let (keeper, ended) = obey(
+        rt, alloc, keeper, plan, workers, cut_every, reader, writer, calls,
+    );
+    (keeper.into_disk(), ended)
+}
+
+/// Does what an input asks for, by a keeper of a plan, which comes back. Refusals: those of the hall, of the reader and of its lines,
+/// of the keeper, of the workers and of the writer.
+fn obey<
+    D: Disk + Drop,
+    I: Source + Drop,
+    W: Sink,
+    L: Law + Send + Sync,
+    C: Closures<L> + Sync,
+    R: Threads + Wait + Sync,
+>(
+    rt: &R,
+    alloc: Global,
+    keeper: Keeper<D, L>,
+    plan: &Plan,
+    workers: u8,
+    cut_every: Option<u32>,
+    reader: I,
+    writer: &mut W,
+    calls: &C,
+) -> (Keeper<D, L>, Result<(), Fault>)
+    requires some { 1 ≤ workers }
+    requires most { workers ≤ 16 }
+    requires whole { keeper.broken ≡ false }
+    ensures size { D.capacity result.0.device ≡ D.capacity keeper.device }
+    ensures lawful { D.is_lawful keeper.device ↔ D.is_lawful result.0.device }
+    ensures sound { OnOk result.1 (IfSome (I.remaining reader) (λ input. (script_of plan.now input).is_sound ≡ true)) }
+    ensures fed { OnOk result.1 (IfSome (I.remaining reader) (λ input.
+        Carries L.answers keeper result.0 (new_to keeper (submissions (script_of plan.now input).orders)))) }
+    ensures left { OnErr result.1 (IfSome (I.remaining reader) (λ input.
+        Leaves D.is_lawful D.state L.answers keeper result.0 (new_to keeper (submissions (script_of plan.now input).orders)))) }
+    ensures said { IfSome (I.remaining reader) (λ input.
+        SaysBy D.is_lawful D.state D.failures L.answers result.1 (W.contents writer.old) (W.contents writer.new) keeper result.0 (new_to keeper (submissions (script_of plan.now input).orders))) }
+    ensures failures { CountsDevice result.1 (Fault.Keeper Device) (D.failures keeper.device) (D.failures result.0.device) }
+{
+    match open(alloc, &keeper, plan, workers) {
+        Ok((hall, feeding)) => {
+            let blank = Blank::new(u64::from(hall.workers()));
+            let orders = Streamed::new(alloc, plan, reader);
+            let pace = Pace::Live(cut_every);
+            obey_by_workers::<_, _, _, _, _, Brand, _>(
+                rt, alloc, keeper, hall, blank, feeding, orders, pace, writer, calls,
+            )
+        }
+        Err(fault) => (keeper, Err(fault)),
+    }
+}
