@@ -14,8 +14,8 @@ use clap::{ArgMatches, Error};
 use std::alloc::Global;
 
 /// What these words ask for, of which the first is the program's name. The subcommands are `batch`, `run [--workers W]`,
-/// `sim [--workers W] [--picks LIST]`, `format DISK PLAN M N K`, `feed [--workers W] DISK PLAN`, `show DISK PLAN` and
-/// `upgrade DISK PLAN`, where W is 1 to 16, and 1 where it is not given, LIST is `0` where it is not given, and M, N and K are
+/// `sim [--workers W] [--picks LIST]`, `format DISK PLAN M N K`, `feed [--workers W] DISK PLAN`, `show DISK PLAN`,
+/// `dump DISK PLAN` and `upgrade DISK PLAN`, where W is 1 to 16, and 1 where it is not given, LIST is `0` where it is not given, and M, N and K are
 /// numbers of 32 bits. Refusals: `Words` where clap refuses the words, and `Memory`.
 pub fn words<'a>(alloc: Global, given: &'a [String]) -> Result<Job<'a>, WordsError>
     ensures ok { IfOk result (IsAsked (map string_bytes given.entry.now)) }
@@ -60,6 +60,7 @@ fn job_of<'a>(name: &str, matches: &ArgMatches<'a>) -> Option<Job<'a>>
         "format" => format_job(matches),
         "feed" => feed_job(matches),
         "show" => show_job(matches),
+        "dump" => dump_job(matches),
         "upgrade" => upgrade_job(matches),
         _ => None,
     }
@@ -126,6 +127,16 @@ fn show_job<'a>(matches: &ArgMatches<'a>) -> Option<Job<'a>>
     let disk = word_of(matches, "disk")?;
     let plan = word_of(matches, "plan")?;
     Some(Job::Show { disk, plan })
+}
+
+/// The dump of a disk that the matches of `dump` ask for.
+fn dump_job<'a>(matches: &ArgMatches<'a>) -> Option<Job<'a>>
+    ensures some { IfSome result (IsOf (codes "dump") (rows_of (found_of matches.now))) }
+    ensures none { IfNone result ((job : AnyJob) → IsOf (codes "dump") (rows_of (found_of matches.now)) job → ⊥) }
+{
+    let disk = word_of(matches, "disk")?;
+    let plan = word_of(matches, "plan")?;
+    Some(Job::Dump { disk, plan })
 }
 
 /// The upgrade of a disk that the matches of `upgrade` ask for.
