@@ -11,7 +11,8 @@ number of workers and random picks; of `sim` the lines of notifications are left
 
 With --feeds a disk is made for one input in ten more, of random plans without faults, each third of them of version 1: it is fed a few
 times, by epochs some of which have request numbers, new, repeated or lower ones, with cuts and with mistakes between them; it may be
-raised to version 2; and after each command `td show` must tell what the reading says."""
+raised to version 2; and after each command `td show` must tell what the reading says, and `td dump` write it; what is dumped at the end is
+fed to a fresh disk."""
 
 import collections
 import pathlib
@@ -441,6 +442,13 @@ class Disk:
         lines += [f"state {vertex} {key} {a} {b}" for (vertex, key), (a, b) in sorted(self.states.items())]
         return lines + [f"epoch {at} {len(batch)}" for at, (_, batch) in enumerate(self.epochs, self.kept + 1)]
 
+    def dump(self):
+        _, cells, most = self.shape
+        lines = [f"# kept {self.kept} told {self.told()} last {self.last()}, epochs {len(self.epochs)} of {cells}, states {len(self.states)} of {most}"]
+        for request, batch in self.epochs:
+            lines += [f"req {request}"] * (request > 0) + [f"{n} {key} {val}" for n, key, val in sorted(batch)] + ["."]
+        return lines
+
     def meaning(self):
         """The states after the last epoch, and the output lines of each epoch after the checkpoint."""
         states, outputs = dict(self.states), []
@@ -705,9 +713,23 @@ def feed_random_disk(rng, every_plan, folder, met):
         written, fault = disk.feed(fed)
         expect(["feed", file, plan, "--workers", str(rng.choice(WORKERS))], fed, lines_as(written, fault))
         expect(["show", file, plan], b"", lines_as(disk.show()))
+        expect(["dump", file, plan], b"", lines_as(disk.dump()))
         what = re.sub(r"\d+", "N", f"td: {fault}") if fault else "no fault"
         met[f"a feed, {what}"] += 1
         met["epochs that were there already"] += sum(line.startswith("again ") for line in written)
+    feed_dumped(disk, plan, folder)
+
+
+def feed_dumped(disk, plan, folder):
+    """Feeds what was dumped of a disk to a fresh one of its shape."""
+    file, twin = pathlib.Path(folder) / "twin", Disk(disk.plan, disk.shape, 2)
+    _, dumped, _ = lines_as(disk.dump())
+    written, fault = twin.feed(dumped)
+    expect(["format", file, plan, *map(str, disk.shape)], b"", lines_as([]))
+    expect(["feed", file, plan], dumped, lines_as(written, fault))
+    expect(["show", file, plan], b"", lines_as(twin.show()))
+    if disk.kept == 0 and twin.show() != disk.show():
+        sys.exit(f"{dumped!r}\nof {disk.show()}\nfed {twin.show()}")
 
 
 def feed_disks(rng, every_plan, count):

@@ -6,7 +6,7 @@ use std::rt::Files;
 use td_calls::Stock;
 use td_console::{Fault, StdReader, StdWriter};
 use td_disk::{FileDisk, ReadAhead};
-use td_feed::{format, read_plan, shape_of, show, upgrade};
+use td_feed::{dump, format, read_plan, shape_of, show, upgrade};
 use td_plan::Plan;
 
 /// Makes a disk of this shape in the file at `disk`, formatted for the plan in the file at `plan`.
@@ -35,6 +35,17 @@ pub(crate) fn show_disk<R: Files<File = File> + Print + AllocGlobal>(
     let (mut disk, plan) = open_disk(rt, disk, plan)?;
     let mut writer = StdWriter(io::writer(rt));
     show(rt.alloc(), &mut disk, &plan, &mut writer)
+}
+
+/// Writes the epochs after the checkpoint of the disk in the file at `disk` to standard output, as lines that a feed takes.
+pub(crate) fn dump_disk<R: Files<File = File> + Print + AllocGlobal>(
+    rt: &R,
+    disk: &str,
+    plan: &str,
+) -> Result<(), Fault> {
+    let (mut disk, plan) = open_disk(rt, disk, plan)?;
+    let mut writer = StdWriter(io::writer(rt));
+    dump(rt.alloc(), &mut disk, &plan, &mut writer)
 }
 
 /// Raises the disk in the file at `disk` to the version of the format that has request numbers.

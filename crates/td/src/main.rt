@@ -10,7 +10,7 @@ mod engine;
 mod store;
 
 use crate::catalogue::{fold_of, group_of, map_of};
-use crate::disk::{format_disk, open_disk, show_disk, upgrade_disk};
+use crate::disk::{dump_disk, format_disk, open_disk, show_disk, upgrade_disk};
 use crate::engine::Engine;
 use crate::store::{store_fold, store_group, store_map};
 use std::fs::File;
@@ -75,6 +75,7 @@ fn done<R: Files<File = File> + Input + Print + AllocGlobal + Threads + Wait + S
             run_engine(rt, Engine::Stream(disk, plan, workers, cut_every))
         }
         Job::Show { disk, plan } => show_disk(rt, disk, plan),
+        Job::Dump { disk, plan } => dump_disk(rt, disk, plan),
         Job::Upgrade { disk, plan } => upgrade_disk(rt, disk, plan),
         Job::Help(text) => match print!(rt; "{text}") {
             Ok(()) => Ok(()),

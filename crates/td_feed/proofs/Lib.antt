@@ -7,6 +7,9 @@ pub mod Printable
 pub mod Narrowed
 pub mod Refused
 pub mod Lines
+pub mod Wording
+pub mod Reread
+pub mod Pieces
 pub mod Counting
 pub mod Asked
 pub mod Obeyed

@@ -1,6 +1,7 @@
 pub mod Orders
 pub mod Narrowed
 pub mod Shown
+pub mod Dumped
 pub mod Fed
 pub mod Carried
 pub mod Said

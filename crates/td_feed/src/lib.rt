@@ -1,11 +1,13 @@
 //! The engines behind the commands of the program `td` that have a disk, over any disk, reader and writer: `format`, `feed`,
-//! `show` and `upgrade`. Their one contract: a feed that answers Ok leaves a disk that stands for what it stood for before and each
-//! epoch of the input that is new to it, once; and what `show` writes is what the disk tells.
+//! `stream`, `show`, `dump` and `upgrade`. Their one contract: a feed or a stream that answers Ok leaves a disk that stands for what it
+//! stood for before and each epoch of the input that is new to it, once; and what `show` and `dump` write is what the disk tells.
 #![tactic(auto)]
 
 mod asking;
+mod dumping;
 mod feeding;
 mod formatting;
+pub mod laws;
 mod line_reader;
 mod order;
 mod plan_text;
@@ -17,6 +19,7 @@ mod under_way;
 mod upgrading;
 mod workers;
 
+pub use dumping::dump;
 pub use feeding::feed;
 pub use formatting::{format, shape_of};
 pub use order::{FeedLine, Order, read_orders};

@@ -11,7 +11,7 @@ use Rattle.clap.proofs.WalkLemmas.{one_text-rows}
 use Rattle.clap.specs.Faults.{fault_of}
 use Rattle.clap.specs.Kinds.{IsAmong}
 use Rattle.td_words.specs.declared.job.Job.{Job}
-use Rattle.td_words.specs.declared.job.Job.TheVariants.{Batch, Run, Sim, Format, Feed, Show, Upgrade, Stream, Help}
+use Rattle.td_words.specs.declared.job.Job.TheVariants.{Batch, Run, Sim, Format, Feed, Show, Dump, Upgrade, Stream, Help}
 use Rattle.td_words.specs.declared.job.WordsError.{WordsError}
 use Rattle.td_words.specs.declared.job.WordsError.TheVariants.{Words, Memory}
 use Rattle.td_words.specs.Jobs.{IsHelp, IsOf}
@@ -85,6 +85,10 @@ only_feed rows _ h = let other = ap (bytes_eq (codes "feed")) h.0 in cc
 pub only_show : (rows : List Row) (job : Job) → IsOf (codes "show") rows job → (disk : Bor Text) × (plan : Bor Text) × HasValues rows (Show disk plan)
 only_show rows (Show disk plan) h = (disk, plan, h.1)
 only_show rows _ h = let other = ap (bytes_eq (codes "show")) h.0 in cc
+
+pub only_dump : (rows : List Row) (job : Job) → IsOf (codes "dump") rows job → (disk : Bor Text) × (plan : Bor Text) × HasValues rows (Dump disk plan)
+only_dump rows (Dump disk plan) h = (disk, plan, h.1)
+only_dump rows _ h = let other = ap (bytes_eq (codes "dump")) h.0 in cc
 
 pub only_upgrade : (rows : List Row) (job : Job) → IsOf (codes "upgrade") rows job → (disk : Bor Text) × (plan : Bor Text) × HasValues rows (Upgrade disk plan)
 only_upgrade rows (Upgrade disk plan) h = (disk, plan, h.1)

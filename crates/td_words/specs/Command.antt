@@ -7,7 +7,7 @@ use Rattle.clap.specs.Kinds.{IsAmong}
 use Rattle.clap.specs.declared.builder.value_parser.ValueParser.TheVariants as parser
 use Rattle.clap.specs.declared.error.kind.ErrorKind.TheVariants.{DisplayHelp}
 use Rattle.td_words.specs.declared.job.Job.{Job}
-use Rattle.td_words.specs.declared.job.Job.TheVariants.{Batch, Run, Sim, Format, Feed, Show, Upgrade, Stream, Help}
+use Rattle.td_words.specs.declared.job.Job.TheVariants.{Batch, Run, Sim, Format, Feed, Show, Dump, Upgrade, Stream, Help}
 
 -- `--workers W`, a number of 1 to 16, and 1 where it is not given
 abbrev pub workers_rule : Rule
@@ -64,6 +64,9 @@ feed_app = with_rule (with_files (new_app (codes "feed"))) workers_rule
 abbrev pub show_app : App
 show_app = with_files (new_app (codes "show"))
 
+abbrev pub dump_app : App
+dump_app = with_files (new_app (codes "dump"))
+
 abbrev pub upgrade_app : App
 upgrade_app = with_files (new_app (codes "upgrade"))
 
@@ -75,7 +78,7 @@ abbrev pub alone : App
 alone = let named = new_app (codes "td") in record named { top = record named.top { subcommand_required = true } }
 
 abbrev pub td : App
-td = with_subcommand (with_subcommand (with_subcommand (with_subcommand (with_subcommand (with_subcommand (with_subcommand (with_subcommand alone batch_app.top) run_app.top) sim_app.top) format_app.top) feed_app.top) show_app.top) upgrade_app.top) stream_app.top
+td = with_subcommand (with_subcommand (with_subcommand (with_subcommand (with_subcommand (with_subcommand (with_subcommand (with_subcommand (with_subcommand alone batch_app.top) run_app.top) sim_app.top) format_app.top) feed_app.top) show_app.top) dump_app.top) upgrade_app.top) stream_app.top
 
 abbrev pub batch_words : List (List ℕ)
 batch_words = codes "td" ∷ codes "batch" ∷ []
@@ -117,6 +120,7 @@ name_of (Sim workers picks) = codes "sim"
 name_of (Format disk plan m n k) = codes "format"
 name_of (Feed disk plan workers) = codes "feed"
 name_of (Show disk plan) = codes "show"
+name_of (Dump disk plan) = codes "dump"
 name_of (Upgrade disk plan) = codes "upgrade"
 name_of (Stream disk plan workers cut_every) = codes "stream"
 name_of (Help text) = codes "help"
@@ -129,6 +133,7 @@ HasValues rows (Format disk plan m n k) = (first_of (codes "disk") rows ≡ Some
     × IsNumber (codes "m") 0 4294967295 rows m × IsNumber (codes "n") 0 4294967295 rows n × IsNumber (codes "k") 0 4294967295 rows k
 HasValues rows (Feed disk plan workers) = (first_of (codes "disk") rows ≡ Some disk.now) × (first_of (codes "plan") rows ≡ Some plan.now) × IsWorkers rows workers
 HasValues rows (Show disk plan) = (first_of (codes "disk") rows ≡ Some disk.now) × (first_of (codes "plan") rows ≡ Some plan.now)
+HasValues rows (Dump disk plan) = (first_of (codes "disk") rows ≡ Some disk.now) × (first_of (codes "plan") rows ≡ Some plan.now)
 HasValues rows (Upgrade disk plan) = (first_of (codes "disk") rows ≡ Some disk.now) × (first_of (codes "plan") rows ≡ Some plan.now)
 HasValues rows (Stream disk plan workers cut_every) = (first_of (codes "disk") rows ≡ Some disk.now) × (first_of (codes "plan") rows ≡ Some plan.now)
     × IsWorkers rows workers × IsCutEvery rows cut_every

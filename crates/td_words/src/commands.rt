@@ -1,7 +1,7 @@
 //! The commands of the program, as clap has them.
 ghost use Rattle.std.specs.Prelude.{◌≡◌, false, IfOk, IsOkAnd};
 ghost use Rattle.clap.specs.Words.{app_of, new_app, rule_of, with_rule, with_subcommand};
-ghost use Rattle.td_words.specs.Command.{td, batch_app, run_app, sim_app, format_app, feed_app, show_app, upgrade_app};
+ghost use Rattle.td_words.specs.Command.{td, batch_app, run_app, sim_app, format_app, feed_app, show_app, dump_app, upgrade_app};
 ghost use Rattle.td_words.specs.Command.{workers_rule, picks_rule, word_rule, number_rule};
 ghost use Rattle.td_words.specs.Command.{stream_app, cut_every_rule};
 ghost use Rattle.td_words.specs.Jobs.{has_globals};
@@ -30,6 +30,8 @@ const FEED: &str =
 
 const SHOW: &str =
     "Writes what a disk has: the states that the last cut kept, and the epochs after it";
+
+const DUMP: &str = "Writes the epochs of a disk after the last cut, in lines that feed takes";
 
 const UPGRADE: &str = "Raises a disk to version 2 of its format, which has request numbers";
 
@@ -94,6 +96,13 @@ Writes: a line 'kept EPOCH', of the last cut, and 'told EPOCH', of the last epoc
 Exit status: 0, or 1 after a fault, which is told on standard error
 Faults are explained in docs/FAULTS.md";
 
+const DUMP_MORE: &str = "\
+Reads:  PLAN and DISK
+Writes: a line '# kept EPOCH told EPOCH last REQUEST, epochs COUNT of N, states COUNT of K', which feed passes over;
+        of each epoch after the last cut 'req REQUEST' where it has a request number, lines 'INPUT KEY VALUE', and a line '.'
+Exit status: 0, or 1 after a fault, which is told on standard error
+Faults are explained in docs/FAULTS.md";
+
 const UPGRADE_MORE: &str = "\
 Reads:  PLAN and DISK
 Writes: DISK, and a line 'version 2', also where it was of version 2 before
@@ -123,6 +132,7 @@ pub(crate) fn command<'a>(alloc: Global) -> Result<Command<'a>, AllocError>
     let td = with_leaf(td, format_leaf(alloc))?;
     let td = with_leaf(td, feed_leaf(alloc))?;
     let td = with_leaf(td, show_leaf(alloc))?;
+    let td = with_leaf(td, dump_leaf(alloc))?;
     let td = with_leaf(td, upgrade_leaf(alloc))?;
     with_leaf(td, stream_leaf(alloc))
 }
@@ -184,6 +194,16 @@ fn show_leaf<'a>(alloc: Global) -> Result<Command<'a>, AllocError>
     ensures globals { IfOk result (λ c. has_globals c ≡ false) }
 {
     let leaf = new_leaf(alloc, "show", SHOW, SHOW_MORE);
+    let leaf = with_arg(leaf, word_arg(alloc, "disk", "DISK", DISK))?;
+    with_arg(leaf, word_arg(alloc, "plan", "PLAN", PLAN))
+}
+
+/// `dump`.
+fn dump_leaf<'a>(alloc: Global) -> Result<Command<'a>, AllocError>
+    ensures app { IfOk result (λ c. app_of c ≡ dump_app) }
+    ensures globals { IfOk result (λ c. has_globals c ≡ false) }
+{
+    let leaf = new_leaf(alloc, "dump", DUMP, DUMP_MORE);
     let leaf = with_arg(leaf, word_arg(alloc, "disk", "DISK", DISK))?;
     with_arg(leaf, word_arg(alloc, "plan", "PLAN", PLAN))
 }

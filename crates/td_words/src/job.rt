@@ -29,6 +29,11 @@ pub enum Job<'a> {
         disk: &'a str,
         plan: &'a str,
     },
+    /// To write the epochs after the checkpoint of the disk `disk` as lines that a feed takes.
+    Dump {
+        disk: &'a str,
+        plan: &'a str,
+    },
     /// To raise the disk `disk` to version 2 of the format, which has request numbers.
     Upgrade {
         disk: &'a str,

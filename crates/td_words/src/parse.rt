@@ -16,7 +16,7 @@ use std::alloc::Global;
 
 /// What these words ask for, of which the first is the program's name. The subcommands are `batch`, `run [--workers W]`,
 /// `sim [--workers W] [--picks LIST]`, `format DISK PLAN M N K`, `feed [--workers W] DISK PLAN`, `show DISK PLAN`,
-/// `upgrade DISK PLAN` and `stream [--workers W] [--cut-every E] DISK PLAN`, where W is 1 to 16, and 1 where it is not given,
+/// `dump DISK PLAN`, `upgrade DISK PLAN` and `stream [--workers W] [--cut-every E] DISK PLAN`, where W is 1 to 16, and 1 where it is not given,
 /// LIST is `0` where it is not given, M, N and K are numbers of 32 bits, and E is 1 to 65536, and none where it is not given.
 /// Refusals: `Words` where clap refuses the words, and `Memory`.
 pub fn words<'a>(alloc: Global, given: &'a [String]) -> Result<Job<'a>, WordsError>
@@ -64,6 +64,7 @@ fn job_of<'a>(name: &str, matches: &ArgMatches<'a>) -> Option<Job<'a>>
         "format" => format_job(matches),
         "feed" => feed_job(matches),
         "show" => show_job(matches),
+        "dump" => dump_job(matches),
         "upgrade" => upgrade_job(matches),
         "stream" => stream_job(matches),
         _ => None,
@@ -131,6 +132,16 @@ fn show_job<'a>(matches: &ArgMatches<'a>) -> Option<Job<'a>>
     let disk = word_of(matches, "disk")?;
     let plan = word_of(matches, "plan")?;
     Some(Job::Show { disk, plan })
+}
+
+/// The dump of a disk that the matches of `dump` ask for.
+fn dump_job<'a>(matches: &ArgMatches<'a>) -> Option<Job<'a>>
+    ensures some { IfSome result (IsOf (codes "dump") (rows_of (found_of matches.now))) }
+    ensures none { IfNone result ((job : AnyJob) → IsOf (codes "dump") (rows_of (found_of matches.now)) job → ⊥) }
+{
+    let disk = word_of(matches, "disk")?;
+    let plan = word_of(matches, "plan")?;
+    Some(Job::Dump { disk, plan })
 }
 
 /// The upgrade of a disk that the matches of `upgrade` ask for.

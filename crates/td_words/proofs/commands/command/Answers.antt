@@ -1,7 +1,7 @@
 use Rattle.std.proofs.Common.{rules, ap, ◌≡◌, ◌∙◌}
 use Rattle.std.proofs.lemmas.Result.{IfOk-weaker}
 use Rattle.clap.specs.Words.{App, Shape, app_of, with_subcommand}
-use Rattle.td_words.specs.Command.{alone, batch_app, run_app, sim_app, format_app, feed_app, show_app, upgrade_app, stream_app}
+use Rattle.td_words.specs.Command.{alone, batch_app, run_app, sim_app, format_app, feed_app, show_app, dump_app, upgrade_app, stream_app}
 use Rattle.td_words.proofs.Leaves.{grown}
 use Rattle.td_words.proofs.commands.command.Goals as goal
 
@@ -15,5 +15,6 @@ returns c =
     let format = grown c.format_leaf.result _ (app_of c.in_ok-td-3.td) format_app c.in_ok-td-4.ensures c.format_leaf.ensures.app ∙ ap (λ (a : App). with a format_app.top) sim in
     let feed = grown c.feed_leaf.result _ (app_of c.in_ok-td-4.td) feed_app c.in_ok-td-5.ensures c.feed_leaf.ensures.app ∙ ap (λ (a : App). with a feed_app.top) format in
     let show = grown c.show_leaf.result _ (app_of c.in_ok-td-5.td) show_app c.in_ok-td-6.ensures c.show_leaf.ensures.app ∙ ap (λ (a : App). with a show_app.top) feed in
-    let upgrade = grown c.upgrade_leaf.result _ (app_of c.in_ok-td-6.td) upgrade_app c.in_ok-td-7.ensures c.upgrade_leaf.ensures.app ∙ ap (λ (a : App). with a upgrade_app.top) show in
-    IfOk-weaker c.with_leaf-8.result _ _ (λ m h. grown c.stream_leaf.result _ (app_of c.in_ok-td-7.td) stream_app h c.stream_leaf.ensures.app ∙ ap (λ (a : App). with a stream_app.top) upgrade) c.with_leaf-8.ensures
+    let dump = grown c.dump_leaf.result _ (app_of c.in_ok-td-6.td) dump_app c.in_ok-td-7.ensures c.dump_leaf.ensures.app ∙ ap (λ (a : App). with a dump_app.top) show in
+    let upgrade = grown c.upgrade_leaf.result _ (app_of c.in_ok-td-7.td) upgrade_app c.in_ok-td-8.ensures c.upgrade_leaf.ensures.app ∙ ap (λ (a : App). with a upgrade_app.top) dump in
+    IfOk-weaker c.with_leaf-9.result _ _ (λ m h. grown c.stream_leaf.result _ (app_of c.in_ok-td-8.td) stream_app h c.stream_leaf.ensures.app ∙ ap (λ (a : App). with a stream_app.top) upgrade) c.with_leaf-9.ensures

@@ -1,0 +1,34 @@
+//! Laws of the definitions. Each is the contract of a function that does nothing.
+ghost use Rattle.std.specs.Prelude.{◌≡◌, ◌++◌, List, ℕ};
+ghost use Rattle.td_gate.specs.Reading.{Each};
+ghost use Rattle.td_stamp.specs.declared.values.Entry.{Entry as AnyEntry};
+ghost use Rattle.td_stamp.specs.States.{StateList};
+ghost use Rattle.td_plan.specs.Lines.{Line};
+ghost use Rattle.td_plan.specs.Faults.{IsPlan};
+ghost use Rattle.td_head.specs.declared.head.Head.{Head as AnyHead};
+ghost use Rattle.td_journal.specs.declared.submitted.Submitted.{Submitted as AnySubmitted};
+ghost use Rattle.td_journal.specs.Numbers.{greatest};
+ghost use Rattle.td_standing.specs.Standing.{Standing};
+ghost use Rattle.td_standing.specs.Stops.{Stands};
+ghost use Rattle.td_standing.specs.Tells.{Tells};
+ghost use Rattle.td_standing.specs.Read.{MayStand};
+ghost use Rattle.td_feed.specs.Orders.{orders_of, submitted_by, new_after};
+ghost use Rattle.td_feed.specs.Dumped.{dump_text, AsksFor, FitsLines};
+
+/// WHAT WAS DUMPED IS FED. The text of a standing that may stand on a disk asks for the epochs of that standing, each under its
+/// request number. Those that a disk tells are all new after its checkpoint; so a disk that stands for the history up to the
+/// checkpoint stands, once it was fed that text, for the whole.
+pub fn dumps_are_fed()
+    ensures asks { (plan : List Line) (head : AnyHead) (side : ℕ) (s : Standing) → IsPlan plan → MayStand plan head side s
+        → Each FitsLines s.submitted → AsksFor plan (dump_text head.shape s) s.submitted }
+    ensures new { (plan : List Line) (head : AnyHead) (side : ℕ) (s : Standing) (image : List ℕ) → Tells plan head side s image
+        → new_after s.last s.submitted ≡ s.submitted }
+    ensures whole { (run : StateList → List (List AnyEntry) → StateList) (plan : List Line) (input : List ℕ) (s : Standing)
+        (history : List AnySubmitted) → AsksFor plan input s.submitted → new_after s.last s.submitted ≡ s.submitted
+        → (stands : Stands run s history)
+        → stands.before ++ new_after (greatest 0 stands.before) (submitted_by (orders_of plan input)) ≡ history }
+{
+    td_journal::laws::batches_are_in_order();
+    td_journal::laws::told_numbers_rise();
+    td_standing::laws::inputs_are_accepted();
+}
