@@ -1,27 +1,26 @@
 -- Reading what is asked for line by line.
-use Rattle.std.proofs.Common.{◌≡◌, ◌⊎◌, inl, inr, ℕ, ◌+◌, ◌<◌, ◌↔◌, ◌==◌, Bool, true, false, cond, List, [], ◌∷◌, ◌++◌, length, length-append, arith, Option, Some, None, Result, Ok, Err, All, refl, sym, ap, ◌∙◌, subst, true≢false, append_assoc, append-nil}
+use Rattle.std.proofs.Common.{◌≡◌, ◌⊎◌, inl, inr, ℕ, ◌+◌, ◌<◌, ◌↔◌, ◌==◌, Bool, true, false, cond, List, [], ◌∷◌, ◌++◌, length, length-append, arith, Option, Some, None, Result, Ok, Err, All, refl, sym, ap, ◌∙◌, subst, append_assoc, append-nil}
 use Rattle.std.specs.Prelude.{if◌then◌else◌}
 use Rattle.std.specs.List.{slice_split, onto_first}
 use Rattle.std.specs.Io.KnownBytes.{prepend_known, Consumes, IsAtEnd}
-use Rattle.std.specs.Option.{IsSome, option_to_list, option_map}
+use Rattle.std.specs.Option.{IsSome, option_to_list}
 use Rattle.std.proofs.lemmas.List.Elements.{All-append}
 use Rattle.std.proofs.lemmas.List.Splits.{slice_split_none, slice_split_at}
-use Rattle.td_stamp.specs.declared.values.Entry.{Entry}
 use Rattle.td_stamp.specs.Orders.{entry_cmp}
 use Rattle.td_stamp.specs.Bag.{bag_of}
 use Rattle.td_plan.specs.Lines.{Line as PlanLine}
 use Rattle.td_plan.specs.Inputs.{is_input_of}
 use Rattle.td_plan.specs.Text.{text_lines, without_empty_last}
 use Rattle.td_console.specs.declared.data_line.DataLine.TheVariants.{PassedOver, Record, Close}
-use Rattle.td_console.specs.declared.faults.LineFault.TheVariants.{Syntax, NoSuchInput}
+use Rattle.td_console.specs.declared.faults.LineFault.TheVariants.{NoSuchInput}
 use Rattle.td_console.specs.declared.faults.Fault.{Fault}
 use Rattle.td_console.specs.declared.faults.Fault.TheVariants.{Line}
 use Rattle.td_feed.specs.declared.order.FeedLine.{FeedLine}
 use Rattle.td_feed.specs.declared.order.FeedLine.TheVariants.{Data, Request, Cut}
 use Rattle.td_feed.specs.declared.order.Order.{Order}
 use Rattle.td_feed.specs.declared.order.Order.TheVariants as order
-use Rattle.td_feed.specs.Orders.{Orders, no_orders, with_order, order_for, is_between, with_cut, with_request, with_line, feed_line_of, orders_from, orders_of, and_then, ended}
-use Rattle.td_feed.specs.Asked.{Script, script_after, script_from, script_of, after_order, Completes, TakesLine, Asks, SameScript, script_left}
+use Rattle.td_feed.specs.Orders.{Orders, order_for, is_between, with_cut, with_request, with_line, feed_line_of, orders_from, and_then, ended}
+use Rattle.td_feed.specs.Asked.{Script, script_after, script_from, after_order, Completes, TakesLine, Asks, SameScript, script_left}
 
 -- there is always a part
 some_part : (p : ℕ → Bool) (xs : List ℕ) → (part : List ℕ) × (parts : List (List ℕ)) × (slice_split p xs ≡ part ∷ parts)

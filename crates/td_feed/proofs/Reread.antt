@@ -1,12 +1,10 @@
 -- What `dump` writes of a standing asks for the epochs of that standing.
-use Rattle.std.proofs.Common.{◌≡◌, ◌≢◌, ℕ, suc, zero, ◌+◌, ◌<◌, ◌≤◌, ◌^◌, ◌==◌, ◌&&◌, ◌||◌, not, max, nat_le, eqb-true, Bool, true, false, cond, nat_lt, List, [], ◌∷◌, ◌++◌, length, map, filter, codes, ℤ, pos, negsuc, FitsSigned, Option, Some, None, option_map, Ok, refl, sym, ap, ◌∙◌, subst, arith, All, IsTrue}
+use Rattle.std.proofs.Common.{◌≡◌, ℕ, suc, zero, ◌+◌, ◌<◌, ◌≤◌, ◌^◌, ◌==◌, not, max, nat_le, eqb-true, Bool, true, false, cond, nat_lt, List, [], ◌∷◌, ◌++◌, length, map, filter, codes, ℤ, pos, negsuc, FitsSigned, Option, Some, None, option_map, Ok, refl, sym, ap, ◌∙◌, subst, arith, All}
 use Rattle.std.specs.Prelude.{flat_map, slice_index}
 use Rattle.std.specs.Int.{w64}
 use Rattle.std.specs.Fmt.{decimal, signed_decimal}
 use Rattle.std.specs.List.{list_all, list_any}
 use Rattle.std.specs.Ordering.{is_le}
-use Rattle.std.specs.Str.{bytes_eq}
-use Rattle.std.specs.Char.{is_ascii}
 use Rattle.std.proofs.lemmas.Bool.{lt-ltb, ltb-true, ne_eqb}
 use Rattle.std.proofs.lemmas.Fmt.{first_decimal, decimal_digit}
 use Rattle.std.proofs.lemmas.List.{append_assoc, append-nil}
@@ -15,9 +13,9 @@ use Rattle.td_gate.specs.Reading.{Each}
 use Rattle.td_gate.specs.Fields.{is_chain}
 use Rattle.td_stamp.specs.declared.values.Entry.{Entry}
 use Rattle.td_stamp.specs.Orders.{entry_cmp}
-use Rattle.td_stamp.specs.Bag.{bag_of, IsBag}
+use Rattle.td_stamp.specs.Bag.{IsBag}
 use Rattle.td_plan.specs.Lines.{Line as PlanLine}
-use Rattle.td_plan.specs.Text.{text_lines, words, natural_of, number_of, is_printable, is_comment}
+use Rattle.td_plan.specs.Text.{text_lines, words, number_of, is_printable, is_comment}
 use Rattle.td_plan.specs.Inputs.{is_input_of}
 use Rattle.td_journal.specs.declared.submitted.Submitted.{Submitted}
 use Rattle.td_journal.specs.Numbers.{greatest, may_come, rise}
@@ -25,13 +23,13 @@ use Rattle.td_journal.specs.Cell.{is_batch}
 use Rattle.td_head.specs.Layout.{Sizes}
 use Rattle.td_standing.specs.Standing.{Standing, submission, last_epoch, last_request}
 use Rattle.td_standing.specs.Told.{inputs_of, floor_of}
-use Rattle.td_console.specs.Number.{integer_of, positive as positive_of, negative}
+use Rattle.td_console.specs.Number.{integer_of}
 use Rattle.td_console.specs.declared.data_line.DataLine.TheVariants.{PassedOver, Record, Close}
 use Rattle.td_console.specs.Data.{data_line_of, spelled}
 use Rattle.td_feed.specs.declared.order.FeedLine.{FeedLine}
-use Rattle.td_feed.specs.declared.order.FeedLine.TheVariants.{Data, Request, Cut}
+use Rattle.td_feed.specs.declared.order.FeedLine.TheVariants.{Data, Request}
 use Rattle.td_feed.specs.declared.order.Order.{Order}
-use Rattle.td_feed.specs.Orders.{Orders, no_orders, is_cut, request_of, positive, or_data, feed_line_of, order_for, with_line, with_order, and_then, orders_from, orders_of, submissions, submitted_by, new_after}
+use Rattle.td_feed.specs.Orders.{Orders, is_cut, request_of, positive, or_data, feed_line_of, order_for, with_line, with_order, and_then, orders_from, orders_of, submissions, submitted_by, new_after}
 use Rattle.td_feed.specs.Dumped.{room_words, summary_line, request_line, record_line, epoch_text, dump_text, AsksFor, FitsLine, FitsLines}
 use Rattle.td_feed.proofs.Wording.{both, is_word, number_word, signed_word, word_printable, line_ascii, natural_again, word_first, word_last, line_first}
 

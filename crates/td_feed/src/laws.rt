@@ -1,5 +1,5 @@
 //! Laws of the definitions. Each is the contract of a function that does nothing.
-ghost use Rattle.std.specs.Prelude.{◌≡◌, ◌++◌, List, ℕ};
+ghost use Rattle.std.specs.Prelude.{◌≡◌, ◌++◌, List, ℕ, true, Ok};
 ghost use Rattle.td_gate.specs.Reading.{Each};
 ghost use Rattle.td_stamp.specs.declared.values.Entry.{Entry as AnyEntry};
 ghost use Rattle.td_stamp.specs.States.{StateList};
@@ -13,6 +13,8 @@ ghost use Rattle.td_standing.specs.Stops.{Stands};
 ghost use Rattle.td_standing.specs.Tells.{Tells};
 ghost use Rattle.td_standing.specs.Read.{MayStand};
 ghost use Rattle.td_feed.specs.Orders.{orders_of, submitted_by, new_after};
+ghost use Rattle.td_feed.specs.declared.order.Order.{Order as AnyOrder};
+ghost use Rattle.td_feed.specs.Asked.{script_of};
 ghost use Rattle.td_feed.specs.Dumped.{dump_text, AsksFor, FitsLines};
 
 /// WHAT WAS DUMPED IS FED. The text of a standing that may stand on a disk asks for the epochs of that standing, each under its
@@ -32,3 +34,8 @@ pub fn dumps_are_fed()
     td_journal::laws::told_numbers_rise();
     td_standing::laws::inputs_are_accepted();
 }
+
+/// What a stream reads of an input without a fault is what a feed reads of it.
+pub fn scripts()
+    ensures { (plan : List Line) (input : List ℕ) (orders : List AnyOrder) → orders_of plan input ≡ Ok orders → script_of plan input ≡ record { orders = orders; is_sound = true } }
+{}

@@ -1,7 +1,7 @@
 //! The commands of the program, as clap has them.
 ghost use Rattle.std.specs.Prelude.{◌≡◌, false, IfOk, IsOkAnd};
 ghost use Rattle.clap.specs.Words.{app_of, new_app, rule_of, with_rule, with_subcommand};
-ghost use Rattle.td_words.specs.Command.{td, batch_app, run_app, sim_app, format_app, feed_app, show_app, dump_app, upgrade_app};
+ghost use Rattle.td_words.specs.Command.{alone, td, batch_app, run_app, sim_app, format_app, feed_app, show_app, dump_app, upgrade_app};
 ghost use Rattle.td_words.specs.Command.{workers_rule, picks_rule, word_rule, number_rule};
 ghost use Rattle.td_words.specs.Command.{stream_app, cut_every_rule};
 ghost use Rattle.td_words.specs.Jobs.{has_globals};
@@ -122,10 +122,7 @@ Faults are explained in docs/FAULTS.md";
 pub(crate) fn command<'a>(alloc: Global) -> Result<Command<'a>, AllocError>
     ensures { IfOk result (λ c. app_of c ≡ td) }
 {
-    let td = Command::new(alloc, "td")
-        .about(TD)
-        .after_help(TD_MORE)
-        .subcommand_required(true);
+    let td = alone(alloc);
     let td = with_leaf(td, batch_leaf(alloc))?;
     let td = with_leaf(td, run_leaf(alloc))?;
     let td = with_leaf(td, sim_leaf(alloc))?;
@@ -135,6 +132,17 @@ pub(crate) fn command<'a>(alloc: Global) -> Result<Command<'a>, AllocError>
     let td = with_leaf(td, dump_leaf(alloc))?;
     let td = with_leaf(td, upgrade_leaf(alloc))?;
     with_leaf(td, stream_leaf(alloc))
+}
+
+/// `td` without its subcommands, one of which has to stand there.
+fn alone<'a>(alloc: Global) -> Command<'a>
+    ensures app { app_of result ≡ alone }
+    ensures globals { has_globals result ≡ false }
+{
+    Command::new(alloc, "td")
+        .about(TD)
+        .after_help(TD_MORE)
+        .subcommand_required(true)
 }
 
 /// `batch`.

@@ -1,4 +1,4 @@
-use Rattle.std.proofs.Common.{◌≡◌, ◌⊎◌, inr, ◌++◌, ◌∙◌, ap, sym, subst, List, ℕ, Err}
+use Rattle.std.proofs.Common.{◌≡◌, ◌⊎◌, inr, ◌++◌, ◌∙◌, ap, subst, List, ℕ, Err}
 use Rattle.std.specs.Prelude.{flat_map, string_bytes}
 use Rattle.std.specs.Io.KnownBytes.{Appends}
 use Rattle.td_disk.specs.Disk.{IsDurable, Rises}

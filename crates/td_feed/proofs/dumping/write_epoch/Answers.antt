@@ -1,4 +1,4 @@
-use Rattle.std.proofs.Common.{◌≡◌, ◌++◌, ◌∙◌, ap, List, [], ◌∷◌, codes, arith}
+use Rattle.std.proofs.Common.{◌++◌, ap, codes, arith}
 use Rattle.std.specs.Prelude.{flat_map, string_bytes}
 use Rattle.td_gate.specs.Reading.{each_push}
 use Rattle.td_feed.specs.Dumped.{request_line, record_line, FitsLine}

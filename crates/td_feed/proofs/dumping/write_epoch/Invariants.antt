@@ -1,4 +1,4 @@
-use Rattle.std.proofs.Common.{◌≡◌, ◌≤◌, ◌++◌, ◌^◌, ◌<◌}
+use Rattle.std.proofs.Common.{◌≤◌, ◌++◌}
 use Rattle.std.specs.Prelude.{flat_map, string_bytes, string_capacity}
 use Rattle.td_gate.specs.Reading.{Each}
 use Rattle.td_feed.specs.Dumped.{request_line, record_line, WritesFront, FitsLine}

@@ -1,4 +1,4 @@
-use Rattle.std.proofs.Common.{◌≡◌, ◌≤◌, ◌++◌, take, drop}
+use Rattle.std.proofs.Common.{◌≤◌, ◌++◌, take, drop}
 use Rattle.std.specs.Prelude.{flat_map, string_bytes, string_capacity}
 use Rattle.td_gate.specs.Reading.{Each}
 use Rattle.td_feed.specs.Dumped.{epoch_text, WritesFront, FitsLines}

@@ -1,12 +1,12 @@
-use Rattle.std.proofs.Common.{◌≡◌, List, [], ◌∷◌, refl, sym, ap, ◌∙◌, subst, inr, None}
+use Rattle.std.proofs.Common.{◌≡◌, [], ◌∷◌, ◌∙◌, subst, inr, None}
 use Rattle.td_console.specs.declared.faults.Fault.{Fault}
 use Rattle.td_feed.specs.Orders.{submissions}
 use Rattle.td_feed.specs.Asked.{Asks}
 use Rattle.td_feed.specs.Carried.{new_to}
-use Rattle.td_feed.proofs.Carrying.{at_err, at_ok, in_some}
+use Rattle.td_feed.proofs.Carrying.{at_err, in_some}
 use Rattle.td_feed.proofs.Counting.{same_count}
 use Rattle.td_feed.proofs.Lines.{says_nothing, some_of_all, by_refusal, handed_on}
-use Rattle.td_feed.proofs.Obeyed.{none_obeyed, one_obeyed, one_refused, left_there, is_sound, at_end_carried, at_end_left, at_end_said, none_left, none_of}
+use Rattle.td_feed.proofs.Obeyed.{none_obeyed, one_obeyed, one_refused, left_there, at_end_left, at_end_said, none_left, none_of}
 use Rattle.td_feed.proofs.workers.obey_each.Goals as goal
 
 pub returns-then-is_refused-clause-said : goal.returns-then-is_refused-clause-said

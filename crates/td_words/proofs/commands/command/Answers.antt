@@ -1,4 +1,4 @@
-use Rattle.std.proofs.Common.{rules, ap, ◌≡◌, ◌∙◌}
+use Rattle.std.proofs.Common.{ap, ◌≡◌, ◌∙◌}
 use Rattle.std.proofs.lemmas.Result.{IfOk-weaker}
 use Rattle.clap.specs.Words.{App, Shape, app_of, with_subcommand}
 use Rattle.td_words.specs.Command.{alone, batch_app, run_app, sim_app, format_app, feed_app, show_app, dump_app, upgrade_app, stream_app}
@@ -8,8 +8,8 @@ use Rattle.td_words.proofs.commands.command.Goals as goal
 pub returns : goal.returns
 returns c =
     let with : App → Shape → App = λ a s. with_subcommand a s in
-    let plain : app_of c.subcommand_required-td.result ≡ alone = search rules in
-    let batch = grown c.batch_leaf.result _ (app_of c.subcommand_required-td.result) batch_app c.in_ok-td.ensures c.batch_leaf.ensures.app ∙ ap (λ (a : App). with a batch_app.top) plain in
+    let plain : app_of c.alone-td.result ≡ alone = c.alone-td.ensures.app in
+    let batch = grown c.batch_leaf.result _ (app_of c.alone-td.result) batch_app c.in_ok-td.ensures c.batch_leaf.ensures.app ∙ ap (λ (a : App). with a batch_app.top) plain in
     let run = grown c.run_leaf.result _ (app_of c.in_ok-td.td) run_app c.in_ok-td-2.ensures c.run_leaf.ensures.app ∙ ap (λ (a : App). with a run_app.top) batch in
     let sim = grown c.sim_leaf.result _ (app_of c.in_ok-td-2.td) sim_app c.in_ok-td-3.ensures c.sim_leaf.ensures.app ∙ ap (λ (a : App). with a sim_app.top) run in
     let format = grown c.format_leaf.result _ (app_of c.in_ok-td-3.td) format_app c.in_ok-td-4.ensures c.format_leaf.ensures.app ∙ ap (λ (a : App). with a format_app.top) sim in

@@ -1,4 +1,4 @@
-use Rattle.std.proofs.Common.{◌≡◌, ◌+◌, ◌∙◌, rules, List, ℕ, [], sym, ap, subst, Ok, arith}
+use Rattle.std.proofs.Common.{◌≡◌, ◌+◌, ◌∙◌, rules, sym, ap, subst, Ok, arith}
 use Rattle.td_feed.specs.Orders.{Orders, feed_line_of, with_line}
 use Rattle.td_feed.specs.Asked.{Completes}
 use Rattle.td_feed.proofs.Asked.{completes}

@@ -1,4 +1,4 @@
-use Rattle.std.proofs.Common.{◌≡◌, ◌==◌, List, ℕ, Vec, [], ◌∷◌, inl, inr, ap, sym, ◌∙◌, length, arith, true, false, Option, option_map}
+use Rattle.std.proofs.Common.{ℕ, Vec, inl, inr, ap, arith, option_map}
 use Rattle.std.proofs.lemmas.Bool.Decides.{nat_tests}
 use Rattle.td_feed.specs.Asked.{unread}
 use Rattle.td_feed.proofs.Asked.{goes_on, fed, ends, is_none, is_some_line}

@@ -1,4 +1,3 @@
-use Rattle.std.specs.Prelude.{[]}
 use Rattle.td_feed.specs.Asked.{unread}
 use Rattle.td_feed.proofs.Asked.{IsSoFar}
 use Rattle.td_feed.proofs.line_reader.Lines.next_line.Given as goal
