@@ -1,0 +1,77 @@
+//! Counts the visits of pages, as a service: a keeper with its disk in a file, and beside it workers, a producer and a follower, each in
+//! a thread of its own. It is stopped after 120 requests and started again; the producer then sends 200, from the first on.
+#![tactic(auto)]
+
+mod service;
+mod threads;
+mod visits;
+
+use crate::service::{VisitsKeeper, run};
+use crate::visits::Visits;
+use std::sync::Wait;
+use std::thread::Threads;
+use std::time::Clock;
+use td_calls::Closures;
+use td_disk::FileDisk;
+use td_head::Shape;
+use td_plan::Plan;
+use td_stamp::EpochOut;
+
+/// A fold counts the visits of each page.
+const PLAN: &str = "0 input\n1 fold 1 0\n2 output 1\n";
+
+/// The disk, a file in the folder in which the program runs.
+const DISK: &str = "service.disk";
+
+fn main(rt: HostRuntime) -> anyhow::Result<()> {
+    let alloc = rt.alloc();
+    let plan = Plan::read(alloc, PLAN)?;
+    Visits.fits(&plan)?;
+    let Some(shape) = Shape::new(8, 128, 16) else {
+        anyhow::bail!("no such shape");
+    };
+    let mut outs = Vec::new(alloc);
+
+    // The first start makes the disk anew.
+    let disk = FileDisk::create(&rt, DISK, shape.bytes())?;
+    let keeper = VisitsKeeper::format(alloc, disk, &plan, shape).map_err(|(refusal, _)| refusal)?;
+    serve(&rt, keeper, &plan, 120, &mut outs)?;
+
+    // The second finds it as the first left it.
+    let disk = FileDisk::open(&rt, DISK)?;
+    let keeper = VisitsKeeper::recover(alloc, disk, &plan).map_err(|(refusal, _)| refusal)?;
+    serve(&rt, keeper, &plan, 200, &mut outs)?;
+
+    let Some(last) = outs.last() else {
+        anyhow::bail!("no outputs");
+    };
+    for told in last.recs.list() {
+        println!(rt;
+            "epoch {}: page {} has {} visits",
+            last.epoch, told.rec.key, told.rec.val
+        )?;
+    }
+    Ok(())
+}
+
+/// Runs the service for so many requests, says what came of it, and lets the keeper go, and its disk.
+fn serve<R: Print + Threads + Wait + Clock + AllocGlobal + Sync>(
+    rt: &R,
+    mut keeper: VisitsKeeper,
+    plan: &Plan,
+    count: u32,
+    outs: &mut Vec<EpochOut>,
+) -> anyhow::Result<()> {
+    let already = run(rt, &mut keeper, plan, count, outs)?;
+    println!(rt;
+        "{count} requests, {already} of them already there; outputs of {} epochs",
+        outs.len()
+    )?;
+    println!(rt;
+        "the disk has epoch {}, kept {}, last request {}",
+        keeper.last_epoch(),
+        keeper.kept(),
+        keeper.last_request()
+    )?;
+    Ok(())
+}
