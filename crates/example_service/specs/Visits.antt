@@ -1,7 +1,6 @@
 -- What the closure of this program answers: its law.
-use Rattle.std.specs.Prelude.{ℕ, ◌+◌, ℤ, pos, List, [], ◌∷◌, ◌≤◌, length, Option, Some, unwrap_or}
+use Rattle.std.specs.Prelude.{ℤ, pos, List, [], ◌∷◌, length, Option, Some, unwrap_or}
 use Rattle.std.proofs.Common.{arith}
-use Rattle.td_stamp.specs.declared.values.Rec.{Rec}
 use Rattle.td_stamp.specs.declared.values.Item.{Item}
 use Rattle.td_stamp.specs.declared.values.State.{State}
 use Rattle.td_calls.specs.Answers.{Answers, AnswerFew}

@@ -8,6 +8,9 @@ mod visits;
 
 use crate::service::{VisitsKeeper, run};
 use crate::visits::Visits;
+use std::fs::File;
+use std::io;
+use std::rt::Files;
 use std::sync::Wait;
 use std::thread::Threads;
 use std::time::Clock;
@@ -31,6 +34,7 @@ fn main(rt: HostRuntime) -> anyhow::Result<()> {
         anyhow::bail!("no such shape");
     };
     let mut outs = Vec::new(alloc);
+    let _streams = hold_streams(&rt)?;
 
     // The first start makes the disk anew.
     let disk = FileDisk::create(&rt, DISK, shape.bytes())?;
@@ -41,17 +45,17 @@ fn main(rt: HostRuntime) -> anyhow::Result<()> {
     let disk = FileDisk::open(&rt, DISK)?;
     let keeper = VisitsKeeper::recover(alloc, disk, &plan).map_err(|(refusal, _)| refusal)?;
     serve(&rt, keeper, &plan, 200, &mut outs)?;
+    tell_last(&rt, &outs)
+}
 
-    let Some(last) = outs.last() else {
-        anyhow::bail!("no outputs");
-    };
-    for told in last.recs.list() {
-        println!(rt;
-            "epoch {}: page {} has {} visits",
-            last.epoch, told.rec.key, told.rec.val
-        )?;
-    }
-    Ok(())
+/// Takes the numbers of standard streams that are closed. A file that is opened gets the lowest number that is free: the disk would
+/// get that of standard output, and the prints would go into it.
+fn hold_streams<R: Files<File = File>>(rt: &R) -> io::Result<[File; 3]> {
+    Ok([
+        File::open(rt, "/")?,
+        File::open(rt, "/")?,
+        File::open(rt, "/")?,
+    ])
 }
 
 /// Runs the service for so many requests, says what came of it, and lets the keeper go, and its disk.
@@ -67,11 +71,26 @@ fn serve<R: Print + Threads + Wait + Clock + AllocGlobal + Sync>(
         "{count} requests, {already} of them already there; outputs of {} epochs",
         outs.len()
     )?;
+    println!(rt; "the follower saw epoch {count} done")?;
     println!(rt;
         "the disk has epoch {}, kept {}, last request {}",
         keeper.last_epoch(),
         keeper.kept(),
         keeper.last_request()
     )?;
+    Ok(())
+}
+
+/// The outputs of the last epoch.
+fn tell_last(rt: &impl Print, outs: &[EpochOut]) -> anyhow::Result<()> {
+    let Some(last) = outs.last() else {
+        anyhow::bail!("no outputs");
+    };
+    for told in last.recs.list() {
+        println!(rt;
+            "epoch {}: page {} has {} visits",
+            last.epoch, told.rec.key, told.rec.val
+        )?;
+    }
     Ok(())
 }

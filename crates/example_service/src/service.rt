@@ -1,5 +1,5 @@
 //! A run of the service: a keeper, and beside it a pool of workers, a producer and a follower.
-ghost use Rattle.std.specs.Prelude.{◌≡◌, ◌×◌};
+ghost use Rattle.std.specs.Prelude.{◌≡◌};
 
 use crate::threads::{Request, join_all, start_all};
 use crate::visits::Visits;
@@ -15,7 +15,7 @@ use td_core::Hall;
 use td_disk::FileDisk;
 use td_keeper::{Keeper, KeeperError, Receipt};
 use td_plan::Plan;
-use td_pool::{Crew, Pool};
+use td_pool::{Crew, Pool, Seat};
 use td_stamp::{EPOCHS_END, EpochOut};
 use td_watch::{Reader, Watch};
 
@@ -24,6 +24,9 @@ const WORKERS: u8 = 3;
 
 /// A cut is written when so many epochs stand after the checkpoint.
 const CUT: u64 = 50;
+
+/// How many requests may wait for the keeper.
+const INBOX: usize = 16;
 
 pub(crate) type VisitsKeeper = Keeper<FileDisk, Visits>;
 
@@ -50,11 +53,11 @@ pub(crate) fn run<R: Threads + Wait + Clock + AllocGlobal + Sync>(
         unreachable!()
     };
     let blank = Blank::new(u64::from(hall.workers()));
-    run_beside::<Brand, R>(rt, keeper, hall, blank, reader, count, outs)
+    run_on::<Brand, R>(rt, keeper, hall, blank, reader, count, outs)
 }
 
-/// As `run`, beside a pool of this name.
-fn run_beside<K: Crew + Send + Sync, R: Threads + Wait + Clock + AllocGlobal + Sync>(
+/// As `run`, on a pool of this name.
+fn run_on<K: Crew + Send + Sync, R: Threads + Wait + Clock + AllocGlobal + Sync>(
     rt: &R,
     keeper: &mut VisitsKeeper,
     hall: Hall<Visits>,
@@ -69,9 +72,22 @@ fn run_beside<K: Crew + Send + Sync, R: Threads + Wait + Clock + AllocGlobal + S
 {
     let made = Pool::<K, Visits>::new(rt.alloc(), hall, blank);
     let (pool, seats) = made.map_err(|(refusal, _)| refusal)?;
-    let (requests, inbox) = bounded::<Request, _>(rt.alloc(), 16)?;
     let is_over = AtomicBool::new(false);
-    let (pool, is_over) = (&pool, &is_over);
+    run_beside(rt, keeper, &pool, seats, reader, &is_over, count, outs)
+}
+
+/// As `run`, beside the threads, which end once the pool is stopped and `is_over` is set.
+fn run_beside<K: Crew + Send + Sync, R: Threads + Wait + Clock + AllocGlobal + Sync>(
+    rt: &R,
+    keeper: &mut VisitsKeeper,
+    pool: &Pool<K, Visits>,
+    seats: Vec<Seat<K, Visits>>,
+    reader: Reader,
+    is_over: &AtomicBool,
+    count: u32,
+    outs: &mut Vec<EpochOut>,
+) -> anyhow::Result<u64> {
+    let (requests, inbox) = bounded::<Request, _>(rt.alloc(), INBOX)?;
     thread::scope(thread::scope_env(), rt, |scope| {
         let started = start_all(scope, rt, pool, seats, requests, reader, is_over, count);
         let kept = if started.is_ok() {
@@ -136,10 +152,10 @@ fn hand_out<K: Crew, R: Wait>(
     outs: &mut Vec<EpochOut>,
 ) -> Result<(), KeeperError> {
     keeper.settle_in(rt, pool)?;
-    keeper.collect_in(rt, pool)?;
-    while let Some(out) = keeper.next_out() {
-        if (outs.len() as u64) < out.epoch {
-            outs.push(out)?;
+    for _epoch in 0..keeper.collect_in(rt, pool)? {
+        match keeper.next_out() {
+            Some(out) if (outs.len() as u64) < out.epoch => outs.push(out)?,
+            _ => {}
         }
     }
     Ok(())

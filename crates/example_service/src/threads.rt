@@ -21,7 +21,7 @@ pub(crate) struct Request {
 /// What a thread comes to.
 type Ends = JoinHandle<anyhow::Result<()>>;
 
-/// Starts a worker for each seat, a follower and a producer. Refusal: want of memory, also where a thread could not be made, with
+/// Starts a worker for each seat, a producer and a follower. Refusal: want of memory, also where a thread could not be made, with
 /// some of them started.
 pub(crate) fn start_all<
     's,
@@ -42,12 +42,13 @@ pub(crate) fn start_all<
     for seat in seats {
         threads.push(scope.spawn(move || work(rt, pool, seat))?)?;
     }
-    threads.push(scope.spawn(move || follow(rt, reader, is_over, u64::from(count)))?)?;
     threads.push(scope.spawn(move || produce(rt, requests, count))?)?;
+    // The last: where another refused, that is why its epoch was not done.
+    threads.push(scope.spawn(move || follow(rt, reader, is_over, u64::from(count)))?)?;
     Ok(threads)
 }
 
-/// Waits until each thread has ended. Refusal: that of the first that ended by one.
+/// Waits until each thread has ended. Refusal: that of the first in order that ended by one.
 pub(crate) fn join_all<R: Threads>(rt: &R, threads: Vec<Ends>) -> anyhow::Result<()> {
     let mut ended = Ok(());
     for thread in threads {

@@ -8,7 +8,7 @@ use td_stamp::{Few, Item, Rec, State};
 /// The code of the fold.
 const FOLD: u16 = 1;
 
-/// The law: a fold keeps how many visits each page has had, and sends it. It is also what answers it.
+/// The law, that a fold keeps how many visits each page has had and sends it; and the closure that answers it.
 pub(crate) struct Visits;
 
 impl Law for Visits {
