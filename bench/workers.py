@@ -6,7 +6,7 @@
 It builds bench/workers.rattle in a copy of the repository's crates below it, which is proved on the way, and runs it four times: of
 each line the best. Milliseconds from a release to where all epochs have passed, for 1, 2 and 4 workers: `slow map`, 10,000 records
 by a map whose closure takes some 15 microseconds; `COUNT`, 400,000 records of 1,000 keys. Wanted: the slow map at least 1.7 times
-faster by 2 workers than by one, and 3 times by 4, on four quiet cores; COUNT by 4 workers at most 1.5 times slower than by one.
+faster by 2 workers than by one, and 3 times by 4, on four quiet cores; COUNT by 4 workers at most 1.2 times slower than by one.
 
 Then `td feed` on a file, by 1, 2 and 4 workers: seconds for 4,096 epochs of 16 records and for 256 of 1,000, by TOTAL and by COUNT,
 with four cuts. What is written must be the same."""
