@@ -1,0 +1,6 @@
+mod Steps
+mod Parts
+mod Rising
+mod Headed
+mod Fitting
+mod Stopped

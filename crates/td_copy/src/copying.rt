@@ -1,0 +1,49 @@
+//! Copying a disk.
+ghost use Rattle.std.specs.Prelude.{◌≡◌, ◌↔◌, IfOk};
+ghost use Rattle.td_gate.specs.CrashSafe.{CrashSafe, Unchanged};
+ghost use Rattle.td_standing.specs.Standing.{Standing};
+ghost use Rattle.td_copy.specs.Copied.{EachTold};
+
+use crate::error::CopyError;
+use crate::room::check_room;
+use crate::told::write_told;
+use std::alloc::Global;
+use td_disk::Disk;
+use td_head::Shape;
+use td_plan::Plan;
+use td_standing::{laws, recover_device};
+
+/// Puts what a disk tells for a plan on a new one of this shape, which `make` makes once the old disk is read and it is known that a
+/// disk of this shape has room for that. It begins with a sync of the old disk, and writes nothing there.
+///
+/// Refusals, before anything is made: what the old disk refuses, as a keeper's; and those of `check_room`. Then that of `make`, and
+/// those of `write_told`.
+pub fn copy<D: Disk, E: Disk + Drop, X: From<CopyError>, F: FnOnce() -> Result<E, X>>(
+    alloc: Global,
+    disk: &mut D,
+    plan: &Plan,
+    shape: Shape,
+    make: F,
+) -> Result<E, X>
+    requires { F.IsAlwaysCallable make }
+    ensures size { D.capacity disk.new ≡ D.capacity disk.old }
+    ensures lawful { D.is_lawful disk.old ↔ D.is_lawful disk.new }
+
+    // BOTH DISKS TELL THE SAME, whatever a crash leaves of them.
+    ensures copied { IfOk result (λ new. D.is_lawful disk.old → E.is_lawful new
+        → (s : Standing) × EachTold plan.now s (D.state disk.new) × EachTold plan.now s (E.state new)) }
+
+    // The old disk stays as it is.
+    ensures crash_safe { D.is_lawful disk.old → CrashSafe Unchanged (D.state disk.old) (D.state disk.new) }
+{
+    laws::told_in_parts();
+    td_journal::laws::told_numbers_rise();
+    let (_plan, told) = match recover_device(alloc, disk, plan) {
+        Ok(read) => read,
+        Err(error) => return Err(X::from(CopyError::Keeper(error))),
+    };
+    check_room(shape, &told)?;
+    let mut new = make()?;
+    write_told(alloc, &mut new, plan, shape, &told)?;
+    Ok(new)
+}

@@ -1,0 +1,94 @@
+//! Putting the epochs after a checkpoint into their cells, on a disk that has no head yet.
+ghost use Rattle.std.specs.Prelude.{◌≡◌, ◌⊎◌, ◌↔◌, ◌+◌, ◌^◌, ◌<◌, ◌≤◌, [], ◌∷◌, true, All, List, ℕ, length, OnOk, IfErr, IsErrOf};
+ghost use Rattle.td_plan.specs.Lines.{Line};
+ghost use Rattle.td_disk.specs.Disk.{CountsDevice, IsDurable};
+ghost use Rattle.td_head.specs.Layout.{Sizes};
+ghost use Rattle.td_journal.specs.Cell.{ring_len, is_batch};
+ghost use Rattle.td_journal.specs.Numbers.{rise};
+ghost use Rattle.td_standing.specs.Standing.{Standing, with_more};
+ghost use Rattle.td_standing.specs.Told.{inputs_of, ring_of};
+ghost use Rattle.td_standing.specs.Tells.{HasRoom, IsFresh};
+ghost use Rattle.td_copy.specs.Copied.{HasNoHead, HasParts, OpensNoHead};
+
+use std::alloc::Global;
+use td_disk::Disk;
+use td_journal::{Journal, JournalError, Submitted};
+
+/// Puts an epoch into its cell, after the cell behind it was closed where it bears the epoch behind it. Refusals: `Memory`,
+/// `Device`.
+fn put_epoch<D: Disk>(
+    alloc: Global,
+    journal: &Journal,
+    device: &mut D,
+    epoch: u64,
+    submitted: &Submitted,
+) -> Result<(), JournalError>
+    requires cells { 0 < journal.now.n }
+    requires records { journal.now.m ≤ 65536 }
+    requires room { journal.now.at + ring_len journal.now.m journal.now.n ≤ D.capacity device.old }
+    requires few { length submitted.now.batch ≤ journal.now.m }
+    requires small { epoch < 2 ^ 63 }
+    ensures refusals { IfErr result (λ e. (e ≡ JournalError.Memory) ⊎ (e ≡ JournalError.Device)) }
+    ensures failures { CountsDevice result JournalError.Device (D.failures device.old) (D.failures device.new) }
+    ensures size { D.capacity device.new ≡ D.capacity device.old }
+    ensures lawful { D.is_lawful device.old ↔ D.is_lawful device.new }
+    ensures no_head { D.is_lawful device.old → (sizes : Sizes) (kept : ℕ) → journal.now ≡ ring_of sizes kept
+        → IsDurable (D.state device.old) → HasNoHead (D.state device.old).bytes
+        → OpensNoHead (D.state device.old) (D.state device.new) }
+    ensures head { OnOk result (D.is_lawful device.old → (sizes : Sizes) (kept : ℕ) → journal.now ≡ ring_of sizes kept
+        → IsDurable (D.state device.old) → HasNoHead (D.state device.old).bytes → HasNoHead (D.state device.new).bytes) }
+    ensures durable { OnOk result (D.is_lawful device.old → IsDurable (D.state device.old) → IsDurable (D.state device.new)) }
+    ensures put { OnOk result (D.is_lawful device.old → (plan : List Line) (sizes : Sizes) (s : Standing)
+        → journal.now ≡ ring_of sizes s.epoch → HasRoom sizes s epoch → IsFresh 2 s submitted.now.request
+        → is_batch (inputs_of plan) submitted.now.batch ≡ true
+        → IsDurable (D.state device.old) → HasParts plan sizes s (D.state device.old).bytes
+        → HasParts plan sizes (with_more s (submitted.now ∷ [])) (D.state device.new).bytes) }
+{
+    td_gate::laws::put_leaves_others();
+    td_gate::laws::durable_is_settled::<D>();
+    td_standing::laws::parts_are_apart();
+    td_slots::laws::slots_tell();
+    td_journal::laws::cells_read_back();
+    td_journal::laws::following_is_closed();
+    td_journal::laws::next_is_put();
+    let payload = journal.payload(alloc, epoch, submitted.request, &submitted.batch)?;
+    journal.clear(alloc, device, epoch + 1)?;
+    let _size = device.size();
+    journal.cell_of(epoch).put(device, &payload)?;
+    Ok(())
+}
+
+/// Puts epochs into their cells, of which the first is the one after a checkpoint's. Refusals: `Memory`, `Device`.
+pub(crate) fn put_epochs<D: Disk>(
+    alloc: Global,
+    journal: &Journal,
+    device: &mut D,
+    submitted: &[Submitted],
+) -> Result<(), JournalError>
+    requires cells { 0 < journal.now.n }
+    requires records { journal.now.m ≤ 65536 }
+    requires room { journal.now.at + ring_len journal.now.m journal.now.n ≤ D.capacity device.old }
+    requires few { All (λ x. length x.batch ≤ journal.now.m) submitted.now }
+    requires small { journal.now.kept + length submitted.now < 2 ^ 63 }
+    ensures refusals { IfErr result (λ e. (e ≡ JournalError.Memory) ⊎ (e ≡ JournalError.Device)) }
+    ensures failures { CountsDevice result JournalError.Device (D.failures device.old) (D.failures device.new) }
+    ensures size { D.capacity device.new ≡ D.capacity device.old }
+    ensures lawful { D.is_lawful device.old ↔ D.is_lawful device.new }
+    ensures no_head { D.is_lawful device.old → (sizes : Sizes) (kept : ℕ) → journal.now ≡ ring_of sizes kept
+        → IsDurable (D.state device.old) → HasNoHead (D.state device.old).bytes
+        → OpensNoHead (D.state device.old) (D.state device.new) }
+    ensures durable { OnOk result (D.is_lawful device.old → IsDurable (D.state device.old) → IsDurable (D.state device.new)) }
+    ensures put { OnOk result (D.is_lawful device.old → (plan : List Line) (sizes : Sizes) (s : Standing)
+        → journal.now ≡ ring_of sizes s.epoch → s.submitted ≡ [] → length submitted.now ≤ sizes.n
+        → rise (Some s.last) submitted.now ≡ true → All (λ x. is_batch (inputs_of plan) x.batch ≡ true) submitted.now
+        → IsDurable (D.state device.old) → HasParts plan sizes s (D.state device.old).bytes
+        → HasParts plan sizes (with_more s submitted.now) (D.state device.new).bytes) }
+{
+    td_journal::laws::numbers();
+    let mut epoch = journal.kept;
+    for each in submitted {
+        epoch += 1;
+        put_epoch(alloc, journal, device, epoch, each)?;
+    }
+    Ok(())
+}

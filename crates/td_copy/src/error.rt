@@ -1,0 +1,37 @@
+// Why a disk was not copied.
+ghost use Rattle.std.specs.Prelude.{◌≡◌};
+ghost use Rattle.td_copy.specs.declared.error.CopyError.TheVariants.{Keeper as OfKeeper};
+
+use td_standing::KeeperError;
+use thiserror::Error;
+
+/// Why a disk was not copied.
+#[derive(Clone, Copy, Debug, PartialEq, Eq, Error)]
+pub enum CopyError {
+    /// The checkpoint has more states than a slot of the new disk holds.
+    #[error("too many keys: {states}, K is {most}")]
+    TooManyKeys { states: u64, most: u32 },
+    /// There are more epochs after the checkpoint than the new disk has cells.
+    #[error("journal full: {epochs} epochs, N is {most}")]
+    Full { epochs: u64, most: u32 },
+    /// An epoch has more records than a cell of the new disk holds.
+    #[error("too many records: epoch {epoch} has {records}, M is {most}")]
+    TooManyRecords { epoch: u64, records: u64, most: u32 },
+    /// The new disk has fewer bytes than its shape takes.
+    #[error("shape")]
+    Shape,
+    /// The new disk has a head already.
+    #[error("formatted")]
+    Formatted,
+    /// The old disk tells nothing, a disk failed, or memory ran out.
+    #[error("{0}")]
+    Keeper(KeeperError),
+}
+
+impl From<KeeperError> for CopyError {
+    ghost from_gives = { λ d e. e ≡ OfKeeper d };
+
+    fn from(error: KeeperError) -> CopyError {
+        CopyError::Keeper(error)
+    }
+}
