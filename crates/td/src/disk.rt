@@ -1,12 +1,16 @@
 //! The commands over a disk in a file. The plan's file is read before the disk is made or opened.
 
+use crate::file_cause::{make_empty, why_not_opened, why_not_read};
+use crate::refusal::Refusal;
 use std::fs::File;
 use std::io;
 use std::rt::Files;
 use td_calls::Stock;
 use td_console::{Fault, StdReader, StdWriter};
+use td_copy::copy;
 use td_disk::{FileDisk, ReadAhead};
 use td_feed::{dump, format, read_plan, shape_of, show, upgrade};
+use td_head::Shape;
 use td_plan::Plan;
 
 /// Makes a disk of this shape in the file at `disk`, formatted for the plan in the file at `plan`.
@@ -40,12 +44,15 @@ pub(crate) fn show_disk<R: Files<File = File> + Print + AllocGlobal>(
 /// Writes the epochs after the checkpoint of the disk in the file at `disk` to standard output, as lines that a feed takes.
 pub(crate) fn dump_disk<R: Files<File = File> + Print + AllocGlobal>(
     rt: &R,
-    disk: &str,
+    path: &str,
     plan: &str,
-) -> Result<(), Fault> {
-    let (mut disk, plan) = open_disk(rt, disk, plan)?;
+) -> Result<(), Refusal> {
+    let (mut disk, plan) = open_disk_or_tell(rt, path, plan)?;
     let mut writer = StdWriter(io::writer(rt));
-    dump(rt.alloc(), &mut disk, &plan, &mut writer)
+    match dump(rt.alloc(), &mut disk, &plan, &mut writer) {
+        Ok(()) => Ok(()),
+        Err(fault) => Err(Refusal::Plain(fault).on_disk(rt.alloc(), path)),
+    }
 }
 
 /// Raises the disk in the file at `disk` to the version of the format that has request numbers.
@@ -57,6 +64,108 @@ pub(crate) fn upgrade_disk<R: Files<File = File> + Print + AllocGlobal>(
     let (disk, plan) = open_disk(rt, disk, plan)?;
     let mut writer = StdWriter(io::writer(rt));
     upgrade::<_, Stock, _>(rt.alloc(), disk, &plan, &mut writer).1
+}
+
+/// Makes a disk of this shape in a file at `new`, where there is none, and puts on it what the disk in the file at `disk` tells.
+pub(crate) fn copy_disk<R: Files<File = File> + AllocGlobal>(
+    rt: &R,
+    path: &str,
+    plan: &str,
+    new: &str,
+    m: u32,
+    n: u32,
+    k: u32,
+) -> Result<(), Refusal> {
+    let alloc = rt.alloc();
+    let held = hold_streams(rt)?;
+    let plan = plan_or_tell(rt, plan)?;
+    let shape = shape_or_tell(rt, m, n, k)?;
+    let mut disk = ReadAhead::new(alloc, disk_or_tell(rt, path)?);
+    let copied = copy(alloc, &mut disk, &plan, shape, || make_disk(rt, new, shape));
+    drop(held);
+    match copied {
+        Ok(_new) => Ok(()),
+        Err(refusal) => Err(refusal.on_disk(alloc, path)),
+    }
+}
+
+/// A disk for a shape, in a file at `path`, where there is none.
+fn make_disk<R: Files<File = File> + AllocGlobal>(
+    rt: &R,
+    path: &str,
+    shape: Shape,
+) -> Result<FileDisk, Refusal> {
+    if let Err(cause) = make_empty(rt, path) {
+        return Err(file_refusal(rt, path, cause)?);
+    }
+    match FileDisk::create(rt, path, shape.bytes()) {
+        Ok(disk) => Ok(disk),
+        Err(error) => match Fault::from(error) {
+            Fault::File => Err(file_refusal(rt, path, "cannot be made")?),
+            fault => Err(Refusal::Plain(fault)),
+        },
+    }
+}
+
+/// The shape of a disk, or which of its numbers is out of its limits.
+fn shape_or_tell<R: AllocGlobal>(rt: &R, m: u32, n: u32, k: u32) -> Result<Shape, Refusal> {
+    let alloc = rt.alloc();
+    match shape_of(m, n, k) {
+        Ok(shape) => Ok(shape),
+        Err(fault) => {
+            let (name, number, most) = if m < 1 || 65_536 < m {
+                ("M", m, 65_536)
+            } else if n < 1 || 65_536 < n {
+                ("N", n, 65_536)
+            } else {
+                ("K", k, 1_048_576)
+            };
+            let cause = format!(in alloc; "{name} is {number}, not 1 to {most}")?;
+            Err(Refusal::At(fault, cause))
+        }
+    }
+}
+
+/// The disk in the file at `path`, which is read a block at a time, and the plan in the file at `plan`; where one cannot be had, why.
+pub(crate) fn open_disk_or_tell<R: Files<File = File> + AllocGlobal>(
+    rt: &R,
+    path: &str,
+    plan: &str,
+) -> Result<(ReadAhead<FileDisk>, Plan), Refusal> {
+    let held = hold_streams(rt)?;
+    let plan = plan_or_tell(rt, plan)?;
+    let disk = disk_or_tell(rt, path)?;
+    drop(held);
+    Ok((ReadAhead::new(rt.alloc(), disk), plan))
+}
+
+/// The plan in the file at `path`, or why it cannot be had.
+fn plan_or_tell<R: Files<File = File> + AllocGlobal>(rt: &R, path: &str) -> Result<Plan, Refusal> {
+    match plan_at(rt, path) {
+        Ok(plan) => Ok(plan),
+        Err(Fault::File) => Err(file_refusal(rt, path, why_not_read(rt, path))?),
+        Err(fault) => Err(Refusal::Plain(fault).in_plan(rt.alloc(), path)),
+    }
+}
+
+/// The disk in the file at `path`, or why it cannot be had.
+fn disk_or_tell<R: Files<File = File> + AllocGlobal>(
+    rt: &R,
+    path: &str,
+) -> Result<FileDisk, Refusal> {
+    match FileDisk::open(rt, path) {
+        Ok(disk) => Ok(disk),
+        Err(error) => match Fault::from(error) {
+            Fault::File => Err(file_refusal(rt, path, why_not_opened(rt, path))?),
+            fault => Err(Refusal::Plain(fault)),
+        },
+    }
+}
+
+/// The refusal for a file that cannot be had, with its path and the cause.
+fn file_refusal<R: AllocGlobal>(rt: &R, path: &str, cause: &str) -> Result<Refusal, Refusal> {
+    let place = format!(in rt.alloc(); "{path}: {cause}")?;
+    Ok(Refusal::At(Fault::File, place))
 }
 
 /// The disk in the file at `disk`, which is read a block at a time, and the plan in the file at `plan`.

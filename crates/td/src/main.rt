@@ -7,21 +7,28 @@ ghost use Rattle.td.specs.Whole.{IsLawfulEngine, HasEach, map_codes, group_codes
 mod catalogue;
 mod disk;
 mod engine;
+mod file_cause;
+mod progress;
+mod refusal;
 mod store;
 
 use crate::catalogue::{fold_of, group_of, map_of};
-use crate::disk::{dump_disk, format_disk, open_disk, show_disk, upgrade_disk};
+use crate::disk::{
+    copy_disk, dump_disk, format_disk, open_disk, open_disk_or_tell, show_disk, upgrade_disk,
+};
 use crate::engine::Engine;
+use crate::progress::stream_told;
+use crate::refusal::Refusal;
 use crate::store::{store_fold, store_group, store_map};
 use std::fs::File;
 use std::process::ExitCode;
-use std::rt::{Env, Files};
+use std::rt::{Env, Files, Stderr};
 use std::sync::Wait;
 use std::thread::Threads;
 use std::{env, io};
 use td_calls::{Calls, FoldBox, GroupBox, MapBox, Stock, StockCalls};
-use td_console::{Fault, StdReader, StdWriter, batch, fault_line, read_picks, run, sim};
-use td_feed::{feed, stream};
+use td_console::{Fault, StdReader, StdWriter, batch, read_picks, run, sim};
+use td_feed::feed;
 use td_stamp::{Item, Rec, State};
 use td_words::{Job, WordsError, words};
 
@@ -31,16 +38,17 @@ fn main(rt: HostRuntime) -> ExitCode {
         Err(error) => return refused(&rt, error),
     };
     match words(rt.alloc(), &given) {
-        Ok(job) => ended(&rt, done(&rt, job)),
+        Ok(job) => ended(&rt, done(&rt, rt.stderr(), job)),
         Err(error) => refused(&rt, error),
     }
 }
 
-/// Does what is asked for.
+/// Does what is asked for. On standard error, `stderr`, is told how far it has come, if that is asked for.
 fn done<R: Files<File = File> + Input + Print + AllocGlobal + Threads + Wait + Sync>(
     rt: &R,
+    stderr: Stderr,
     job: Job<'_>,
-) -> Result<(), Fault>
+) -> Result<(), Refusal>
     requires workers { HasWorkers job }
 {
     match job {
@@ -56,7 +64,7 @@ fn done<R: Files<File = File> + Input + Print + AllocGlobal + Threads + Wait + S
             m,
             n,
             k,
-        } => format_disk(rt, disk, plan, m, n, k),
+        } => Ok(format_disk(rt, disk, plan, m, n, k)?),
         Job::Feed {
             disk,
             plan,
@@ -66,20 +74,33 @@ fn done<R: Files<File = File> + Input + Print + AllocGlobal + Threads + Wait + S
             run_engine(rt, Engine::Feed(disk, plan, workers))
         }
         Job::Stream {
-            disk,
+            disk: path,
             plan,
             workers,
             cut_every,
+            progress,
         } => {
-            let (disk, plan) = open_disk(rt, disk, plan)?;
-            run_engine(rt, Engine::Stream(disk, plan, workers, cut_every))
+            let (disk, plan) = open_disk_or_tell(rt, path, plan)?;
+            let told = progress.then_some(stderr);
+            run_engine(
+                rt,
+                Engine::Stream(disk, path, plan, workers, cut_every, told),
+            )
         }
-        Job::Show { disk, plan } => show_disk(rt, disk, plan),
+        Job::Show { disk, plan } => Ok(show_disk(rt, disk, plan)?),
         Job::Dump { disk, plan } => dump_disk(rt, disk, plan),
-        Job::Upgrade { disk, plan } => upgrade_disk(rt, disk, plan),
+        Job::Upgrade { disk, plan } => Ok(upgrade_disk(rt, disk, plan)?),
+        Job::Copy {
+            disk,
+            plan,
+            new,
+            m,
+            n,
+            k,
+        } => copy_disk(rt, disk, plan, new, m, n, k),
         Job::Help(text) => match print!(rt; "{text}") {
             Ok(()) => Ok(()),
-            Err(_) => Err(Fault::Output),
+            Err(_) => Err(Refusal::Plain(Fault::Output)),
         },
     }
 }
@@ -104,15 +125,15 @@ fn refused<R: Eprint + AllocGlobal>(rt: &R, error: WordsError) -> ExitCode {
             let _ = rt.eprint("td: words\n");
             ExitCode::from(2)
         }
-        WordsError::Memory => told(rt, Fault::Memory),
+        WordsError::Memory => told(rt, Refusal::Plain(Fault::Memory)),
     }
 }
 
 /// How an engine ended.
-fn ended<R: Eprint + AllocGlobal>(rt: &R, answer: Result<(), Fault>) -> ExitCode {
+fn ended<R: Eprint + AllocGlobal>(rt: &R, answer: Result<(), Refusal>) -> ExitCode {
     match answer {
         Ok(()) => ExitCode::SUCCESS,
-        Err(fault) => told(rt, fault),
+        Err(refusal) => told(rt, refusal),
     }
 }
 
@@ -120,8 +141,8 @@ fn ended<R: Eprint + AllocGlobal>(rt: &R, answer: Result<(), Fault>) -> ExitCode
 /// out one that it makes; of each kind there is one, which captures its code.
 fn run_engine<R: Input + Print + AllocGlobal + Threads + Wait + Sync>(
     rt: &R,
-    engine: Engine,
-) -> Result<(), Fault>
+    engine: Engine<'_>,
+) -> Result<(), Refusal>
     requires lawful { IsLawfulEngine engine }
 {
     let alloc = rt.alloc();
@@ -151,8 +172,8 @@ fn run_engine<R: Input + Print + AllocGlobal + Threads + Wait + Sync>(
 fn answer<R: Input + Print + AllocGlobal + Threads + Wait + Sync>(
     rt: &R,
     calls: &StockCalls,
-    engine: Engine,
-) -> Result<(), Fault>
+    engine: Engine<'_>,
+) -> Result<(), Refusal>
     requires lawful { IsLawfulEngine engine }
     requires maps { HasEach (λ c. c.code) calls.now.maps map_codes }
     requires groups { HasEach (λ c. c.code) calls.now.groups group_codes }
@@ -160,7 +181,7 @@ fn answer<R: Input + Print + AllocGlobal + Threads + Wait + Sync>(
 {
     let mut reader = StdReader(rt.reader());
     let mut writer = StdWriter(io::writer(rt));
-    match engine {
+    let answered = match engine {
         Engine::Batch => batch::<_, _, Stock, StockCalls>(
             rt.alloc(),
             &mut reader,
@@ -197,26 +218,27 @@ fn answer<R: Input + Print + AllocGlobal + Threads + Wait + Sync>(
             )
             .1
         }
-        Engine::Stream(disk, plan, workers, cut_every) => {
-            stream::<_, _, _, Stock, StockCalls, _>(
+        Engine::Stream(disk, path, plan, workers, cut_every, told) => {
+            return stream_told(
                 rt,
-                rt.alloc(),
                 disk,
+                path,
                 &plan,
                 workers,
                 cut_every,
                 reader,
                 &mut writer,
+                told,
                 calls,
-            )
-            .1
+            );
         }
-    }
+    };
+    Ok(answered?)
 }
 
-/// Prints a fault on standard error.
-fn told<R: Eprint + AllocGlobal>(rt: &R, fault: Fault) -> ExitCode {
-    let _ = match fault_line(rt.alloc(), fault) {
+/// Prints a refusal on standard error.
+fn told<R: Eprint + AllocGlobal>(rt: &R, refusal: Refusal) -> ExitCode {
+    let _ = match refusal.line(rt.alloc()) {
         Ok(line) => rt.eprint(line.as_str()),
         Err(_) => rt.eprint("td: memory\n"),
     };

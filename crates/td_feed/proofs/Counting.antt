@@ -75,10 +75,6 @@ or_false false = refl
 pub same_count : {T : Type 0} (x : T) (n m : ℕ) → CountsDevice (as_ok x) (Keeper error.Device) n m → m ≡ n
 same_count x n m counts = elim counts.stays as (λ _. m ≡ n) [ inl not_so ↦ absurd (let is = not_so in cc) | inr same ↦ same ]
 
--- what did not fail, did not
-pub counts_ok : {T : Type 0} (x : T) (n m : ℕ) → CountsDevice (as_ok x) (Keeper error.Device) n m → CountsDevice done (Keeper error.Device) n m
-counts_ok x n m counts = record { later = counts.later; rises = λ device. absurd (let is = device in cc); stays = inr (same_count x n m counts) }
-
 -- the fault of a refusal
 counts_error : (e : KeeperError) (f : Fault) (n m : ℕ) → f ≡ keeper_fault e → n ≤ m → (is_device e ≡ true → Rises n m) → (is_device e ≡ false → m ≡ n)
     → CountsDevice (as_err Reply f) (Keeper error.Device) n m

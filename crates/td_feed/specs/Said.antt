@@ -7,6 +7,7 @@ use Rattle.td_plan.specs.Lines.{Line as PlanLine}
 use Rattle.td_calls.specs.Answers.{Answers}
 use Rattle.td_disk.specs.Disk.{DiskState}
 use Rattle.td_journal.specs.declared.submitted.Submitted.{Submitted as AnySubmitted}
+use Rattle.td_watch.specs.View.{View}
 use Rattle.td_standing.specs.declared.error.KeeperError.{KeeperError}
 use Rattle.td_standing.specs.Told.{Told}
 use Rattle.td_keeper.specs.declared.command.Command.{Command}
@@ -81,16 +82,17 @@ module _ {D : Type 0} (is_lawful : D → Type 0) (state : D → DiskState) (fail
   SaysBy (Ok done) before after old new x = Says before after old new x
   SaysBy (Err fault) before after old new x = (fault ≡ Output) ⊎ SaysSome before after old new
 
-  -- A FEED OF A DISK: its keeper is what the disk tells, and what was written are the lines of what that keeper replied; it was
-  -- told what submits those of these that are new to it
+  -- A FEED OF A DISK: its keeper is what the disk tells, perhaps with a watch attached, and what was written are the lines of what
+  -- that keeper replied; it was told what submits those of these that are new to it
   pub record SaysFrom (result : Result (Unit {0}) Fault) (plan : List PlanLine) (disk left : D) (before after : Option (List ℕ)) (x : List AnySubmitted) : Type 0 where
     pub keeper : Keeping D
     pub fresh : IsFreshlyOpened keeper
     pub plan_is : keeper.plan ≡ plan
     pub told : is_lawful disk → Told plan (state keeper.device).bytes (Ok keeper.standing)
+    pub watch : Option View
     pub ended : Keeping D
     pub left_is : left ≡ ended.device
-    pub said : SaysBy result before after keeper ended (new_to keeper x)
+    pub said : SaysBy result before after (record keeper { watch = watch }) ended (new_to keeper x)
 
   -- at a refusal before there is a keeper, or before it is told anything, nothing is written
   abbrev pub SaysFed : Result (Unit {0}) Fault → List PlanLine → D → D → Option (List ℕ) → Option (List ℕ) → List AnySubmitted → Type 0

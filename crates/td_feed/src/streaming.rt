@@ -1,9 +1,10 @@
 //! Streaming epochs to a disk, line by line.
-ghost use Rattle.std.specs.Prelude.{◌≡◌, ◌⊎◌, ◌↔◌, ◌++◌, ◌≤◌, List, true, false, None, OnOk, OnErr, IfSome, IsErrOf, Err};
+ghost use Rattle.std.specs.Prelude.{◌≡◌, ◌⊎◌, ◌↔◌, ◌++◌, ◌≤◌, List, [], ◌∷◌, Option, true, false, None, OnOk, OnErr, IfSome, IsErrOf, Err};
 ghost use Rattle.td_plan.specs.Blocks.{vertices};
 ghost use Rattle.td_calls.specs.Fits.{first_lack};
 ghost use Rattle.td_disk.specs.Disk.{CountsDevice, Rises};
 ghost use Rattle.td_standing.specs.declared.error.KeeperError.TheVariants.{Device};
+ghost use Rattle.td_watch.specs.View.{View};
 ghost use Rattle.td_journal.specs.Numbers.{greatest};
 ghost use Rattle.td_journal.specs.declared.submitted.Submitted.{Submitted as AnySubmitted};
 ghost use Rattle.td_console.specs.Answer.{lack_fault};
@@ -25,14 +26,17 @@ use td_calls::{Closures, Law};
 use td_console::{Fault, Sink, Source, lack_fault};
 use td_disk::Disk;
 use td_keeper::Keeper;
+use td_keeper::laws::each_is_kept;
 use td_plan::Plan;
 use td_standing::laws;
+use td_watch::Writer;
 
 /// Does what `feed` does, order by order as the input comes. The output lines of the epochs that the disk tells are written first.
 /// When an epoch is closed it is put on the disk, `ack E` is written, or `again Q`, and once it has passed its output lines are
 /// written, all before the next line is read. A cut is taken and written at a line `cut`; where `cut_every` epochs stand after the
 /// last one, if that is given; and where the journal is full, so that one more epoch finds room wherever the cut's states do. Of the
-/// input no more is in memory than a line, and the epoch that it is in.
+/// input no more is in memory than a line, and the epoch that it is in. How far it has come is published by the writer of a watch,
+/// where one is given: first once the disk is recovered, and then as `Keeper::attach` says.
 ///
 /// Refusals: a missing closure, before anything else; what the disk refuses as it is recovered; and then the first of what a line,
 /// the reader, the keeper, a worker or the writer refuse, after all that was asked for before it. What was written stays written.
@@ -53,10 +57,12 @@ pub fn stream<
     cut_every: Option<u32>,
     reader: I,
     writer: &mut W,
+    watch: Option<Writer>,
     calls: &C,
 ) -> (D, Result<(), Fault>)
     requires some { 1 ≤ workers }
     requires most { workers ≤ 16 }
+    requires unpublished { IfSome watch (λ w. w.words ≡ 0 ∷ 0 ∷ 0 ∷ []) }
     ensures size { D.capacity result.0 ≡ D.capacity disk }
     ensures lawful { D.is_lawful disk ↔ D.is_lawful result.0 }
 
@@ -95,10 +101,28 @@ pub fn stream<
         Ok(keeper) => keeper,
         Err((refusal, disk)) => return (disk, Err(Fault::from(refusal))),
     };
+    let keeper = watched(keeper, watch);
     let (keeper, ended) = obey(
         rt, alloc, keeper, plan, workers, cut_every, reader, writer, calls,
     );
     (keeper.into_disk(), ended)
+}
+
+/// A keeper with the writer of a watch attached, where there is one, by which it has published how far it has come.
+fn watched<D: Disk, L: Law>(keeper: Keeper<D, L>, watch: Option<Writer>) -> Keeper<D, L>
+    requires unpublished { IfSome watch (λ w. w.words ≡ 0 ∷ 0 ∷ 0 ∷ []) }
+    ensures device { result.device ≡ keeper.device }
+    ensures whole { result.broken ≡ keeper.broken }
+    ensures aside { (view : Option View) × (result ≡ record keeper { watch = view }) }
+{
+    let Some(mut writer) = watch else {
+        return keeper;
+    };
+    let mut keeper = keeper;
+    each_is_kept(&keeper);
+    writer.publish([keeper.last_epoch(), keeper.collected(), keeper.kept()]);
+    keeper.attach(writer);
+    keeper
 }
 
 /// Does what an input asks for, by a keeper of a plan, which comes back. Refusals: those of the hall, of the reader and of its lines,

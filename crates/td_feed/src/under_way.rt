@@ -9,7 +9,7 @@ ghost use Rattle.td_keeper.specs.Driven.{Driven};
 ghost use Rattle.td_feed.specs.Orders.{submissions};
 ghost use Rattle.td_feed.specs.Fed.{hall_fault};
 ghost use Rattle.td_feed.specs.Carried.{batch_in, new_to, Carries, Leaves};
-ghost use Rattle.td_feed.specs.Said.{Refuses, SaysBy};
+ghost use Rattle.td_feed.specs.Said.{SaysBy};
 
 use crate::order::Order;
 use crate::telling::{tell, tell_aloud};
@@ -19,7 +19,8 @@ use td_calls::Law;
 use td_console::{Fault, Sink, print_epoch, write_answer};
 use td_core::{Hall, HallError};
 use td_disk::Disk;
-use td_keeper::{Command, Keeper, Reply};
+use td_keeper::laws::each_is_kept;
+use td_keeper::{Command, Keeper};
 use td_plan::Plan;
 use td_pool::{Crew, Pool};
 use td_stamp::{Batch, EPOCHS_END, EpochOut};
@@ -184,7 +185,7 @@ impl Feeding {
         self.release(rt, alloc, keeper, pool)?;
         tell(rt, alloc, keeper, pool, Command::Settle)?;
         tell(rt, alloc, keeper, pool, Command::Collect)?;
-        write_outs(rt, alloc, keeper, pool, writer)
+        write_outs(alloc, keeper, writer)
     }
 
     /// Does what is due before the first order, at this pace: releases the epochs that the hall lacks, or writes their outputs too.
@@ -301,11 +302,9 @@ fn is_cut_due<D: Disk, L: Law>(keeper: &Keeper<D, L>, every: Option<u32>) -> boo
 }
 
 /// Writes the output lines of the epochs that were collected, and lets these go.
-fn write_outs<D: Disk, L: Law, K: Crew, R: Wait, W: Sink>(
-    rt: &R,
+fn write_outs<D: Disk, L: Law, W: Sink>(
     alloc: Global,
     keeper: &mut Keeper<D, L>,
-    pool: &Pool<K, L>,
     writer: &mut W,
 ) -> Result<(), Fault>
     requires whole { keeper.old.broken ≡ false }
@@ -317,7 +316,7 @@ fn write_outs<D: Disk, L: Law, K: Crew, R: Wait, W: Sink>(
     ensures failures { CountsDevice result (Fault.Keeper Device) (D.failures keeper.old.device) (D.failures keeper.new.device) }
 {
     let mut text = String::new(alloc);
-    while let Some(out) = next_out(rt, alloc, keeper, pool)? {
+    while let Some(out) = next_out(keeper) {
         print_epoch(&mut text, &out)?;
         write_piece(writer, &mut text)?;
     }
@@ -342,26 +341,20 @@ fn write_piece<W: Sink>(writer: &mut W, text: &mut String) -> Result<(), Fault>
 }
 
 /// The outputs of the first epoch of those that were collected; None where there is none.
-fn next_out<D: Disk, L: Law, K: Crew, R: Wait>(
-    rt: &R,
-    alloc: Global,
-    keeper: &mut Keeper<D, L>,
-    pool: &Pool<K, L>,
-) -> Result<Option<EpochOut>, Fault>
+fn next_out<D: Disk, L: Law>(keeper: &mut Keeper<D, L>) -> Option<EpochOut>
     requires whole { keeper.old.broken ≡ false }
+    ensures device { keeper.new.device ≡ keeper.old.device }
     ensures size { D.capacity keeper.new.device ≡ D.capacity keeper.old.device }
     ensures lawful { D.is_lawful keeper.old.device ↔ D.is_lawful keeper.new.device }
+    ensures failures { D.failures keeper.new.device ≡ D.failures keeper.old.device }
     ensures carried { Carries L.answers keeper.old keeper.new [] }
-    ensures some { IfOk result (λ o. IfSome o (λ out. keeper.old.queue ≡ out ∷ keeper.new.queue)) }
-    ensures none { IfOk result (λ o. IfNone o (keeper.new.queue ≡ [])) }
-    ensures driven { IfOk result (λ o. Driven D.is_lawful D.state D.failures L.answers (NextOut ∷ []) (Out o ∷ []) keeper.old keeper.new) }
-    ensures refused { OnErr result (Refuses D.is_lawful D.state D.failures L.answers NextOut keeper.old keeper.new) }
-    ensures failures { CountsDevice result (Fault.Keeper Device) (D.failures keeper.old.device) (D.failures keeper.new.device) }
+    ensures some { IfSome result (λ out. keeper.old.queue ≡ out ∷ keeper.new.queue) }
+    ensures none { IfNone result (keeper.new.queue ≡ []) }
+    ensures driven { Driven D.is_lawful D.state D.failures L.answers (NextOut ∷ []) (Out result ∷ []) keeper.old keeper.new }
 {
-    let Reply::Out(out) = tell(rt, alloc, keeper, pool, Command::NextOut)? else {
-        unreachable!()
-    };
-    Ok(out)
+    let out = keeper.next_out();
+    each_is_kept(keeper);
+    out
 }
 
 /// What an epoch with this batch counts: itself and its records.

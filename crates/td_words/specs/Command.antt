@@ -1,13 +1,14 @@
 -- What clap makes of the program's words, of which the first is the program's name.
-use Rattle.std.specs.Prelude.{◌≡◌, ◌≢◌, ℕ, ◌≤◌, pos, List, [], ◌∷◌, Option, Some, None, true, codes}
+use Rattle.std.specs.Prelude.{◌≡◌, ◌≢◌, ℕ, ◌≤◌, pos, List, [], ◌∷◌, Option, Some, None, Bool, true, false, codes}
 use Rattle.std.specs.Str.Parse.{IsNumeral, digits_value, without_leading_plus}
 use Rattle.clap.specs.Words.{App, Row, Rule, Text, new_app, new_rule, with_rule, with_subcommand, subcommand_of, one_of, first_of}
 use Rattle.clap.specs.Faults.{fault_of}
 use Rattle.clap.specs.Kinds.{IsAmong}
 use Rattle.clap.specs.declared.builder.value_parser.ValueParser.TheVariants as parser
+use Rattle.clap.specs.declared.builder.action.ArgAction.TheVariants.{SetTrue}
 use Rattle.clap.specs.declared.error.kind.ErrorKind.TheVariants.{DisplayHelp}
 use Rattle.td_words.specs.declared.job.Job.{Job}
-use Rattle.td_words.specs.declared.job.Job.TheVariants.{Batch, Run, Sim, Format, Feed, Show, Dump, Upgrade, Stream, Help}
+use Rattle.td_words.specs.declared.job.Job.TheVariants.{Batch, Run, Sim, Format, Feed, Show, Dump, Upgrade, Copy, Stream, Help}
 
 -- `--workers W`, a number of 1 to 16, and 1 where it is not given
 abbrev pub workers_rule : Rule
@@ -42,6 +43,13 @@ cut_every_rule = record (new_rule (codes "cut-every")) {
   parser = Some (parser.Unsigned 1 65536);
 }
 
+-- `--progress`, a flag
+abbrev pub progress_rule : Rule
+progress_rule = record (new_rule (codes "progress")) {
+  long = Some (codes "progress");
+  action = Some SetTrue;
+}
+
 -- the subcommands
 abbrev pub batch_app : App
 batch_app = new_app (codes "batch")
@@ -55,8 +63,11 @@ sim_app = with_rule (with_rule (new_app (codes "sim")) workers_rule) picks_rule
 abbrev pub with_files : App → App
 with_files app = with_rule (with_rule app (word_rule (codes "disk"))) (word_rule (codes "plan"))
 
+abbrev pub with_shape : App → App
+with_shape app = with_rule (with_rule (with_rule app (number_rule (codes "m"))) (number_rule (codes "n"))) (number_rule (codes "k"))
+
 abbrev pub format_app : App
-format_app = with_rule (with_rule (with_rule (with_files (new_app (codes "format"))) (number_rule (codes "m"))) (number_rule (codes "n"))) (number_rule (codes "k"))
+format_app = with_shape (with_files (new_app (codes "format")))
 
 abbrev pub feed_app : App
 feed_app = with_rule (with_files (new_app (codes "feed"))) workers_rule
@@ -70,15 +81,18 @@ dump_app = with_files (new_app (codes "dump"))
 abbrev pub upgrade_app : App
 upgrade_app = with_files (new_app (codes "upgrade"))
 
+abbrev pub copy_app : App
+copy_app = with_shape (with_rule (with_files (new_app (codes "copy"))) (word_rule (codes "new")))
+
 abbrev pub stream_app : App
-stream_app = with_rule (with_rule (with_files (new_app (codes "stream"))) workers_rule) cut_every_rule
+stream_app = with_rule (with_rule (with_rule (with_files (new_app (codes "stream"))) workers_rule) cut_every_rule) progress_rule
 
 -- `td`, which needs one of them
 abbrev pub alone : App
 alone = let named = new_app (codes "td") in record named { top = record named.top { subcommand_required = true } }
 
 abbrev pub td : App
-td = with_subcommand (with_subcommand (with_subcommand (with_subcommand (with_subcommand (with_subcommand (with_subcommand (with_subcommand (with_subcommand alone batch_app.top) run_app.top) sim_app.top) format_app.top) feed_app.top) show_app.top) dump_app.top) upgrade_app.top) stream_app.top
+td = with_subcommand (with_subcommand (with_subcommand (with_subcommand (with_subcommand (with_subcommand (with_subcommand (with_subcommand (with_subcommand (with_subcommand alone batch_app.top) run_app.top) sim_app.top) format_app.top) feed_app.top) show_app.top) dump_app.top) upgrade_app.top) copy_app.top) stream_app.top
 
 abbrev pub batch_words : List (List ℕ)
 batch_words = codes "td" ∷ codes "batch" ∷ []
@@ -98,6 +112,9 @@ stream_words = codes "td" ∷ codes "stream" ∷ codes "d" ∷ codes "p" ∷ []
 abbrev pub cutting_words : List (List ℕ)
 cutting_words = codes "td" ∷ codes "stream" ∷ codes "d" ∷ codes "p" ∷ codes "--cut-every" ∷ codes "4" ∷ []
 
+abbrev pub telling_words : List (List ℕ)
+telling_words = codes "td" ∷ codes "stream" ∷ codes "d" ∷ codes "p" ∷ codes "--progress" ∷ []
+
 -- the number that a subcommand has at a name, where clap says so: in decimal, as Rust reads it, and between these
 abbrev pub IsNumber : Text → ℕ → ℕ → List Row → ℕ → Type 0
 IsNumber id least most rows number = (text : List ℕ) × (one_of id rows ≡ Some text)
@@ -112,6 +129,14 @@ abbrev pub IsCutEvery : List Row → Option ℕ → Type 0
 IsCutEvery rows (Some every) = IsNumber (codes "cut-every") 1 65536 rows every
 IsCutEvery rows None = one_of (codes "cut-every") rows ≡ None
 
+-- whether a flag is given, which clap has as a text
+abbrev pub flag_text : Bool → Text
+flag_text true = codes "true"
+flag_text false = codes "false"
+
+abbrev pub IsFlag : Text → List Row → Bool → Type 0
+IsFlag id rows is_given = one_of id rows ≡ Some (flag_text is_given)
+
 -- the name of a job's subcommand, and its values there
 abbrev pub name_of : Job → Text
 name_of Batch = codes "batch"
@@ -122,7 +147,8 @@ name_of (Feed disk plan workers) = codes "feed"
 name_of (Show disk plan) = codes "show"
 name_of (Dump disk plan) = codes "dump"
 name_of (Upgrade disk plan) = codes "upgrade"
-name_of (Stream disk plan workers cut_every) = codes "stream"
+name_of (Copy disk plan new m n k) = codes "copy"
+name_of (Stream disk plan workers cut_every progress) = codes "stream"
 name_of (Help text) = codes "help"
 
 abbrev pub HasValues : List Row → Job → Type 0
@@ -135,8 +161,11 @@ HasValues rows (Feed disk plan workers) = (first_of (codes "disk") rows ≡ Some
 HasValues rows (Show disk plan) = (first_of (codes "disk") rows ≡ Some disk.now) × (first_of (codes "plan") rows ≡ Some plan.now)
 HasValues rows (Dump disk plan) = (first_of (codes "disk") rows ≡ Some disk.now) × (first_of (codes "plan") rows ≡ Some plan.now)
 HasValues rows (Upgrade disk plan) = (first_of (codes "disk") rows ≡ Some disk.now) × (first_of (codes "plan") rows ≡ Some plan.now)
-HasValues rows (Stream disk plan workers cut_every) = (first_of (codes "disk") rows ≡ Some disk.now) × (first_of (codes "plan") rows ≡ Some plan.now)
-    × IsWorkers rows workers × IsCutEvery rows cut_every
+HasValues rows (Copy disk plan new m n k) = (first_of (codes "disk") rows ≡ Some disk.now) × (first_of (codes "plan") rows ≡ Some plan.now)
+    × (first_of (codes "new") rows ≡ Some new.now)
+    × IsNumber (codes "m") 0 4294967295 rows m × IsNumber (codes "n") 0 4294967295 rows n × IsNumber (codes "k") 0 4294967295 rows k
+HasValues rows (Stream disk plan workers cut_every progress) = (first_of (codes "disk") rows ≡ Some disk.now) × (first_of (codes "plan") rows ≡ Some plan.now)
+    × IsWorkers rows workers × IsCutEvery rows cut_every × IsFlag (codes "progress") rows progress
 HasValues rows (Help text) = ⊥
 
 -- the subcommand at which a parse arrived is the job's, and has its values
@@ -153,7 +182,7 @@ abbrev pub HasWorkers : Job → Type 0
 HasWorkers (Run workers) = (1 ≤ workers) × (workers ≤ 16)
 HasWorkers (Sim workers picks) = (1 ≤ workers) × (workers ≤ 16)
 HasWorkers (Feed disk plan workers) = (1 ≤ workers) × (workers ≤ 16)
-HasWorkers (Stream disk plan workers cut_every) = (1 ≤ workers) × (workers ≤ 16)
+HasWorkers (Stream disk plan workers cut_every progress) = (1 ≤ workers) × (workers ≤ 16)
 HasWorkers _ = Unit {0}
 
 -- the words ask for no job, nor for help alone
@@ -169,6 +198,6 @@ abbrev pub IsFeed : Text → Text → ℕ → Job → Type 0
 IsFeed a b w (Feed disk plan workers) = (disk.now ≡ a) × (plan.now ≡ b) × (workers ≡ w)
 IsFeed a b w _ = ⊥
 
-abbrev pub IsStream : Text → Text → ℕ → Option ℕ → Job → Type 0
-IsStream a b w e (Stream disk plan workers cut_every) = (disk.now ≡ a) × (plan.now ≡ b) × (workers ≡ w) × (cut_every ≡ e)
-IsStream a b w e _ = ⊥
+abbrev pub IsStream : Text → Text → ℕ → Option ℕ → Bool → Job → Type 0
+IsStream a b w e t (Stream disk plan workers cut_every progress) = (disk.now ≡ a) × (plan.now ≡ b) × (workers ≡ w) × (cut_every ≡ e) × (progress ≡ t)
+IsStream a b w e t _ = ⊥

@@ -1,13 +1,13 @@
 //! The commands of the program, as clap has them.
 ghost use Rattle.std.specs.Prelude.{◌≡◌, false, IfOk, IsOkAnd};
 ghost use Rattle.clap.specs.Words.{app_of, new_app, rule_of, with_rule, with_subcommand};
-ghost use Rattle.td_words.specs.Command.{alone, td, batch_app, run_app, sim_app, format_app, feed_app, show_app, dump_app, upgrade_app};
+ghost use Rattle.td_words.specs.Command.{alone, td, batch_app, run_app, sim_app, format_app, feed_app, show_app, dump_app, upgrade_app, copy_app};
 ghost use Rattle.td_words.specs.Command.{workers_rule, picks_rule, word_rule, number_rule};
-ghost use Rattle.td_words.specs.Command.{stream_app, cut_every_rule};
+ghost use Rattle.td_words.specs.Command.{stream_app, cut_every_rule, progress_rule};
 ghost use Rattle.td_words.specs.Jobs.{has_globals};
 
 use clap::builder::ValueParser;
-use clap::{Arg, Command};
+use clap::{Arg, ArgAction, Command};
 use std::alloc::{AllocError, Global};
 
 /// What help says of the program and of each command, in one line.
@@ -35,6 +35,8 @@ const DUMP: &str = "Writes the epochs of a disk after the last cut, in lines tha
 
 const UPGRADE: &str = "Raises a disk to version 2 of its format, which has request numbers";
 
+const COPY: &str = "Makes a disk of another shape, which has what a disk has";
+
 const STREAM: &str = "Does what feed does, epoch by epoch as standard input comes";
 
 /// What help says of the options and of the other arguments.
@@ -44,6 +46,8 @@ const PICKS: &str =
     "Which message or notification is taken in each turn: numbers joined by commas, over and over";
 
 const NEW_DISK: &str = "The file to make; one that is there is written anew";
+
+const COPIED_DISK: &str = "The file to make; one that is there is refused";
 
 const DISK: &str = "A file that td format made for this plan";
 
@@ -56,6 +60,8 @@ const CELLS: &str = "How many epochs there may be after a cut, 1 to 65536";
 const STATES: &str = "How many states a cut may keep, 1 to 1048576";
 
 const CUT_EVERY: &str = "Cut after each E epochs, 1 to 65536";
+
+const PROGRESS: &str = "Write how far it has come to standard error, each second";
 
 /// What help says at its end.
 const TD_MORE: &str = "\
@@ -109,11 +115,19 @@ Writes: DISK, and a line 'version 2', also where it was of version 2 before
 Exit status: 0, or 1 after a fault, which is told on standard error
 Faults are explained in docs/FAULTS.md";
 
+const COPY_MORE: &str = "\
+Reads:  PLAN and DISK
+Writes: NEW, of 8308 + 64 K + N (25 + 24 M) bytes, with the states that the last cut kept, the epochs after it, and their request
+        numbers; DISK stays as it is
+Exit status: 0, or 1 after a fault, which is told on standard error
+Faults are explained in docs/FAULTS.md";
+
 const STREAM_MORE: &str = "\
 Reads:  PLAN, DISK and lines, as td feed does
 Writes: DISK, and, as each epoch is closed and before the next line is read, 'ack EPOCH' (or 'again REQUEST') and then its
         output lines 'EPOCH VERTEX KEY VALUE'; 'cut EPOCH' where a line 'cut' asks for a cut, after each E epochs with
-        --cut-every E, and in any case before the room for epochs on DISK is full
+        --cut-every E, and in any case before the room for epochs on DISK is full;
+        with --progress, to standard error, 'acked EPOCH done EPOCH kept EPOCH': the last epoch on DISK, computed, and cut
 A cut keeps the states on DISK, and frees the room of the epochs up to it
 Exit status: 0, or 1 after a fault, which is told on standard error
 Faults are explained in docs/FAULTS.md";
@@ -131,6 +145,7 @@ pub(crate) fn command<'a>(alloc: Global) -> Result<Command<'a>, AllocError>
     let td = with_leaf(td, show_leaf(alloc))?;
     let td = with_leaf(td, dump_leaf(alloc))?;
     let td = with_leaf(td, upgrade_leaf(alloc))?;
+    let td = with_leaf(td, copy_leaf(alloc))?;
     with_leaf(td, stream_leaf(alloc))
 }
 
@@ -226,6 +241,20 @@ fn upgrade_leaf<'a>(alloc: Global) -> Result<Command<'a>, AllocError>
     with_arg(leaf, word_arg(alloc, "plan", "PLAN", PLAN))
 }
 
+/// `copy`.
+fn copy_leaf<'a>(alloc: Global) -> Result<Command<'a>, AllocError>
+    ensures app { IfOk result (λ c. app_of c ≡ copy_app) }
+    ensures globals { IfOk result (λ c. has_globals c ≡ false) }
+{
+    let leaf = new_leaf(alloc, "copy", COPY, COPY_MORE);
+    let leaf = with_arg(leaf, word_arg(alloc, "disk", "DISK", DISK))?;
+    let leaf = with_arg(leaf, word_arg(alloc, "plan", "PLAN", PLAN))?;
+    let leaf = with_arg(leaf, word_arg(alloc, "new", "NEW", COPIED_DISK))?;
+    let leaf = with_arg(leaf, number_arg(alloc, "m", "M", RECORDS))?;
+    let leaf = with_arg(leaf, number_arg(alloc, "n", "N", CELLS))?;
+    with_arg(leaf, number_arg(alloc, "k", "K", STATES))
+}
+
 /// `stream`.
 fn stream_leaf<'a>(alloc: Global) -> Result<Command<'a>, AllocError>
     ensures app { IfOk result (λ c. app_of c ≡ stream_app) }
@@ -235,7 +264,8 @@ fn stream_leaf<'a>(alloc: Global) -> Result<Command<'a>, AllocError>
     let leaf = with_arg(leaf, word_arg(alloc, "disk", "DISK", DISK))?;
     let leaf = with_arg(leaf, word_arg(alloc, "plan", "PLAN", PLAN))?;
     let leaf = with_arg(leaf, workers_arg(alloc))?;
-    with_arg(leaf, cut_every_arg(alloc))
+    let leaf = with_arg(leaf, cut_every_arg(alloc))?;
+    with_arg(leaf, progress_arg(alloc))
 }
 
 /// A subcommand without arguments, with what help says of it, in one line and at its end.
@@ -328,4 +358,15 @@ fn cut_every_arg<'a>(alloc: Global) -> Arg<'a>
         .value_name("E")
         .value_parser(ValueParser::unsigned(1, 65_536))
         .help(CUT_EVERY)
+}
+
+/// `--progress`, a flag.
+fn progress_arg<'a>(alloc: Global) -> Arg<'a>
+    ensures rule { rule_of result ≡ progress_rule }
+    ensures local { result.global ≡ false }
+{
+    Arg::new(alloc, "progress")
+        .long("progress")
+        .action(ArgAction::SetTrue)
+        .help(PROGRESS)
 }

@@ -39,13 +39,24 @@ pub enum Job<'a> {
         disk: &'a str,
         plan: &'a str,
     },
+    /// To make the file `new` and put on it what the disk `disk` tells, with `m` records a cell, `n` cells and `k` states a slot;
+    /// these are not compared with their limits yet.
+    Copy {
+        disk: &'a str,
+        plan: &'a str,
+        new: &'a str,
+        m: u32,
+        n: u32,
+        k: u32,
+    },
     /// To feed the epochs of standard input to the disk `disk` as they come, by a hall of so many shards, with a cut after each
-    /// `cut_every` epochs, if there is such a number.
+    /// `cut_every` epochs, if there is such a number; and to tell how far it has come, if `progress`.
     Stream {
         disk: &'a str,
         plan: &'a str,
         workers: u8,
         cut_every: Option<u32>,
+        progress: bool,
     },
     /// To print this text.
     Help(String),

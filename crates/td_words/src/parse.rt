@@ -1,11 +1,11 @@
 //! What the program is asked to do, from the words that it is given.
-ghost use Rattle.std.specs.Prelude.{◌≡◌, ◌≢◌, ◌⊎◌, ◌↔◌, ◌≤◌, ℕ, IsTrue, IfOk, IfErr, IfSome, IfNone, map, string_bytes};
+ghost use Rattle.std.specs.Prelude.{◌≡◌, ◌≢◌, ◌⊎◌, ◌↔◌, ◌≤◌, ℕ, Bool, true, false, IsTrue, IfOk, IfErr, IfSome, IfNone, map, string_bytes};
 ghost use Rattle.std.specs.Prelude.{Option, Ok, Err, Some, None, codes};
 ghost use Rattle.clap.specs.Words.{found_of, first_of, kind_of, rows_of, subcommand_rows_of};
 ghost use Rattle.td_words.specs.declared.job.Job.{Job as AnyJob};
 ghost use Rattle.td_words.specs.Command.{batch_words, run_words, format_words, feed_words, IsAsked, IsNamed, IsNumber};
 ghost use Rattle.td_words.specs.Command.{IsWorkers, HasWorkers, IsRefused, IsFormat, IsFeed};
-ghost use Rattle.td_words.specs.Command.{stream_words, cutting_words, IsCutEvery, IsStream};
+ghost use Rattle.td_words.specs.Command.{stream_words, cutting_words, telling_words, IsCutEvery, IsFlag, IsStream};
 ghost use Rattle.td_words.specs.Jobs.{IsHelp, IsOf};
 
 use crate::commands::command;
@@ -16,8 +16,9 @@ use std::alloc::Global;
 
 /// What these words ask for, of which the first is the program's name. The subcommands are `batch`, `run [--workers W]`,
 /// `sim [--workers W] [--picks LIST]`, `format DISK PLAN M N K`, `feed [--workers W] DISK PLAN`, `show DISK PLAN`,
-/// `dump DISK PLAN`, `upgrade DISK PLAN` and `stream [--workers W] [--cut-every E] DISK PLAN`, where W is 1 to 16, and 1 where it is not given,
-/// LIST is `0` where it is not given, M, N and K are numbers of 32 bits, and E is 1 to 65536, and none where it is not given.
+/// `dump DISK PLAN`, `upgrade DISK PLAN`, `copy DISK PLAN NEW M N K` and `stream [--workers W] [--cut-every E] [--progress] DISK
+/// PLAN`, where W is 1 to 16, and 1 where it is not given, LIST is `0` where it is not given, M, N and K are numbers of 32 bits, and E is 1 to
+/// 65536, and none where it is not given.
 /// Refusals: `Words` where clap refuses the words, and `Memory`.
 pub fn words<'a>(alloc: Global, given: &'a [String]) -> Result<Job<'a>, WordsError>
     ensures ok { IfOk result (IsAsked (map string_bytes given.entry.now)) }
@@ -27,8 +28,9 @@ pub fn words<'a>(alloc: Global, given: &'a [String]) -> Result<Job<'a>, WordsErr
     ensures run { map string_bytes given.entry.now ≡ run_words → (result ≡ Ok (Job.Run 1)) ⊎ (result ≡ Err WordsError.Memory) }
     ensures format { map string_bytes given.entry.now ≡ format_words → IfOk result (IsFormat (codes "d") (codes "p") 4 2 3) × IfErr result (λ e. e ≡ WordsError.Memory) }
     ensures feed { map string_bytes given.entry.now ≡ feed_words → IfOk result (IsFeed (codes "d") (codes "p") 1) × IfErr result (λ e. e ≡ WordsError.Memory) }
-    ensures stream { map string_bytes given.entry.now ≡ stream_words → IfOk result (IsStream (codes "d") (codes "p") 1 None) × IfErr result (λ e. e ≡ WordsError.Memory) }
-    ensures cutting { map string_bytes given.entry.now ≡ cutting_words → IfOk result (IsStream (codes "d") (codes "p") 1 (Some 4)) × IfErr result (λ e. e ≡ WordsError.Memory) }
+    ensures stream { map string_bytes given.entry.now ≡ stream_words → IfOk result (IsStream (codes "d") (codes "p") 1 None false) × IfErr result (λ e. e ≡ WordsError.Memory) }
+    ensures cutting { map string_bytes given.entry.now ≡ cutting_words → IfOk result (IsStream (codes "d") (codes "p") 1 (Some 4) false) × IfErr result (λ e. e ≡ WordsError.Memory) }
+    ensures telling { map string_bytes given.entry.now ≡ telling_words → IfOk result (IsStream (codes "d") (codes "p") 1 None true) × IfErr result (λ e. e ≡ WordsError.Memory) }
 {
     let Ok(command) = command(alloc) else {
         return Err(WordsError::Memory);
@@ -66,6 +68,7 @@ fn job_of<'a>(name: &str, matches: &ArgMatches<'a>) -> Option<Job<'a>>
         "show" => show_job(matches),
         "dump" => dump_job(matches),
         "upgrade" => upgrade_job(matches),
+        "copy" => copy_job(matches),
         "stream" => stream_job(matches),
         _ => None,
     }
@@ -154,6 +157,27 @@ fn upgrade_job<'a>(matches: &ArgMatches<'a>) -> Option<Job<'a>>
     Some(Job::Upgrade { disk, plan })
 }
 
+/// The copy that the matches of `copy` ask for.
+fn copy_job<'a>(matches: &ArgMatches<'a>) -> Option<Job<'a>>
+    ensures some { IfSome result (IsOf (codes "copy") (rows_of (found_of matches.now))) }
+    ensures none { IfNone result ((job : AnyJob) → IsOf (codes "copy") (rows_of (found_of matches.now)) job → ⊥) }
+{
+    let disk = word_of(matches, "disk")?;
+    let plan = word_of(matches, "plan")?;
+    let new = word_of(matches, "new")?;
+    let m = number_of(matches, "m")?;
+    let n = number_of(matches, "n")?;
+    let k = number_of(matches, "k")?;
+    Some(Job::Copy {
+        disk,
+        plan,
+        new,
+        m,
+        n,
+        k,
+    })
+}
+
 /// The feed, as its lines come, that the matches of `stream` ask for.
 fn stream_job<'a>(matches: &ArgMatches<'a>) -> Option<Job<'a>>
     ensures some { IfSome result (IsOf (codes "stream") (rows_of (found_of matches.now))) }
@@ -163,11 +187,13 @@ fn stream_job<'a>(matches: &ArgMatches<'a>) -> Option<Job<'a>>
     let plan = word_of(matches, "plan")?;
     let workers = workers_of(matches)?;
     let cut_every = cut_every_of(matches)?;
+    let progress = flag_of(matches, "progress")?;
     Some(Job::Stream {
         disk,
         plan,
         workers,
         cut_every,
+        progress,
     })
 }
 
@@ -210,6 +236,14 @@ fn cut_every_of(matches: &ArgMatches<'_>) -> Option<Option<u32>>
         Ok(Some(every)) if is_cut_distance(every) => Some(Some(every)),
         _ => None,
     }
+}
+
+/// Whether a flag is given. Clap writes a value for one that is not, too.
+fn flag_of(matches: &ArgMatches<'_>, id: &str) -> Option<bool>
+    ensures some { IfSome result (IsFlag id.now (rows_of (found_of matches.now))) }
+    ensures none { IfNone result ((is_given : Bool) → IsFlag id.now (rows_of (found_of matches.now)) is_given → ⊥) }
+{
+    matches.get_one::<bool>(id)
 }
 
 /// Whether cuts may be so many epochs apart.

@@ -127,6 +127,7 @@ returns-clause-said g c =
       fresh = c.in-Ok.ensures.fresh;
       plan_is = c.in-Ok.ensures.plan;
       told = c.in-Ok.ensures.told;
+      watch = c.in-Ok.keeper.watch;
       ended = c.obey-keeper.result.0;
       left_is = c.into_disk.ensures.disk;
       said = said;

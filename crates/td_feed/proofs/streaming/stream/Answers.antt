@@ -9,10 +9,12 @@ use Rattle.td_journal.specs.declared.submitted.Submitted.{Submitted}
 use Rattle.td_standing.specs.Stops.{Stands}
 use Rattle.td_standing.specs.Advanced.{states_by}
 use Rattle.td_journal.specs.Numbers.{greatest}
+use Rattle.td_keeper.specs.Keeping.{Keeping}
 use Rattle.td_feed.specs.Orders.{submissions, new_after}
 use Rattle.td_feed.specs.Asked.{script_of}
 use Rattle.td_feed.specs.Fed.{EachTellsHistory, EachTellsSome}
-use Rattle.td_feed.specs.Carried.{StandsFor, new_to}
+use Rattle.td_feed.specs.Carried.{StandsFor, new_to, Carries, Leaves}
+use Rattle.td_feed.specs.Said.{SaysBy}
 use Rattle.td_feed.proofs.Newness.{last_of_history}
 use Rattle.td_feed.proofs.Carrying.{either_way, in_some, leaves_all, ended_some, ended_all, none_more, still_each, found}
 use Rattle.td_feed.proofs.Counting.{as_err, fault_of, keeper_device, lack_no_device}
@@ -40,14 +42,15 @@ returns-in-Err-recover-clause-safe g c =
 pub returns-clause-fed : goal.returns-clause-fed
 returns-clause-fed g c =
     on_ok_weaker c.obey-keeper.result.1
-    (λ known. IfSome_then (g.I.Source.remaining c.args.reader) known (λ input carries lawful history told.
+    (λ known. IfSome_then (g.I.Source.remaining c.args.reader) known (λ input carried lawful history told.
     let state = g.D.Disk.state in
     let answers = g.L.Law.answers in
     let old = c.args.disk in
-    let keeper = c.in-Ok.keeper in
+    let keeper : Keeping g.row.D.Denot = record c.in-Ok.keeper { watch = c.watched-keeper.ensures.aside.0 } in
     let new = c.obey-keeper.result.0 in
     let plan = c.args.plan.now in
     let now = c.in-Ok.ensures.lawful.0 lawful in
+    let carries = subst (λ (k : Keeping g.row.D.Denot). Carries answers k new (new_to k (submissions (script_of plan input).orders))) c.watched-keeper.ensures.aside.1 carried in
     let safe : CrashSafe Unchanged (state old) (state keeper.device) = c.in-Ok.ensures.crash_safe lawful in
     let stands : Stands (states_by answers plan) keeper.standing history =
     found answers plan history (state old) (state keeper.device) safe
@@ -58,7 +61,7 @@ returns-clause-fed g c =
     let is : more ≡ new_after (greatest 0 history) (submissions (script_of plan input).orders) =
     ap (λ (q : ℕ). new_after q (submissions (script_of plan input).orders)) (last_of_history answers plan keeper.standing history stands) in
     let ended : EachTellsHistory answers keeper.plan (history ++ more) (state new.device) =
-    ended_all g.D.Disk.is_lawful state answers c.told_in_parts.ensures.together keeper new history more by_keeper carries c.into_disk.ensures.held (c.obey-keeper.ensures.lawful.0 now) in
+    ended_all g.D.Disk.is_lawful state answers c.told_in_parts.ensures.together keeper new history more by_keeper carries c.into_disk.ensures.held (c.obey-keeper.ensures.lawful.0 (subst g.D.Disk.is_lawful (sym c.watched-keeper.ensures.device) now)) in
     subst (λ (l : List Submitted). EachTellsHistory answers plan (history ++ l) (state c.into_disk.result)) is
     (subst (λ (d : g.row.D.Denot). EachTellsHistory answers plan (history ++ more) (state d)) (sym c.into_disk.ensures.disk)
     (subst (λ (p : List Line). EachTellsHistory answers p (history ++ more) (state new.device)) c.in-Ok.ensures.plan ended))))
@@ -68,16 +71,18 @@ pub returns-clause-safe : goal.returns-clause-safe
 returns-clause-safe g c =
     let answers = g.L.Law.answers in
     let plan = c.args.plan.now in
-    let keeper = c.in-Ok.keeper in
+    let watched = c.watched-keeper.result in
+    let keeper : Keeping g.row.D.Denot = record c.in-Ok.keeper { watch = c.watched-keeper.ensures.aside.0 } in
     let new = c.obey-keeper.result.0 in
     let state = g.D.Disk.state in
     IfSome_then (g.I.Source.remaining c.args.reader)
     (either_way c.obey-keeper.result.1 (g.I.Source.remaining c.args.reader)
-    (λ input carries. leaves_all g.D.Disk.is_lawful state answers keeper new (new_to keeper (submissions (script_of plan input).orders)) carries)
+    (λ input carries. leaves_all g.D.Disk.is_lawful state answers watched new (new_to watched (submissions (script_of plan input).orders)) carries)
     c.obey-keeper.ensures.fed c.obey-keeper.ensures.left)
-    (λ input leaves lawful history told.
+    (λ input left lawful history told.
     let old = c.args.disk in
     let now = c.in-Ok.ensures.lawful.0 lawful in
+    let leaves = subst (λ (k : Keeping g.row.D.Denot). Leaves g.D.Disk.is_lawful state answers k new (new_to k (submissions (script_of plan input).orders))) c.watched-keeper.ensures.aside.1 left in
     let safe : CrashSafe Unchanged (state old) (state keeper.device) = c.in-Ok.ensures.crash_safe lawful in
     let stands : Stands (states_by answers plan) keeper.standing history =
     found answers plan history (state old) (state keeper.device) safe
@@ -88,7 +93,7 @@ returns-clause-safe g c =
     let is : more ≡ new_after (greatest 0 history) (submissions (script_of plan input).orders) =
     ap (λ (q : ℕ). new_after q (submissions (script_of plan input).orders)) (last_of_history answers plan keeper.standing history stands) in
     let ended : EachTellsSome answers keeper.plan history more (state new.device) =
-    ended_some g.D.Disk.is_lawful state answers c.told_in_parts.ensures.together keeper new history more by_keeper leaves c.into_disk.ensures.held (c.obey-keeper.ensures.lawful.0 now) in
+    ended_some g.D.Disk.is_lawful state answers c.told_in_parts.ensures.together keeper new history more by_keeper leaves c.into_disk.ensures.held (c.obey-keeper.ensures.lawful.0 (subst g.D.Disk.is_lawful (sym c.watched-keeper.ensures.device) now)) in
     subst (λ (l : List Submitted). EachTellsSome answers plan history l (state c.into_disk.result)) is
     (subst (λ (d : g.row.D.Denot). EachTellsSome answers plan history more (state d)) (sym c.into_disk.ensures.disk)
     (subst (λ (p : List Line). EachTellsSome answers p history more (state new.device)) c.in-Ok.ensures.plan ended)))
@@ -128,16 +133,17 @@ returns-clause-said g c =
       fresh = c.in-Ok.ensures.fresh;
       plan_is = c.in-Ok.ensures.plan;
       told = c.in-Ok.ensures.told;
+      watch = c.watched-keeper.ensures.aside.0;
       ended = c.obey-keeper.result.0;
       left_is = c.into_disk.ensures.disk;
-      said = said;
+      said = subst (λ (k : Keeping g.row.D.Denot). SaysBy is_lawful state failures answers c.obey-keeper.result.1 (g.W.Sink.contents c.args.writer.now) (g.W.Sink.contents c.obey-keeper.new.writer) k c.obey-keeper.result.0 (new_to k (submissions (script_of plan input).orders))) c.watched-keeper.ensures.aside.1 said;
     }))
 
 pub returns-clause-device : goal.returns-clause-device
 returns-clause-device g c is =
     subst (λ (d : g.row.D.Denot). Rises (g.D.Disk.failures c.args.disk) (g.D.Disk.failures d)) (sym c.into_disk.ensures.disk)
-    (subst (λ (n : ℕ). Rises n (g.D.Disk.failures c.obey-keeper.result.0.device)) c.in-Ok.ensures.stays (c.obey-keeper.ensures.failures.rises is))
+    (subst (λ (n : ℕ). Rises n (g.D.Disk.failures c.obey-keeper.result.0.device)) (ap g.D.Disk.failures c.watched-keeper.ensures.device ∙ c.in-Ok.ensures.stays) (c.obey-keeper.ensures.failures.rises is))
 
 pub returns-clause-stays : goal.returns-clause-stays
 returns-clause-stays g c =
-    ⊎_elim inl (λ same. inr (ap g.D.Disk.failures c.into_disk.ensures.disk ∙ same ∙ c.in-Ok.ensures.stays)) c.obey-keeper.ensures.failures.stays
+    ⊎_elim inl (λ same. inr (ap g.D.Disk.failures c.into_disk.ensures.disk ∙ same ∙ ap g.D.Disk.failures c.watched-keeper.ensures.device ∙ c.in-Ok.ensures.stays)) c.obey-keeper.ensures.failures.stays

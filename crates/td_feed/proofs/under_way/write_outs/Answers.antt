@@ -7,7 +7,7 @@ use Rattle.td_keeper.specs.declared.command.Reply.TheVariants.{Out}
 use Rattle.td_console.specs.declared.faults.Fault.{Fault}
 use Rattle.td_feed.specs.Said.{line_of}
 use Rattle.td_feed.proofs.Carrying.{unmoved, carries_after}
-use Rattle.td_feed.proofs.Counting.{other_fault, counts_same, counts_handed, counts_after, counts_ok, same_count}
+use Rattle.td_feed.proofs.Counting.{other_fault, counts_same}
 use Rattle.td_feed.proofs.Lines.{by_refusal, output_no_device, holding_nothing, holding_more, holding_refused, holding_piece, none_out, all_written, last_written}
 use Rattle.td_feed.proofs.under_way.write_outs.Goals as goal
 
@@ -16,8 +16,8 @@ nil_of : (l : List ℕ) (n : ℕ) → (n == 0) ≡ true → n ≡ length l → l
 nil_of [] n is many = refl
 nil_of (x ∷ l) n is many = absurd (let none : n ≡ 0 = eqb-true n 0 is in omega (arith, none, many))
 
-pub loop-text-init : goal.loop-text-init
-loop-text-init g c = record {
+pub loop-out-init : goal.loop-out-init
+loop-out-init g c = record {
   said = holding_nothing g.D.Disk.is_lawful g.D.Disk.state g.D.Disk.failures g.L.Law.answers (g.W.Sink.contents c.args.writer.now) c.args.keeper.now (string_bytes c.new-text.result) c.new-text.ensures.bytes;
   count = refl;
   carried = unmoved g.L.Law.answers c.args.keeper.now c.args.keeper.now refl refl c.requires.whole;
@@ -25,53 +25,33 @@ loop-text-init g c = record {
   lawful = (λ l. l, λ l. l);
 }
 
-pub loop-text-preserved : goal.loop-text-preserved
-loop-text-preserved g c =
+pub loop-out-preserved : goal.loop-out-preserved
+loop-out-preserved g c =
     let is_lawful = g.D.Disk.is_lawful in
     let state = g.D.Disk.state in
     let failures = g.D.Disk.failures in
     let answers = g.L.Law.answers in
     let u = g.W.Sink.contents c.args.writer.now in
-    let v = g.W.Sink.contents c.loop-text.writer in
+    let v = g.W.Sink.contents c.loop-out.writer in
     let old = c.args.keeper.now in
-    let there = c.loop-text.keeper in
+    let there = c.loop-out.keeper in
     let new = c.next_out.new.keeper in
-    let held = string_bytes c.loop-text.text in
-    let so_far = c.loop-text.invariant in
-    let o : Option EpochOut = c.in_ok-out.field-0 in
-    let more = holding_more is_lawful state failures answers u v old there new o held (held ++ line_of 0 (Out o)) so_far.said c.in_ok-out.ensures.driven refl in
-    let count = same_count c.in_ok-out.field-0 (g.D.Disk.failures c.loop-text.keeper.device) (g.D.Disk.failures c.next_out.new.keeper.device) c.in_ok-out.ensures.failures ∙ c.loop-text.invariant.count in
+    let held = string_bytes c.loop-out.text in
+    let so_far = c.loop-out.invariant in
+    let o : Option EpochOut = c.next_out.result in
+    let more = holding_more is_lawful state failures answers u v old there new o held (held ++ line_of 0 (Out o)) so_far.said c.next_out.ensures.driven refl in
+    let count = c.next_out.ensures.failures ∙ c.loop-out.invariant.count in
     let printed : string_bytes c.print_epoch.new.text ≡ held ++ line_of 0 (Out (Some c.in-Some.out)) =
     c.in_ok-print_epoch.ensures.ok ∙ ap (λ (l : List ℕ). held ++ l) (sym (append-nil _)) in
     let is : held ++ line_of 0 (Out o) ≡ string_bytes c.print_epoch.new.text = ap (λ (p : Option EpochOut). held ++ line_of 0 (Out p)) c.in-Some.is ∙ sym printed in
     record {
-      said = holding_piece is_lawful state failures answers g.W.Sink.contents string_bytes u c.loop-text.writer c.write_piece.new.writer old new c.print_epoch.new.text c.write_piece.new.text
-          (holding_more is_lawful state failures answers u v old there new o held (string_bytes c.print_epoch.new.text) so_far.said c.in_ok-out.ensures.driven (sym is)) c.in_ok-write_piece.ensures.ok;
+      said = holding_piece is_lawful state failures answers g.W.Sink.contents string_bytes u c.loop-out.writer c.write_piece.new.writer old new c.print_epoch.new.text c.write_piece.new.text
+          (holding_more is_lawful state failures answers u v old there new o held (string_bytes c.print_epoch.new.text) so_far.said c.next_out.ensures.driven (sym is)) c.in_ok-write_piece.ensures.ok;
       count = count;
       carried = carries_after is_lawful state answers old there new [] so_far.carried c.next_out.ensures.carried;
       size = c.next_out.ensures.size ∙ so_far.size;
       lawful = (λ l. c.next_out.ensures.lawful.0 (so_far.lawful.0 l), λ l. so_far.lawful.1 (c.next_out.ensures.lawful.1 l));
     }
-
-pub returns-in_err-out-clause-said : goal.returns-in_err-out-clause-said
-returns-in_err-out-clause-said g c =
-    let is_lawful = g.D.Disk.is_lawful in
-    let state = g.D.Disk.state in
-    let failures = g.D.Disk.failures in
-    let answers = g.L.Law.answers in
-    let u = g.W.Sink.contents c.args.writer.now in
-    let v = g.W.Sink.contents c.loop-text.writer in
-    let old = c.args.keeper.now in
-    let there = c.loop-text.keeper in
-    let new = c.next_out.new.keeper in
-    let held = string_bytes c.loop-text.text in
-    let so_far = c.loop-text.invariant in
-    by_refusal is_lawful state failures answers c.from_residual.result (λ (f : Fault). f ≡ c.in_err-out.field-0.0) u v old new [] c.from_residual.ensures.1
-    (λ f is. inr (holding_refused is_lawful state failures answers u v old there new held so_far.said c.in_err-out.ensures.refused))
-
-pub returns-in_err-out-clause-failures : goal.returns-in_err-out-clause-failures
-returns-in_err-out-clause-failures g c =
-    counts_after c.from_residual.result _ _ _ c.loop-text.invariant.count (counts_handed c.from_residual.result c.in_err-out.field-0.0 _ _ c.from_residual.ensures.1 c.in_err-out.ensures.failures)
 
 pub returns-in_err-print_epoch-clause-said : goal.returns-in_err-print_epoch-clause-said
 returns-in_err-print_epoch-clause-said g c =
@@ -80,22 +60,22 @@ returns-in_err-print_epoch-clause-said g c =
     let failures = g.D.Disk.failures in
     let answers = g.L.Law.answers in
     let u = g.W.Sink.contents c.args.writer.now in
-    let v = g.W.Sink.contents c.loop-text.writer in
+    let v = g.W.Sink.contents c.loop-out.writer in
     let old = c.args.keeper.now in
-    let there = c.loop-text.keeper in
+    let there = c.loop-out.keeper in
     let new = c.next_out.new.keeper in
-    let held = string_bytes c.loop-text.text in
-    let so_far = c.loop-text.invariant in
-    let o : Option EpochOut = c.in_ok-out.field-0 in
-    let more = holding_more is_lawful state failures answers u v old there new o held (held ++ line_of 0 (Out o)) so_far.said c.in_ok-out.ensures.driven refl in
-    by_refusal is_lawful state failures answers c.from_residual-in_err-print_epoch.result (λ (f : Fault). f ≡ c.in_err-print_epoch.field-0.0) u v old new [] c.from_residual-in_err-print_epoch.ensures.1
+    let held = string_bytes c.loop-out.text in
+    let so_far = c.loop-out.invariant in
+    let o : Option EpochOut = c.next_out.result in
+    let more = holding_more is_lawful state failures answers u v old there new o held (held ++ line_of 0 (Out o)) so_far.said c.next_out.ensures.driven refl in
+    by_refusal is_lawful state failures answers c.from_residual.result (λ (f : Fault). f ≡ c.in_err-print_epoch.field-0.0) u v old new [] c.from_residual.ensures.1
     (λ f is. inr more.some)
 
 pub returns-in_err-print_epoch-clause-failures : goal.returns-in_err-print_epoch-clause-failures
 returns-in_err-print_epoch-clause-failures g c =
-    let count = same_count c.in_ok-out.field-0 (g.D.Disk.failures c.loop-text.keeper.device) (g.D.Disk.failures c.next_out.new.keeper.device) c.in_ok-out.ensures.failures ∙ c.loop-text.invariant.count in
-    counts_same c.from_residual-in_err-print_epoch.result _ _
-    (other_fault c.from_residual-in_err-print_epoch.result (λ (f : Fault). f ≡ c.in_err-print_epoch.field-0.0) c.from_residual-in_err-print_epoch.ensures.1
+    let count = c.next_out.ensures.failures ∙ c.loop-out.invariant.count in
+    counts_same c.from_residual.result _ _
+    (other_fault c.from_residual.result (λ (f : Fault). f ≡ c.in_err-print_epoch.field-0.0) c.from_residual.ensures.1
     (λ is. let memory = c.in_err-print_epoch.ensures.err in let other = is in cc))
     (sym count)
 
@@ -106,18 +86,18 @@ returns-in_err-write_piece-clause-said g c =
     let failures = g.D.Disk.failures in
     let answers = g.L.Law.answers in
     let u = g.W.Sink.contents c.args.writer.now in
-    let v = g.W.Sink.contents c.loop-text.writer in
+    let v = g.W.Sink.contents c.loop-out.writer in
     let old = c.args.keeper.now in
-    let there = c.loop-text.keeper in
+    let there = c.loop-out.keeper in
     let new = c.next_out.new.keeper in
-    let held = string_bytes c.loop-text.text in
-    let so_far = c.loop-text.invariant in
+    let held = string_bytes c.loop-out.text in
+    let so_far = c.loop-out.invariant in
     by_refusal is_lawful state failures answers c.from_residual-in_err-write_piece.result (λ (f : Fault). f ≡ c.in_err-write_piece.field-0.0) u (g.W.Sink.contents c.write_piece.new.writer) old new []
     c.from_residual-in_err-write_piece.ensures.1 (λ f is. inl (is ∙ c.in_err-write_piece.ensures.err))
 
 pub returns-in_err-write_piece-clause-failures : goal.returns-in_err-write_piece-clause-failures
 returns-in_err-write_piece-clause-failures g c =
-    let count = same_count c.in_ok-out.field-0 (g.D.Disk.failures c.loop-text.keeper.device) (g.D.Disk.failures c.next_out.new.keeper.device) c.in_ok-out.ensures.failures ∙ c.loop-text.invariant.count in
+    let count = c.next_out.ensures.failures ∙ c.loop-out.invariant.count in
     counts_same c.from_residual-in_err-write_piece.result _ _
     (other_fault c.from_residual-in_err-write_piece.result (λ (f : Fault). f ≡ c.in_err-write_piece.field-0.0) c.from_residual-in_err-write_piece.ensures.1
     (λ is. let output = c.in_err-write_piece.ensures.err in let other = is in cc))
@@ -130,21 +110,21 @@ returns-then-is_empty-clause-said g c =
     let failures = g.D.Disk.failures in
     let answers = g.L.Law.answers in
     let u = g.W.Sink.contents c.args.writer.now in
-    let v = g.W.Sink.contents c.loop-text.writer in
+    let v = g.W.Sink.contents c.loop-out.writer in
     let old = c.args.keeper.now in
-    let there = c.loop-text.keeper in
+    let there = c.loop-out.keeper in
     let new = c.next_out.new.keeper in
-    let held = string_bytes c.loop-text.text in
-    let so_far = c.loop-text.invariant in
-    let o : Option EpochOut = c.in_ok-out.field-0 in
-    let more = holding_more is_lawful state failures answers u v old there new o held (held ++ line_of 0 (Out o)) so_far.said c.in_ok-out.ensures.driven refl in
+    let held = string_bytes c.loop-out.text in
+    let so_far = c.loop-out.invariant in
+    let o : Option EpochOut = c.next_out.result in
+    let more = holding_more is_lawful state failures answers u v old there new o held (held ++ line_of 0 (Out o)) so_far.said c.next_out.ensures.driven refl in
     let line = none_out is_lawful state failures answers o c.in_default.not-Some in
-    let empty : held ≡ [] = nil_of held (string_len c.loop-text.text) (sym c.is_empty.ensures ∙ c.if-is_empty.true) c.loop-text.text.bytes.ok.0 in
+    let empty : held ≡ [] = nil_of held (string_len c.loop-out.text) (sym c.is_empty.ensures ∙ c.if-is_empty.true) c.loop-out.text.bytes.ok.0 in
     all_written is_lawful state failures answers u v old new (held ++ line_of 0 (Out o)) more (ap (λ (l : List ℕ). l ++ line_of 0 (Out o)) empty ∙ line)
 
 pub returns-then-is_empty-clause-failures : goal.returns-then-is_empty-clause-failures
 returns-then-is_empty-clause-failures g c =
-    counts_after _ _ _ _ c.loop-text.invariant.count (counts_ok c.in_ok-out.field-0 _ _ c.in_ok-out.ensures.failures)
+    counts_same _ _ _ (λ is. let other = is in cc) (sym (c.next_out.ensures.failures ∙ c.loop-out.invariant.count))
 
 pub returns-clause-said : goal.returns-clause-said
 returns-clause-said g c =
@@ -153,14 +133,14 @@ returns-clause-said g c =
     let failures = g.D.Disk.failures in
     let answers = g.L.Law.answers in
     let u = g.W.Sink.contents c.args.writer.now in
-    let v = g.W.Sink.contents c.loop-text.writer in
+    let v = g.W.Sink.contents c.loop-out.writer in
     let old = c.args.keeper.now in
-    let there = c.loop-text.keeper in
+    let there = c.loop-out.keeper in
     let new = c.next_out.new.keeper in
-    let held = string_bytes c.loop-text.text in
-    let so_far = c.loop-text.invariant in
-    let o : Option EpochOut = c.in_ok-out.field-0 in
-    let more = holding_more is_lawful state failures answers u v old there new o held (held ++ line_of 0 (Out o)) so_far.said c.in_ok-out.ensures.driven refl in
+    let held = string_bytes c.loop-out.text in
+    let so_far = c.loop-out.invariant in
+    let o : Option EpochOut = c.next_out.result in
+    let more = holding_more is_lawful state failures answers u v old there new o held (held ++ line_of 0 (Out o)) so_far.said c.next_out.ensures.driven refl in
     let w = g.W.Sink.contents c.write_answer.new.writer in
     let line = none_out is_lawful state failures answers o c.in_default.not-Some in
     let is : c.as_str.result.now ≡ held ++ line_of 0 (Out o) = c.as_str.ensures.value ∙ sym (append-nil held) ∙ ap (λ (l : List ℕ). held ++ l) (sym line) in
@@ -169,5 +149,5 @@ returns-clause-said g c =
 
 pub returns-clause-failures : goal.returns-clause-failures
 returns-clause-failures g c =
-    let count = same_count c.in_ok-out.field-0 (g.D.Disk.failures c.loop-text.keeper.device) (g.D.Disk.failures c.next_out.new.keeper.device) c.in_ok-out.ensures.failures ∙ c.loop-text.invariant.count in
+    let count = c.next_out.ensures.failures ∙ c.loop-out.invariant.count in
     counts_same c.write_answer.result _ _ (output_no_device c.write_answer.result c.write_answer.ensures.err) (sym count)

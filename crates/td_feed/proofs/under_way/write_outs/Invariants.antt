@@ -5,8 +5,8 @@ use Rattle.td_feed.proofs.Lines.{Holding}
 use Rattle.td_feed.proofs.under_way.write_outs.Given as goal
 
 -- the keeper has gone on, with nothing submitted, and the lines of its replies are written or held
-abbrev pub invariant-loop-text : goal.invariant-loop-text
-invariant-loop-text g l = record {
+abbrev pub invariant-loop-out : goal.invariant-loop-out
+invariant-loop-out g l = record {
   said : Holding g.D.Disk.is_lawful g.D.Disk.state g.D.Disk.failures g.L.Law.answers (g.W.Sink.contents l.fn.writer) (g.W.Sink.contents l.writer) l.fn.keeper l.keeper (string_bytes l.text);
   count : g.D.Disk.failures l.keeper.device ≡ g.D.Disk.failures l.fn.keeper.device;
   carried : Carries g.L.Law.answers l.fn.keeper l.keeper [];
@@ -14,5 +14,5 @@ invariant-loop-text g l = record {
   lawful : g.D.Disk.is_lawful l.fn.keeper.device ↔ g.D.Disk.is_lawful l.keeper.device;
 }
 
-abbrev pub decreases-loop-text : goal.decreases-loop-text
-decreases-loop-text g l = length l.keeper.queue
+abbrev pub decreases-loop-out : goal.decreases-loop-out
+decreases-loop-out g l = length l.keeper.queue

@@ -1,4 +1,4 @@
-use Rattle.std.proofs.Common.{◌≡◌, ◌∙◌, ◌⊎◌, [], refl, Ok, Some, None, inl, inr, ap, ap₂, sym, subst, map, option_map, codes}
+use Rattle.std.proofs.Common.{◌≡◌, ◌∙◌, ◌⊎◌, [], refl, true, false, Ok, Some, None, inl, inr, ap, ap₂, sym, subst, map, option_map, codes}
 use Rattle.std.specs.Prelude.{string_bytes}
 use Rattle.clap.specs.Words.{kind_of, is_simple, takes, subcommand_of, subcommand_rows_of, one_of}
 use Rattle.clap.specs.Faults.{fault_of, is_simple_and_free}
@@ -10,7 +10,7 @@ use Rattle.td_words.proofs.Asked.{asked_by, helped_by, refused_by, none_named, n
 use Rattle.td_words.proofs.BatchWords.{td_is_simple, td_is_free, batch_is_taken, batch_is_named, run_is_taken, run_is_named, run_has_one}
 use Rattle.td_words.proofs.DiskWords.{format_is_taken, format_is_named, format_has, feed_is_taken, feed_is_named, feed_has}
 use Rattle.td_words.proofs.StreamAsked.{named_uncut, named_cutting, uncut_met, cutting_met, stream_values}
-use Rattle.td_words.proofs.StreamWords.{stream_is_taken, stream_is_named, stream_has, cutting_is_taken, cutting_is_named, cutting_has}
+use Rattle.td_words.proofs.StreamWords.{stream_is_taken, stream_is_named, stream_has, cutting_is_taken, cutting_is_named, cutting_has, telling_is_taken, telling_is_named, telling_has}
 use Rattle.td_words.proofs.parse.words.Goals as goal
 
 pub returns-in-Err-clause-err : goal.returns-in-Err-clause-err
@@ -117,7 +117,7 @@ returns-in-Some-clause-stream c = λ e.
     let found = c.in-Ok-try_get_matches_from in
     let met : subcommand_rows_of found.matches ≡ subcommand_of td given = (found.ensures.matches (ap is_simple c.in-Ok.ensures ∙ td_is_simple)).1 ∙ ap (λ a. subcommand_of a given) c.in-Ok.ensures in
     let is = met ∙ ap (subcommand_of td) e in
-    (named_uncut (subcommand_rows_of found.matches) (ap (option_map (λ p. p.0)) is ∙ stream_is_named) c.in-Some.job c.in-Some.ensures.some (ap (option_map (λ p. stream_values p.1)) is ∙ stream_has), tt)
+    (named_uncut (subcommand_rows_of found.matches) (ap (option_map (λ p. p.0)) is ∙ stream_is_named) false c.in-Some.job c.in-Some.ensures.some (ap (option_map (λ p. stream_values p.1)) is ∙ stream_has), tt)
 
 pub returns-clause-stream : goal.returns-clause-stream
 returns-clause-stream c = λ e.
@@ -125,7 +125,7 @@ returns-clause-stream c = λ e.
     let found = c.in-Ok-try_get_matches_from in
     let met : subcommand_rows_of found.matches ≡ subcommand_of td given = (found.ensures.matches (ap is_simple c.in-Ok.ensures ∙ td_is_simple)).1 ∙ ap (λ a. subcommand_of a given) c.in-Ok.ensures in
     let is = met ∙ ap (subcommand_of td) e in
-    absurd (c.in-None.ensures.none (Stream (to (codes "d")) (to (codes "p")) 1 None) (uncut_met (subcommand_rows_of found.matches) (ap (option_map (λ p. p.0)) is ∙ stream_is_named) (ap (option_map (λ p. stream_values p.1)) is ∙ stream_has)))
+    absurd (c.in-None.ensures.none (Stream (to (codes "d")) (to (codes "p")) 1 None false) (uncut_met (subcommand_rows_of found.matches) (ap (option_map (λ p. p.0)) is ∙ stream_is_named) false (ap (option_map (λ p. stream_values p.1)) is ∙ stream_has)))
 
 pub returns-in-Err-clause-cutting : goal.returns-in-Err-clause-cutting
 returns-in-Err-clause-cutting c = λ e. memory_alone _ _ (only_memory _ _ c.asked_instead.ensures.ok c.asked_instead.ensures.err (c.in-Err.ensures.passes (ap₂ takes c.in-Ok.ensures e ∙ cutting_is_taken)))
@@ -144,7 +144,26 @@ returns-clause-cutting c = λ e.
     let found = c.in-Ok-try_get_matches_from in
     let met : subcommand_rows_of found.matches ≡ subcommand_of td given = (found.ensures.matches (ap is_simple c.in-Ok.ensures ∙ td_is_simple)).1 ∙ ap (λ a. subcommand_of a given) c.in-Ok.ensures in
     let is = met ∙ ap (subcommand_of td) e in
-    absurd (c.in-None.ensures.none (Stream (to (codes "d")) (to (codes "p")) 1 (Some 4)) (cutting_met (subcommand_rows_of found.matches) (ap (option_map (λ p. p.0)) is ∙ cutting_is_named) (ap (option_map (λ p. stream_values p.1)) is ∙ cutting_has)))
+    absurd (c.in-None.ensures.none (Stream (to (codes "d")) (to (codes "p")) 1 (Some 4) false) (cutting_met (subcommand_rows_of found.matches) (ap (option_map (λ p. p.0)) is ∙ cutting_is_named) (ap (option_map (λ p. stream_values p.1)) is ∙ cutting_has)))
+
+pub returns-in-Err-clause-telling : goal.returns-in-Err-clause-telling
+returns-in-Err-clause-telling c = λ e. memory_alone _ _ (only_memory _ _ c.asked_instead.ensures.ok c.asked_instead.ensures.err (c.in-Err.ensures.passes (ap₂ takes c.in-Ok.ensures e ∙ telling_is_taken)))
+
+pub returns-in-Some-clause-telling : goal.returns-in-Some-clause-telling
+returns-in-Some-clause-telling c = λ e.
+    let given = map string_bytes c.args.given.now in
+    let found = c.in-Ok-try_get_matches_from in
+    let met : subcommand_rows_of found.matches ≡ subcommand_of td given = (found.ensures.matches (ap is_simple c.in-Ok.ensures ∙ td_is_simple)).1 ∙ ap (λ a. subcommand_of a given) c.in-Ok.ensures in
+    let is = met ∙ ap (subcommand_of td) e in
+    (named_uncut (subcommand_rows_of found.matches) (ap (option_map (λ p. p.0)) is ∙ telling_is_named) true c.in-Some.job c.in-Some.ensures.some (ap (option_map (λ p. stream_values p.1)) is ∙ telling_has), tt)
+
+pub returns-clause-telling : goal.returns-clause-telling
+returns-clause-telling c = λ e.
+    let given = map string_bytes c.args.given.now in
+    let found = c.in-Ok-try_get_matches_from in
+    let met : subcommand_rows_of found.matches ≡ subcommand_of td given = (found.ensures.matches (ap is_simple c.in-Ok.ensures ∙ td_is_simple)).1 ∙ ap (λ a. subcommand_of a given) c.in-Ok.ensures in
+    let is = met ∙ ap (subcommand_of td) e in
+    absurd (c.in-None.ensures.none (Stream (to (codes "d")) (to (codes "p")) 1 None true) (uncut_met (subcommand_rows_of found.matches) (ap (option_map (λ p. p.0)) is ∙ telling_is_named) true (ap (option_map (λ p. stream_values p.1)) is ∙ telling_has)))
 
 pub returns-in-Err-clause-ok : goal.returns-in-Err-clause-ok
 returns-in-Err-clause-ok c =

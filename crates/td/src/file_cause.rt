@@ -1,0 +1,61 @@
+//! Why a file cannot be had, as a second look at it finds.
+
+use std::fs::{File, OpenOptions};
+use std::io::ErrorKind;
+use std::rt::Files;
+
+/// Why the file of a plan cannot be read.
+pub(crate) fn why_not_read<R: Files<File = File>>(rt: &R, path: &str) -> &'static str {
+    match File::open(rt, path) {
+        Ok(file) => match file.metadata() {
+            Ok(found) if found.is_dir() => "a folder",
+            _ => "cannot be read",
+        },
+        Err(error) => open_cause(error.kind()),
+    }
+}
+
+/// Why the file of a disk cannot be opened.
+pub(crate) fn why_not_opened<R: Files<File = File>>(rt: &R, path: &str) -> &'static str {
+    let mut options = OpenOptions::new();
+    options.read(true).write(true);
+    match options.open(rt, path) {
+        Ok(file) => match file.try_lock() {
+            Ok(()) => "cannot be opened",
+            Err(_) => "locked by another process",
+        },
+        Err(error) => open_cause(error.kind()),
+    }
+}
+
+/// Makes an empty file, where there is none of that name; else why it cannot be made.
+pub(crate) fn make_empty<R: Files<File = File>>(rt: &R, path: &str) -> Result<(), &'static str> {
+    let mut options = OpenOptions::new();
+    options.write(true).create_new(true);
+    match options.open(rt, path) {
+        Ok(_file) => Ok(()),
+        Err(error) => Err(make_cause(error.kind())),
+    }
+}
+
+/// Why a file that should be there cannot be opened.
+fn open_cause(kind: ErrorKind) -> &'static str {
+    match kind {
+        ErrorKind::NotFound | ErrorKind::NotADirectory => "no such file",
+        ErrorKind::PermissionDenied => "permission denied",
+        ErrorKind::IsADirectory => "a folder",
+        ErrorKind::ReadOnlyFilesystem => "read-only file system",
+        _ => "cannot be opened",
+    }
+}
+
+/// Why a file that should not be there cannot be made.
+fn make_cause(kind: ErrorKind) -> &'static str {
+    match kind {
+        ErrorKind::AlreadyExists => "is there",
+        ErrorKind::NotFound | ErrorKind::NotADirectory => "no such folder",
+        ErrorKind::PermissionDenied => "permission denied",
+        ErrorKind::ReadOnlyFilesystem => "read-only file system",
+        _ => "cannot be made",
+    }
+}

@@ -1,0 +1,164 @@
+//! A stream, and beside it, where that is asked for, a thread that tells how far it has come.
+ghost use Rattle.std.specs.Prelude.{◌≡◌, ◌≤◌, [], ◌∷◌, IfOk, IfSome};
+
+use crate::refusal::Refusal;
+use std::io::IsTerminal;
+use std::rt::Stderr;
+use std::sync::Wait;
+use std::sync::atomic::{AtomicBool, Ordering};
+use std::thread;
+use std::thread::{Parker, Scope, Threads};
+use std::time::Duration;
+use td_calls::{Stock, StockCalls};
+use td_console::{Fault, Sink, Source};
+use td_disk::{FileDisk, ReadAhead};
+use td_feed::stream;
+use td_plan::Plan;
+use td_watch::{Reader, Watch, Writer};
+
+/// Whether a stream has ended, for the thread that follows it.
+#[derive(Drop)]
+struct Ending {
+    has_come: AtomicBool,
+    parker: Parker,
+}
+
+impl Ending {
+    /// Not yet.
+    fn new() -> Ending {
+        Ending {
+            has_come: AtomicBool::new(false),
+            parker: Parker::new(),
+        }
+    }
+
+    /// Waits for it, a second at most, and answers whether it has come.
+    fn wait<R: Wait>(&self, rt: &R) -> bool {
+        self.parker.park_timeout(rt, Duration::from_secs(1));
+        self.has_come.load(Ordering::SeqCst)
+    }
+
+    /// It has come.
+    fn tell(&self) {
+        self.has_come.store(true, Ordering::SeqCst);
+        self.parker.unpark();
+    }
+}
+
+/// Does what `stream` does, and meanwhile tells `told`, if that is given, how far it has come. Refusals: those of `stream`, of a
+/// disk in the file at `path`, with place and cause; and `Memory`, before it is called, where there is no room for a watch or no thread.
+pub(crate) fn stream_told<I: Source + Drop, W: Sink, R: Threads + Wait + AllocGlobal + Sync>(
+    rt: &R,
+    disk: ReadAhead<FileDisk>,
+    path: &str,
+    plan: &Plan,
+    workers: u8,
+    cut_every: Option<u32>,
+    reader: I,
+    writer: &mut W,
+    told: Option<Stderr>,
+    calls: &StockCalls,
+) -> Result<(), Refusal>
+    requires some { 1 ≤ workers }
+    requires most { workers ≤ 16 }
+{
+    let ending = Ending::new();
+    let ending = &ending;
+    thread::scope(
+        thread::scope_env(),
+        rt,
+        move |scope| -> Result<(), Refusal>
+            requires some { 1 ≤ workers }
+            requires most { workers ≤ 16 }
+        {
+            let watch = followed(scope, rt, told, ending)?;
+            let (mut disk, ended) = stream::<_, _, _, Stock, StockCalls, _>(
+                rt,
+                rt.alloc(),
+                disk,
+                plan,
+                workers,
+                cut_every,
+                reader,
+                writer,
+                watch,
+                calls,
+            );
+            ending.tell();
+            match ended {
+                Ok(()) => Ok(()),
+                Err(fault) => Err(
+                    Refusal::Plain(fault)
+                        .on_disk(rt.alloc(), path)
+                        .for_room(rt.alloc(), &mut disk, plan),
+                ),
+            }
+        },
+    )
+}
+
+/// The writer of a watch that a thread follows until an ending has come; none where it is told nowhere. Refusal: `Memory`.
+fn followed<'s, E, R: Threads + Wait + AllocGlobal + Sync>(
+    scope: &Scope<'s, E>,
+    rt: &'s R,
+    told: Option<Stderr>,
+    ending: &'s Ending,
+) -> Result<Option<Writer>, Fault>
+    ensures { IfOk result (λ watch. IfSome watch (λ w. w.words ≡ 0 ∷ 0 ∷ 0 ∷ [])) }
+{
+    let Some(stderr) = told else {
+        return Ok(None);
+    };
+    let Ok(
+        Watch {
+            writer,
+            mut readers,
+        },
+    ) = Watch::new(rt.alloc(), [0, 0, 0], 1)
+    else {
+        return Err(Fault::Memory);
+    };
+    let Some(reader) = readers.pop() else {
+        unreachable!()
+    };
+    match scope.spawn(move || follow(rt, stderr, reader, ending)) {
+        Ok(_) => Ok(Some(writer)),
+        Err(_) => Err(Fault::Memory),
+    }
+}
+
+/// Writes how far a watch has come: each second in which a word rose; and at the end, if one rose since, or nothing was written. A write
+/// that fails is passed over.
+fn follow<R: Wait>(rt: &R, stderr: Stderr, mut reader: Reader, ending: &Ending) {
+    let is_terminal = stderr.is_terminal();
+    let mut written: Option<[u64; 3]> = None;
+    for _ in rt.forever() {
+        // Asked before the words are read: at the end these are the last.
+        let is_last = ending.wait(rt);
+        let words = reader.read();
+        let is_new = match written {
+            Some(before) => words != before,
+            None => is_last || words != [0; 3],
+        };
+        if is_new {
+            write_words(stderr, is_terminal, words);
+            written = Some(words);
+        }
+        if is_last {
+            break;
+        }
+    }
+    if is_terminal {
+        let _ = stderr.eprint("\n");
+    }
+}
+
+/// Writes words as a line; on a terminal over the line before, which is never longer, since no word falls.
+fn write_words(stderr: Stderr, is_terminal: bool, words: [u64; 3]) {
+    let [acked, done, kept] = words;
+    let _ = if is_terminal {
+        eprint!(stderr; "\racked {acked} done {done} kept {kept}")
+    } else {
+        eprintln!(stderr; "acked {acked} done {done} kept {kept}")
+    };
+}
