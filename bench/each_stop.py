@@ -1,7 +1,8 @@
 #!/usr/bin/env python3
-"""Stops four feeds at each of their writes and syncs, and crashes them in five ways.
+"""Stops four feeds and three streams at each of their writes and syncs, and crashes them in five ways.
 
-    bench/each_stop.py          needs crates/td/out/td and crates/engine_steps/out/engine_steps (see the README)
+    bench/each_stop.py          needs crates/td/out/td and crates/engine_steps/out/engine_steps (see the README), and for the streams
+                                strace; without it says so, and stops the feeds alone
 
 The feeds are `engine_steps`' on a disk in memory. One has 40 epochs: a plan with two folds and a group, small batches, a ring
 of three cells, and a cut before it is full. Another is the running total of docs/TUTORIAL.md, two epochs and a cut after
@@ -18,28 +19,44 @@ The other two have the same plans, and one of them fewer epochs: each epoch has 
 stop such a feed is fed again from its beginning, whatever is told. It must answer `again` for each request that stands on the
 disk already, acknowledge the others, and end as a feed that was not stopped: with each request once.
 
+The streams are of the plan with two folds and a ring of three cells, by `td stream` on a file. From the K-th write or sync on strace
+has each fail, and tells what was written and synced before; so it is known here what a crash leaves. Of two streams nobody asks for
+a cut but after the last epoch: one cuts where the ring is full, and after a stop is streamed on with `--cut-every 2`; the other the
+other way round. The third has request numbers, lines `cut`, and epochs that come twice, and is streamed again from its beginning.
+What is required of feeds is required of them, with the lines of a stream: first those of the epochs that the disk told at the
+start, and then for each epoch its `ack`, its output lines, and the cut that is due. So none is written of an epoch that was
+not acknowledged, or told at the start. In the end each is as a stream that was not stopped.
+
 The output lines are those of `td batch` on all epochs. The states of the plan with two folds are reckoned here from these lines
 and the records."""
 
 import concurrent.futures
+import os
 import pathlib
 import random
 import re
+import shutil
 import subprocess
 import sys
+import tempfile
 
 ROOT = pathlib.Path(__file__).resolve().parent.parent
 TD = ROOT / "crates/td/out/td"
 STEPS = ROOT / "crates/engine_steps/out/engine_steps"
 
 FOLDS = "0 input\n1 fold 40 0\n2 fold 41 0\n3 group 20 1 2\n4 output 1\n5 output 2\n6 output 3\n"
-EPOCHS, NUMBERED_EPOCHS, RECORDS, KEYS = 40, 9, 3, 3
+EPOCHS, NUMBERED_EPOCHS, STREAM_EPOCHS, RECORDS, KEYS = 40, 9, 8, 3, 3
 TOTAL = "0 input\n1 fold 40 0\n2 output 1\n"
 TOTAL_EPOCHS = [([(7, 5)], False), ([(7, -2), (8, 1)], True)]
 TOTAL_STATES = ["state 1 7 3 2", "state 1 8 1 1"]
 FILLS = ("old", "new", "00", "a5", "ff")
 # So many stops are played by one run of the program.
 STOPS_OF_A_RUN = 40
+# What strace tells, and a sync in a list of calls, beside the writes, each with its place and its bytes.
+TRACED = "pwrite64,fsync"
+SYNC = None
+# A file system in memory, if there is one: what a crash leaves is made here, and no device is waited for.
+MEMORY = "/dev/shm"
 
 
 def made_epochs(count):
@@ -57,6 +74,21 @@ def made_epochs(count):
 
 def lines_of(records):
     return [f"0 {key} {val}" for key, val in records] + ["."]
+
+
+def text_of(lines):
+    return "".join(f"{line}\n" for line in lines)
+
+
+def td(*words, text=""):
+    done = subprocess.run([TD, *words], input=text, capture_output=True, text=True)
+    if done.returncode != 0:
+        sys.exit(f"td {' '.join(map(str, words))}: status {done.returncode}: {done.stderr}")
+    return done.stdout.splitlines()
+
+
+def numbers_after(word, lines):
+    return [int(line.removeprefix(word)) for line in lines if line.startswith(word)]
 
 
 def states_after(epochs, outputs):
@@ -80,7 +112,7 @@ def states_after(epochs, outputs):
 class Feed:
     """A feed's plan, its disk's shape, its epochs and their output lines, and the states that it ends with."""
 
-    goes_on = "each was fed on to the whole"
+    kind, goes_on = "feed", "each was fed on to the whole"
 
     def __init__(self, plan, shape, epochs, states=None):
         self.plan, self.shape, self.epochs = plan, shape, epochs
@@ -115,6 +147,10 @@ class Feed:
                 written += [line for lines in self.outputs[done + 1:number + 1] for line in lines] + [f"cut {number}"]
                 done = number
         return written
+
+    def whole(self):
+        """What a feed that is not stopped writes."""
+        return self.written(0, 0)
 
     def last(self, told):
         """The line of `show` for the last request number where so much is told, if there is one."""
@@ -179,15 +215,129 @@ class NumberedFeed(Feed):
         return [f"last {self.request(told)}"] if told else []
 
 
+class Stream(Feed):
+    """A feed that comes line by line, by `td stream` on a file. A cut is due after so many epochs, None for no number, and after a stop
+    after so many others."""
+
+    kind, goes_on = "stream", "each was streamed on to the whole"
+
+    def __init__(self, plan, shape, epochs, every, every_after):
+        super().__init__(plan, shape, epochs)
+        self.every, self.every_after = every, every_after
+
+    def whole(self):
+        return self.streamed(self.input_after(0), 0, 0, self.every)
+
+    def written(self, kept, told):
+        return self.streamed(self.rest(kept, told), kept, told, self.every_after)
+
+    def streamed(self, lines, kept, told, every):
+        """What a stream of these lines writes: first the outputs of what was told, then those of each epoch after its `ack`. A cut is due
+        where the journal is full, or where so many epochs stand after the last one."""
+        most = min(int(self.shape.split()[1]), every or EPOCHS)
+        written = [line for lines in self.outputs[kept + 1:told + 1] for line in lines]
+        cut, last, request = kept, told, None
+        for line in ["", *lines]:
+            if line.startswith("req "):
+                request = int(line[4:])
+            elif line == "." and request and request <= self.request(last):
+                written.append(f"again {request}")
+            elif line == ".":
+                last += 1
+                written += [f"ack {last}", *self.outputs[last]]
+            if line == "cut" or last - cut >= most:
+                written.append(f"cut {last}")
+                cut = last
+        return written
+
+    def words(self, disk, workers, every):
+        return ["stream", disk, disk.with_name("plan"), "--workers", str(workers), *(["--cut-every", str(every)] if every else [])]
+
+    def show(self, disk):
+        return td("show", disk, disk.with_name("plan"))
+
+    def formatted(self, disk):
+        """The bytes of a fresh disk. The plan stands beside all disks of a folder."""
+        disk.with_name("plan").write_text(self.plan)
+        td("format", disk, disk.with_name("plan"), *self.shape.split())
+        return disk.read_bytes()
+
+    def traced(self, disk, before=None):
+        """Streams to a disk that fails from the call on that comes after these, if they are given: what was written, with a last line
+        where the stream told that its disk failed, and the calls up to the one that did."""
+        calls = disk.with_suffix(".calls")
+        strace = ["strace", "-qq", "-xx", "-s", "1000000", "-e", "signal=none", "-e", f"trace={TRACED}", *failures(before), "-o", calls]
+        run = subprocess.run([*strace, TD, *self.words(disk, 2, self.every)], input=text_of(self.input_after(0)), capture_output=True, text=True)
+        refused = {(0, ""): [], (1, "td: device\n"): ["refused: device"]}.get((run.returncode, run.stderr))
+        if refused is None:
+            sys.exit(f"a stream that was traced ended with {run.returncode}: {run.stderr}")
+        return run.stdout.splitlines() + refused, calls_of(calls.read_text())
+
+    def gone_on(self, disk, image):
+        """What a disk of these bytes tells; and what is written as the rest is streamed to it, and what it tells then."""
+        disk.write_bytes(image)
+        shown = self.show(disk)
+        rest = td(*self.words(disk, 3, self.every_after), text=text_of(self.rest(*told_by(shown))))
+        return shown, rest + self.show(disk)
+
+
+class NumberedStream(Stream, NumberedFeed):
+    """A stream each epoch of which has a request number."""
+
+    goes_on = "each was streamed again from its beginning, with each request once"
+
+
+def failures(before):
+    """The words of strace by which each write and each sync fails that comes after these calls."""
+    if before is None:
+        return []
+    syncs = before.count(SYNC)
+    return ["-e", f"inject=pwrite64:error=EIO:when={len(before) - syncs + 1}+", "-e", f"inject=fsync:error=EIO:when={syncs + 1}+"]
+
+
+def calls_of(trace):
+    """The writes and syncs of a trace, up to the first that failed."""
+    calls = []
+    for line in trace.splitlines():
+        call = re.fullmatch(r'(?:fsync\(\d+\)|pwrite64\(\d+, "((?:\\x[0-9a-f]{2})+)", (\d+), (\d+)\)) += (-?\d+).*', line)
+        if not call:
+            sys.exit(f"strace told another call than a write or a sync: {line}")
+        calls.append((int(call[3]), bytes.fromhex(call[1].replace("\\x", ""))) if call[1] else SYNC)
+        if call[4] != (call[2] or "0"):
+            break
+    return calls
+
+
+def made(image, calls):
+    """The bytes of a disk after some calls."""
+    disk = bytearray(image)
+    for at, data in filter(None, calls):
+        disk[at:at + len(data)] = data
+    return bytes(disk)
+
+
+def crashed(image, calls, fill):
+    """What a crash leaves after some calls, the last of which failed: a write may have written all the same, and a sync is none."""
+    calls = calls[:-1] if calls[-1] is SYNC else calls
+    synced = len(calls) - calls[::-1].index(SYNC) if SYNC in calls else 0
+    left = {"old": lambda data: b"", "new": lambda data: data}.get(fill, lambda data: bytes.fromhex(fill) * len(data))
+    return made(image, calls[:synced] + [(at, left(data)) for at, data in calls[synced:]])
+
+
+def told_by(shown):
+    """The checkpoint and the last epoch that `show` tells."""
+    return int(shown[0].removeprefix("kept ")), int(shown[1].removeprefix("told "))
+
+
 def read_stop(name, feed, answer):
     """Whether the feed met its stop, and the checkpoint and the last epoch that are told; the script ends where these are wrong."""
     at = next(index for index, line in enumerate(answer) if line.startswith("kept "))
     written, shown = answer[:at], answer[at:]
     is_met = written[-1:] == ["refused: device"]
-    whole = feed.written(0, 0)
+    whole = feed.whole()
     before = written[:-1] if is_met else written
-    acknowledged = max([int(line[4:]) for line in before if line.startswith("ack ")], default=0)
-    kept, told = int(shown[0].removeprefix("kept ")), int(shown[1].removeprefix("told "))
+    acknowledged = max(numbers_after("ack ", before), default=0)
+    kept, told = told_by(shown)
     counts = [line for line in shown if line.startswith("epoch ")]
     wanted = [f"epoch {number} {len(feed.epochs[number - 1][0])}" for number in range(kept + 1, told + 1)]
     if before != whole[:len(before)] or (not is_met and before != whole):
@@ -220,31 +370,93 @@ def stop_some(feed, fill, first):
 
 
 def stop_each(feed):
-    """Plays all stops with all fills, and prints how many were met."""
+    """Plays all stops of a feed with all fills: for each run how many were met, and which last epochs were told."""
     runs, first = [], 1
     with concurrent.futures.ThreadPoolExecutor() as pool:
         while True:
             answers = list(pool.map(lambda fill: stop_some(feed, fill, first), FILLS))
             runs += answers
             if all(met == 0 for met, _ in answers):
-                break
+                return runs
             first += STOPS_OF_A_RUN
+
+
+def read_whole(stream, image, disk):
+    """The calls of a stream that is not stopped; the script ends where it is not as it should be."""
+    written, calls = stream.traced(disk)
+    shown = stream.show(disk)
+    if (written, shown) != (stream.whole(), stream.shown()):
+        sys.exit(f"a stream that was not stopped wrote {written}, and not {stream.whole()}, and left {shown}")
+    if disk.read_bytes() != made(image, calls):
+        sys.exit("strace did not tell all that was written to a disk")
+    return calls
+
+
+def stop_stream(stream, image, calls, disk):
+    """Stops a stream at the last of these calls: what it wrote."""
+    disk.write_bytes(image)
+    written, found = stream.traced(disk, calls[:-1])
+    if found != calls or disk.read_bytes() != made(image, calls[:-1]):
+        sys.exit(f"stop {len(calls)}: the disk got other calls than without a stop, or others than strace tells: {found[-3:]}")
+    return written
+
+
+def play_stops(stream, folder):
+    """For each stop and fill what was written, what was told then, and what came of it. From what several crashes leave alike it is
+    gone on once."""
+    image = stream.formatted(folder / "fresh")
+    calls = read_whole(stream, image, folder / "fresh")
+    stops = range(1, len(calls) + 1)
+    left = {(stop, fill): crashed(image, calls[:stop], fill) for stop in stops for fill in FILLS}
+    images = list(dict.fromkeys(left.values()))
+    with concurrent.futures.ThreadPoolExecutor() as pool:
+        written = list(pool.map(lambda stop: stop_stream(stream, image, calls[:stop], folder / f"stop{stop}"), stops))
+        gone_on = dict(zip(images, pool.map(lambda at: stream.gone_on(folder / f"left{at}", images[at]), range(len(images)))))
+    return {at: (written[at[0] - 1], *gone_on[left[at]]) for at in left}
+
+
+def stop_each_of_stream(stream):
+    """Plays all stops of a stream with all fills: how many were met, and which last epochs were told."""
+    with tempfile.TemporaryDirectory(prefix="td-stop-", dir=MEMORY if os.access(MEMORY, os.W_OK) else None) as folder:
+        played = play_stops(stream, pathlib.Path(folder))
+    numbers = set()
+    for (stop, fill), (written, shown, rest) in played.items():
+        is_met, kept, told = read_stop(f"stop {stop}, {fill}", stream, written + shown)
+        if not is_met or kept < max(numbers_after("cut ", written), default=0):
+            sys.exit(f"stop {stop}, {fill}: a stream did not tell that its disk failed, or a cut is not told: {written}, {shown}")
+        check_rest(f"stop {stop}, {fill}", stream, kept, told, shown + rest)
+        numbers.add(told)
+    return [(len(played), numbers)]
+
+
+def tell(feed, runs):
+    """Prints how many stops were met; the script ends where some number of epochs was never told."""
     met = sum(met for met, _ in runs)
     told = set().union(*[told for _, told in runs])
     if told != set(range(len(feed.epochs) + 1)):
         sys.exit(f"some numbers of epochs were never told: {set(range(len(feed.epochs) + 1)) - told}")
-    print(f"a feed of {len(feed.epochs)} epochs stopped at each of its {met // len(FILLS)} writes and syncs, {met} crashes: "
+    print(f"a {feed.kind} of {len(feed.epochs)} epochs stopped at each of its {met // len(FILLS)} writes and syncs, {met} crashes: "
           f"nothing acknowledged was lost, and {feed.goes_on}")
+
+
+def is_traced():
+    """Whether there is a strace that may trace here."""
+    return bool(shutil.which("strace")) and subprocess.run(["strace", "-o", os.devnull, "true"], capture_output=True).returncode == 0
 
 
 def main():
     for program in (TD, STEPS):
         if not program.exists():
             sys.exit(f"{program} is not there: cd {program.parent.parent} && rt run")
-    stop_each(Feed(FOLDS, "3 3 6", made_epochs(EPOCHS)))
-    stop_each(Feed(TOTAL, "4 2 3", TOTAL_EPOCHS, TOTAL_STATES))
-    stop_each(NumberedFeed(FOLDS, "3 3 6", made_epochs(NUMBERED_EPOCHS)))
-    stop_each(NumberedFeed(TOTAL, "4 2 3", TOTAL_EPOCHS, TOTAL_STATES))
+    for feed in (Feed(FOLDS, "3 3 6", made_epochs(EPOCHS)), Feed(TOTAL, "4 2 3", TOTAL_EPOCHS, TOTAL_STATES),
+                 NumberedFeed(FOLDS, "3 3 6", made_epochs(NUMBERED_EPOCHS)), NumberedFeed(TOTAL, "4 2 3", TOTAL_EPOCHS, TOTAL_STATES)):
+        tell(feed, stop_each(feed))
+    if not is_traced():
+        return print("skipped: the streams of each_stop, since there is no strace that may trace here")
+    epochs = [(records, number == STREAM_EPOCHS) for number, (records, _) in enumerate(made_epochs(STREAM_EPOCHS), 1)]
+    for stream in (Stream(FOLDS, "3 3 6", epochs, None, 2), Stream(FOLDS, "3 3 6", epochs, 2, None),
+                   NumberedStream(FOLDS, "3 3 6", made_epochs(NUMBERED_EPOCHS), None, 2)):
+        tell(stream, stop_each_of_stream(stream))
 
 
 main()

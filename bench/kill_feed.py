@@ -1,5 +1,6 @@
 #!/usr/bin/env python3
-"""Kills `td feed` on a real file at 300 random moments, and feeds on each time: nothing acknowledged is lost, and nothing doubled.
+"""Kills `td feed` on a real file at 300 random moments, and `td stream` at 300 more, and goes on each time: nothing acknowledged is
+lost, and nothing doubled.
 
     bench/kill_feed.py [SEED]       needs crates/td/out/td (see the README)
 
@@ -20,16 +21,32 @@ that
 - its output lines are those of the epochs after the checkpoint that it began with, from the first on;
 - at the end `td show` tells the same as of a file to which all that was sent once, by feeds that were not killed.
 
-The output lines are those of `td batch` on all epochs; from these and the records the states are reckoned here. Of both halves at
-least half of the kills must have come between two epochs of a feed. What comes when is another thing in each run, also for the same
-seed."""
+300 kills are of streams, on a third file, with some workers, and with a cut after each fifth epoch or only where the journal is full.
+Their producer writes epochs with request numbers into a pipe, most of them one by one and some a few at once, and waits for all
+lines of what it has written before it writes more. Such a stream gets SIGKILL after a random line of its first answers and a
+random while. Its producer begins again with the first epoch that it has no answer for, or, each eighth time, with the very first
+of all. It is required that
 
+- after each kill what is told is what was acknowledged, or one epoch more, and the checkpoint is no older than the last `cut`;
+- a stream's lines are, from the first on: the output lines of the epochs that `td show` told after the checkpoint; then for each
+  epoch `again`, where it was told, so wherever it was acknowledged, and else `ack` and after that its output lines; and `cut` where
+  a cut is due;
+- these lines come while the producer waits for them;
+- a last stream of all epochs from the very first on, which is let end, answers `again` for each that was told, and then `td show` tells
+  the same as of a file to which all was sent once, by one stream that was not killed.
+
+The output lines are those of `td batch` on all epochs; from these and the records the states are reckoned here. Of each half of the
+feeds, and of the streams, at least half of the kills must have come between two epochs: when one of those that were given had its
+answer, another had not, and the program was still there. What comes when is another thing in each run, also for the same seed."""
+
+import itertools
 import pathlib
 import random
 import signal
 import subprocess
 import sys
 import tempfile
+import threading
 import time
 
 ROOT = pathlib.Path(__file__).resolve().parent.parent
@@ -37,10 +54,15 @@ TD = ROOT / "crates/td/out/td"
 
 PLAN = "0 input\n1 fold 40 0\n2 fold 41 0\n3 group 20 1 2\n4 output 1\n5 output 2\n6 output 3\n"
 SHAPE = ("4", "16", "16")
-KILLS_OF_A_HALF, RECORDS, KEYS = 150, 4, 6
+CELLS = int(SHAPE[1])
+KILLS_OF_A_HALF, KILLS_OF_STREAMS, RECORDS, KEYS = 150, 300, 4, 6
 EPOCHS_OF_A_FEED, EPOCHS_OF_A_NUMBERED_FEED, EPOCHS_OF_A_CUT = 60, 180, 5
+# Of streams: how many epochs without an answer one is given; how many of these are written at once at most, and of the others; and
+# which one in so many begins with the very first epoch.
+EPOCHS_OF_A_STREAM, EPOCHS_AT_ONCE, ANSWERED_AT_ONCE, KILLS_OF_A_BEGINNING = 120, 4, 100, 8
 MOST_ACKS = 12
 SECONDS_AFTER = 0.01
+SECONDS_OF_A_WAIT = 30
 
 
 def td(*words, text=""):
@@ -60,6 +82,7 @@ class Epochs:
     def __init__(self, made):
         self.made = made
         self.epochs = []
+        self.lines = []
 
     def upto(self, last):
         while len(self.epochs) < last:
@@ -77,9 +100,33 @@ class Epochs:
     def numbered_text(self, first, last):
         """The input of a feed of these epochs under their request numbers, with a cut after some."""
         lines = []
-        for number, records in enumerate(self.upto(last)[first - 1:], first):
-            lines += [f"req {request(number)}", *lines_of(records)] + ["cut"] * (number % EPOCHS_OF_A_CUT == 0)
+        for number in range(first, last + 1):
+            lines += self.numbered_lines(number) + ["cut"] * (number % EPOCHS_OF_A_CUT == 0)
         return "".join(f"{line}\n" for line in lines)
+
+    def numbered_lines(self, number):
+        return [f"req {request(number)}", *lines_of(self.upto(number)[number - 1])]
+
+    def streamed_text(self, first, last):
+        """The input of a stream of these epochs under their request numbers."""
+        return "".join(f"{line}\n" for number in range(first, last + 1) for line in self.numbered_lines(number))
+
+    def outputs(self, last):
+        """The output lines of each epoch up to this one at least, by `td batch`: made anew, for twice as many, where they are too few."""
+        if len(self.lines) <= last:
+            text = PLAN + "--\n" + "".join(f"{line}\n" for records in self.upto(2 * last) for line in lines_of(records))
+            self.lines = [[] for _ in range(2 * last + 1)]
+            for line in td("batch", text=text):
+                self.lines[int(line.split()[0])].append(line)
+        return self.lines
+
+
+def flat(lists):
+    return [it for each in lists for it in each]
+
+
+def numbers_after(word, lines):
+    return [int(line.removeprefix(word)) for line in lines if line.startswith(word)]
 
 
 def request(number):
@@ -121,7 +168,7 @@ def killed(disk, plan, text, made):
 
 def check_feed(written, first, told, kill):
     """How many epochs a feed acknowledged; the script ends where they are not told, or more than one beyond them."""
-    acknowledged = [int(line[4:]) for line in written if line.startswith("ack ")]
+    acknowledged = numbers_after("ack ", written)
     if acknowledged != list(range(first, first + len(acknowledged))):
         sys.exit(f"kill {kill}: {acknowledged} were acknowledged by a feed of the epochs from {first} on")
     if told - (first - 1 + len(acknowledged)) not in (0, 1):
@@ -230,11 +277,149 @@ def kill_numbered_half(made, folder):
         check_again(written, first, last, known, kill)
         td("feed", once, plan, text=text)
         known, first = last, last + 1
-    told = [td("show", file, plan) for file in (disk, once)]
-    if told[0] != told[1] or told[0][:3] != [f"kept {known}", f"told {known}", f"last {request(known)}"]:
-        sys.exit(f"feeds that were killed left {told[0]}, and feeds that were not {told[1]}")
-    check_outputs(feeds, epochs.upto(known), told[0][3:])
+    check_once(disk, once, plan, epochs, feeds, known)
     return inside, beyond, known
+
+
+def check_once(disk, once, plan, epochs, feeds, last):
+    """The script ends where a disk of feeds that were killed does not tell the same as one of feeds that were not."""
+    told = [td("show", file, plan) for file in (disk, once)]
+    if told[0] != told[1] or told[0][:3] != [f"kept {last}", f"told {last}", f"last {request(last)}"]:
+        sys.exit(f"what was killed left {told[0]}, and what was not {told[1]}")
+    check_outputs(feeds, epochs.upto(last), told[0][3:])
+
+
+def said_of(epochs, first, last, kept, told, every):
+    """What a stream of the epochs from `first` to `last` writes, where this checkpoint and this last epoch are told and a cut is due
+    after so many epochs: the lines that come before it reads, and those for each epoch."""
+    outputs = epochs.outputs(last)
+    said, cut = [flat(outputs[kept + 1:told + 1])], kept
+    for number in range(first - 1, last + 1):
+        if number >= first:
+            said.append([f"ack {number}", *outputs[number]] if number > told else [f"again {request(number)}"])
+        if max(number, told) - cut >= every:
+            cut = max(number, told)
+            said[-1].append(f"cut {cut}")
+    return said
+
+
+def pieces_of(epochs, said, first, known, made):
+    """What a producer writes at once, each piece with the count of lines that come before it: many epochs of those that have an
+    answer, and of the others most often one."""
+    before = list(itertools.accumulate(map(len, said)))
+    pieces, number, last = [], first, first + len(said) - 2
+    while number <= last:
+        few = made.choice((1, 1, 1, EPOCHS_AT_ONCE))
+        until = min(number + ANSWERED_AT_ONCE - 1, known) if number <= known else min(number + few - 1, last)
+        pieces.append((epochs.streamed_text(number, until), before[number - first]))
+        number = until + 1
+    return pieces
+
+
+def lines_before_kill(said, known, made):
+    """How many lines of a stream come before it is killed, of which so many epochs are known to be answered already."""
+    answers = made.randrange(known + MOST_ACKS + 1)
+    return len(flat(said[:answers])) + made.randrange(len(said[answers]) + 1)
+
+
+class Producer(threading.Thread):
+    """Gives a stream the pieces of its input, each once so many lines of the stream have come, and takes what it writes."""
+
+    def __init__(self, run, pieces, wanted):
+        super().__init__()
+        self.run_of, self.pieces, self.wanted = run, pieces, wanted
+        self.taken, self.count = b"", 0
+        self.is_far = threading.Event()
+
+    def run(self):
+        try:
+            for text, before in self.pieces:
+                if not self.take(before):
+                    break
+                self.run_of.stdin.write(text.encode())
+            self.run_of.stdin.close()
+        except BrokenPipeError:
+            pass
+        self.take(None)
+
+    def take(self, count):
+        """Takes lines until there are so many, or until the stream has ended: whether they have come. Tells when the wanted ones have."""
+        while True:
+            if self.count >= self.wanted:
+                self.is_far.set()
+            if count is not None and self.count >= count:
+                return True
+            piece = self.run_of.stdout.read(65536)
+            if not piece:
+                self.is_far.set()
+                return False
+            self.taken += piece
+            self.count += piece.count(b"\n")
+
+    def lines(self):
+        return self.taken[:self.taken.rfind(b"\n") + 1].decode().splitlines()
+
+
+def killed_stream(disk, plan, every, pieces, wanted, made):
+    """Streams, and kills the stream a while after so many lines: what it wrote, in whole lines, and whether it was still there."""
+    words = ["--workers", str(made.choice((1, 2, 4))), *(["--cut-every", str(every)] if every != CELLS else [])]
+    with subprocess.Popen([TD, "stream", disk, plan, *words], stdin=subprocess.PIPE, stdout=subprocess.PIPE, bufsize=0) as run:
+        producer = Producer(run, pieces, wanted)
+        producer.start()
+        has_come = producer.is_far.wait(SECONDS_OF_A_WAIT)
+        time.sleep(made.random() * SECONDS_AFTER)
+        was_there = run.poll() is None
+        run.send_signal(signal.SIGKILL)
+        producer.join()
+    if not has_come:
+        sys.exit(f"a producer waited {SECONDS_OF_A_WAIT} s for {wanted} lines, and got {producer.lines()}")
+    return producer.lines(), was_there
+
+
+def check_stream(written, said, acknowledged, kept, told, kill):
+    """How many epochs a stream answered; the script ends where its lines are others, or where what it acknowledged or cut is not told."""
+    wanted = flat(said)[:len(written)]
+    if written != wanted:
+        sys.exit(f"kill {kill}: a stream wrote {written}, and not {wanted}")
+    if told - acknowledged not in (0, 1) or kept < max(numbers_after("cut ", written), default=0):
+        sys.exit(f"kill {kill}: {acknowledged} was acknowledged, and the checkpoint {kept} and the last epoch {told} are told after {written}")
+    return len([line for line in written if line.startswith(("ack ", "again "))])
+
+
+def kill_streams(made, folder):
+    """Kills streams, each of which begins where its producer has no answer, or with the very first epoch: the same three counts."""
+    epochs, streams = Epochs(made), []
+    inside = beyond = known = 0
+    disk, once, plan = f"{folder}/streamed", f"{folder}/streamed_once", f"{folder}/plan"
+    for file in (disk, once):
+        td("format", file, plan, *SHAPE)
+    kept, told, _ = shown(disk, plan, epochs)
+    for kill in range(1, KILLS_OF_STREAMS + 1):
+        first = 1 if kill % KILLS_OF_A_BEGINNING == 0 else known + 1
+        last, every = known + EPOCHS_OF_A_STREAM, made.choice((EPOCHS_OF_A_CUT, CELLS))
+        said = said_of(epochs, first, last, kept, told, every)
+        pieces = pieces_of(epochs, said, first, known, made)
+        written, was_there = killed_stream(disk, plan, every, pieces, lines_before_kill(said, known - first + 1, made), made)
+        streams.append((kept, written))
+        acknowledged = max([told, *numbers_after("ack ", written)])
+        kept, told, _ = shown(disk, plan, epochs)
+        count = check_stream(written, said, acknowledged, kept, told, kill)
+        inside += was_there and 0 < count < last - first + 1
+        beyond += told > acknowledged
+        known = max(known, first - 1 + count)
+    stream_all(disk, once, plan, epochs, kept, told)
+    check_once(disk, once, plan, epochs, streams, told + 1)
+    return inside, beyond, told + 1
+
+
+def stream_all(disk, once, plan, epochs, kept, told):
+    """Streams all epochs and one more from the very first on, to the disk of the streams that were killed and to a fresh one."""
+    last = told + 1
+    for file, kept, told in ((disk, kept, told), (once, 0, 0)):
+        written = td("stream", file, plan, text=epochs.streamed_text(1, last) + "cut\n")
+        wanted = flat(said_of(epochs, 1, last, kept, told, CELLS)) + [f"cut {last}"]
+        if written != wanted:
+            sys.exit(f"a stream that was let end, with a checkpoint at {kept} and {told} told, wrote {written}, and not {wanted}")
 
 
 def main():
@@ -244,12 +429,13 @@ def main():
     made = random.Random(seed)
     with tempfile.TemporaryDirectory(prefix="td-kill-") as folder:
         pathlib.Path(f"{folder}/plan").write_text(PLAN)
-        halves = [("fed on where the disk ended", kill_half(made, folder)),
-                  ("fed again from their beginning by their request numbers", kill_numbered_half(made, folder))]
-    for way, (inside, beyond, told) in halves:
-        if 2 * inside < KILLS_OF_A_HALF:
-            sys.exit(f"{way}: {inside} of {KILLS_OF_A_HALF} kills alone came between two epochs of a feed")
-        print(f"{KILLS_OF_A_HALF} feeds killed, and {way}: {inside} of them between two epochs, and {beyond} told an epoch that was "
+        ways = [(KILLS_OF_A_HALF, "feeds", "fed on where the disk ended", kill_half(made, folder)),
+                (KILLS_OF_A_HALF, "feeds", "fed again from their beginning by their request numbers", kill_numbered_half(made, folder)),
+                (KILLS_OF_STREAMS, "streams", "sent again by a producer that waits for answers", kill_streams(made, folder))]
+    for kills, what, way, (inside, beyond, told) in ways:
+        if 2 * inside < kills:
+            sys.exit(f"{way}: {inside} of {kills} kills alone came between two epochs")
+        print(f"{kills} {what} killed, and {way}: {inside} of them between two epochs, and {beyond} told an epoch that was "
               f"not yet acknowledged: {told} epochs, none lost and none twice (seed {seed})")
 
 
