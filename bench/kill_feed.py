@@ -323,64 +323,65 @@ def lines_before_kill(said, known, made):
 
 
 class Producer(threading.Thread):
-    """Gives a stream the pieces of its input, each once so many lines of the stream have come, and takes what it writes."""
+    """Gives a stream the pieces of its input, each once so many lines of the stream have come, and takes these; and tells when those
+    have come after which the stream is to be killed."""
 
-    def __init__(self, run, pieces, wanted):
+    def __init__(self, stream, pieces, wanted):
         super().__init__()
-        self.run_of, self.pieces, self.wanted = run, pieces, wanted
+        self.stream, self.pieces, self.wanted = stream, pieces, wanted
         self.taken, self.count = b"", 0
-        self.is_far = threading.Event()
+        self.have_come = threading.Event()
 
     def run(self):
         try:
             for text, before in self.pieces:
                 if not self.take(before):
                     break
-                self.run_of.stdin.write(text.encode())
-            self.run_of.stdin.close()
+                self.stream.stdin.write(text.encode())
+            self.stream.stdin.close()
         except BrokenPipeError:
             pass
         self.take(None)
 
     def take(self, count):
-        """Takes lines until there are so many, or until the stream has ended: whether they have come. Tells when the wanted ones have."""
-        while True:
-            if self.count >= self.wanted:
-                self.is_far.set()
-            if count is not None and self.count >= count:
-                return True
-            piece = self.run_of.stdout.read(65536)
-            if not piece:
-                self.is_far.set()
-                return False
+        """Takes lines until there are so many, None for all: whether there are, before the stream has ended."""
+        while count is None or self.count < count:
+            piece = self.stream.stdout.read(65536)
             self.taken += piece
             self.count += piece.count(b"\n")
+            if not piece or self.count >= self.wanted:
+                self.have_come.set()
+            if not piece:
+                return False
+        return True
 
     def lines(self):
+        """The whole lines that were taken."""
         return self.taken[:self.taken.rfind(b"\n") + 1].decode().splitlines()
 
 
 def killed_stream(disk, plan, every, pieces, wanted, made):
-    """Streams, and kills the stream a while after so many lines: what it wrote, in whole lines, and whether it was still there."""
+    """Streams, and kills the stream a while after so many lines: what it wrote, in whole lines, and its status before; None where it was
+    still there."""
     words = ["--workers", str(made.choice((1, 2, 4))), *(["--cut-every", str(every)] if every != CELLS else [])]
     with subprocess.Popen([TD, "stream", disk, plan, *words], stdin=subprocess.PIPE, stdout=subprocess.PIPE, bufsize=0) as run:
         producer = Producer(run, pieces, wanted)
         producer.start()
-        has_come = producer.is_far.wait(SECONDS_OF_A_WAIT)
+        have_come = wanted == 0 or producer.have_come.wait(SECONDS_OF_A_WAIT)
         time.sleep(made.random() * SECONDS_AFTER)
-        was_there = run.poll() is None
+        status = run.poll()
         run.send_signal(signal.SIGKILL)
         producer.join()
-    if not has_come:
+    if not have_come:
         sys.exit(f"a producer waited {SECONDS_OF_A_WAIT} s for {wanted} lines, and got {producer.lines()}")
-    return producer.lines(), was_there
+    return producer.lines(), status
 
 
-def check_stream(written, said, acknowledged, kept, told, kill):
+def check_stream(written, status, said, acknowledged, kept, told, kill):
     """How many epochs a stream answered; the script ends where its lines are others, or where what it acknowledged or cut is not told."""
-    wanted = flat(said)[:len(written)]
-    if written != wanted:
-        sys.exit(f"kill {kill}: a stream wrote {written}, and not {wanted}")
+    wanted = flat(said) if status is not None else flat(said)[:len(written)]
+    if status not in (None, 0) or written != wanted:
+        sys.exit(f"kill {kill}: a stream of status {status} wrote {written}, and not {wanted}")
     if told - acknowledged not in (0, 1) or kept < max(numbers_after("cut ", written), default=0):
         sys.exit(f"kill {kill}: {acknowledged} was acknowledged, and the checkpoint {kept} and the last epoch {told} are told after {written}")
     return len([line for line in written if line.startswith(("ack ", "again "))])
@@ -399,12 +400,12 @@ def kill_streams(made, folder):
         last, every = known + EPOCHS_OF_A_STREAM, made.choice((EPOCHS_OF_A_CUT, CELLS))
         said = said_of(epochs, first, last, kept, told, every)
         pieces = pieces_of(epochs, said, first, known, made)
-        written, was_there = killed_stream(disk, plan, every, pieces, lines_before_kill(said, known - first + 1, made), made)
+        written, status = killed_stream(disk, plan, every, pieces, lines_before_kill(said, known - first + 1, made), made)
         streams.append((kept, written))
         acknowledged = max([told, *numbers_after("ack ", written)])
         kept, told, _ = shown(disk, plan, epochs)
-        count = check_stream(written, said, acknowledged, kept, told, kill)
-        inside += was_there and 0 < count < last - first + 1
+        count = check_stream(written, status, said, acknowledged, kept, told, kill)
+        inside += status is None and 0 < count < last - first + 1
         beyond += told > acknowledged
         known = max(known, first - 1 + count)
     stream_all(disk, once, plan, epochs, kept, told)
