@@ -3,22 +3,15 @@
 #![tactic(auto)]
 
 mod service;
-mod threads;
 mod visits;
 
 use crate::service::{VisitsKeeper, run};
 use crate::visits::Visits;
 use std::fs::File;
-use std::io;
-use std::rt::Files;
-use std::sync::Wait;
-use std::thread::Threads;
-use std::time::Clock;
 use td_calls::Closures;
 use td_disk::FileDisk;
 use td_head::Shape;
 use td_plan::Plan;
-use td_stamp::EpochOut;
 
 /// A fold counts the visits of each page.
 const PLAN: &str = "0 input\n1 fold 1 0\n2 output 1\n";
@@ -34,63 +27,28 @@ fn main(rt: HostRuntime) -> anyhow::Result<()> {
         anyhow::bail!("no such shape");
     };
     let mut outs = Vec::new(alloc);
-    let _streams = hold_streams(&rt)?;
+    // A file gets the lowest number that is free: where standard output is closed, the disk would get its.
+    let _streams = [
+        File::open(&rt, "/")?,
+        File::open(&rt, "/")?,
+        File::open(&rt, "/")?,
+    ];
 
     // The first start makes the disk anew.
     let disk = FileDisk::create(&rt, DISK, shape.bytes())?;
     let keeper = VisitsKeeper::format(alloc, disk, &plan, shape).map_err(|(refusal, _)| refusal)?;
-    serve(&rt, keeper, &plan, 120, &mut outs)?;
+    run(&rt, keeper, &plan, 120, &mut outs)?;
 
     // The second finds it as the first left it.
     let disk = FileDisk::open(&rt, DISK)?;
     let keeper = VisitsKeeper::recover(alloc, disk, &plan).map_err(|(refusal, _)| refusal)?;
-    serve(&rt, keeper, &plan, 200, &mut outs)?;
-    tell_last(&rt, &outs)
-}
+    run(&rt, keeper, &plan, 200, &mut outs)?;
 
-/// Takes the numbers of standard streams that are closed. A file that is opened gets the lowest number that is free: the disk would
-/// get that of standard output, and the prints would go into it.
-fn hold_streams<R: Files<File = File>>(rt: &R) -> io::Result<[File; 3]> {
-    Ok([
-        File::open(rt, "/")?,
-        File::open(rt, "/")?,
-        File::open(rt, "/")?,
-    ])
-}
-
-/// Runs the service for so many requests, says what came of it, and lets the keeper go, and its disk.
-fn serve<R: Print + Threads + Wait + Clock + AllocGlobal + Sync>(
-    rt: &R,
-    mut keeper: VisitsKeeper,
-    plan: &Plan,
-    count: u32,
-    outs: &mut Vec<EpochOut>,
-) -> anyhow::Result<()> {
-    let already = run(rt, &mut keeper, plan, count, outs)?;
-    println!(rt;
-        "{count} requests, {already} of them already there; outputs of {} epochs",
-        outs.len()
-    )?;
-    println!(rt; "the follower saw epoch {count} done")?;
-    println!(rt;
-        "the disk has epoch {}, kept {}, last request {}",
-        keeper.last_epoch(),
-        keeper.kept(),
-        keeper.last_request()
-    )?;
-    Ok(())
-}
-
-/// The outputs of the last epoch.
-fn tell_last(rt: &impl Print, outs: &[EpochOut]) -> anyhow::Result<()> {
-    let Some(last) = outs.last() else {
-        anyhow::bail!("no outputs");
-    };
-    for told in last.recs.list() {
-        println!(rt;
-            "epoch {}: page {} has {} visits",
-            last.epoch, told.rec.key, told.rec.val
-        )?;
+    if let Some(last) = outs.last() {
+        for told in last.recs.list() {
+            let (page, visits) = (told.rec.key, told.rec.val);
+            println!(&rt; "epoch {}: page {page} has {visits} visits", last.epoch)?;
+        }
     }
     Ok(())
 }

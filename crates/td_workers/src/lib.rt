@@ -1,0 +1,9 @@
+//! Work beside the workers of a pool: makes the pool over a hall, runs a worker in a thread of its own from each seat and the work in
+//! the thread of the caller, and stops the workers when the work has ended. Its one contract is that of the work.
+#![tactic(auto)]
+
+mod beside;
+mod workers;
+
+pub use beside::Beside;
+pub use workers::beside_workers;
