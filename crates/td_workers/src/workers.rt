@@ -1,20 +1,34 @@
 //! Workers in threads, and work beside them.
-ghost use Rattle.std.specs.Prelude.{◌≡◌, IfOk, IfErr};
+ghost use Rattle.std.specs.Prelude.{◌≡◌, All, IfOk, IfErr};
+ghost use Rattle.td_calls.specs.Fits.{lacking_code};
 ghost use Rattle.td_pool.specs.declared.error.PoolError.TheVariants.{Memory};
+ghost use Rattle.td_workers.specs.Ended.{MayRefuse};
 
 use crate::beside::Beside;
 use std::alloc::{AllocError, Global};
-use std::marker::Brand;
+use std::marker::{Brand, PhantomData};
+use std::snapshot::Snapshot;
 use std::sync::Wait;
 use std::sync::ledger::Blank;
 use std::thread;
-use std::thread::{JoinHandle, Scope, Threads};
+use std::thread::{Promise, PromisedHandle, Scope, Threads};
 use td_calls::{Closures, Law};
 use td_core::Hall;
 use td_pool::{Crew, OpenGate, Pool, PoolError, Seat};
 
-/// A thread that works, and what it comes to.
-type Worker = JoinHandle<Result<(), PoolError>>;
+/// What is known of a worker's end: where it was refused, it is as these closures may have it refused.
+#[derive(Drop)]
+struct EndsBy<L, C> {
+    calls: Snapshot<C>,
+    law: PhantomData<L>,
+}
+
+impl<L: Law, C: Closures<L>> Promise<Result<(), PoolError>> for EndsBy<L, C> {
+    ghost kept_by = { λ by ended. let calls = by.calls.value in IfErr ended (MayRefuse (lacking_code (C.has_map calls) (C.has_group calls) (C.has_fold calls))) };
+}
+
+/// A thread that works.
+type Worker<L, C> = PromisedHandle<Result<(), PoolError>, EndsBy<L, C>>;
 
 /// Makes a pool over a hall, with a worker in a thread of its own for each of its shards, does the work beside them in this thread,
 /// and then stops the pool and waits until each worker has ended. Answers what the work came to, and the refusal of the first worker
@@ -35,6 +49,7 @@ pub fn beside_workers<
     work: W,
 ) -> Result<(W::Answer, Result<(), PoolError>), (PoolError, W)>
     ensures gives { IfOk result (λ ended. W.gives work ended.0) }
+    ensures worked { let lacks = lacking_code (C.has_map calls.now) (C.has_group calls.now) (C.has_fold calls.now) in IfOk result (λ ended. IfErr ended.1 (MayRefuse lacks)) }
     ensures refused { IfErr result (λ e. (e.0 ≡ Memory) × (e.1 ≡ work)) }
 {
     let blank = Blank::new(u64::from(hall.workers()));
@@ -60,6 +75,7 @@ fn in_pool<
     requires parts { (blank.parts ≡ K.parts) × (K.parts ≡ K.shards) }
     requires hall { (hall.workers ≡ K.shards) × (hall.given ≡ K.start) }
     ensures gives { IfOk result (λ ended. W.gives work ended.0) }
+    ensures worked { let lacks = lacking_code (C.has_map calls.now) (C.has_group calls.now) (C.has_fold calls.now) in IfOk result (λ ended. IfErr ended.1 (MayRefuse lacks)) }
     ensures refused { IfErr result (λ e. (e.0 ≡ Memory) × (e.1 ≡ work)) }
 {
     match Pool::<K, L>::new(alloc, hall, blank) {
@@ -84,6 +100,7 @@ fn in_scope<
     work: W,
 ) -> Result<(W::Answer, Result<(), PoolError>), (PoolError, W)>
     ensures gives { IfOk result (λ ended. W.gives work ended.0) }
+    ensures worked { let lacks = lacking_code (C.has_map calls.now) (C.has_group calls.now) (C.has_fold calls.now) in IfOk result (λ ended. IfErr ended.1 (MayRefuse lacks)) }
     ensures refused { IfErr result (λ e. (e.0 ≡ Memory) × (e.1 ≡ work)) }
 {
     thread::scope(
@@ -91,6 +108,7 @@ fn in_scope<
         rt,
         move |scope| -> Result<(W::Answer, Result<(), PoolError>), (PoolError, W)>
             ensures gives { IfOk result (λ ended. W.gives work ended.0) }
+            ensures worked { let lacks = lacking_code (C.has_map calls.entry.now) (C.has_group calls.entry.now) (C.has_fold calls.entry.now) in IfOk result (λ ended. IfErr ended.1 (MayRefuse lacks)) }
             ensures refused { IfErr result (λ e. (e.0 ≡ Memory) × (e.1 ≡ work)) }
         {
             let Ok(workers) = start_all(scope, rt, alloc, pool, seats, calls) else {
@@ -99,7 +117,7 @@ fn in_scope<
             };
             let answer = work.run(rt, pool);
             pool.stop(rt);
-            Ok((answer, join_all(rt, workers)))
+            Ok((answer, join_all(rt, workers, calls)))
         },
     )
 }
@@ -119,19 +137,35 @@ fn start_all<
     pool: &'s Pool<K, L>,
     seats: Vec<Seat<K, L>>,
     calls: &'s C,
-) -> Result<Vec<Worker>, AllocError> {
+) -> Result<Vec<Worker<L, C>>, AllocError>
+    ensures { IfOk result (λ workers. All (λ worker. worker.promise.calls.value ≡ calls.now) workers.items) }
+{
     let mut workers = Vec::new(alloc);
     for seat in seats {
-        workers.push(scope.spawn(move || serve(rt, alloc, pool, seat, calls))?)?;
+        let ends = EndsBy {
+            calls: Snapshot::of(calls),
+            law: PhantomData,
+        };
+        workers.push(scope.spawn_with(ends, move || serve(rt, alloc, pool, seat, calls))?)?;
     }
     Ok(workers)
 }
 
 /// Waits until each worker has ended. Refusal: that of the first in order that was refused.
-fn join_all<R: Threads>(rt: &R, workers: Vec<Worker>) -> Result<(), PoolError> {
+fn join_all<L: Law, C: Closures<L>, R: Threads>(
+    rt: &R,
+    workers: Vec<Worker<L, C>>,
+    calls: &C,
+) -> Result<(), PoolError>
+    requires { All (λ worker. worker.promise.calls.value ≡ calls.now) workers.items }
+    ensures { IfErr result (MayRefuse (lacking_code (C.has_map calls.now) (C.has_group calls.now) (C.has_fold calls.now))) }
+{
     let mut ended = Ok(());
     for worker in workers {
-        ended = ended.and(worker.join(rt));
+        let worked = worker.join(rt);
+        if ended.is_ok() {
+            ended = worked;
+        }
     }
     ended
 }
@@ -143,7 +177,9 @@ fn serve<L: Law, C: Closures<L>, K: Crew, R: Wait>(
     pool: &Pool<K, L>,
     mut seat: Seat<K, L>,
     calls: &C,
-) -> Result<(), PoolError> {
+) -> Result<(), PoolError>
+    ensures { IfErr result (MayRefuse (lacking_code (C.has_map calls.now) (C.has_group calls.now) (C.has_fold calls.now))) }
+{
     let worked = pool.work(rt, alloc, &mut seat, calls, &OpenGate);
     if worked.is_err() {
         pool.stop(rt);
