@@ -8,10 +8,13 @@ mod visits;
 use crate::service::{VisitsKeeper, run};
 use crate::visits::Visits;
 use std::fs::File;
+use std::io;
+use std::rt::Files;
 use td_calls::Closures;
 use td_disk::FileDisk;
 use td_head::Shape;
 use td_plan::Plan;
+use td_stamp::EpochOut;
 
 /// A fold counts the visits of each page.
 const PLAN: &str = "0 input\n1 fold 1 0\n2 output 1\n";
@@ -27,12 +30,7 @@ fn main(rt: HostRuntime) -> anyhow::Result<()> {
         anyhow::bail!("no such shape");
     };
     let mut outs = Vec::new(alloc);
-    // A file gets the lowest number that is free: where standard output is closed, the disk would get its.
-    let _streams = [
-        File::open(&rt, "/")?,
-        File::open(&rt, "/")?,
-        File::open(&rt, "/")?,
-    ];
+    let _streams = hold_streams(&rt)?;
 
     // The first start makes the disk anew.
     let disk = FileDisk::create(&rt, DISK, shape.bytes())?;
@@ -43,11 +41,24 @@ fn main(rt: HostRuntime) -> anyhow::Result<()> {
     let disk = FileDisk::open(&rt, DISK)?;
     let keeper = VisitsKeeper::recover(alloc, disk, &plan).map_err(|(refusal, _)| refusal)?;
     run(&rt, keeper, &plan, 200, &mut outs)?;
+    tell_last(&rt, &outs)
+}
 
+/// Takes the numbers of standard streams that are closed: a file gets the lowest that is free, and what is printed would go to the disk.
+fn hold_streams<R: Files<File = File>>(rt: &R) -> io::Result<[File; 3]> {
+    Ok([
+        File::open(rt, "/")?,
+        File::open(rt, "/")?,
+        File::open(rt, "/")?,
+    ])
+}
+
+/// The outputs of the last epoch.
+fn tell_last(rt: &impl Print, outs: &[EpochOut]) -> anyhow::Result<()> {
     if let Some(last) = outs.last() {
         for told in last.recs.list() {
             let (page, visits) = (told.rec.key, told.rec.val);
-            println!(&rt; "epoch {}: page {page} has {visits} visits", last.epoch)?;
+            println!(rt; "epoch {}: page {page} has {visits} visits", last.epoch)?;
         }
     }
     Ok(())

@@ -31,8 +31,8 @@ impl<L: Law, C: Closures<L>> Promise<Result<(), PoolError>> for EndsBy<L, C> {
 type Worker<L, C> = PromisedHandle<Result<(), PoolError>, EndsBy<L, C>>;
 
 /// Makes a pool over a hall, with a worker in a thread of its own for each of its shards, does the work beside them in this thread,
-/// and then stops the pool and waits until each worker has ended. Answers what the work came to, and the refusal of the first worker
-/// in order that was refused: such a worker stops the pool, so that the work does not wait for it.
+/// and then stops the pool and waits until each worker has ended; the hall goes with its pool. Answers what the work came to, and the
+/// refusal of the first worker in order that was refused: such a worker stops the pool, so that the work does not wait for it.
 ///
 /// Refusal: `Memory`, also where a thread cannot be made, with nothing of the work done: it comes back when the workers that were made
 /// have ended.
