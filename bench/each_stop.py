@@ -45,7 +45,7 @@ TD = ROOT / "crates/td/out/td"
 STEPS = ROOT / "crates/engine_steps/out/engine_steps"
 
 FOLDS = "0 input\n1 fold 40 0\n2 fold 41 0\n3 group 20 1 2\n4 output 1\n5 output 2\n6 output 3\n"
-EPOCHS, NUMBERED_EPOCHS, STREAM_EPOCHS, RECORDS, KEYS = 40, 9, 8, 3, 3
+EPOCHS, NUMBERED_EPOCHS, STREAM_EPOCHS, RECORDS, KEYS = 40, 9, 12, 3, 3
 TOTAL = "0 input\n1 fold 40 0\n2 output 1\n"
 TOTAL_EPOCHS = [([(7, 5)], False), ([(7, -2), (8, 1)], True)]
 TOTAL_STATES = ["state 1 7 3 2", "state 1 8 1 1"]
