@@ -4,9 +4,9 @@ use std::rt::Stderr;
 use td_disk::{FileDisk, ReadAhead};
 use td_plan::Plan;
 
-/// Which engine is to answer: the plain evaluator, or a hall of so many shards; `Sim` takes tasks by these picks, `Feed`
-/// works on a disk for a plan, and `Stream` does as the input comes, with the path of the disk, and a cut after so many epochs, and tells there how far it has
-/// come, if it is given where.
+/// Which engine is to answer: the plain evaluator, or a hall of so many shards; `Sim` takes tasks by these picks, and `Feed` works on a
+/// disk for a plan. `Stream` does so as the input comes: on a disk at this path, with a cut after so many epochs; and it tells standard
+/// error how far it has come, if it has that.
 #[derive(Drop)]
 pub(crate) enum Engine<'a> {
     Batch,

@@ -43,7 +43,7 @@ fn main(rt: HostRuntime) -> ExitCode {
     }
 }
 
-/// Does what is asked for. On standard error, `stderr`, is told how far it has come, if that is asked for.
+/// Does what is asked for. How far a stream has come is told to `stderr`, if that is asked for.
 fn done<R: Files<File = File> + Input + Print + AllocGlobal + Threads + Wait + Sync>(
     rt: &R,
     stderr: Stderr,
@@ -181,32 +181,30 @@ fn answer<R: Input + Print + AllocGlobal + Threads + Wait + Sync>(
 {
     let mut reader = StdReader(rt.reader());
     let mut writer = StdWriter(io::writer(rt));
-    let answered = match engine {
-        Engine::Batch => batch::<_, _, Stock, StockCalls>(
+    match engine {
+        Engine::Batch => Ok(batch::<_, _, Stock, StockCalls>(
             rt.alloc(),
             &mut reader,
             &mut writer,
             calls,
-        ),
-        Engine::Run(workers) => run::<_, _, Stock, StockCalls>(
+        )?),
+        Engine::Run(workers) => Ok(run::<_, _, Stock, StockCalls>(
             rt.alloc(),
             &mut reader,
             &mut writer,
             calls,
             workers,
-        ),
-        Engine::Sim(workers, picks) => {
-            sim::<_, _, Stock, StockCalls>(
-                rt.alloc(),
-                &mut reader,
-                &mut writer,
-                calls,
-                workers,
-                picks.as_slice(),
-            )
-        }
+        )?),
+        Engine::Sim(workers, picks) => Ok(sim::<_, _, Stock, StockCalls>(
+            rt.alloc(),
+            &mut reader,
+            &mut writer,
+            calls,
+            workers,
+            picks.as_slice(),
+        )?),
         Engine::Feed(disk, plan, workers) => {
-            feed::<_, _, _, Stock, StockCalls, _>(
+            let (_disk, fed) = feed::<_, _, _, Stock, StockCalls, _>(
                 rt,
                 rt.alloc(),
                 disk,
@@ -214,26 +212,23 @@ fn answer<R: Input + Print + AllocGlobal + Threads + Wait + Sync>(
                 workers,
                 &mut reader,
                 &mut writer,
-                calls,
-            )
-            .1
-        }
-        Engine::Stream(disk, path, plan, workers, cut_every, told) => {
-            return stream_told(
-                rt,
-                disk,
-                path,
-                &plan,
-                workers,
-                cut_every,
-                reader,
-                &mut writer,
-                told,
                 calls,
             );
+            Ok(fed?)
         }
-    };
-    Ok(answered?)
+        Engine::Stream(disk, path, plan, workers, cut_every, told) => stream_told(
+            rt,
+            disk,
+            path,
+            &plan,
+            workers,
+            cut_every,
+            reader,
+            &mut writer,
+            told,
+            calls,
+        ),
+    }
 }
 
 /// Prints a refusal on standard error.
