@@ -52,8 +52,15 @@ pub fn beside_workers<
     ensures worked { let lacks = lacking_code (C.has_map calls.now) (C.has_group calls.now) (C.has_fold calls.now) in IfOk result (λ ended. IfErr ended.1 (MayRefuse lacks)) }
     ensures refused { IfErr result (λ e. (e.0 ≡ Memory) × (e.1 ≡ work)) }
 {
-    let blank = Blank::new(u64::from(hall.workers()));
+    let blank = blank_for(&hall);
     in_pool::<L, C, W, Brand, R>(rt, alloc, hall, blank, calls, work)
+}
+
+/// A name that no pool has yet, with a part for each shard of a hall.
+fn blank_for<L: Law>(hall: &Hall<L>) -> Blank
+    ensures { result.parts ≡ hall.now.workers }
+{
+    Blank::new(u64::from(hall.workers()))
 }
 
 /// As `beside_workers`, in a pool of this name.
