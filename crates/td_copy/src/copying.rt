@@ -2,6 +2,7 @@
 ghost use Rattle.std.specs.Prelude.{◌≡◌, ◌↔◌, IfOk};
 ghost use Rattle.td_gate.specs.CrashSafe.{CrashSafe, Unchanged};
 ghost use Rattle.td_standing.specs.Standing.{Standing};
+ghost use Rattle.td_standing.specs.Tells.{Keeps, first_head};
 ghost use Rattle.td_copy.specs.Copied.{EachTold};
 
 use crate::error::CopyError;
@@ -29,9 +30,9 @@ pub fn copy<D: Disk, E: Disk + Drop, X: From<CopyError>, F: FnOnce() -> Result<E
     ensures size { D.capacity disk.new ≡ D.capacity disk.old }
     ensures lawful { D.is_lawful disk.old ↔ D.is_lawful disk.new }
 
-    // BOTH DISKS TELL THE SAME, whatever a crash leaves of them.
+    // BOTH DISKS TELL THE SAME, whatever a crash leaves of them; the new one has a head of this shape.
     ensures copied { IfOk result (λ new. D.is_lawful disk.old → E.is_lawful new
-        → (s : Standing) × EachTold plan.now s (D.state disk.new) × EachTold plan.now s (E.state new)) }
+        → (s : Standing) × EachTold plan.now s (D.state disk.new) × Keeps plan.now (first_head shape) 0 s (E.state new)) }
 
     // The old disk stays as it is.
     ensures crash_safe { D.is_lawful disk.old → CrashSafe Unchanged (D.state disk.old) (D.state disk.new) }

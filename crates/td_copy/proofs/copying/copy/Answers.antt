@@ -20,6 +20,4 @@ returns-clause-copied g c lawful lawful_new =
     let told = c.told_in_parts.ensures.together in
     let first : EachTold plan s (g.D.Disk.state old) =
     λ image left. subst (λ (i : List ℕ). Told plan i (Stood s)) (sym (keeps.durable image left)) (told plan read.head read.checkpoint.slot s (g.D.Disk.state old).bytes keeps.tells) in
-    let second : EachTold plan s (g.E.Disk.state new) =
-    λ image left. subst (λ (i : List ℕ). Told plan i (Stood s)) (sym (copied.durable image left)) (told plan (first_head c.args.shape) 0 s (g.E.Disk.state new).bytes copied.tells) in
-    (s, first, second)
+    (s, first, copied)
