@@ -268,7 +268,7 @@ class Stream(Feed):
         calls = disk.with_suffix(".calls")
         strace = ["strace", "-qq", "-xx", "-s", "1000000", "-e", "signal=none", "-e", f"trace={TRACED}", *failures(before), "-o", calls]
         run = subprocess.run([*strace, TD, *self.words(disk, 2, self.every)], input=text_of(self.input_after(0)), capture_output=True, text=True)
-        refused = {(0, ""): [], (1, "td: device\n"): ["refused: device"]}.get((run.returncode, run.stderr))
+        refused = {(0, ""): [], (1, f"td: device: {disk}\n"): ["refused: device"]}.get((run.returncode, run.stderr))
         if refused is None:
             sys.exit(f"a stream that was traced ended with {run.returncode}: {run.stderr}")
         return run.stdout.splitlines() + refused, calls_of(calls.read_text())
