@@ -26,7 +26,8 @@ use std::rt::{Env, Files, Stderr};
 use std::sync::Wait;
 use std::thread::Threads;
 use std::{env, io};
-use td_calls::{Calls, FoldBox, GroupBox, MapBox, Stock, StockCalls};
+use td_calls::{Calls, FoldBox, GroupBox, MapBox, StockCalls};
+use td_catalogue::{Catalogue, CatalogueCalls};
 use td_console::{Fault, StdReader, StdWriter, batch, read_picks, run, sim};
 use td_feed::feed;
 use td_stamp::{Item, Rec, State};
@@ -137,7 +138,7 @@ fn ended<R: Eprint + AllocGlobal>(rt: &R, answer: Result<(), Refusal>) -> ExitCo
     }
 }
 
-/// Answers standard input with the closures of the catalogue. The closures are made here, since a function may not hand
+/// Answers standard input with the closures of the catalogue. Those of its first shelf are made here, since a function may not hand
 /// out one that it makes; of each kind there is one, which captures its code.
 fn run_engine<R: Input + Print + AllocGlobal + Threads + Wait + Sync>(
     rt: &R,
@@ -165,37 +166,37 @@ fn run_engine<R: Input + Print + AllocGlobal + Threads + Wait + Sync>(
         )?;
         store_fold(&mut calls, code, fold)?;
     }
-    answer(rt, &calls, engine)
+    answer(rt, &CatalogueCalls { stock: calls }, engine)
 }
 
 /// Answers standard input with the whole catalogue.
 fn answer<R: Input + Print + AllocGlobal + Threads + Wait + Sync>(
     rt: &R,
-    calls: &StockCalls,
+    calls: &CatalogueCalls,
     engine: Engine<'_>,
 ) -> Result<(), Refusal>
     requires lawful { IsLawfulEngine engine }
-    requires maps { HasEach (λ c. c.code) calls.now.maps map_codes }
-    requires groups { HasEach (λ c. c.code) calls.now.groups group_codes }
-    requires folds { HasEach (λ c. c.code) calls.now.folds fold_codes }
+    requires maps { HasEach (λ c. c.code) calls.now.stock.maps map_codes }
+    requires groups { HasEach (λ c. c.code) calls.now.stock.groups group_codes }
+    requires folds { HasEach (λ c. c.code) calls.now.stock.folds fold_codes }
 {
     let mut reader = StdReader(rt.reader());
     let mut writer = StdWriter(io::writer(rt));
     match engine {
-        Engine::Batch => Ok(batch::<_, _, Stock, StockCalls>(
+        Engine::Batch => Ok(batch::<_, _, Catalogue, CatalogueCalls>(
             rt.alloc(),
             &mut reader,
             &mut writer,
             calls,
         )?),
-        Engine::Run(workers) => Ok(run::<_, _, Stock, StockCalls>(
+        Engine::Run(workers) => Ok(run::<_, _, Catalogue, CatalogueCalls>(
             rt.alloc(),
             &mut reader,
             &mut writer,
             calls,
             workers,
         )?),
-        Engine::Sim(workers, picks) => Ok(sim::<_, _, Stock, StockCalls>(
+        Engine::Sim(workers, picks) => Ok(sim::<_, _, Catalogue, CatalogueCalls>(
             rt.alloc(),
             &mut reader,
             &mut writer,
@@ -204,7 +205,7 @@ fn answer<R: Input + Print + AllocGlobal + Threads + Wait + Sync>(
             picks.as_slice(),
         )?),
         Engine::Feed(disk, plan, workers) => {
-            let (_disk, fed) = feed::<_, _, _, Stock, StockCalls, _>(
+            let (_disk, fed) = feed::<_, _, _, Catalogue, CatalogueCalls, _>(
                 rt,
                 rt.alloc(),
                 disk,

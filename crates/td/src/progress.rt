@@ -9,7 +9,7 @@ use std::sync::atomic::{AtomicBool, Ordering};
 use std::thread;
 use std::thread::{Parker, Scope, Threads};
 use std::time::Duration;
-use td_calls::{Stock, StockCalls};
+use td_catalogue::{Catalogue, CatalogueCalls};
 use td_console::{Fault, Sink, Source};
 use td_disk::{FileDisk, ReadAhead};
 use td_feed::stream;
@@ -57,7 +57,7 @@ pub(crate) fn stream_told<I: Source + Drop, W: Sink, R: Threads + Wait + AllocGl
     reader: I,
     writer: &mut W,
     told: Option<Stderr>,
-    calls: &StockCalls,
+    calls: &CatalogueCalls,
 ) -> Result<(), Refusal>
     requires some { 1 ≤ workers }
     requires most { workers ≤ 16 }
@@ -72,7 +72,7 @@ pub(crate) fn stream_told<I: Source + Drop, W: Sink, R: Threads + Wait + AllocGl
             requires most { workers ≤ 16 }
         {
             let watch = followed(scope, rt, told, ending)?;
-            let (mut disk, ended) = stream::<_, _, _, Stock, StockCalls, _>(
+            let (mut disk, ended) = stream::<_, _, _, Catalogue, CatalogueCalls, _>(
                 rt,
                 rt.alloc(),
                 disk,

@@ -1,0 +1,23 @@
+//! Laws of the definitions, each the contract of a function that does nothing.
+ghost use Rattle.std.specs.Prelude.{◌≡◌, ℕ, ◌<◌, List, Option, None};
+ghost use Rattle.td_stamp.specs.declared.values.Rec.{Rec};
+ghost use Rattle.td_stamp.specs.declared.values.Item.{Item};
+ghost use Rattle.td_stamp.specs.declared.values.State.{State};
+ghost use Rattle.td_calls.specs.Stock.{stock};
+ghost use Rattle.td_catalogue.specs.Catalogue.{catalogue};
+ghost use Rattle.td_catalogue.specs.Codes.{map_of, group_of, fold_of};
+
+/// The second shelf leaves the first as it is: a code below 1,000 means what it means there.
+pub fn first_shelf()
+    ensures maps { (code port : ℕ) (rec : Rec) → code < 1000 → catalogue.emit code port rec ≡ stock.emit code port rec }
+    ensures groups { (code key : ℕ) (items : List Item) → code < 1000 → catalogue.group code key items ≡ stock.group code key items }
+    ensures folds { (code key : ℕ) (state : Option State) (items : List Item) →
+        code < 1000 → catalogue.fold code key state items ≡ stock.fold code key state items }
+{}
+
+/// No code above 9,999 is one of the second shelf.
+pub fn second_shelf()
+    ensures maps { (code : ℕ) → 9999 < code → map_of code ≡ None }
+    ensures groups { (code : ℕ) → 9999 < code → group_of code ≡ None }
+    ensures folds { (code : ℕ) → 9999 < code → fold_of code ≡ None }
+{}
