@@ -46,7 +46,12 @@ def width_of(text, size=SIZE):
 
 
 def wrapped(text, most):
-    """A text in lines of so many letters, where its words allow."""
+    """A text in as few lines of so many letters as its words allow, and these about equally long."""
+    lines = filled(text, most)
+    return next(shorter for least in range(1, most + 1) if len(shorter := filled(text, least)) == len(lines))
+
+
+def filled(text, most):
     lines = [""]
     for word in text.split():
         if lines[-1] and len(lines[-1]) + 1 + len(word) > most:
