@@ -4,8 +4,8 @@
     bench/tasks.py          compares examples/NAME.out with it, for each of the five tasks; status 1 where one differs
     bench/tasks.py NAME     prints the expected output of one
 
-Of examples/NAME.td the records alone are read, epoch by epoch; of its plan a task knows the numbers of its inputs and outputs, and that of
-`components` how many turns its loop may have. examples/README.md says what each task is."""
+Of examples/NAME.td the records alone are read, epoch by epoch; of its plan a task knows the numbers of its inputs and outputs. Of
+`components` it is compared too how many turns are needed, and how many its loop may have. examples/README.md says what each task is."""
 
 import collections
 import pathlib
@@ -50,8 +50,8 @@ def topminute(records):
 
 
 def lastprice(records):
-    """Each order with the price of its article, and each article's pieces of an epoch times it. The price is that of the last epoch that has
-    one, this one or before: the greatest of them."""
+    """Each order with the price of its article, and each article's pieces of an epoch times it. The price is that of the last epoch that
+    has one, this one or before: the greatest of them."""
     return asked(records, """
         with price as (select epoch, key, max(val) as price from rec where input = 2 group by epoch, key),
              sold as (select r.*, (select p.price from price p where p.key = r.key and p.epoch <= r.epoch
