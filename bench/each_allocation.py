@@ -3,7 +3,7 @@
 
     bench/each_allocation.py [FILE..]       needs crates/td/out/td (see the README) and a C compiler
 
-It runs `td batch`, `run` and `sim` on the files, by default on the examples, and then `td help` and words that do not parse.
+It runs `td batch`, `run` and `sim` on the files, by default on the small examples, and then `td help` and words that do not parse.
 Each run must answer as with ample memory, or write nothing to standard output, `td: memory` to standard error, and end with
 status 1.
 
@@ -34,7 +34,8 @@ ROOT = pathlib.Path(__file__).resolve().parent.parent
 TD = ROOT / "crates/td/out/td"
 STEPS = ROOT / "crates/engine_steps/out/engine_steps"
 ROWS = ("rows/steps.txt", "rows/pointstamps.txt", "rows/keeper.txt", "rows/requests.txt", "rows/threads.txt")
-EXAMPLES = sorted((ROOT / "examples").glob("*.td"))
+# (a larger one makes thousands of allocations, and as many runs)
+EXAMPLES = [file for file in sorted((ROOT / "examples").glob("*.td")) if file.stat().st_size < 1000]
 REFUSED = (1, b"", b"td: memory\n")
 # What `engine_steps` prints for a call that is made once more, and how it ends where there was none to make again.
 AGAIN = b"refused: memory"

@@ -82,6 +82,11 @@ def saturated(value):
     return max(-HALF, min(HALF - 1, value))
 
 
+def wrapped(number):
+    """The signed number of the same 64 bits."""
+    return (number + HALF) % (2 * HALF) - HALF
+
+
 # Plans
 
 
@@ -229,6 +234,30 @@ MAPS = {
 }
 
 
+# The second shelf: by the thousands of a code, where P is what its last three digits write, and one by one.
+MAP_FAMILIES = {
+    1: lambda p, key, val: [(p, val)],
+    2: lambda p, key, val: [(key // (p or 1000), val)],
+    3: lambda p, key, val: [(key % (p or 1000), val)],
+    4: lambda p, key, val: [(key, val % (p or 1000))],
+    5: lambda p, key, val: [(key, val)] * (val > p),
+    6: lambda p, key, val: [(key, val)] * (val < p),
+    7: lambda p, key, val: [(key, val)] * (val == p),
+    8: lambda p, key, val: [(key, val // (p or 1000))],
+}
+MILLION = 10**6
+MAPS.update({
+    9000: lambda port, key, val: [(val % 2**64, wrapped(key))],
+    9001: lambda port, key, val: [(key, saturated(-val))],
+    9002: lambda port, key, val: [(key, saturated(abs(val)))],
+    9003: lambda port, key, val: [(key, saturated(saturated(val * MILLION) + key % MILLION))],
+    9004: lambda port, key, val: [(val % MILLION, val // MILLION)],
+    9005: lambda port, key, val: [(key, wrapped(key))],
+})
+for code in range(1000, 9000):
+    MAPS[code] = lambda port, key, val, code=code: MAP_FAMILIES[code // 1000](code % 1000, key, val)
+
+
 def total(items, start=0):
     """The sum of items in their order, by port and val."""
     for _, val in sorted(items):
@@ -250,6 +279,32 @@ GROUPS = {
 }
 
 
+def values_of(items, at):
+    """The values of a port, from the least on."""
+    return sorted(val for port, val in items if port == at)
+
+
+def pairs(key, items, first):
+    """Eight of the pairs of an item of port 0 and one of port 1, from this one on."""
+    return [(wrapped(other) % 2**64, one) for one in values_of(items, 0) for other in values_of(items, 1)][first:first + 8]
+
+
+def runs(items):
+    """How many values there are that differ from the one before."""
+    values = [val for _, val in sorted(items)]
+    return sum(at == 0 or values[at - 1] != val for at, val in enumerate(values))
+
+
+GROUPS.update({
+    9100: lambda key, items: [(key, runs(items))],
+    9109: lambda key, items: [(key, total(items) // len(items))],
+})
+for n in range(1, 9):
+    GROUPS[9100 + n] = lambda key, items, n=n: [(key, val) for _, val in sorted(items)[-n:]]
+for n in range(10):
+    GROUPS[9110 + n] = lambda key, items, n=n: pairs(key, items, 8 * n)
+
+
 def totalled(key, state, items):
     a, b = state or (0, 0)
     a = total(items, a)
@@ -260,8 +315,74 @@ def toggled(key, state, items):
     return (None, [(key, 0)]) if state else ((max(items)[1], 0), [(key, 1)])
 
 
-FOLDS = {40: totalled, 41: toggled}
+def sent(key, a, b=0):
+    """A fold that keeps a and b, and sends a."""
+    return (a, b), [(key, a)]
+
+
+def averaged(key, state, items):
+    (a, b), _ = totalled(key, state, items)
+    return (a, b), [(key, a // b)]
+
+
+def two_greatest(key, state, items):
+    """Keeps the greatest value and the one after it; the least of all stands for none."""
+    kept = sorted([*(state or (-HALF, -HALF)), *[val for _, val in items]])[:-3:-1]
+    return tuple(kept), [(key, kept[0])] + [(key, kept[1])] * (kept[1] > -HALF)
+
+
+def balanced(key, state, items):
+    a = state[0] if state else 0
+    for _, val in sorted(items):
+        a = max(0, saturated(a + val))
+    return sent(key, a)
+
+
+def last_of(state, items):
+    """The last value of port 1, of these items or before."""
+    return values_of(items, 1)[-1] if values_of(items, 1) else state[0] if state else None
+
+
+def priced(key, state, items):
+    price, pieces = last_of(state, items), values_of(items, 0)
+    if price is None:
+        return None, []
+    return (price, 0), [(key, saturated(total((0, val) for val in pieces) * price))] if pieces else []
+
+
+def paired(key, state, items, first):
+    last = last_of(state, items)
+    if last is None:
+        return None, []
+    return (last, 0), [(val % 2**64, last) for val in values_of(items, 0)[first:first + 8]]
+
+
+def visited(key, state, items, gap):
+    """Keeps the greatest value and how many sessions there were."""
+    for _, val in sorted(items):
+        state = (max(state[0], val), state[1] + (val > saturated(state[0] + gap))) if state else (val, 1)
+    return state, [(key, state[1])]
+
+
+FOLDS = {
+    40: totalled, 41: toggled,
+    9200: lambda key, state, items: sent(key, max([val for _, val in items] + ([state[0]] if state else []))),
+    9201: lambda key, state, items: sent(key, min([val for _, val in items] + ([state[0]] if state else []))),
+    9202: lambda key, state, items: sent(key, max(items)[1]),
+    9203: lambda key, state, items: sent(key, saturated((state[0] if state else 0) + len(items))),
+    9204: averaged, 9205: two_greatest, 9206: balanced, 9207: priced,
+}
+for n in range(10):
+    FOLDS[9210 + n] = lambda key, state, items, n=n: paired(key, state, items, 8 * n)
+for n in range(100):
+    FOLDS[9300 + n] = lambda key, state, items, n=n: visited(key, state, items, n)
 STORED = {"map": MAPS, "group": GROUPS, "fold": FOLDS}
+# The codes of random plans, shelf by shelf.
+SHELVES = {
+    "map": [range(1, 10), [*range(9000, 9006), *[1000 * at + p for at in range(1, 9) for p in (0, 1, 3, 999)]]],
+    "group": [range(20, 25), range(9100, 9120)],
+    "fold": [(40, 41), [*range(9200, 9208), 9210, 9211, 9219, 9300, 9303, 9399]],
+}
 
 
 def check_codes(plan):
@@ -543,8 +664,8 @@ class RandomPlan:
 
     def plain(self, kinds, read):
         kind = self.rng.choice(kinds)
-        codes = {"map": range(1, 10), "group": range(20, 25), "fold": (40, 41)}.get(kind)
-        self.vertex(kind, f" {self.rng.choice(codes)}" if codes else "", self.sources(read, 3))
+        shelf = self.rng.choice(SHELVES.get(kind, [[]]))
+        self.vertex(kind, f" {self.rng.choice(shelf)}" if shelf else "", self.sources(read, 3))
         read.append(len(self.kinds) - 1)
 
     def inner(self, read):
@@ -791,4 +912,5 @@ def main():
         feed_disks(rng, every_plan, count // INPUTS_OF_A_DISK)
 
 
-main()
+if __name__ == "__main__":
+    main()
