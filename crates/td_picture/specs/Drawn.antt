@@ -29,11 +29,21 @@ name_of v = join_with_byte 32 (decimal v.number ∷ words_of_kind v.kind)
 abbrev pub node_of : Vertex → Text
 node_of v = codes "v" ++ decimal v.number ++ codes " [" ++ look_of v.kind ++ codes ", label=\"" ++ name_of v ++ told_between (codes "\\n") [] v.kind ++ codes "\"];\n"
 
--- the head of loop n
+abbrev pub turns_of : ℕ → Text
+turns_of bound = if bound == 1 then codes "turn" else codes "turns"
+
+-- the head of loop n: its frame, how that looks, and what stands on it
+abbrev pub frame_of : ℕ → Text
+frame_of n = codes "subgraph cluster_" ++ (decimal n ++ codes " {\n")
+
+abbrev pub frame_look : Text
+frame_look = codes "style=\"rounded,filled\"; fillcolor=\"#0000ff12\"; "
+
+abbrev pub label_of : ℕ → Text
+label_of bound = codes "label=\"loop, at most " ++ (decimal bound ++ (codes " " ++ (turns_of bound ++ codes "\";\n")))
+
 abbrev pub head_of : ℕ → ℕ → Text
-head_of n bound =
-    codes "subgraph cluster_" ++ decimal n ++ codes " {\n" ++ codes "style=\"rounded,filled\"; fillcolor=\"#0000ff12\"; label=\"loop, at most "
-    ++ decimal bound ++ (if bound == 1 then codes " turn" else codes " turns") ++ codes "\";\n"
+head_of n bound = frame_of n ++ (frame_look ++ label_of bound)
 
 -- the lines of a plan, of which the next loop has number n
 abbrev pub nodes_of : ℕ → List Line → Text
@@ -46,11 +56,14 @@ nodes_of n (end ∷ lines) = codes "}\n" ++ nodes_of n lines
 abbrev pub port_of : Vertex → ℕ → Text
 port_of v port = if nat_lt 1 (length v.sources) then codes " [headlabel=\"" ++ decimal port ++ codes "\"]" else []
 
--- the edge that leads to a vertex at a port: `vS -> vN [headlabel="PORT"];`; one to a feedback goes back
+-- the look of an edge that leads to a feedback, which goes back
+abbrev pub back_of : Vertex → Text
+back_of v = if is_feedback v.kind then codes " [style=dashed, constraint=false]" else []
+
+-- the edge that leads to a vertex at a port: `vS -> vN [headlabel="PORT"];`
 abbrev pub edge_of : Vertex → ℕ × ℕ → Text
 edge_of v (port, source) =
-    codes "v" ++ decimal source ++ codes " -> v" ++ decimal v.number ++ port_of v port
-    ++ (if is_feedback v.kind then codes " [style=dashed, constraint=false]" else []) ++ codes ";\n"
+    codes "v" ++ decimal source ++ codes " -> v" ++ decimal v.number ++ port_of v port ++ back_of v ++ codes ";\n"
 
 abbrev pub edges_of : Vertex → Text
 edges_of v = flat_map (edge_of v) (enumerate_from 0 v.sources)

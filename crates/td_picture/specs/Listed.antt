@@ -1,5 +1,5 @@
 -- A plan as a text that tells what its closures are.
-use Rattle.std.specs.Prelude.{List, ◌++◌, flat_map, codes}
+use Rattle.std.specs.Prelude.{List, [], ◌++◌, flat_map, codes}
 use Rattle.td_plan.specs.Lines.{Line, text_of_line}
 use Rattle.td_plan.specs.Lines.Line.{vertex, loop, end}
 use Rattle.td_picture.specs.Words.{Text, told_between}

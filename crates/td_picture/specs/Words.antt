@@ -66,7 +66,7 @@ group_texts =
 
 -- `FRONT, from number 8I + 1 to 8I + 8`
 abbrev pub eight_from : Text → ℕ → Text
-eight_from front i = front ++ codes ", from number " ++ decimal (8 * i + 1) ++ codes " to " ++ decimal (8 * i + 8)
+eight_from front i = front ++ (codes ", from number " ++ (decimal (8 * i + 1) ++ (codes " to " ++ decimal (8 * i + 8))))
 
 -- the groups with a number, of the last digit
 abbrev pub group_family : ℕ → Option Text

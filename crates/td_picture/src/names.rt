@@ -1,5 +1,5 @@
 //! What a vertex is called: its number, and the words of its kind.
-ghost use Rattle.std.specs.Prelude.{◌≡◌, ◌++◌, OnOk, IfErr, flat_map, string_bytes};
+ghost use Rattle.std.specs.Prelude.{◌≡◌, ◌++◌, ◌∷◌, OnOk, IfErr, flat_map, string_bytes};
 ghost use Rattle.td_plan.specs.Lines.{words_of_kind};
 ghost use Rattle.td_picture.specs.Drawn.{name_of};
 

@@ -1,6 +1,6 @@
 //! The nodes of a picture, and the frames of loops.
 ghost use Rattle.std.specs.Prelude.{◌≡◌, ◌≤◌, ◌+◌, ◌<◌, ◌^◌, ◌++◌, IfOk, OnOk, IfErr, string_bytes};
-ghost use Rattle.td_picture.specs.Drawn.{head_of, look_of, node_of};
+ghost use Rattle.td_picture.specs.Drawn.{head_of, look_of, node_of, turns_of};
 ghost use Rattle.td_picture.specs.Printed.{IsDrawn, next_number};
 
 use crate::names::print_name;
@@ -78,9 +78,16 @@ fn print_head(text: &mut String, number: u64, bound: u16) -> Result<(), PlanErro
     ensures ok { OnOk result (string_bytes text.new ≡ string_bytes text.old ++ head_of number bound) }
     ensures err { IfErr result (λ e. e ≡ PlanError.Memory) }
 {
-    let turns = if bound == 1 { "turn" } else { "turns" };
+    let turns = turns_of(bound);
     write!(text, "subgraph cluster_{number} {{\n")?;
     text.push_str("style=\"rounded,filled\"; fillcolor=\"#0000ff12\"; ")?;
     write!(text, "label=\"loop, at most {bound} {turns}\";\n")?;
     Ok(())
+}
+
+/// The word for as many turns.
+fn turns_of(bound: u16) -> &'static str
+    ensures { result.now ≡ turns_of bound }
+{
+    if bound == 1 { "turn" } else { "turns" }
 }
