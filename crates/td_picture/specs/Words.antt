@@ -1,5 +1,5 @@
 -- What the closures of the catalogue are, in words. A text is a list of bytes.
-use Rattle.std.specs.Prelude.{ℕ, ◌+◌, ◌-◌, ◌*◌, ◌/◌, ◌%◌, Bool, true, false, ◌==◌, if◌then◌else◌, List, [], ◌∷◌, ◌++◌, codes, decimal, unwrap_or, Option, Some, None}
+use Rattle.std.specs.Prelude.{ℕ, ◌+◌, ◌*◌, ◌/◌, ◌%◌, Bool, true, false, ◌==◌, if◌then◌else◌, List, [], ◌∷◌, ◌++◌, codes, decimal, unwrap_or, Option, Some, None}
 use Rattle.std.specs.Map.{lookup}
 use Rattle.td_plan.specs.declared.vertex.Kind.{Kind}
 use Rattle.td_plan.specs.declared.vertex.Kind.TheVariants.{Map, Group, Fold}

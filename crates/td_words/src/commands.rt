@@ -90,7 +90,7 @@ const SIM_MORE: &str = "\
 Reads:  the lines of a plan, a line '--', and lines 'INPUT KEY VALUE', where a line '.' closes an epoch
 Writes: lines 'note SHARD VERTEX TIME', and then lines 'EPOCH VERTEX KEY VALUE', after all was read; nothing where there is a fault
 Common faults:
-        'picks': a number of LIST is empty, or begins with a 0
+        'picks': a number of LIST is empty, or has a leading zero
         'plan line 3: syntax', 'line 9: no such input', 'line 9: epoch not closed': as of td batch
 Exit status: 0, or 1 after a fault, which is told on standard error
 Each fault is explained by 'td help faults'";

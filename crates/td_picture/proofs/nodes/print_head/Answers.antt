@@ -1,4 +1,4 @@
-use Rattle.std.proofs.Common.{arith, ap, ◌∙◌, ◌++◌, codes}
+use Rattle.std.proofs.Common.{ap, ◌∙◌, ◌++◌, codes}
 use Rattle.std.specs.Prelude.{string_bytes, decimal}
 use Rattle.td_picture.specs.Words.{Text}
 use Rattle.td_picture.specs.Drawn.{frame_of, frame_look, label_of}

@@ -1,4 +1,3 @@
-use Rattle.std.proofs.Common.{arith}
 use Rattle.std.specs.Prelude.{string_bytes}
 use Rattle.td_picture.proofs.Pieces.{two}
 use Rattle.td_picture.proofs.words.print_eight.Goals as goal
