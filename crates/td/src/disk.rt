@@ -163,7 +163,11 @@ fn disk_or_tell<R: Files<File = File> + AllocGlobal>(
 }
 
 /// The refusal for a file that cannot be had, with its path and the cause.
-fn file_refusal<R: AllocGlobal>(rt: &R, path: &str, cause: &str) -> Result<Refusal, Refusal> {
+pub(crate) fn file_refusal<R: AllocGlobal>(
+    rt: &R,
+    path: &str,
+    cause: &str,
+) -> Result<Refusal, Refusal> {
     let place = format!(in rt.alloc(); "{path}: {cause}")?;
     Ok(Refusal::At(Fault::File, place))
 }
@@ -198,7 +202,7 @@ fn hold_streams<R: Files<File = File>>(rt: &R) -> Result<[File; 3], Fault> {
 }
 
 /// The file at `path`, to be read. Refusals: `File`, `Memory`.
-fn open_to_read<R: Files<File = File>>(rt: &R, path: &str) -> Result<File, Fault> {
+pub(crate) fn open_to_read<R: Files<File = File>>(rt: &R, path: &str) -> Result<File, Fault> {
     match File::open(rt, path) {
         Ok(file) => Ok(file),
         Err(error) if error.kind() == io::ErrorKind::OutOfMemory => Err(Fault::Memory),

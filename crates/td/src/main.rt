@@ -7,7 +7,9 @@ ghost use Rattle.td.specs.Whole.{IsLawfulEngine, HasEach, map_codes, group_codes
 mod catalogue;
 mod disk;
 mod engine;
+mod faults;
 mod file_cause;
+mod plan;
 mod progress;
 mod refusal;
 mod store;
@@ -17,6 +19,8 @@ use crate::disk::{
     copy_disk, dump_disk, format_disk, open_disk, open_disk_or_tell, show_disk, upgrade_disk,
 };
 use crate::engine::Engine;
+use crate::faults::FAULTS;
+use crate::plan::print_plan;
 use crate::progress::stream_told;
 use crate::refusal::Refusal;
 use crate::store::{store_fold, store_group, store_map};
@@ -32,6 +36,9 @@ use td_console::{Fault, StdReader, StdWriter, batch, read_picks, run, sim};
 use td_feed::feed;
 use td_stamp::{Item, Rec, State};
 use td_words::{Job, WordsError, words};
+
+/// The program's name and version, and the kit by which it is proved.
+const VERSION: &str = "td 0.1 (rattle-kit-13f, proved)\n";
 
 fn main(rt: HostRuntime) -> ExitCode {
     let given = match given_words(&rt) {
@@ -99,10 +106,18 @@ fn done<R: Files<File = File> + Input + Print + AllocGlobal + Threads + Wait + S
             n,
             k,
         } => copy_disk(rt, disk, plan, new, m, n, k),
-        Job::Help(text) => match print!(rt; "{text}") {
-            Ok(()) => Ok(()),
-            Err(_) => Err(Refusal::Plain(Fault::Output)),
-        },
+        Job::Plan { plan, dot } => print_plan(rt, plan, dot),
+        Job::Help(text) => print_text(rt, text.as_str()),
+        Job::Version => print_text(rt, VERSION),
+        Job::Faults => print_text(rt, FAULTS),
+    }
+}
+
+/// Prints a text of the program's own.
+fn print_text<R: Print>(rt: &R, text: &str) -> Result<(), Refusal> {
+    match print!(rt; "{text}") {
+        Ok(()) => Ok(()),
+        Err(_) => Err(Refusal::Plain(Fault::Output)),
     }
 }
 

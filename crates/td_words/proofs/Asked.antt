@@ -1,5 +1,5 @@
 -- What the matches of a parse ask for.
-use Rattle.std.proofs.Common.{◌≡◌, ◌≢◌, ◌⊎◌, inl, inr, ℕ, ◌<◌, ◌≤◌, ◌^◌, List, [], Option, Some, None, option_map, Result, Ok, Err, IfOk, IfErr, IfNone, refl, ap, sym, ◌∙◌, subst, arith, bytes_eq, codes, lit<}
+use Rattle.std.proofs.Common.{◌≡◌, ◌≢◌, ◌⊎◌, inl, inr, ℕ, ◌<◌, ◌≤◌, ◌^◌, Bool, List, [], Option, Some, None, option_map, Result, Ok, Err, IfOk, IfErr, IfNone, refl, ap, sym, ◌∙◌, subst, arith, bytes_eq, codes, lit<}
 use Rattle.std.specs.Borrow.{Bor}
 use Rattle.std.specs.Str.Parse.{ParsesUnsigned, IsNumeral, digits_value, without_leading_plus}
 use Rattle.clap.specs.declared.parser.matches.Found.{Found}
@@ -11,11 +11,11 @@ use Rattle.clap.proofs.WalkLemmas.{one_text-rows}
 use Rattle.clap.specs.Faults.{fault_of}
 use Rattle.clap.specs.Kinds.{IsAmong}
 use Rattle.td_words.specs.declared.job.Job.{Job}
-use Rattle.td_words.specs.declared.job.Job.TheVariants.{Batch, Run, Sim, Format, Feed, Show, Dump, Upgrade, Copy, Stream, Help}
+use Rattle.td_words.specs.declared.job.Job.TheVariants.{Batch, Run, Sim, Format, Feed, Show, Dump, Upgrade, Copy, Stream, Plan, Help, Version, Faults}
 use Rattle.td_words.specs.declared.job.WordsError.{WordsError}
 use Rattle.td_words.specs.declared.job.WordsError.TheVariants.{Words, Memory}
 use Rattle.td_words.specs.Jobs.{IsHelp, IsOf}
-use Rattle.td_words.specs.Command.{td, IsNumber, IsWorkers, IsNamed, HasValues, HasWorkers, IsAsked, IsRefused, name_of, IsFormat, IsFeed}
+use Rattle.td_words.specs.Command.{td, IsNumber, IsWorkers, IsNamed, HasValues, HasWorkers, IsAsked, IsNotTaken, name_of, IsFormat, IsFeed}
 
 -- a number, as it is read
 module _ {E : Type 0} (bits : ℕ) (Reads : List ℕ → Result ℕ E → Type 0) (numbers : (t : List ℕ) (x : Result ℕ E) → Reads t x → ParsesUnsigned bits 10 t x) (f : Found) (id : Text) (r : Option ℕ)
@@ -98,6 +98,10 @@ pub only_copy : (rows : List Row) (job : Job) → IsOf (codes "copy") rows job �
 only_copy rows (Copy disk plan new m n k) h = (disk, plan, new, m, n, k, h.1)
 only_copy rows _ h = let other = ap (bytes_eq (codes "copy")) h.0 in cc
 
+pub only_plan : (rows : List Row) (job : Job) → IsOf (codes "plan") rows job → (plan : Bor Text) × (dot : Bool) × HasValues rows (Plan plan dot)
+only_plan rows (Plan plan dot) h = (plan, dot, h.1)
+only_plan rows _ h = let other = ap (bytes_eq (codes "plan")) h.0 in cc
+
 -- a value that is lacking
 pub lacks : (id : Text) (rows : List Row) (text : Text) → first_of id rows ≡ None → first_of id rows ≡ Some text → ⊥
 lacks id rows text none some = cc
@@ -105,6 +109,8 @@ lacks id rows text none some = cc
 -- a job that is named, where clap takes the words
 pub asked_by : (words : List (List ℕ)) (job : Job) → fault_of td words ≡ [] → IsNamed (subcommand_of td words) job → IsAsked words job
 asked_by words (Help text) e n = absurd n.2
+asked_by words Version e n = absurd n.2
+asked_by words Faults e n = absurd n.2
 asked_by words _ e n = (e, n)
 
 pub has_workers : (met : Option (Text × List Row)) (job : Job) → IsNamed met job → HasWorkers job
@@ -130,7 +136,7 @@ help_has_workers (Ok (Help text)) kind ok = tt
 help_has_workers (Ok _) kind ok = absurd ok.0
 
 pub refused_by : (words : List (List ℕ)) (r : Result Job WordsError) (kind : ErrorKind) → IfErr r (λ e. (e ≡ Memory) ⊎ ((e ≡ Words) × (kind ≢ DisplayHelp) × (kind ≢ OutOfMemory)))
-    → (kind ≡ OutOfMemory) ⊎ IsAmong kind (fault_of td words) → IfErr r (λ e. (e ≡ Memory) ⊎ ((e ≡ Words) × IsRefused words))
+    → (kind ≡ OutOfMemory) ⊎ IsAmong kind (fault_of td words) → IfErr r (λ e. (e ≡ Memory) ⊎ ((e ≡ Words) × IsNotTaken words))
 refused_by words (Ok job) kind err among = tt
 refused_by words (Err error) kind (inl memory) among = inl memory
 refused_by words (Err error) kind (inr h) (inl memory) = absurd (h.2 memory)
@@ -141,7 +147,7 @@ refused_by words (Err error) kind (inr h) (inr among) = inr (h.0, ((λ job n non
     by (inr lacks) = lacks
 
 -- words that name no job
-pub none_named : (words : List (List ℕ)) → ((job : Job) → IsNamed (subcommand_of td words) job → ⊥) → fault_of td words ≡ [] → IsRefused words
+pub none_named : (words : List (List ℕ)) → ((job : Job) → IsNamed (subcommand_of td words) job → ⊥) → fault_of td words ≡ [] → IsNotTaken words
 none_named words lacks e = ((λ job n f. lacks job n), (λ only. let k = sym e ∙ only in cc))
 
 -- the job that is named by what clap met at given words

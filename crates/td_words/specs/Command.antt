@@ -1,5 +1,6 @@
 -- What clap makes of the program's words, of which the first is the program's name.
-use Rattle.std.specs.Prelude.{◌≡◌, ◌≢◌, ℕ, ◌≤◌, pos, List, [], ◌∷◌, Option, Some, None, Bool, true, false, codes}
+use Rattle.std.specs.Prelude.{◌≡◌, ◌≢◌, ℕ, ◌≤◌, pos, List, [], ◌∷◌, Option, Some, None, Bool, true, false, ◌&&◌, ◌||◌, IsTrue, codes}
+use Rattle.std.specs.Str.{bytes_eq}
 use Rattle.std.specs.Str.Parse.{IsNumeral, digits_value, without_leading_plus}
 use Rattle.clap.specs.Words.{App, Row, Rule, Text, new_app, new_rule, with_rule, with_subcommand, subcommand_of, one_of, first_of}
 use Rattle.clap.specs.Faults.{fault_of}
@@ -8,7 +9,7 @@ use Rattle.clap.specs.declared.builder.value_parser.ValueParser.TheVariants as p
 use Rattle.clap.specs.declared.builder.action.ArgAction.TheVariants.{SetTrue}
 use Rattle.clap.specs.declared.error.kind.ErrorKind.TheVariants.{DisplayHelp}
 use Rattle.td_words.specs.declared.job.Job.{Job}
-use Rattle.td_words.specs.declared.job.Job.TheVariants.{Batch, Run, Sim, Format, Feed, Show, Dump, Upgrade, Copy, Stream, Help}
+use Rattle.td_words.specs.declared.job.Job.TheVariants.{Batch, Run, Sim, Format, Feed, Show, Dump, Upgrade, Copy, Stream, Plan, Help, Version, Faults}
 
 -- `--workers W`, a number of 1 to 16, and 1 where it is not given
 abbrev pub workers_rule : Rule
@@ -43,12 +44,9 @@ cut_every_rule = record (new_rule (codes "cut-every")) {
   parser = Some (parser.Unsigned 1 65536);
 }
 
--- `--progress`, a flag
-abbrev pub progress_rule : Rule
-progress_rule = record (new_rule (codes "progress")) {
-  long = Some (codes "progress");
-  action = Some SetTrue;
-}
+-- a flag, as `--progress`
+abbrev pub flag_rule : Text → Rule
+flag_rule id = record (new_rule id) { long = Some id; action = Some SetTrue }
 
 -- the subcommands
 abbrev pub batch_app : App
@@ -85,14 +83,27 @@ abbrev pub copy_app : App
 copy_app = with_shape (with_rule (with_files (new_app (codes "copy"))) (word_rule (codes "new")))
 
 abbrev pub stream_app : App
-stream_app = with_rule (with_rule (with_rule (with_files (new_app (codes "stream"))) workers_rule) cut_every_rule) progress_rule
+stream_app = with_rule (with_rule (with_rule (with_files (new_app (codes "stream"))) workers_rule) cut_every_rule) (flag_rule (codes "progress"))
+
+abbrev pub plan_app : App
+plan_app = with_rule (with_rule (new_app (codes "plan")) (word_rule (codes "plan"))) (flag_rule (codes "dot"))
 
 -- `td`, which needs one of them
 abbrev pub alone : App
 alone = let named = new_app (codes "td") in record named { top = record named.top { subcommand_required = true } }
 
 abbrev pub td : App
-td = with_subcommand (with_subcommand (with_subcommand (with_subcommand (with_subcommand (with_subcommand (with_subcommand (with_subcommand (with_subcommand (with_subcommand alone batch_app.top) run_app.top) sim_app.top) format_app.top) feed_app.top) show_app.top) dump_app.top) upgrade_app.top) copy_app.top) stream_app.top
+td = with_subcommand (with_subcommand (with_subcommand (with_subcommand (with_subcommand (with_subcommand (with_subcommand (with_subcommand (with_subcommand (with_subcommand (with_subcommand alone batch_app.top) run_app.top) sim_app.top) format_app.top) feed_app.top) show_app.top) dump_app.top) upgrade_app.top) copy_app.top) stream_app.top) plan_app.top
+
+-- the words that ask for the program's name and version, `--version` or `-V`, and those that ask for the text on faults, `help faults`:
+-- clap has no part in these
+abbrev pub asks_version : List Text → Bool
+asks_version (name ∷ word ∷ []) = bytes_eq word (codes "--version") || bytes_eq word (codes "-V")
+asks_version _ = false
+
+abbrev pub asks_faults : List Text → Bool
+asks_faults (name ∷ help ∷ about ∷ []) = bytes_eq help (codes "help") && bytes_eq about (codes "faults")
+asks_faults _ = false
 
 abbrev pub batch_words : List (List ℕ)
 batch_words = codes "td" ∷ codes "batch" ∷ []
@@ -149,7 +160,10 @@ name_of (Dump disk plan) = codes "dump"
 name_of (Upgrade disk plan) = codes "upgrade"
 name_of (Copy disk plan new m n k) = codes "copy"
 name_of (Stream disk plan workers cut_every progress) = codes "stream"
+name_of (Plan plan dot) = codes "plan"
 name_of (Help text) = codes "help"
+name_of Version = codes "version"
+name_of Faults = codes "faults"
 
 abbrev pub HasValues : List Row → Job → Type 0
 HasValues rows Batch = Unit {0}
@@ -166,15 +180,20 @@ HasValues rows (Copy disk plan new m n k) = (first_of (codes "disk") rows ≡ So
     × IsNumber (codes "m") 0 4294967295 rows m × IsNumber (codes "n") 0 4294967295 rows n × IsNumber (codes "k") 0 4294967295 rows k
 HasValues rows (Stream disk plan workers cut_every progress) = (first_of (codes "disk") rows ≡ Some disk.now) × (first_of (codes "plan") rows ≡ Some plan.now)
     × IsWorkers rows workers × IsCutEvery rows cut_every × IsFlag (codes "progress") rows progress
+HasValues rows (Plan plan dot) = (first_of (codes "plan") rows ≡ Some plan.now) × IsFlag (codes "dot") rows dot
 HasValues rows (Help text) = ⊥
+HasValues rows Version = ⊥
+HasValues rows Faults = ⊥
 
 -- the subcommand at which a parse arrived is the job's, and has its values
 abbrev pub IsNamed : Option (Text × List Row) → Job → Type 0
 IsNamed met job = (rows : List Row) × (met ≡ Some (name_of job, rows)) × HasValues rows job
 
--- clap takes the words, and they name the job; or they ask for help
+-- clap takes the words, and they name the job; or they ask for help, for the version, or for the text on faults
 abbrev pub IsAsked : List (List ℕ) → Job → Type 0
 IsAsked words (Help text) = IsAmong DisplayHelp (fault_of td words)
+IsAsked words Version = IsTrue (asks_version words)
+IsAsked words Faults = IsTrue (asks_faults words)
 IsAsked words job = (fault_of td words ≡ []) × IsNamed (subcommand_of td words) job
 
 -- a number of shards is 1 to 16
@@ -186,8 +205,12 @@ HasWorkers (Stream disk plan workers cut_every progress) = (1 ≤ workers) × (w
 HasWorkers _ = Unit {0}
 
 -- the words ask for no job, nor for help alone
+abbrev pub IsNotTaken : List (List ℕ) → Type 0
+IsNotTaken words = ((job : Job) → IsNamed (subcommand_of td words) job → fault_of td words ≡ [] → ⊥) × (fault_of td words ≢ DisplayHelp ∷ [])
+
+-- nor for another text
 abbrev pub IsRefused : List (List ℕ) → Type 0
-IsRefused words = ((job : Job) → IsNamed (subcommand_of td words) job → fault_of td words ≡ [] → ⊥) × (fault_of td words ≢ DisplayHelp ∷ [])
+IsRefused words = IsNotTaken words × (asks_version words ≡ false) × (asks_faults words ≡ false)
 
 -- a formatting with these values, a feed, and one as its lines come
 abbrev pub IsFormat : Text → Text → ℕ → ℕ → ℕ → Job → Type 0

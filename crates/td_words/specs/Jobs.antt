@@ -1,16 +1,22 @@
 -- Kinds of jobs and of commands, in the words of private functions. No public contract cites this file.
-use Rattle.std.specs.Prelude.{◌≡◌, List, Bool}
+use Rattle.std.specs.Prelude.{◌≡◌, List, Bool, true, false}
 use Rattle.clap.specs.Words.{Row, Text}
 use Rattle.clap.specs.declared.builder.command.Command.{Command}
 use Rattle.clap.specs.declared.builder.command.Command.TheViews.{out-Command}
 use Rattle.td_words.specs.declared.job.Job.{Job}
-use Rattle.td_words.specs.declared.job.Job.TheVariants.{Help}
-use Rattle.td_words.specs.Command.{name_of, HasValues}
+use Rattle.td_words.specs.declared.job.Job.TheVariants.{Help, Version, Faults}
+use Rattle.td_words.specs.Command.{name_of, HasValues, asks_version, asks_faults}
 
 -- a job that prints a text
 abbrev pub IsHelp : Job → Type 0
 IsHelp (Help text) = Unit {0}
 IsHelp _ = ⊥
+
+-- a job that prints a text of the program, which the words ask for
+abbrev pub IsTextAsked : List Text → Job → Type 0
+IsTextAsked words Version = asks_version words ≡ true
+IsTextAsked words Faults = (asks_version words ≡ false) × (asks_faults words ≡ true)
+IsTextAsked words _ = ⊥
 
 -- a job of the subcommand of this name, with these values
 abbrev pub IsOf : Text → List Row → Job → Type 0

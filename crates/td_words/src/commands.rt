@@ -3,7 +3,7 @@ ghost use Rattle.std.specs.Prelude.{◌≡◌, false, IfOk, IsOkAnd};
 ghost use Rattle.clap.specs.Words.{app_of, new_app, rule_of, with_rule, with_subcommand};
 ghost use Rattle.td_words.specs.Command.{alone, td, batch_app, run_app, sim_app, format_app, feed_app, show_app, dump_app, upgrade_app, copy_app};
 ghost use Rattle.td_words.specs.Command.{workers_rule, picks_rule, word_rule, number_rule};
-ghost use Rattle.td_words.specs.Command.{stream_app, cut_every_rule, progress_rule};
+ghost use Rattle.td_words.specs.Command.{stream_app, plan_app, cut_every_rule, flag_rule};
 ghost use Rattle.td_words.specs.Jobs.{has_globals};
 
 use clap::builder::ValueParser;
@@ -39,6 +39,9 @@ const COPY: &str = "Makes a disk of another shape, which has what a disk has";
 
 const STREAM: &str = "Does what feed does, epoch by epoch as standard input comes";
 
+const LISTING: &str =
+    "Writes a plan with what each of its closures is in words, or a picture of it";
+
 /// What help says of the options and of the other arguments.
 const WORKERS: &str = "How many shards, 1 to 16";
 
@@ -61,30 +64,46 @@ const STATES: &str = "How many states a cut may keep, 1 to 1048576";
 
 const CUT_EVERY: &str = "Cut after each E epochs, 1 to 65536";
 
+const PLAN_OR_INPUT: &str =
+    "A file with the lines of a plan, or with an input of td batch, of which the plan is taken";
+
+const DOT: &str = "Write a picture, in the language of Graphviz";
+
 const PROGRESS: &str = "Write how far it has come to standard error, each second";
 
 /// What help says at its end.
 const TD_MORE: &str = "\
 Output goes to standard output, faults to standard error. Exit status: 0, 1 after a fault, 2 for words that do not parse.
-Faults are explained in docs/FAULTS.md";
+'td help COMMAND' tells what a command reads and writes, 'td help faults' what each fault means, 'td --version' the version";
 
 const BATCH_MORE: &str = "\
 Reads:  the lines of a plan, a line '--', and lines 'INPUT KEY VALUE', where a line '.' closes an epoch
 Writes: lines 'EPOCH VERTEX KEY VALUE', after all was read; nothing where there is a fault
+Common faults:
+        'plan line 3: syntax': no line of a plan, as a map without its code, or a record where the line '--' is missing
+        'line 9: no such input': the first number of a record is not the number of an input
+        'line 9: epoch not closed': no line '.' stands after the last record
 Exit status: 0, or 1 after a fault, which is told on standard error
-Faults are explained in docs/FAULTS.md";
+Each fault is explained by 'td help faults'";
 
 const SIM_MORE: &str = "\
 Reads:  the lines of a plan, a line '--', and lines 'INPUT KEY VALUE', where a line '.' closes an epoch
 Writes: lines 'note SHARD VERTEX TIME', and then lines 'EPOCH VERTEX KEY VALUE', after all was read; nothing where there is a fault
+Common faults:
+        'picks': a number of LIST is empty, or has a leading zero
+        'plan line 3: syntax', 'line 9: no such input', 'line 9: epoch not closed': as of td batch
 Exit status: 0, or 1 after a fault, which is told on standard error
-Faults are explained in docs/FAULTS.md";
+Each fault is explained by 'td help faults'";
 
 const FORMAT_MORE: &str = "\
 Reads:  PLAN
 Writes: DISK, of 8308 + 64 K + N (25 + 24 M) bytes
+Common faults:
+        'shape': M, N or K is 0, or too large
+        'file': PLAN cannot be read, or DISK cannot be made or is in use
+        'plan line 3: syntax': as of td batch; PLAN has no line '--' and no records
 Exit status: 0, or 1 after a fault, which is told on standard error
-Faults are explained in docs/FAULTS.md";
+Each fault is explained by 'td help faults'";
 
 const FEED_MORE: &str = "\
 Reads:  PLAN, DISK, and lines 'INPUT KEY VALUE', where a line '.' closes an epoch, and a line 'cut' between epochs cuts;
@@ -92,35 +111,53 @@ Reads:  PLAN, DISK, and lines 'INPUT KEY VALUE', where a line '.' closes an epoc
 Writes: DISK, and lines 'ack EPOCH' once an epoch is on it, 'EPOCH VERTEX KEY VALUE' at a cut and at the end, and 'cut EPOCH';
         'again REQUEST' for an epoch whose number is not above the last on DISK, which is not put there again
 A cut keeps the states on DISK, and frees the room of the epochs up to it
+Common faults:
+        'line 9: syntax': no record, or a 'cut' inside an epoch; nothing of the input was fed
+        'journal full': N epochs stand after the last cut; feed a line 'cut', and then the epochs that have no 'ack'
+        'too many records': an epoch has more than M
+        'another plan': DISK was formatted for another plan than PLAN
 Exit status: 0, or 1 after a fault, which is told on standard error
-Faults are explained in docs/FAULTS.md";
+Each fault is explained by 'td help faults'";
 
 const SHOW_MORE: &str = "\
 Reads:  PLAN and DISK
 Writes: a line 'kept EPOCH', of the last cut, and 'told EPOCH', of the last epoch; 'last REQUEST' where there is one;
         lines 'state VERTEX KEY A B', the states kept, and 'epoch EPOCH RECORDS', the epochs after the cut
+Common faults:
+        'file': PLAN or DISK cannot be read, or another td has DISK open
+        'another plan': DISK was formatted for another plan than PLAN
 Exit status: 0, or 1 after a fault, which is told on standard error
-Faults are explained in docs/FAULTS.md";
+Each fault is explained by 'td help faults'";
 
 const DUMP_MORE: &str = "\
 Reads:  PLAN and DISK
 Writes: a line '# kept EPOCH told EPOCH last REQUEST, epochs COUNT of N, states COUNT of K', which feed passes over;
         of each epoch after the last cut 'req REQUEST' where it has a request number, lines 'INPUT KEY VALUE', and a line '.'
+Common faults:
+        'file: PATH: CAUSE': a file that cannot be read, and why, as 'locked by another process'
+        'another plan: DISK': DISK was formatted for another plan than PLAN
 Exit status: 0, or 1 after a fault, which is told on standard error
-Faults are explained in docs/FAULTS.md";
+Each fault is explained by 'td help faults'";
 
 const UPGRADE_MORE: &str = "\
 Reads:  PLAN and DISK
 Writes: DISK, and a line 'version 2', also where it was of version 2 before
+Common faults:
+        'file': PLAN or DISK cannot be read, or another td has DISK open
+        'another plan': DISK was formatted for another plan than PLAN
 Exit status: 0, or 1 after a fault, which is told on standard error
-Faults are explained in docs/FAULTS.md";
+Each fault is explained by 'td help faults'";
 
 const COPY_MORE: &str = "\
 Reads:  PLAN and DISK
 Writes: NEW, of 8308 + 64 K + N (25 + 24 M) bytes, with the states that the last cut kept, the epochs after it, and their request
         numbers; DISK stays as it is
+Common faults:
+        'file: NEW: is there': NEW is a file that is there, which td copy never writes over
+        'shape: K is 0, not 1 to 1048576': M, N or K is 0, or too large
+        'too many keys', 'journal full', 'too many records': NEW has too little room for what DISK has
 Exit status: 0, or 1 after a fault, which is told on standard error
-Faults are explained in docs/FAULTS.md";
+Each fault is explained by 'td help faults'";
 
 const STREAM_MORE: &str = "\
 Reads:  PLAN, DISK and lines, as td feed does
@@ -129,8 +166,25 @@ Writes: DISK, and, as each epoch is closed and before the next line is read, 'ac
         --cut-every E, and in any case before the room for epochs on DISK is full;
         with --progress, to standard error, 'acked EPOCH done EPOCH kept EPOCH': the last epoch on DISK, computed, and cut
 A cut keeps the states on DISK, and frees the room of the epochs up to it
+Common faults:
+        'line 9: syntax': no record, or a 'cut' inside an epoch; what stands before it was fed
+        'too many keys: K is 3': at a cut there are more than K states; copy DISK to one with a larger K
+        'file: DISK: locked by another process': another td has DISK open
+        'another plan: DISK': DISK was formatted for another plan than PLAN
 Exit status: 0, or 1 after a fault, which is told on standard error
-Faults are explained in docs/FAULTS.md";
+Each fault is explained by 'td help faults'";
+
+const PLAN_MORE: &str = "\
+Reads:  PLAN, up to a line '--', if it has one
+Writes: the lines of the plan, and before each map, group and fold a line '# WORDS' of what its closure is, which td passes over
+        where it reads a plan; with --dot, a picture for Graphviz, as in 'td plan --dot PLAN | dot -Tsvg > plan.svg', in which
+        the vertices of a loop stand in a frame
+Common faults:
+        'plan line 3: number: PLAN: 7 map 1 0': the fault, the file, and the line itself
+        'file: PLAN: no such file': a file that cannot be read, and why
+        '# no closure of the catalogue' is no fault here: batch, run, sim, feed and stream refuse such a plan
+Exit status: 0, or 1 after a fault, which is told on standard error
+Each fault is explained by 'td help faults'";
 
 /// `td` with its subcommands.
 pub(crate) fn command<'a>(alloc: Global) -> Result<Command<'a>, AllocError>
@@ -146,7 +200,8 @@ pub(crate) fn command<'a>(alloc: Global) -> Result<Command<'a>, AllocError>
     let td = with_leaf(td, dump_leaf(alloc))?;
     let td = with_leaf(td, upgrade_leaf(alloc))?;
     let td = with_leaf(td, copy_leaf(alloc))?;
-    with_leaf(td, stream_leaf(alloc))
+    let td = with_leaf(td, stream_leaf(alloc))?;
+    with_leaf(td, plan_leaf(alloc))
 }
 
 /// `td` without its subcommands, one of which has to stand there.
@@ -265,7 +320,17 @@ fn stream_leaf<'a>(alloc: Global) -> Result<Command<'a>, AllocError>
     let leaf = with_arg(leaf, word_arg(alloc, "plan", "PLAN", PLAN))?;
     let leaf = with_arg(leaf, workers_arg(alloc))?;
     let leaf = with_arg(leaf, cut_every_arg(alloc))?;
-    with_arg(leaf, progress_arg(alloc))
+    with_arg(leaf, flag_arg(alloc, "progress", PROGRESS))
+}
+
+/// `plan`.
+fn plan_leaf<'a>(alloc: Global) -> Result<Command<'a>, AllocError>
+    ensures app { IfOk result (λ c. app_of c ≡ plan_app) }
+    ensures globals { IfOk result (λ c. has_globals c ≡ false) }
+{
+    let leaf = new_leaf(alloc, "plan", LISTING, PLAN_MORE);
+    let leaf = with_arg(leaf, word_arg(alloc, "plan", "PLAN", PLAN_OR_INPUT))?;
+    with_arg(leaf, flag_arg(alloc, "dot", DOT))
 }
 
 /// A subcommand without arguments, with what help says of it, in one line and at its end.
@@ -360,13 +425,13 @@ fn cut_every_arg<'a>(alloc: Global) -> Arg<'a>
         .help(CUT_EVERY)
 }
 
-/// `--progress`, a flag.
-fn progress_arg<'a>(alloc: Global) -> Arg<'a>
-    ensures rule { rule_of result ≡ progress_rule }
+/// A flag, as `--progress`.
+fn flag_arg<'a>(alloc: Global, id: &'a str, help: &'a str) -> Arg<'a>
+    ensures rule { rule_of result ≡ flag_rule id.entry.now }
     ensures local { result.global ≡ false }
 {
-    Arg::new(alloc, "progress")
-        .long("progress")
+    Arg::new(alloc, id)
+        .long(id)
         .action(ArgAction::SetTrue)
-        .help(PROGRESS)
+        .help(help)
 }

@@ -58,8 +58,17 @@ pub enum Job<'a> {
         cut_every: Option<u32>,
         progress: bool,
     },
+    /// To write the lines of the plan in the file `plan` with what its closures are in words, or a picture of it, if `dot`.
+    Plan {
+        plan: &'a str,
+        dot: bool,
+    },
     /// To print this text.
     Help(String),
+    /// To print the program's name and version.
+    Version,
+    /// To print the text that explains each fault.
+    Faults,
 }
 
 /// Why nothing can be done for the words.

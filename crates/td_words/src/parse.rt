@@ -4,9 +4,9 @@ ghost use Rattle.std.specs.Prelude.{Option, Ok, Err, Some, None, codes};
 ghost use Rattle.clap.specs.Words.{found_of, first_of, kind_of, rows_of, subcommand_rows_of};
 ghost use Rattle.td_words.specs.declared.job.Job.{Job as AnyJob};
 ghost use Rattle.td_words.specs.Command.{batch_words, run_words, format_words, feed_words, IsAsked, IsNamed, IsNumber};
-ghost use Rattle.td_words.specs.Command.{IsWorkers, HasWorkers, IsRefused, IsFormat, IsFeed};
+ghost use Rattle.td_words.specs.Command.{IsWorkers, HasWorkers, IsRefused, IsNotTaken, IsFormat, IsFeed, asks_version, asks_faults};
 ghost use Rattle.td_words.specs.Command.{stream_words, cutting_words, telling_words, IsCutEvery, IsFlag, IsStream};
-ghost use Rattle.td_words.specs.Jobs.{IsHelp, IsOf};
+ghost use Rattle.td_words.specs.Jobs.{IsHelp, IsOf, IsTextAsked};
 
 use crate::commands::command;
 use crate::job::{Job, WordsError};
@@ -16,14 +16,70 @@ use std::alloc::Global;
 
 /// What these words ask for, of which the first is the program's name. The subcommands are `batch`, `run [--workers W]`,
 /// `sim [--workers W] [--picks LIST]`, `format DISK PLAN M N K`, `feed [--workers W] DISK PLAN`, `show DISK PLAN`,
-/// `dump DISK PLAN`, `upgrade DISK PLAN`, `copy DISK PLAN NEW M N K` and `stream [--workers W] [--cut-every E] [--progress] DISK
-/// PLAN`, where W is 1 to 16, and 1 where it is not given, LIST is `0` where it is not given, M, N and K are numbers of 32 bits, and E is 1 to
-/// 65536, and none where it is not given.
-/// Refusals: `Words` where clap refuses the words, and `Memory`.
+/// `dump DISK PLAN`, `upgrade DISK PLAN`, `copy DISK PLAN NEW M N K`, `stream [--workers W] [--cut-every E] [--progress] DISK
+/// PLAN` and `plan [--dot] PLAN`, where W is 1 to 16, and 1 where it is not given, LIST is `0` where it is not given, M, N and K are numbers
+/// of 32 bits, and E is 1 to 65536, and none where it is not given. `--version` or `-V` alone asks for the version, `help faults` for the
+/// text on faults.
+/// Refusals: `Words` where these are none of them and clap refuses the words, and `Memory`.
 pub fn words<'a>(alloc: Global, given: &'a [String]) -> Result<Job<'a>, WordsError>
     ensures ok { IfOk result (IsAsked (map string_bytes given.entry.now)) }
     ensures workers { IfOk result HasWorkers }
     ensures err { IfErr result (λ e. (e ≡ WordsError.Memory) ⊎ ((e ≡ WordsError.Words) × IsRefused (map string_bytes given.entry.now))) }
+    ensures batch { map string_bytes given.entry.now ≡ batch_words → (result ≡ Ok Job.Batch) ⊎ (result ≡ Err WordsError.Memory) }
+    ensures run { map string_bytes given.entry.now ≡ run_words → (result ≡ Ok (Job.Run 1)) ⊎ (result ≡ Err WordsError.Memory) }
+    ensures format { map string_bytes given.entry.now ≡ format_words → IfOk result (IsFormat (codes "d") (codes "p") 4 2 3) × IfErr result (λ e. e ≡ WordsError.Memory) }
+    ensures feed { map string_bytes given.entry.now ≡ feed_words → IfOk result (IsFeed (codes "d") (codes "p") 1) × IfErr result (λ e. e ≡ WordsError.Memory) }
+    ensures stream { map string_bytes given.entry.now ≡ stream_words → IfOk result (IsStream (codes "d") (codes "p") 1 None false) × IfErr result (λ e. e ≡ WordsError.Memory) }
+    ensures cutting { map string_bytes given.entry.now ≡ cutting_words → IfOk result (IsStream (codes "d") (codes "p") 1 (Some 4) false) × IfErr result (λ e. e ≡ WordsError.Memory) }
+    ensures telling { map string_bytes given.entry.now ≡ telling_words → IfOk result (IsStream (codes "d") (codes "p") 1 None true) × IfErr result (λ e. e ≡ WordsError.Memory) }
+    ensures version { asks_version (map string_bytes given.entry.now) ≡ true → result ≡ Ok Job.Version }
+    ensures faults { asks_faults (map string_bytes given.entry.now) ≡ true → result ≡ Ok Job.Faults }
+{
+    match text_asked(given) {
+        Some(job) => Ok(job),
+        None => parsed(alloc, given),
+    }
+}
+
+/// The text that these words ask for, of which clap knows nothing.
+fn text_asked<'a>(given: &[String]) -> Option<Job<'a>>
+    ensures some { IfSome result (IsTextAsked (map string_bytes given.now)) }
+    ensures none { IfNone result ((asks_version (map string_bytes given.now) ≡ false) × (asks_faults (map string_bytes given.now) ≡ false)) }
+{
+    if asks_version(given) {
+        Some(Job::Version)
+    } else if asks_faults(given) {
+        Some(Job::Faults)
+    } else {
+        None
+    }
+}
+
+/// Whether these words ask for the program's name and version.
+fn asks_version(given: &[String]) -> bool
+    ensures { result ≡ asks_version (map string_bytes given.now) }
+{
+    match given {
+        [_, word] => word.as_str() == "--version" || word.as_str() == "-V",
+        _ => false,
+    }
+}
+
+/// Whether these words ask for the text on faults.
+fn asks_faults(given: &[String]) -> bool
+    ensures { result ≡ asks_faults (map string_bytes given.now) }
+{
+    match given {
+        [_, help, about] => help.as_str() == "help" && about.as_str() == "faults",
+        _ => false,
+    }
+}
+
+/// What these words ask for, as clap parses them. Refusals: `Words` where clap refuses them, and `Memory`.
+fn parsed<'a>(alloc: Global, given: &'a [String]) -> Result<Job<'a>, WordsError>
+    ensures ok { IfOk result (IsAsked (map string_bytes given.entry.now)) }
+    ensures workers { IfOk result HasWorkers }
+    ensures err { IfErr result (λ e. (e ≡ WordsError.Memory) ⊎ ((e ≡ WordsError.Words) × IsNotTaken (map string_bytes given.entry.now))) }
     ensures batch { map string_bytes given.entry.now ≡ batch_words → (result ≡ Ok Job.Batch) ⊎ (result ≡ Err WordsError.Memory) }
     ensures run { map string_bytes given.entry.now ≡ run_words → (result ≡ Ok (Job.Run 1)) ⊎ (result ≡ Err WordsError.Memory) }
     ensures format { map string_bytes given.entry.now ≡ format_words → IfOk result (IsFormat (codes "d") (codes "p") 4 2 3) × IfErr result (λ e. e ≡ WordsError.Memory) }
@@ -70,6 +126,7 @@ fn job_of<'a>(name: &str, matches: &ArgMatches<'a>) -> Option<Job<'a>>
         "upgrade" => upgrade_job(matches),
         "copy" => copy_job(matches),
         "stream" => stream_job(matches),
+        "plan" => plan_job(matches),
         _ => None,
     }
 }
@@ -195,6 +252,16 @@ fn stream_job<'a>(matches: &ArgMatches<'a>) -> Option<Job<'a>>
         cut_every,
         progress,
     })
+}
+
+/// The look at a plan that the matches of `plan` ask for.
+fn plan_job<'a>(matches: &ArgMatches<'a>) -> Option<Job<'a>>
+    ensures some { IfSome result (IsOf (codes "plan") (rows_of (found_of matches.now))) }
+    ensures none { IfNone result ((job : AnyJob) → IsOf (codes "plan") (rows_of (found_of matches.now)) job → ⊥) }
+{
+    let plan = word_of(matches, "plan")?;
+    let dot = flag_of(matches, "dot")?;
+    Some(Job::Plan { plan, dot })
 }
 
 /// The word of an argument.

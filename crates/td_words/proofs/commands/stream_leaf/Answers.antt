@@ -9,4 +9,4 @@ returns-clause-app c =
     let grown_2 = c.in_ok-leaf-2.ensures.shape ∙ ap₂ with_rule grown_1 c.word_arg-2.ensures.rule in
     let grown_3 = c.in_ok-leaf-3.ensures.shape ∙ ap₂ with_rule grown_2 c.workers_arg.ensures.rule in
     let grown_4 = c.in_ok-leaf-4.ensures.shape ∙ ap₂ with_rule grown_3 c.cut_every_arg.ensures.rule in
-    IfOk-weaker c.with_arg-5.result _ _ (λ m h. h ∙ ap₂ with_rule grown_4 c.progress_arg.ensures.rule) c.with_arg-5.ensures.shape
+    IfOk-weaker c.with_arg-5.result _ _ (λ m h. h ∙ ap₂ with_rule grown_4 c.flag_arg.ensures.rule) c.with_arg-5.ensures.shape

@@ -11,7 +11,7 @@ use Rattle.td_words.proofs.BatchWords.{td_is_simple, td_is_free, batch_is_taken,
 use Rattle.td_words.proofs.DiskWords.{format_is_taken, format_is_named, format_has, feed_is_taken, feed_is_named, feed_has}
 use Rattle.td_words.proofs.StreamAsked.{named_uncut, named_cutting, uncut_met, cutting_met, stream_values}
 use Rattle.td_words.proofs.StreamWords.{stream_is_taken, stream_is_named, stream_has, cutting_is_taken, cutting_is_named, cutting_has, telling_is_taken, telling_is_named, telling_has}
-use Rattle.td_words.proofs.parse.words.Goals as goal
+use Rattle.td_words.proofs.parse.parsed.Goals as goal
 
 pub returns-in-Err-clause-err : goal.returns-in-Err-clause-err
 returns-in-Err-clause-err c =

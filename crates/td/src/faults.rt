@@ -1,0 +1,379 @@
+//! What `td help faults` prints: docs/FAULTS.md, byte for byte. `bench/faults.py` compares them, and `bench/faults.py --write` writes this
+//! file anew.
+
+/// The text that explains each fault.
+pub(crate) const FAULTS: &str = r#"# Faults: what `td` says, an input that brings it, and what to do
+
+A fault is one line on standard error, `td: ` and a text, and nothing is written to standard output; but `td feed` and `td stream`
+leave standing what they wrote before the fault, and an epoch of which they wrote `ack` stays on the disk; and with `--progress` a
+stream's other lines stand before it. The status is 1, of the program's words 2. Only the first fault is told: mend it and run
+again. `docs/FORMATS.md` has the rules whole; here is each text with the mistakes that most often lead to it. Each command below is
+run as it stands by `./check`, with the program's folder in the `PATH`; the line under it is what it prints.
+
+Lines are counted from the first line of the input, from 1: lines that begin with `#`, empty lines and the `--` line are
+counted too.
+
+## The program's words
+
+**`words`**: the words are none that `td help` shows. The status is 2.
+
+    $ td
+    td: words
+    $ td bach < /dev/null
+    td: words
+
+A number of `td format` has a minus sign, is empty, or is above 4294967295 (a plus sign and leading zeros may stand); a count of shards is not 1 to 16; a file whose name
+begins with `-` stands without `--` before it:
+
+    $ td format total.disk total.plan '' 2 3
+    td: words
+    $ td format total.disk total.plan 4 2 4294967296
+    td: words
+    $ td feed total.disk total.plan --workers 17
+    td: words
+
+**`picks`**: the picks of `td sim` are no list of numbers joined by commas: one has a leading zero, is empty, or is above
+18446744073709551615. It is told before standard input is read. The status is 1.
+
+    $ td sim --picks 1,02 < /dev/null
+    td: picks
+
+## Lines of the plan
+
+**`plan line L: syntax`**: the line is none of the forms of a plan's line. A name that is spelt otherwise, or with a
+capital letter:
+
+    $ printf '0 input\n1 mpa 1 0\n2 output 1\n' | td batch
+    td: plan line 2: syntax
+    $ printf '0 Input\n1 output 0\n' | td batch
+    td: plan line 1: syntax
+
+A number too few: a map, a group and a fold have a code before their sources (`N map CODE SOURCE ..`):
+
+    $ printf '0 input\n1 map 0\n2 output 1\n' | td batch
+    td: plan line 2: syntax
+
+A number with a sign, with leading zeros, or of ten digits and more; a code above 65535:
+
+    $ printf '0 input\n1 map 01 0\n2 output 1\n' | td batch
+    td: plan line 2: syntax
+    $ printf '0 input\n1 map 65536 0\n2 output 1\n' | td batch
+    td: plan line 2: syntax
+
+A tab in place of a space; a carriage return before the line feed, as editors on Windows write it (`sed 's/\r$//'` takes
+it away); a byte order mark at the start of the file (`sed '1s/^\xef\xbb\xbf//'` does); any other byte that is not
+ASCII, in a comment too:
+
+    $ printf '0\tinput\n1 output 0\n' | td batch
+    td: plan line 1: syntax
+    $ printf '0 input\r\n1 output 0\r\n' | td batch
+    td: plan line 1: syntax
+    $ printf '\357\273\2770 input\n1 output 0\n' | td batch
+    td: plan line 1: syntax
+    $ printf '0 input\n# caf\303\251\n1 output 0\n' | td batch
+    td: plan line 2: syntax
+
+The `--` line between plan and records is not there, so that a record is read as a line of the plan:
+
+    $ printf '0 input\n1 output 0\n0 7 1\n.\n' | td batch
+    td: plan line 3: syntax
+
+An `end` without its `loop`, or of a loop without a vertex; a `loop` without its `end`, at the line after the last:
+
+    $ printf '0 input\nend\n1 output 0\n' | td batch
+    td: plan line 2: syntax
+    $ printf '0 input\nloop 3\n1 enter 0\n' | td batch
+    td: plan line 4: syntax
+
+**`plan line L: number`**: vertices are numbered 0, 1, 2, .. in the order in which they stand; `loop` and `end` have no
+number.
+
+    $ printf '0 input\n2 output 0\n' | td batch
+    td: plan line 2: number
+
+**`plan line L: order`**: a vertex reads one that does not stand before it. Only a feedback may; and an enter reads one
+that stands before the loop.
+
+    $ printf '0 input\n1 output 2\n2 map 1 0\n' | td batch
+    td: plan line 2: order
+
+**`plan line L: nest`**: the vertex may not stand here, or may not read that source: an input or an output stands in a
+loop; an enter, a feedback or a leave stands in none; a vertex in a loop reads one outside, which goes through an enter,
+or one outside reads one in a loop, which goes through a leave; an output is read.
+
+    $ printf '0 input\nloop 3\n1 map 1 0\nend\n2 output 1\n' | td batch
+    td: plan line 3: nest
+
+**`plan line L: bound`**: the bound of a loop is not 1 to 1,000.
+
+    $ printf '0 input\nloop 0\n1 enter 0\n2 leave 1\nend\n3 output 2\n' | td batch
+    td: plan line 2: bound
+
+**`plan line L: fold in loop`**: a fold keeps its states from epoch to epoch, and stands outside all loops. What is to be
+folded leaves the loop first.
+
+    $ printf '0 input\nloop 3\n1 enter 0\n2 fold 40 1\n3 leave 2\nend\n4 output 3\n' | td batch
+    td: plan line 4: fold in loop
+
+**`plan line L: again`**: a feedback has exactly one source, a vertex that is read on the feedback's own block.
+
+    $ printf '0 input\nloop 3\n1 enter 0\n2 feedback 0\n3 leave 1\nend\n4 output 3\n' | td batch
+    td: plan line 4: again
+
+**`plan line L: too many`**: a plan has at most 64 vertices, 128 edges, three loops one inside the other, and eight
+sources of a vertex.
+
+    $ printf '0 input\n1 output 0 0 0 0 0 0 0 0 0\n' | td batch
+    td: plan line 2: too many
+
+**`plan: no input or output`**: a plan has at least one of each. So it is with no input at all:
+
+    $ td batch < /dev/null
+    td: plan: no input or output
+
+## Closures
+
+**`vertex V: no closure C`**: the catalogue has no closure of that code for the kind of vertex V. Maps, groups and folds
+have codes of their own: 20 is a group's, and no map's. The catalogue stands in `docs/FORMATS.md`.
+
+    $ printf '0 input\n1 map 20 0\n2 output 1\n' | td batch
+    td: vertex 1: no closure 20
+
+## Lines of records
+
+**`line L: syntax`**: after the `--` line, a line is `INPUT KEY VALUE`, or `.`. A number too few or too many; a key that
+is negative; a value above 9223372036854775807; a plus sign, leading zeros, a decimal point:
+
+    $ printf '0 input\n1 output 0\n--\n0 7\n.\n' | td batch
+    td: line 4: syntax
+    $ printf '0 input\n1 output 0\n--\n0 -1 5\n.\n' | td batch
+    td: line 4: syntax
+    $ printf '0 input\n1 output 0\n--\n0 1 9223372036854775808\n.\n' | td batch
+    td: line 4: syntax
+    $ printf '0 input\n1 output 0\n--\n0 1 2.5\n.\n' | td batch
+    td: line 4: syntax
+
+A second `--` line; a carriage return, a tab or a byte that is not ASCII, as in the plan:
+
+    $ printf '0 input\n1 output 0\n--\n--\n0 1 5\n.\n' | td batch
+    td: line 4: syntax
+    $ printf '0 input\n1 output 0\n--\n0 1 5\r\n.\r\n' | td batch
+    td: line 4: syntax
+
+**`line L: no such input`**: the first number of a record's line is the number of an input of the plan, and not of
+another vertex.
+
+    $ printf '0 input\n1 output 0\n--\n1 7 1\n.\n' | td batch
+    td: line 4: no such input
+
+**`line L: epoch not closed`**: there are records after the last `.`, or there is none. L is the line after the last one,
+where the `.` is to stand.
+
+    $ printf '0 input\n1 output 0\n--\n0 7 1\n' | td batch
+    td: line 5: epoch not closed
+
+`td stream`, `td dump` and `td copy` tell more: after the text and `: ` come the place and the cause, where they are known. The texts
+below are those of all commands.
+
+## Files and shapes
+
+The commands of this part and the next run in one folder, in which this makes a plan, a running total:
+
+    $ printf '0 input\n1 fold 40 0\n2 output 1\n' > total.plan
+
+**`file`**: the file PLAN cannot be opened and read, or the file DISK cannot be made or opened to be read and written: it is
+not there, or is a folder; it may not be written; its folder is not there; another `td` has it open. PLAN comes first.
+
+    $ td show total.disk no.plan
+    td: file
+    $ td format no_folder/total.disk total.plan 4 2 3
+    td: file
+    $ td feed no.disk total.plan
+    td: file
+
+`td stream`, `td dump` and `td copy` tell which file it is, and why. `td copy` makes its file NEW, and refuses one that is there, whatever it is:
+
+    $ td stream no.disk total.plan
+    td: file: no.disk: no such file
+    $ td dump total.plan no.plan
+    td: file: no.plan: no such file
+    $ td stream / total.plan
+    td: file: /: a folder
+    $ td format total.disk total.plan 4 2 3; td copy total.disk total.plan total.plan 4 2 3
+    td: file: total.plan: is there
+    $ td copy total.disk total.plan no_folder/new.disk 4 2 3
+    td: file: no_folder/new.disk: no such folder
+
+**`shape`**: M is not 1 to 65,536, N not 1 to 65,536, or K not 1 to 1,048,576. It is told before DISK is made.
+
+    $ td format total.disk total.plan 4 2 0
+    td: shape
+    $ td format total.disk total.plan 65537 2 3
+    td: shape
+    $ td copy total.disk total.plan new.disk 4 2 0
+    td: shape: K is 0, not 1 to 1048576
+
+## What stands on a disk
+
+`td dump` and `td copy` refuse a disk in the same cases as `td show`, and with the same texts, with the path of DISK behind them.
+
+**`not formatted`**: DISK has no head: `td format` did not make it, or was stopped before its end. Format it; what stands in
+the file is gone then.
+
+    $ printf 'no disk' > no.disk; td show no.disk total.plan
+    td: not formatted
+
+**`another plan`**: DISK was formatted for another plan than that in PLAN. Comments, empty lines and spaces do not matter; the
+closures' codes do. There is no way to take what a disk has to another plan but to feed its epochs anew, to a disk of that plan: those since the
+last cut are written out by `td dump`, with the plan of this disk, and those before it come from inputs that were kept.
+
+    $ printf '0 input\n1 group 20 0\n2 output 1\n' > count.plan
+    $ td format total.disk total.plan 4 2 3; td show total.disk count.plan
+    td: another plan
+    $ td dump total.disk count.plan
+    td: another plan: total.disk
+
+**`damaged: head`**, `damaged: no slot`, `damaged: slot I`, `damaged: cell I`: DISK has bytes that `td` never leaves there,
+wherever it is stopped. Something else wrote the file, cut it off, or lost what was synced: put a copy back, and look for
+the cause; nothing on such a disk is believed. `docs/FORMATS.md` has the places.
+
+    $ td format total.disk total.plan 4 2 3; head -c 8700 total.disk > short.disk; td show short.disk total.plan
+    td: damaged: head
+    $ td format total.disk total.plan 4 2 3; printf '\000' | dd of=total.disk bs=1 seek=8378 conv=notrunc 2> dd.txt; td show total.disk total.plan
+    td: damaged: no slot
+    $ td format total.disk total.plan 4 2 3; printf '\004' | dd of=total.disk bs=1 seek=8277 conv=notrunc 2> dd.txt; td show total.disk total.plan
+    td: damaged: slot 0
+    $ td format total.disk total.plan 4 2 3; printf '.\n' | td feed total.disk total.plan; printf '\005' | dd of=total.disk bs=1 seek=8640 conv=notrunc 2> dd.txt; td show total.disk total.plan
+    ack 1
+    td: damaged: cell 1
+
+## Feeding a disk
+
+**`line L: syntax`**, `line L: no such input`, `line L: epoch not closed`: as in *Lines of records*, but L is counted from the
+first line of standard input; nothing of the input was put on the disk. A line `cut` may stand where no record does since the
+last `.`:
+
+    $ td format total.disk total.plan 4 2 3; printf '0 7 5\ncut\n.\n' | td feed total.disk total.plan
+    td: line 2: syntax
+
+So may a line `req Q`, which begins an epoch, and it stands once in it. Q is 1 to 18446744073709551615, without a plus sign and leading
+zeros:
+
+    $ printf '0 7 5\nreq 5\n.\n' | td feed total.disk total.plan
+    td: line 2: syntax
+    $ printf 'req 0\n0 7 5\n.\n' | td feed total.disk total.plan
+    td: line 1: syntax
+
+An epoch that begins so ends with a `.` too, and no `cut` stands in it:
+
+    $ printf 'req 5\n' | td feed total.disk total.plan
+    td: line 2: epoch not closed
+    $ printf 'req 5\ncut\n.\n' | td feed total.disk total.plan
+    td: line 2: syntax
+
+**`old version`**: an epoch has a request number, and the disk is of version 1 of its format, which has none. What stands before it in
+the input was fed. `td upgrade` raises the disk to version 2 and leaves all on it as it is; then feed again. Here a disk is made one of
+version 1 by hand:
+
+    $ td format total.disk total.plan 4 2 3; printf '\001' | dd of=total.disk bs=1 seek=7 conv=notrunc 2> dd.txt
+    $ printf 'req 5\n0 7 5\n.\n' | td feed total.disk total.plan
+    td: old version
+    $ td upgrade total.disk total.plan; printf 'req 5\n0 7 5\n.\n' | td feed total.disk total.plan
+    version 2
+    ack 1
+    1 2 7 5
+
+**`last generation`**: `td upgrade` writes a head with the generation after that of the head that counts, and there is none after 2^64 - 1.
+No disk comes so far; here the number is written into a head of version 1 by hand. Such a disk can be fed without request numbers:
+
+    $ td format total.disk total.plan 4 2 3; printf '\001\377\377\377\377\377\377\377\377' | dd of=total.disk bs=1 seek=7 conv=notrunc 2> dd.txt
+    $ td upgrade total.disk total.plan
+    td: last generation
+    $ printf '0 7 5\n.\n' | td feed total.disk total.plan
+    ack 1
+    1 2 7 5
+
+**`journal full`**: the disk has room for the N epochs after a cut, and they stand there. Cut: feed a line `cut`, and then the
+epochs that have no `ack`. An epoch whose request number is on the disk already needs no room. `td stream` cuts by itself before the
+journal is full; `td copy` makes a disk with a larger N, and says so where the N that it is given is too small.
+
+    $ td format total.disk total.plan 4 2 3; printf '.\n.\n.\n' | td feed total.disk total.plan
+    ack 1
+    ack 2
+    td: journal full
+    $ td format total.disk total.plan 4 2 3; printf '.\n.\n' | td feed total.disk total.plan; printf 'cut\n.\n' | td feed total.disk total.plan
+    ack 1
+    ack 2
+    cut 2
+    ack 3
+
+**`too many records`**: an epoch has more than M records. Close it earlier, or copy the disk to one with a larger M.
+
+    $ td format total.disk total.plan 4 2 3; printf '0 7 1\n0 7 1\n0 7 1\n0 7 1\n0 7 1\n.\n' | td feed total.disk total.plan
+    td: too many records
+    $ printf '0 7 1\n0 7 1\n0 7 1\n0 7 1\n0 7 1\n.\n' | td stream total.disk total.plan
+    td: too many records: epoch 1, M is 4
+    $ printf '0 7 1\n0 7 1\n.\n' | td feed total.disk total.plan; td copy total.disk total.plan new.disk 1 2 3
+    ack 1
+    1 2 7 2
+    td: too many records: epoch 1 has 2, M is 1
+
+**`too many keys`**: at a cut the folds keep more than K states. The disk stays as it was before the cut, with its epochs,
+and cannot be cut any more unless later epochs remove states: copy it to one with a larger K, and go on with that.
+
+    $ td format total.disk total.plan 4 2 3; printf '0 1 5\n0 2 5\n0 3 5\n0 4 5\n.\ncut\n' | td feed total.disk total.plan
+    ack 1
+    1 2 1 5
+    1 2 2 5
+    1 2 3 5
+    1 2 4 5
+    td: too many keys
+    $ td copy total.disk total.plan larger.disk 4 2 4; echo cut | td feed larger.disk total.plan
+    1 2 1 5
+    1 2 2 5
+    1 2 3 5
+    1 2 4 5
+    cut 1
+
+**`device`**: a read, a write or a sync of DISK failed, as where its device is lost, or the file system is full. Each epoch with an
+`ack` was on the device before; the next one may be, or may not. **Do not feed that file again at once.** After a sync that failed, an
+operating system may keep in its memory what the device never got, and answer reads, and later syncs, from there: what `td` would then
+tell and acknowledge, a loss of power would take away. So stop; mend the device, or make room; start the machine again, or take the file
+system off and put it on again, so that what is read is what the device has (or copy the file past that memory, as by `dd
+iflag=direct`, and compare the copy with the file: where they differ the copy is what stands); then look with `td show`, and feed
+the epochs that are not told, or all of them again under their request numbers. Of a file on which `td format` ended so nothing is
+promised: format it again.
+
+**`no more epochs`**: the last epoch that has a number, 2^63 - 1, stands on the disk. No feed comes so far; here its
+number is written into a slot by hand:
+
+    $ td format total.disk total.plan 4 2 3; printf '\177\377\377\377\377\377\377\377' | dd of=total.disk bs=1 seek=8258 conv=notrunc 2> dd.txt; td feed total.disk total.plan
+    td: no more epochs
+
+`no such input` without a line, `foreign hall`, `epoch E not passed`, `cut waiting` and `broken` are refusals of the library's
+keeper, to which `td` gives no cause.
+
+## The machine
+
+**`input`**: standard input cannot be read (it is closed, or a folder), or its end has not come after 2^32 reads.
+
+    $ td batch < /
+    td: input
+
+**`output`**: standard output cannot be written: it is closed, or the disk is full, or who read it went away, as `head` does. What was
+written until then stays; an epoch whose `ack` could not be written stands on the disk all the same, and a disk whose `version 2` could
+not is raised; but what stands after such an epoch in the input of `td feed` is not on the disk: look with `td show`, and feed the rest.
+
+    $ td help >&-
+    td: output
+    $ td format total.disk total.plan 4 2 3; printf '0 7 5\n.\n.\n' | td feed total.disk total.plan >&-; td show total.disk total.plan
+    td: output
+    kept 0
+    told 1
+    epoch 1 1
+
+**`memory`**: the system refused memory. The program keeps the whole input, so an input that is cut in two needs half;
+nothing was written, but by `td feed`: look with `td show` where the disk stands.
+
+**`spent`**: `td run` and `td sim` number their tasks, and 2^63 of them were taken. No machine comes so far.
+"#;

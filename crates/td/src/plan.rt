@@ -1,0 +1,131 @@
+//! The command `td plan`: a plan in a file, as a listing or as a picture.
+
+use crate::disk::{file_refusal, open_to_read};
+use crate::file_cause::why_not_read;
+use crate::refusal::Refusal;
+use std::alloc::Global;
+use std::fs::File;
+use std::io;
+use std::rt::Files;
+use td_console::{Fault, StdReader, StdWriter, ascii_text, first_line, read_all, write_answer};
+use td_feed::read_plan;
+use td_picture::{drawn, listed};
+use td_plan::text::next_word;
+use td_plan::{Plan, PlanError};
+
+/// How many bytes of a line with a fault are told at most.
+const TOLD: usize = 80;
+
+/// Writes the plan in the file at `path` to standard output: its lines with what its closures are in words, or a picture, if `dot`.
+pub(crate) fn print_plan<R: Files<File = File> + Print + AllocGlobal>(
+    rt: &R,
+    path: &str,
+    dot: bool,
+) -> Result<(), Refusal> {
+    let alloc = rt.alloc();
+    let text = text_at(rt, path)?;
+    let plan = plan_in(alloc, path, before_separator(&text))?;
+    let told = if dot {
+        drawn(alloc, &plan)
+    } else {
+        listed(alloc, &plan)
+    };
+    let Ok(told) = told else {
+        return Err(Refusal::Plain(Fault::Memory));
+    };
+    let mut writer = StdWriter(io::writer(rt));
+    Ok(write_answer(&mut writer, told.as_str())?)
+}
+
+/// All bytes of the file at `path`, or why they cannot be had.
+fn text_at<R: Files<File = File> + AllocGlobal>(rt: &R, path: &str) -> Result<Vec<u8>, Refusal> {
+    match read_file(rt, path) {
+        Ok(text) => Ok(text),
+        Err(Fault::Memory) => Err(Refusal::Plain(Fault::Memory)),
+        Err(_) => Err(file_refusal(rt, path, why_not_read(rt, path))?),
+    }
+}
+
+/// All bytes of the file at `path`.
+fn read_file<R: Files<File = File> + AllocGlobal>(rt: &R, path: &str) -> Result<Vec<u8>, Fault> {
+    let file = open_to_read(rt, path)?;
+    read_all(rt.alloc(), &mut StdReader(file))
+}
+
+/// What stands before the first line whose only word is `--`; without one the whole.
+fn before_separator(text: &[u8]) -> &[u8] {
+    let mut rest = text;
+    while let Some((line, others)) = first_line(rest) {
+        if is_separator(line) {
+            return &text[..text.len() - rest.len()];
+        }
+        rest = others;
+    }
+    text
+}
+
+/// Whether the only word of a line is `--`.
+fn is_separator(line: &[u8]) -> bool {
+    let Some(line) = ascii_text(line) else {
+        return false;
+    };
+    match next_word(line) {
+        Some((word, rest)) => word == "--" && next_word(rest).is_none(),
+        None => false,
+    }
+}
+
+/// The plan of a text from the file at `path`; or its fault, with the path and the line.
+fn plan_in(alloc: Global, path: &str, text: &[u8]) -> Result<Plan, Refusal> {
+    let mut left = text;
+    match read_plan(alloc, &mut left) {
+        Ok(plan) => Ok(plan),
+        Err(Fault::Plan(error)) => {
+            let mut place = String::from_str(alloc, path)?;
+            if let Some(line) = faulty_line(error, text) {
+                place.push_str(": ")?;
+                push_line(&mut place, line)?;
+            }
+            Err(Refusal::At(Fault::Plan(error), place))
+        }
+        Err(fault) => Err(Refusal::Plain(fault)),
+    }
+}
+
+/// The line of a text that a fault is told of, where it is there: a loop that is not ended is told of the line after the last.
+fn faulty_line(error: PlanError, text: &[u8]) -> Option<&[u8]> {
+    let number = match error {
+        PlanError::Syntax(line)
+        | PlanError::Number(line)
+        | PlanError::Order(line)
+        | PlanError::Nest(line)
+        | PlanError::Bound(line)
+        | PlanError::FoldInLoop(line)
+        | PlanError::Again(line)
+        | PlanError::TooMany(line) => line,
+        PlanError::NoInputOrOutput | PlanError::Memory => return None,
+    };
+    let mut count = 0;
+    let mut rest = text;
+    while let Some((line, others)) = first_line(rest) {
+        count += 1;
+        if count == number {
+            return Some(line);
+        }
+        rest = others;
+    }
+    None
+}
+
+/// Appends a line, with `?` in the place of each byte that is no printable character, and `..` in the place of what is too long.
+fn push_line(place: &mut String, line: &[u8]) -> Result<(), Refusal> {
+    for (at, byte) in line.iter().enumerate() {
+        if at == TOLD {
+            place.push_str(" ..")?;
+            return Ok(());
+        }
+        let is_printable = 32 <= *byte && *byte <= 126;
+        place.push(if is_printable { char::from(*byte) } else { '?' })?;
+    }
+    Ok(())
+}

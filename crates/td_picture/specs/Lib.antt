@@ -1,0 +1,4 @@
+pub mod Words
+pub mod Listed
+pub mod Drawn
+pub mod Printed
