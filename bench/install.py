@@ -18,8 +18,11 @@ ROOT = pathlib.Path(__file__).resolve().parent.parent
 COMPLETIONS = [
     (["td", "st"], ["stream"]),
     (["td", "f"], ["format", "feed"]),
-    (["td", "--h"], ["--help"]),
+    (["td", "--"], ["--help", "--version"]),
     (["td", "help", "dum"], ["dump"]),
+    (["td", "help", "fa"], ["faults"]),
+    (["td", "plan", "--d"], ["--dot"]),
+    (["td", "plan", "total.p"], ["total.plan"]),
     (["td", "feed", "--w"], ["--workers"]),
     (["td", "stream", "--"], ["--workers", "--cut-every", "--progress", "--help"]),
     (["td", "stream", "--workers", ""], []),
