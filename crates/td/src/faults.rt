@@ -172,8 +172,11 @@ where the `.` is to stand.
     $ printf '0 input\n1 output 0\n--\n0 7 1\n' | td batch
     td: line 5: epoch not closed
 
-`td stream`, `td dump` and `td copy` tell more: after the text and `: ` come the place and the cause, where they are known. The texts
-below are those of all commands.
+`td stream`, `td dump` and `td copy` tell more: after the text and `: ` come the place and the cause, where they are known. `td plan` tells
+the line with the fault, too. The texts below are those of all commands.
+
+    $ printf '0 input\n7 map 1 0\n8 output 7\n' > my.td; td plan my.td
+    td: plan line 2: number: my.td: 7 map 1 0
 
 ## Files and shapes
 

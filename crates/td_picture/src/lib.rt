@@ -4,6 +4,7 @@
 
 mod drawing;
 mod edges;
+pub mod laws;
 mod listing;
 mod names;
 mod nodes;

@@ -1,9 +1,11 @@
 //! The lines of a plan, with what each closure is in words.
 ghost use Rattle.std.specs.Prelude.{◌≡◌, ◌++◌, ◌∷◌, [], IfOk, OnOk, IfErr, string_bytes, flat_map, map, decimal};
 ghost use Rattle.td_plan.specs.Lines.Line.{vertex as vertex_line};
+ghost use Rattle.td_plan.specs.Texts.{PlanText};
 ghost use Rattle.td_picture.specs.Listed.{listing_of, listed_line};
 ghost use Rattle.td_picture.specs.Printed.{IsListed};
 
+use crate::laws;
 use crate::names::print_name;
 use crate::words::print_between;
 use std::alloc::Global;
@@ -14,8 +16,12 @@ use td_plan::{Mark, Plan, PlanError, Vertex};
 /// is, or that the catalogue has none of its code. Refusal: `Memory`.
 pub fn listed(alloc: Global, plan: &Plan) -> Result<String, PlanError>
     ensures ok { IfOk result (λ text. string_bytes text ≡ listing_of plan.now) }
+    // So what is listed is read as the same plan.
+    ensures again { IfOk result (λ text. PlanText (string_bytes text) plan.now) }
     ensures err { IfErr result (λ e. e ≡ PlanError.Memory) }
 {
+    // For the prover alone.
+    laws::listings_are_read();
     let mut text = String::new(alloc);
     let mut left = plan.vertices();
     for mark in plan.marks() {
