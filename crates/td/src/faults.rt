@@ -297,7 +297,7 @@ No disk comes so far; here the number is written into a head of version 1 by han
     1 2 7 5
 
 **`journal full`**: the disk has room for the N epochs after a cut, and they stand there. Cut: feed a line `cut`, and then the
-epochs that have no `ack`. An epoch whose request number is on the disk already needs no room. `td stream` cuts by itself before the
+epochs that have no `ack`. An epoch whose request number is on the disk already needs no room. `td stream` cuts by itself where the
 journal is full; `td copy` makes a disk with a larger N, and says so where the N that it is given is too small.
 
     $ td format total.disk total.plan 4 2 3; printf '.\n.\n.\n' | td feed total.disk total.plan
@@ -358,14 +358,16 @@ keeper, to which `td` gives no cause.
 
 ## The machine
 
-**`input`**: standard input cannot be read (it is closed, or a folder), or its end has not come after 2^32 reads.
+**`input`**: standard input cannot be read (it is closed, or a folder), or its end has not come after 2^32 reads; of `td stream`, whose input
+may go on for ever, the end of a line has not, or an epoch has more than 2^32 lines.
 
     $ td batch < /
     td: input
 
 **`output`**: standard output cannot be written: it is closed, or the disk is full, or who read it went away, as `head` does. What was
 written until then stays; an epoch whose `ack` could not be written stands on the disk all the same, and a disk whose `version 2` could
-not is raised; but what stands after such an epoch in the input of `td feed` is not on the disk: look with `td show`, and feed the rest.
+not is raised; but what stands after such an epoch in the input of `td feed` or `td stream` is not on the disk: look with `td show`, and
+feed the rest.
 
     $ td help >&-
     td: output
@@ -375,8 +377,9 @@ not is raised; but what stands after such an epoch in the input of `td feed` is 
     told 1
     epoch 1 1
 
-**`memory`**: the system refused memory. The program keeps the whole input, so an input that is cut in two needs half;
-nothing was written, but by `td feed`: look with `td show` where the disk stands.
+**`memory`**: the system refused memory. The program keeps the whole input, so an input that is cut in two needs half; but `td stream` keeps
+one line and the epochs since the last cut, so cut more often. Nothing was written, but by `td feed` and `td stream`: look with `td show`
+where the disk stands.
 
-**`spent`**: `td run` and `td sim` number their tasks, and 2^63 of them were taken. No machine comes so far.
+**`spent`**: `td run`, `sim`, `feed` and `stream` number their tasks, and 2^63 of them were taken. No machine comes so far.
 "#;
