@@ -105,16 +105,13 @@ fn faulty_line(error: PlanError, text: &[u8]) -> Option<&[u8]> {
         | PlanError::TooMany(line) => line,
         PlanError::NoInputOrOutput | PlanError::Memory => return None,
     };
-    let mut count = 0;
     let mut rest = text;
-    while let Some((line, others)) = first_line(rest) {
-        count += 1;
-        if count == number {
-            return Some(line);
-        }
+    for _ in 1..number {
+        let (_, others) = first_line(rest)?;
         rest = others;
     }
-    None
+    let (line, _) = first_line(rest)?;
+    Some(line)
 }
 
 /// Appends a line, with `?` in the place of each byte that is no printable character, and `..` in the place of what is too long.
