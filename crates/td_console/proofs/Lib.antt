@@ -2,6 +2,7 @@ pub mod Signs
 pub mod Answered
 pub mod Accepted
 pub mod Cuts
+pub mod PlainLines
 pub mod Separated
 pub mod Wide
 pub mod ReadOn

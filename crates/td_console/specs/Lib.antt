@@ -1,5 +1,6 @@
 pub mod Number
 pub mod Data
+pub mod Plain
 pub mod Parts
 pub mod Refusals
 pub mod Answer

@@ -1,5 +1,4 @@
-use Rattle.std.proofs.Common.{◌≡◌, ◌++◌, ◌<◌, [], None, ap, sym, ◌∙◌, subst, arith, length, inl, inr}
-use Rattle.std.specs.Prelude.{string_bytes}
+use Rattle.std.proofs.Common.{◌≡◌, ◌++◌, [], None, ap, sym, ◌∙◌, subst, arith, length, inl, inr}
 use Rattle.td_plan.specs.Blocks.{vertices}
 use Rattle.td_plan.specs.Tree.{tree_of}
 use Rattle.td_calls.specs.Fits.{first_lack}

@@ -1,4 +1,4 @@
-use Rattle.std.proofs.Common.{◌≡◌, ◌<◌, ◌^◌, IsTrue, true, refl, ap, sym, ◌∙◌, subst, arith, length, inl, [], get_or}
+use Rattle.std.proofs.Common.{◌≡◌, IsTrue, true, ap, sym, ◌∙◌, subst, arith, length, inl, []}
 use Rattle.std.specs.List.{list_all}
 use Rattle.std.proofs.lemmas.List.Elements.{All-get_or}
 use Rattle.std.proofs.lemmas.Iterator.Consumers.{YieldsList-turn}
