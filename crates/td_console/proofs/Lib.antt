@@ -10,5 +10,6 @@ pub mod MoreEpochs
 pub mod OneAnswer
 pub mod Asking
 pub mod Released
+pub mod OneByOne
 pub mod Turning
 pub mod Picking

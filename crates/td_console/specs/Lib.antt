@@ -6,6 +6,7 @@ pub mod Refusals
 pub mod Answer
 pub mod Turns
 pub mod Simulated
+pub mod EpochByEpoch
 pub mod CodeSteps
 pub mod Streams
 pub mod StreamProofs
