@@ -166,4 +166,5 @@ def main():
                   f"20 maps that nobody reads take {met[unread][who].kilobytes / met[once][who].kilobytes:.2f} times the memory of none.")
 
 
-main()
+if __name__ == "__main__":
+    main()

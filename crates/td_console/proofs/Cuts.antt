@@ -20,7 +20,7 @@ without-more [] next parts = refl
 without-more (b ∷ bs) next parts = refl
 
 -- a text with a line feed
-lines_cut : (text line rest : List ℕ) → slice_split (λ b. b == 10) text ≡ line ∷ slice_split (λ b. b == 10) rest → text_lines text ≡ line ∷ text_lines rest
+pub lines_cut : (text line rest : List ℕ) → slice_split (λ b. b == 10) text ≡ line ∷ slice_split (λ b. b == 10) rest → text_lines text ≡ line ∷ text_lines rest
 lines_cut text line rest e =
     let some = some_part (λ b. b == 10) rest in
     let more : text_lines text ≡ without_empty_last (line ∷ some.0 ∷ some.1) = ap without_empty_last (e ∙ ap (λ parts. line ∷ parts) some.2) in

@@ -2,6 +2,7 @@ pub mod Signs
 pub mod Answered
 pub mod Accepted
 pub mod Cuts
+pub mod PlainLines
 pub mod Separated
 pub mod Wide
 pub mod ReadOn
@@ -9,5 +10,6 @@ pub mod MoreEpochs
 pub mod OneAnswer
 pub mod Asking
 pub mod Released
+pub mod OneByOne
 pub mod Turning
 pub mod Picking

@@ -1,22 +1,20 @@
 -- A hall into which batches were released, and in which all of their epochs have passed.
-use Rattle.std.proofs.Common.{◌≡◌, ℕ, zero, suc, ◌+◌, ◌-◌, ◌<◌, ◌^◌, ◌==◌, Bool, true, false, ◌&&◌, List, [], ◌∷◌, ◌++◌, map, filter, length, cond, refl, ap, sym, ◌∙◌, subst, arith, append-nil, length-append, get_or, nat_lt, IsTrue, All, inl, inr}
+use Rattle.std.proofs.Common.{◌≡◌, ℕ, zero, suc, ◌+◌, ◌-◌, ◌<◌, ◌==◌, Bool, true, false, List, [], ◌∷◌, ◌++◌, map, filter, length, refl, ap, sym, ◌∙◌, subst, arith, append-nil, length-append, get_or, inl, inr}
 use Rattle.std.proofs.lemmas.Bool.{ne_eqb}
-use Rattle.std.specs.List.{AllByRecursion, list_all, enumerate_from}
+use Rattle.std.specs.List.{AllByRecursion}
 use Rattle.std.proofs.lemmas.List.{append_assoc, get_or-append-add}
 use Rattle.std.proofs.lemmas.List.Sums.{fold-append}
 use Rattle.td_stamp.specs.declared.values.Entry.{Entry}
 use Rattle.td_stamp.specs.declared.values.Output.{Output}
 use Rattle.td_stamp.specs.declared.epoch_out.EpochOut.{EpochOut}
-use Rattle.td_stamp.specs.States.{StateList}
-use Rattle.td_plan.specs.Lines.{Line as PlanLine}
 use Rattle.td_plan.specs.Tree.{tree_of}
 use Rattle.td_calls.specs.Answers.{Answers}
 use Rattle.td_batch.specs.Flow.{numbers_from}
 use Rattle.td_batch.specs.Meaning.{numbered}
-use Rattle.td_machine.specs.State.{HallState, Task}
+use Rattle.td_machine.specs.State.{HallState}
 use Rattle.td_machine.specs.Active.{has_passed}
 use Rattle.td_machine.specs.Sound.{run_of}
-use Rattle.td_machine.specs.Steps.{Answer, Refusal, opened, ends, with_batch, release_by, release_step, outputs_at, to_collect, collect_step, accepts}
+use Rattle.td_machine.specs.Steps.{Answer, ends, with_batch, release_by, release_step, outputs_at, to_collect, collect_step}
 use Rattle.td_machine.specs.Steps.Answer.{has_released, has_collected, refused}
 use Rattle.td_core.specs.declared.error.HallError.{HallError}
 use Rattle.td_core.specs.declared.error.HallError.TheVariants.{Memory}

@@ -1,6 +1,6 @@
 -- Turns: what each does, and what comes of all of them.
-use Rattle.std.proofs.Common.{◌≡◌, ◌⊎◌, ℕ, zero, suc, ◌+◌, ◌-◌, ◌*◌, ◌/◌, ◌%◌, ◌==◌, ◌<◌, ◌≤◌, ◌^◌, nat_lt, Bool, true, false, not, cond, List, [], ◌∷◌, ◌++◌, length, filter, Option, Some, None, Result, Ok, Err, IfErr, Contains, All, IsTrue, refl, ap, sym, ◌∙◌, subst, arith, inl, inr, append-nil, length-append, ltb-true, ltb-false}
-use Rattle.std.specs.Prelude.{flat_map, fold, option_map, slice_get}
+use Rattle.std.proofs.Common.{◌≡◌, ◌⊎◌, ℕ, zero, suc, ◌+◌, ◌-◌, ◌*◌, ◌/◌, ◌%◌, ◌==◌, ◌<◌, ◌≤◌, ◌^◌, nat_lt, Bool, true, false, not, cond, List, [], ◌∷◌, ◌++◌, length, filter, Option, Some, None, Contains, All, IsTrue, refl, ap, sym, ◌∙◌, subst, arith, inl, inr, append-nil, length-append, ltb-true, ltb-false}
+use Rattle.std.specs.Prelude.{fold, option_map, slice_get}
 use Rattle.std.specs.List.{AllByRecursion, list_all}
 use Rattle.std.proofs.lemmas.List.Elements.{All-get_or, All-drop}
 use Rattle.std.proofs.lemmas.Bool.{eq-eqb, eqb-true, eqb-false}
@@ -36,7 +36,7 @@ use Rattle.td_core.specs.declared.error.HallError.{HallError}
 use Rattle.td_core.specs.declared.error.HallError.TheVariants.{Memory, Spent}
 use Rattle.td_core.specs.Refusals.{error_of}
 use Rattle.td_core.specs.Drained.{IsKept}
-use Rattle.td_console.specs.Turns.{all_released, IsTurn, AreTurns, idle_after, idle_turns, note_by, note_of, notes_of, Played}
+use Rattle.td_console.specs.Turns.{all_released, IsTurn, AreTurns, idle_after, note_by, note_of, notes_of, Played}
 use Rattle.td_console.proofs.Released.{release_steps}
 
 -- KEPT

@@ -1,5 +1,5 @@
 -- The first byte above 127, line by line.
-use Rattle.std.proofs.Common.{◌≡◌, ℕ, suc, ◌+◌, ◌≤◌, Bool, true, false, ◌&&◌, ◌||◌, ◌==◌, List, [], ◌∷◌, ◌++◌, length, refl, sym, ap, ◌∙◌, cond, arith, Some, None, Option, is_some, Result, Ok, Err, nat_le}
+use Rattle.std.proofs.Common.{◌≡◌, ℕ, suc, ◌+◌, ◌≤◌, Bool, true, false, ◌&&◌, ◌||◌, ◌==◌, List, [], ◌∷◌, ◌++◌, length, refl, sym, ap, ◌∙◌, cond, arith, Some, None, Option, is_some, Result, Ok, Err, nat_le, nat_lt, bit_or}
 use Rattle.std.specs.List.{list_all, before_first, after_first, slice_get, slice_split, onto_first}
 use Rattle.std.specs.Char.{is_ascii}
 use Rattle.std.specs.Str.{IsAscii, IsUtf8}
@@ -7,7 +7,8 @@ use Rattle.std.specs.Result.{result_ok}
 use Rattle.std.specs.Prelude.{MatchResult}
 use Rattle.std.proofs.lemmas.Str.{IsUtf8-from_ascii}
 use Rattle.std.proofs.lemmas.Str.Ascii.{IsAscii-nil, IsAscii-cons}
-use Rattle.std.proofs.lemmas.Bool.{ltb-true, leb-true, lt-ltb, eqb-true}
+use Rattle.std.proofs.lemmas.Nat.{or_lt, le_or_l, le_or_r}
+use Rattle.std.proofs.lemmas.Bool.{ltb-false, ltb-true, leb-true, lt-ltb, eqb-true}
 use Rattle.td_plan.specs.Text.{text_lines, without_empty_last, words, is_printable}
 use Rattle.td_console.specs.declared.faults.Fault.{Fault}
 use Rattle.td_console.specs.Parts.{is_separator, are_two_dashes, data_lines, wide_fault_at, wide_faults, wide_fault}
@@ -106,3 +107,41 @@ ascii_dropped ((b ∷ bs) ∷ parts) h = let p = both (list_all is_ascii (b ∷ 
 
 pub ascii_lines : (bs : List ℕ) → list_all (list_all is_ascii) (text_lines bs) ≡ true → list_all is_ascii bs ≡ true
 ascii_lines bs h = ascii_parts bs (ascii_dropped (slice_split (λ b. b == 10) bs) h)
+
+-- and where the bytes are ASCII, all lines are
+split_ascii : (bs : List ℕ) → list_all is_ascii bs ≡ true → list_all (list_all is_ascii) (slice_split (λ b. b == 10) bs) ≡ true
+split_ascii [] h = refl
+split_ascii (b ∷ bs) h = let p = both (is_ascii b) (list_all is_ascii bs) h in by (b == 10) (slice_split (λ b. b == 10) bs) p.0 (split_ascii bs p.1)
+  where
+    by : (t : Bool) (parts : List (List ℕ)) → is_ascii b ≡ true → list_all (list_all is_ascii) parts ≡ true → list_all (list_all is_ascii) (cond t ([] ∷ parts) (onto_first b parts)) ≡ true
+    by true parts one more = more
+    by false [] one more = rw one refl
+    by false (part ∷ parts) one more = let p = both (list_all is_ascii part) (list_all (list_all is_ascii) parts) more in rw (one, p.0, p.1) refl
+
+kept_ascii : (parts : List (List ℕ)) → list_all (list_all is_ascii) parts ≡ true → list_all (list_all is_ascii) (without_empty_last parts) ≡ true
+kept_ascii [] h = refl
+kept_ascii ([] ∷ []) h = refl
+kept_ascii ([] ∷ part ∷ parts) h = kept_ascii (part ∷ parts) h
+kept_ascii ((b ∷ bs) ∷ parts) h = let p = both (list_all is_ascii (b ∷ bs)) (list_all (list_all is_ascii) parts) h in rw (p.0, kept_ascii parts p.1) refl
+
+none_from : (b : Bool) (n : ℕ) (lines : List (List ℕ)) → list_all (list_all is_ascii) lines ≡ true → wide_from b n lines ≡ None
+none_from b n [] h = wide_end b n
+none_from b n (line ∷ lines) h =
+    let p = both (list_all is_ascii line) (list_all (list_all is_ascii) lines) h in
+    wide_next b n line lines p.0 ∙ none_from (b || is_separator line) (n + 1) lines p.1
+
+-- so there is no fault of such a byte
+pub none_wide : (input : List ℕ) → list_all is_ascii input ≡ true → wide_fault input ≡ None
+none_wide input h = wide_start input ∙ none_from false (0 + 1) (text_lines input) (kept_ascii (slice_split (λ b. b == 10) input) (split_ascii input h))
+
+-- one more byte of a sweep
+pub swept : (a b : ℕ) → nat_lt (bit_or a b) 128 ≡ (nat_lt a 128 && is_ascii b)
+swept a b = by (nat_lt a 128) (is_ascii b) (nat_lt (bit_or a b) 128) refl refl refl
+  where
+    by : (p q r : Bool) → nat_lt a 128 ≡ p → is_ascii b ≡ q → nat_lt (bit_or a b) 128 ≡ r → r ≡ (p && q)
+    by true true true e f g = refl
+    by true true false e f g = let least = ltb-false (bit_or a b) 128 g in let most = or_lt 7 a b (ltb-true a 128 e) (ltb-true b 128 f) in absurd (omega (arith, least, most))
+    by true false true e f g = absurd (omega (arith, ltb-false b 128 f, ltb-true (bit_or a b) 128 g, le_or_r a b))
+    by true false false e f g = refl
+    by false q true e f g = absurd (omega (arith, ltb-false a 128 e, ltb-true (bit_or a b) 128 g, le_or_l a b))
+    by false q false e f g = refl

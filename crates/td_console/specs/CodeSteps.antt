@@ -1,17 +1,18 @@
 -- The code's own steps: what its private functions say of one another, as the reader of data lines does line by line.
 -- No public contract cites this file, and no definition of an answer rests on it.
-use Rattle.std.specs.Prelude.{◌≡◌, ◌⊎◌, ℕ, ◌+◌, List, [], ◌∷◌, ◌++◌, if◌then◌else◌}
+use Rattle.std.specs.Prelude.{◌≡◌, ℕ, ◌+◌, ◌<◌, List, [], ◌∷◌, ◌++◌, length, if◌then◌else◌}
 use Rattle.std.specs.Prelude.{Option, Some, None, Result, Ok, Err}
 use Rattle.td_stamp.specs.declared.values.Entry.{Entry}
 use Rattle.td_stamp.specs.Orders.{entry_cmp}
 use Rattle.td_stamp.specs.Bag.{bag_of}
 use Rattle.td_plan.specs.Lines.{Line as PlanLine}
+use Rattle.td_plan.specs.Text.{text_lines}
 use Rattle.td_plan.specs.Inputs.{is_input_of}
 use Rattle.td_console.specs.declared.data_line.DataLine.{DataLine}
 use Rattle.td_console.specs.declared.data_line.DataLine.TheVariants.{PassedOver, Record, Close}
 use Rattle.td_console.specs.declared.faults.LineFault.TheVariants.{Syntax, NoSuchInput, NotClosed}
 use Rattle.td_console.specs.declared.faults.Fault.{Fault}
-use Rattle.td_console.specs.declared.faults.Fault.TheVariants.{Line, Input, Output, Memory, Picks, File, Shape, Keeper, Spent}
+use Rattle.td_console.specs.declared.faults.Fault.TheVariants.{Line, Input, Output, Picks, File, Shape, Keeper, Spent}
 use Rattle.td_console.specs.Data.{data_line_of}
 
 -- Epochs read so far: the batches of those that are closed, and the entries of the one which is not, as they were read
@@ -47,10 +48,12 @@ abbrev pub read_from : List PlanLine → ℕ → Epochs → List (List ℕ) → 
 read_from plan n epochs [] = closed_batches n epochs.closed epochs.current
 read_from plan n epochs (line ∷ lines) = epochs_then (λ more. read_from plan (n + 1) more lines) (with_data_line plan n epochs (data_line_of line))
 
--- a call gave this answer, or was refused a growth
-abbrev pub Gives : Result Epochs Fault → Result Epochs Fault → Type 0
-Gives (Ok epochs) wanted = wanted ≡ Ok epochs
-Gives (Err fault) wanted = (fault ≡ Memory) ⊎ (wanted ≡ Err fault)
+-- WHAT THE FIRST LINE of a text says, and what comes after it
+pub record IsFirstLine (text : List ℕ) (said : Option DataLine) (rest : List ℕ) : Type 0 where
+  pub line : List ℕ
+  pub lines : text_lines text ≡ line ∷ text_lines rest
+  pub says : said ≡ data_line_of line
+  pub shorter : length rest < length text
 
 -- a fault that the input can have, or want of memory: none of a reader's or a writer's, of picks, of a disk or of a hall
 abbrev pub IsOfInput : Fault → Type 0

@@ -1,10 +1,12 @@
 pub mod Number
 pub mod Data
+pub mod Plain
 pub mod Parts
 pub mod Refusals
 pub mod Answer
 pub mod Turns
 pub mod Simulated
+pub mod EpochByEpoch
 pub mod CodeSteps
 pub mod Streams
 pub mod StreamProofs

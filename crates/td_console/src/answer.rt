@@ -8,8 +8,8 @@ ghost use Rattle.td_calls.specs.Fits.{first_lack};
 ghost use Rattle.td_console.specs.Answer.{lines_of_run, output_line};
 
 use crate::faults::Fault;
+use itoa::Buffer;
 use std::alloc::Global;
-use std::fmt::Write;
 use td_batch::{evaluate_epoch, laws};
 use td_calls::{Closures, Law};
 use td_plan::Plan;
@@ -57,9 +57,14 @@ fn print_output(text: &mut String, epoch: u64, output: Output) -> Result<(), Fau
     ensures ok { OnOk result (string_bytes text.new ≡ string_bytes text.old ++ output_line epoch output) }
     ensures err { IfErr result (λ f. f ≡ Fault.Memory) }
 {
-    let vertex = output.vertex;
-    let key = output.rec.key;
-    let val = output.rec.val;
-    writeln!(text, "{epoch} {vertex} {key} {val}")?;
+    let mut number = Buffer::new();
+    text.push_str(number.format(epoch))?;
+    text.push_str(" ")?;
+    text.push_str(number.format(output.vertex))?;
+    text.push_str(" ")?;
+    text.push_str(number.format(output.rec.key))?;
+    text.push_str(" ")?;
+    text.push_str(number.format(output.rec.val))?;
+    text.push_str("\n")?;
     Ok(())
 }

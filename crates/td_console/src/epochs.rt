@@ -1,5 +1,5 @@
 //! The epochs of the data lines of an input.
-ghost use Rattle.std.specs.Prelude.{◌≡◌, [], ◌⊎◌, ◌+◌, ◌<◌, ◌≤◌, ◌^◌, All, IsTrue, IfOk, IfErr, OnOk};
+ghost use Rattle.std.specs.Prelude.{◌≡◌, [], ◌⊎◌, ◌+◌, ◌<◌, ◌≤◌, ◌^◌, All, IsTrue, IfOk, IfErr, OnOk, MatchOption};
 ghost use Rattle.std.specs.Prelude.{Some, None, Ok, Err, length};
 ghost use Rattle.std.specs.Bool.{OnTrue};
 ghost use Rattle.std.specs.List.{list_all};
@@ -7,12 +7,14 @@ ghost use Rattle.td_plan.specs.Text.{text_lines};
 ghost use Rattle.td_plan.specs.Faults.{most_vertices};
 ghost use Rattle.td_plan.specs.Inputs.{is_input_of};
 ghost use Rattle.td_console.specs.Data.{data_line_of, batches_of, data_fault};
-ghost use Rattle.td_console.specs.CodeSteps.{Gives, no_epochs, with_data_line, closed_batches, read_from, IsOfInput};
+ghost use Rattle.td_console.specs.CodeSteps.{IsFirstLine, no_epochs, with_data_line, closed_batches, read_from, IsOfInput};
 
 use crate::data_line::{DataLine, read_data_line};
 use crate::faults::{Fault, LineFault};
+use crate::plain::plain_record;
 use std::alloc::Global;
 use std::marker::Model;
+use std::mem;
 use td_plan::Plan;
 use td_plan::text::next_line;
 use td_stamp::{Batch, Entry, Rec};
@@ -46,37 +48,45 @@ impl Epochs {
         }
     }
 
-    /// These and what a data line adds, which has this number. Refusals: its fault; `Memory`.
-    fn with_line(self, plan: &Plan, number: u64, line: &str) -> Result<Epochs, Fault>
-        ensures gives { Gives result (with_data_line plan.now number self (data_line_of line.now)) }
+    /// Takes in what a line says, which has this number. Refusals: its fault; `Memory`.
+    fn add(&mut self, plan: &Plan, number: u64, said: Option<DataLine>) -> Result<(), Fault>
+        ensures ok { OnOk result (with_data_line plan.now number self.old said ≡ Ok self.new) }
+        ensures few { OnOk result (length self.new.closed ≤ length self.old.closed + 1) }
+        ensures err { IfErr result (λ f. (f ≡ Fault.Memory) ⊎ (with_data_line plan.now number self.old said ≡ Err f)) }
         ensures own { IfErr result IsOfInput }
-        ensures few { IfOk result (λ epochs. length epochs.closed ≤ length self.closed + 1) }
     {
-        match read_data_line(line) {
+        match said {
             None => Err(Fault::Line(number, LineFault::Syntax)),
-            Some(DataLine::PassedOver) => Ok(self),
+            Some(DataLine::PassedOver) => Ok(()),
             Some(DataLine::Close) => self.close(),
-            Some(DataLine::Record(input, rec)) => self.with_record(plan, number, input, rec),
+            Some(DataLine::Record(input, rec)) => self.add_record(plan, number, input, rec),
         }
     }
 
-    /// The same, with the one closed that is not. Refusal: `Memory`.
-    fn close(self) -> Result<Epochs, Fault>
-        ensures ok { IfOk result (λ epochs. Ok epochs ≡ with_data_line [] 0 self (Some DataLine.Close)) }
-        ensures few { IfOk result (λ epochs. length epochs.closed ≤ length self.closed + 1) }
+    /// Closes the one that is not. Refusal: `Memory`.
+    fn close(&mut self) -> Result<(), Fault>
+        ensures ok { OnOk result (with_data_line [] 0 self.old (Some DataLine.Close) ≡ Ok self.new) }
+        ensures few { OnOk result (length self.new.closed ≤ length self.old.closed + 1) }
         ensures err { IfErr result (λ f. f ≡ Fault.Memory) }
     {
-        let Epochs {
-            mut closed,
-            current,
-            alloc,
-        } = self;
-        closed.push(Batch::from_vec(alloc, current))?;
-        Ok(Epochs {
-            closed,
-            current: Vec::new(alloc),
-            alloc,
-        })
+        let current = mem::replace(&mut self.current, Vec::new(self.alloc));
+        self.closed.push(Batch::from_vec(self.alloc, current))?;
+        Ok(())
+    }
+
+    /// Takes in a record. Refusals: `NoSuchInput`; `Memory`.
+    fn add_record(&mut self, plan: &Plan, number: u64, input: u32, rec: Rec) -> Result<(), Fault>
+        ensures ok { OnOk result (with_data_line plan.now number self.old (Some (DataLine.Record input rec)) ≡ Ok self.new) }
+        ensures few { OnOk result (length self.new.closed ≤ length self.old.closed + 1) }
+        ensures err { IfErr result (λ f. (f ≡ Fault.Memory) ⊎ (with_data_line plan.now number self.old (Some (DataLine.Record input rec)) ≡ Err f)) }
+        ensures own { IfErr result IsOfInput }
+    {
+        if !is_input(plan, input) {
+            return Err(Fault::Line(number, LineFault::NoSuchInput));
+        }
+        let input = input as u8;
+        self.current.push(Entry { input, rec })?;
+        Ok(())
     }
 
     /// The batches, where every epoch is closed. Refusal: `NotClosed` at the line with this number.
@@ -92,29 +102,6 @@ impl Epochs {
             Err(Fault::Line(number, LineFault::NotClosed))
         }
     }
-
-    /// The same, with one more record. Refusals: `NoSuchInput`; `Memory`.
-    fn with_record(self, plan: &Plan, number: u64, input: u32, rec: Rec) -> Result<Epochs, Fault>
-        ensures gives { Gives result (with_data_line plan.now number self (Some (DataLine.Record input rec))) }
-        ensures own { IfErr result IsOfInput }
-        ensures few { IfOk result (λ epochs. length epochs.closed ≤ length self.closed + 1) }
-    {
-        if !is_input(plan, input) {
-            return Err(Fault::Line(number, LineFault::NoSuchInput));
-        }
-        let input = input as u8;
-        let Epochs {
-            closed,
-            mut current,
-            alloc,
-        } = self;
-        current.push(Entry { input, rec })?;
-        Ok(Epochs {
-            closed,
-            current,
-            alloc,
-        })
-    }
 }
 
 /// Whether a number is that of an input vertex.
@@ -125,6 +112,22 @@ pub fn is_input(plan: &Plan, number: u32) -> bool
     match plan.vertices().get(number as usize) {
         Some(vertex) => vertex.is_input(),
         None => false,
+    }
+}
+
+/// What the first line of a text says, if it has a form, and the text after that line.
+fn first_data_line(text: &str) -> Option<(Option<DataLine>, &str)>
+    ensures { MatchOption result (text_lines text.now ≡ []) (λ p. IsFirstLine text.now p.0 p.1.now) }
+{
+    match plain_record(text.as_bytes()) {
+        Some((input, rec, others)) => {
+            let (_line, rest) = text.split_at(text.len() - others.len());
+            Some((Some(DataLine::Record(input, rec)), rest))
+        }
+        None => {
+            let (line, rest) = next_line(text)?;
+            Some((read_data_line(line), rest))
+        }
     }
 }
 
@@ -159,8 +162,8 @@ fn read_each(alloc: Global, plan: &Plan, text: &str, first: u64) -> Result<Vec<B
     let mut epochs = Epochs::new(alloc);
     let mut number = first;
     let mut rest = text;
-    while let Some((line, others)) = next_line(rest) {
-        epochs = epochs.with_line(plan, number, line)?;
+    while let Some((said, others)) = first_data_line(rest) {
+        epochs.add(plan, number, said)?;
         number += 1;
         rest = others;
     }

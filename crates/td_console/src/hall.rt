@@ -1,6 +1,6 @@
 //! The answer text of a plan and batches, by a hall.
 ghost use Rattle.std.specs.Prelude.{◌≡◌, ◌≢◌, ◌⊎◌, ◌++◌, ◌+◌, ◌≤◌, ◌<◌, ◌^◌, ℕ, [], IfOk, IfErr, OnOk, None, IsTrue, true, All};
-ghost use Rattle.std.specs.Prelude.{length, string_bytes};
+ghost use Rattle.std.specs.Prelude.{length, string_bytes, flat_map};
 ghost use Rattle.std.specs.List.{list_all};
 ghost use Rattle.td_plan.specs.Blocks.{vertices};
 ghost use Rattle.td_plan.specs.Inputs.{is_input_of};
@@ -8,19 +8,26 @@ ghost use Rattle.td_calls.specs.Fits.{first_lack};
 ghost use Rattle.td_batch.specs.Meaning.{numbered};
 ghost use Rattle.td_machine.specs.Active.{has_passed};
 ghost use Rattle.td_machine.specs.Sound.{run_of};
-ghost use Rattle.td_machine.specs.Steps.{opened};
-ghost use Rattle.td_console.specs.Answer.{lines_of_run, output_text};
+ghost use Rattle.td_machine.specs.Steps.{opened, accepts, ends};
+ghost use Rattle.td_console.specs.Answer.{lines_of_run, output_line, output_text};
+ghost use Rattle.td_console.specs.EpochByEpoch.{IsBetween, IsRunOn, IsSameRun, epoch_after};
 ghost use Rattle.td_console.specs.Turns.{all_released};
 
 use crate::answer::print_epoch;
 use crate::faults::Fault;
 use std::alloc::Global;
+use td_batch::laws::run_joins;
 use td_calls::{Closures, Law};
 use td_core::{Hall, HallError};
 use td_plan::Plan;
 use td_stamp::{Batch, EpochOut, States};
 
-/// The output lines of a run from no states, the epochs numbered from 1, by a hall of so many shards, which is drained.
+/// So many epochs and records come before a cut at least, and as many as the hall's base has states: so what cuts copy is little
+/// beside what was read.
+const WEIGHT: usize = 65_536;
+
+/// The output lines of a run from no states, the epochs numbered from 1, by a hall of so many shards. One batch after another is
+/// released, drained and printed, and the hall is cut as records have come; so it holds one epoch, and what was left since the cut.
 /// Refusals: `Memory`; `Spent`.
 pub(crate) fn hall_text<L: Law, C: Closures<L>>(
     alloc: Global,
@@ -37,13 +44,78 @@ pub(crate) fn hall_text<L: Law, C: Closures<L>>(
     ensures ok { IfOk result (λ text. string_bytes text ≡ lines_of_run L.answers plan.now batches.items) }
     ensures err { IfErr result (λ f. (f ≡ Fault.Memory) ⊎ (f ≡ Fault.Spent)) }
 {
-    let mut hall = released::<L>(alloc, plan, batches, workers)?;
+    run_joins::<L>();
+    let mut hall = open_hall::<L>(alloc, plan, workers)?;
+    let mut text = String::new(alloc);
+    let mut weight = 0;
+    for batch in batches {
+        weight = weight_after(cut_if_due(&mut hall, weight)?, &batch);
+        run_epoch::<L, C>(&mut text, &mut hall, calls, batch)?;
+    }
+    Ok(text)
+}
+
+/// A hall of so many shards for a plan, into which nothing was released. Refusal: `Memory`.
+fn open_hall<L: Law>(alloc: Global, plan: &Plan, workers: u8) -> Result<Hall<L>, Fault>
+    requires some { 1 ≤ workers }
+    requires most { workers ≤ 16 }
+    ensures ok { IfOk result (λ hall. hall ≡ opened plan.now [] 1 workers) }
+    ensures err { IfErr result (λ f. f ≡ Fault.Memory) }
+{
+    match Hall::<L>::open(alloc, plan, States::new(alloc), 1, workers) {
+        Ok(hall) => Ok(hall),
+        Err(error) => Err(hall_fault(error)),
+    }
+}
+
+/// What was released since a cut, with one batch more: each epoch and each record counts as one.
+fn weight_after(weight: usize, batch: &Batch) -> usize {
+    weight.saturating_add(batch.len()).saturating_add(1)
+}
+
+/// Cuts a hall where it is due, by the weight of what was released since the last cut; and answers what was since the last one then.
+/// Refusal: `Memory`.
+fn cut_if_due<L: Law>(hall: &mut Hall<L>, weight: usize) -> Result<usize, Fault>
+    requires between { IsBetween hall.old }
+    ensures ok { OnOk result (IsSameRun L.answers hall.old hall.new) }
+    ensures err { IfErr result (λ f. f ≡ Fault.Memory) }
+{
+    let (_epoch, states) = hall.base();
+    if weight < WEIGHT.max(states.len()) {
+        return Ok(weight);
+    }
+    match hall.cut() {
+        Ok(_cut) => Ok(0),
+        Err(error) => Err(hall_fault(error)),
+    }
+}
+
+/// Runs one epoch more, and appends its lines. Refusals: `Memory`; `Spent`.
+fn run_epoch<L: Law, C: Closures<L>>(
+    text: &mut String,
+    hall: &mut Hall<L>,
+    calls: &C,
+    batch: Batch,
+) -> Result<(), Fault>
+    requires fits { first_lack (C.has_map calls.now) (C.has_group calls.now) (C.has_fold calls.now) (vertices hall.old.plan) ≡ None }
+    requires accepted { accepts hall.old.plan batch ≡ true }
+    requires below { hall.old.next < ends }
+    requires between { IsBetween hall.old }
+    ensures ok { OnOk result (IsRunOn L.answers hall.old batch hall.new) }
+    ensures text { OnOk result (string_bytes text.new ≡ string_bytes text.old ++ flat_map (output_line hall.old.next) (epoch_after L.answers hall.old batch).outs) }
+    ensures err { IfErr result (λ f. (f ≡ Fault.Memory) ⊎ (f ≡ Fault.Spent)) }
+{
+    run_joins::<L>();
+    if let Err((error, _batch)) = hall.release(batch) {
+        return Err(hall_fault(error));
+    }
     if let Err(error) = hall.drain::<C>(calls) {
         return Err(hall_fault(error));
     }
-    let mut text = String::new(alloc);
-    print_collected::<L>(&mut text, &mut hall)?;
-    Ok(text)
+    match hall.collect() {
+        Ok(came) => print_epochs(text, came.as_slice()),
+        Err(error) => Err(hall_fault(error)),
+    }
 }
 
 /// A hall of so many shards, into which these batches were released from epoch 1 on. Refusal: `Memory`.
@@ -60,10 +132,7 @@ pub(crate) fn released<L: Law>(
     ensures ok { IfOk result (λ hall. hall ≡ all_released (opened plan.now [] 1 workers) batches.items) }
     ensures err { IfErr result (λ f. f ≡ Fault.Memory) }
 {
-    let mut hall = match Hall::<L>::open(alloc, plan, States::new(alloc), 1, workers) {
-        Ok(hall) => hall,
-        Err(error) => return Err(hall_fault(error)),
-    };
+    let mut hall = open_hall::<L>(alloc, plan, workers)?;
     for batch in batches {
         if let Err((error, _batch)) = hall.release(batch) {
             return Err(hall_fault(error));

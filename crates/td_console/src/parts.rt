@@ -1,6 +1,6 @@
 //! The two parts of an input: the plan text, and the data lines after a line `--`.
 ghost use Rattle.std.specs.Prelude.{◌≡◌, ◌==◌, ◌⊎◌, ◌+◌, ◌++◌, ◌∷◌, [], ◌<◌, ◌≤◌, ◌^◌};
-ghost use Rattle.std.specs.Prelude.{None, true, is_some, length, MatchOption, IfSome, IfNone};
+ghost use Rattle.std.specs.Prelude.{Some, true, false, is_some, length, MatchOption, IfSome};
 ghost use Rattle.std.specs.List.{list_all, position_or_len};
 ghost use Rattle.std.specs.Char.{is_ascii};
 ghost use Rattle.td_plan.specs.Text.{text_lines, words};
@@ -63,13 +63,13 @@ fn is_separator(line: &str) -> bool
     }
 }
 
-/// The fault of the first line with a byte above 127: one of the plan before the first separator, and of the data
-/// after it. Without such a byte there is none.
-pub(crate) fn find_wide_fault(input: &[u8]) -> Option<Fault>
+/// The fault of the first line with a byte above 127, of which there is one: one of the plan before the first separator, and of the
+/// data after it.
+pub(crate) fn find_wide_fault(input: &[u8]) -> Fault
     requires bound { length input.now < 2 ^ 64 }
-    ensures first { result ≡ wide_fault input.now }
-    ensures none { IfNone result (list_all (list_all is_ascii) (text_lines input.now) ≡ true) }
-    ensures own { IfSome result IsOfInput }
+    requires wide { list_all is_ascii input.now ≡ false }
+    ensures first { wide_fault input.now ≡ Some result }
+    ensures own { IsOfInput result }
 {
     let mut number: u64 = 0;
     let mut in_data = false;
@@ -77,12 +77,12 @@ pub(crate) fn find_wide_fault(input: &[u8]) -> Option<Fault>
     while let Some((line, others)) = first_line(rest) {
         number += 1;
         let Some(text) = ascii_text(line) else {
-            return Some(wide_fault_at(number, in_data));
+            return wide_fault_at(number, in_data);
         };
         in_data = in_data || is_separator(text);
         rest = others;
     }
-    None
+    unreachable!()
 }
 
 /// The fault of a byte above 127 in a line with this number.
@@ -109,10 +109,15 @@ pub fn ascii_text(bytes: &[u8]) -> Option<&str>
     }
 }
 
+/// Whether all bytes are ASCII. It looks at each: a loop without an exit takes many at a time.
 fn is_ascii(bytes: &[u8]) -> bool
     ensures { result ≡ list_all is_ascii bytes.now }
 {
-    bytes.iter().all(|b| b.is_ascii())
+    let mut bits = 0;
+    for byte in bytes {
+        bits |= *byte;
+    }
+    bits < 128
 }
 
 /// The first line of some bytes, without its line feed, and the bytes after it.

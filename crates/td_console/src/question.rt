@@ -44,12 +44,9 @@ pub(crate) fn asked_by<L: Law, C: Closures<L>>(
         ⊎ IsAnswer (stored_in L.answers C.has_map C.has_group C.has_fold calls.now) input.now (Err f)) }
     ensures own { IfErr result IsOfInput }
 {
-    if let Some(fault) = find_wide_fault(input) {
-        return Err(fault);
-    }
     match ascii_text(input) {
         Some(text) => question_of_text::<L, C>(alloc, text, calls),
-        None => unreachable!(),
+        None => Err(find_wide_fault(input)),
     }
 }
 

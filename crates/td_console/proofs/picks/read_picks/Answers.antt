@@ -1,10 +1,9 @@
-use Rattle.std.proofs.Common.{◌≡◌, ℕ, ◌==◌, ◌<◌, List, Option, Some, None, map, length, get_or, refl, ap, sym, ◌∙◌, subst, arith, inr, lit<}
+use Rattle.std.proofs.Common.{◌==◌, length, refl, ap, sym, ◌∙◌, arith, inr, lit<}
 use Rattle.std.specs.List.{slice_split}
 use Rattle.std.proofs.lemmas.Iterator.Consumers.{YieldsList-turn, YieldsList-end}
 use Rattle.std.proofs.lemmas.Grind.{common_steps}
 use Rattle.std.proofs.lemmas.Iterator.Splits.{YieldsList-from_str_split}
 use Rattle.std.specs.Str.Iter.{split_text, split_has_more, split_pattern}
-use Rattle.td_plan.specs.Text.{natural_of}
 use Rattle.td_console.proofs.Picking.{no_picks, all_picks}
 use Rattle.td_console.proofs.picks.read_picks.Goals as goal
 

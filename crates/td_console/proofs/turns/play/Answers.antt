@@ -1,4 +1,4 @@
-use Rattle.std.proofs.Common.{◌≡◌, ◌+◌, ◌%◌, ◌≤◌, Bool, true, false, cond, refl, ap, sym, ◌∙◌, subst, arith, length}
+use Rattle.std.proofs.Common.{◌≡◌, ◌+◌, ◌%◌, ◌≤◌, Bool, true, false, cond, ap, sym, ◌∙◌, subst, arith, length}
 use Rattle.std.specs.Prelude.{string_bytes}
 use Rattle.td_console.specs.Turns.{IsTurn}
 use Rattle.td_console.proofs.Turning.{not_played, played_on, turned, nearer, next_shard}

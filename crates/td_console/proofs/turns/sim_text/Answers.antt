@@ -1,4 +1,4 @@
-use Rattle.std.proofs.Common.{◌≡◌, ◌++◌, [], None, refl, ap, sym, ◌∙◌, subst, arith, length}
+use Rattle.std.proofs.Common.{◌≡◌, ◌++◌, [], None, ap, sym, ◌∙◌, subst, arith, length}
 use Rattle.std.specs.Prelude.{string_bytes}
 use Rattle.td_plan.specs.Blocks.{vertices}
 use Rattle.td_plan.specs.Tree.{tree_of}
@@ -6,7 +6,7 @@ use Rattle.td_calls.specs.Fits.{first_lack}
 use Rattle.td_batch.specs.Meaning.{run, numbered}
 use Rattle.td_machine.specs.Steps.{opened}
 use Rattle.td_console.specs.Answer.{output_text}
-use Rattle.td_console.specs.Turns.{Played, all_released, notes_of}
+use Rattle.td_console.specs.Turns.{Played, notes_of}
 use Rattle.td_console.proofs.Released.{IsReleased, is_released}
 use Rattle.td_console.proofs.Turning.{all_passed}
 use Rattle.td_console.proofs.turns.sim_text.Goals as goal

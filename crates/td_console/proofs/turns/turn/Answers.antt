@@ -1,4 +1,4 @@
-use Rattle.std.proofs.Common.{◌≡◌, ap, sym, ◌∙◌, inl, subst}
+use Rattle.std.proofs.Common.{ap, ◌∙◌, inl, subst}
 use Rattle.td_machine.specs.Steps.{Takes}
 use Rattle.td_machine.specs.Steps.Answer.{has_taken}
 use Rattle.td_task.specs.Refusals.{refusal}
