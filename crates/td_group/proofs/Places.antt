@@ -1,5 +1,5 @@
 -- What stands in other regions than the cells that changed, and in which cell an epoch stands.
-use Rattle.std.proofs.Common.{◌≡◌, ◌≢◌, inl, inr, ⊎_elim, ℕ, zero, suc, ◌+◌, ◌*◌, ◌/◌, ◌%◌, ◌<◌, ◌≤◌, ◌==◌, Bool, true, false, List, [], ◌∷◌, length, get_or, take, drop, Option, Some, None, if◌then◌else◌, refl, sym, ap, ◌∙◌, subst, arith, length-drop}
+use Rattle.std.proofs.Common.{◌≡◌, ◌≢◌, inl, inr, ⊎_elim, ℕ, suc, ◌+◌, ◌*◌, ◌/◌, ◌%◌, ◌<◌, ◌≤◌, ◌==◌, List, [], ◌∷◌, length, get_or, drop, Some, None, if◌then◌else◌, refl, sym, ap, ◌∙◌, arith, length-drop}
 use Rattle.std.proofs.Math.Nat.{div-add-mod, mul-le-mul_left, mul-suc}
 use Rattle.std.proofs.lemmas.Bool.{cases_lt}
 use Rattle.std.proofs.lemmas.List.{ext_get_or, length-take, get_or-take, get_or-drop}
@@ -9,7 +9,7 @@ use Rattle.td_gate.specs.Region.{gate_of, opened}
 use Rattle.td_gate.specs.Regions.{Apart}
 use Rattle.td_journal.specs.declared.journal.Journal.{Journal}
 use Rattle.td_journal.specs.Cell.{cell, cell_of}
-use Rattle.td_group.specs.Groups.{ChangesCells, IsBeside, Hold}
+use Rattle.td_group.specs.Groups.{ChangesCells, Hold}
 
 -- the same bytes in a range
 bytes_same : (at n : ℕ) (c d : List ℕ) → length d ≡ length c → ((i : ℕ) → at ≤ i → i < at + n → get_or d i 0 ≡ get_or c i 0) → bytes_at at n d ≡ bytes_at at n c

@@ -1,14 +1,14 @@
 -- How a ring is made ready for a group, step by step.
-use Rattle.std.proofs.Common.{◌≡◌, ◌≢◌, ◌⊎◌, inl, inr, ⊎_elim, ℕ, zero, suc, ◌+◌, ◌*◌, ◌<◌, ◌≤◌, ◌==◌, nat_le, Bool, true, false, List, [], ◌∷◌, length, Option, Some, None, refl, sym, ap, ◌∙◌, subst, arith}
-use Rattle.std.proofs.lemmas.Bool.{cases_eq, leb-false, lt-leb}
+use Rattle.std.proofs.Common.{◌≡◌, ◌≢◌, inl, inr, ⊎_elim, ℕ, suc, ◌+◌, ◌*◌, ◌<◌, ◌≤◌, nat_le, Bool, true, false, List, None, refl, sym, ◌∙◌, subst, arith}
+use Rattle.std.proofs.lemmas.Bool.{leb-false, lt-leb}
 use Rattle.std.proofs.lemmas.Bool.Decides.{nat_tests}
 use Rattle.td_disk.specs.Disk.{DiskState, IsDurable, SameOutside}
 use Rattle.td_gate.specs.CrashSafe.{CrashSafe}
 use Rattle.td_gate.specs.declared.region.Region.{Region}
-use Rattle.td_gate.specs.Region.{gate_of, opened, IsClosed, Closes}
+use Rattle.td_gate.specs.Region.{gate_of, opened, Closes}
 use Rattle.td_gate.specs.Regions.{Apart}
 use Rattle.td_journal.specs.declared.journal.Journal.{Journal}
-use Rattle.td_journal.specs.Cell.{cell_of, bears}
+use Rattle.td_journal.specs.Cell.{cell_of}
 use Rattle.td_journal.specs.Images.{IsBorne, Clears}
 use Rattle.td_group.specs.Groups.{ChangesCells, IsBeside, Spares, touched}
 use Rattle.td_group.proofs.Moments.{HasClock, in_turn, weaker_step}

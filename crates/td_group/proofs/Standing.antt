@@ -1,13 +1,12 @@
 -- What a disk tells while a group of epochs is put on it, and once it is.
 use Rattle.std.proofs.Common.{◌≡◌, ◌⊎◌, inl, inr, ⊎_elim, ℕ, suc, ◌+◌, ◌%◌, ◌<◌, ◌≤◌, ◌^◌, Bool, true, false, nat_le, List, [], ◌∷◌, ◌++◌, length, Option, Some, None, refl, sym, ap, ◌∙◌, subst, arith, Ok}
 use Rattle.td_plan.specs.Lines.{Line}
-use Rattle.td_disk.specs.Disk.{DiskState, IsDurable, SameOutside}
+use Rattle.td_disk.specs.Disk.{DiskState, SameOutside}
 use Rattle.td_gate.specs.declared.region.Region.{Region}
-use Rattle.td_gate.specs.Region.{opened, Puts, IsOpen}
+use Rattle.td_gate.specs.Region.{opened, Puts}
 use Rattle.td_gate.specs.Regions.{Apart}
 use Rattle.td_gate.specs.CrashSafe.{CrashSafe}
 use Rattle.td_head.specs.declared.head.Head.{Head}
-use Rattle.td_head.specs.declared.error.HeadError.{HeadError}
 use Rattle.td_head.specs.Layout.{Sizes, head_a, head_b}
 use Rattle.td_head.specs.Head.{headed, TellsCanonical}
 use Rattle.td_head.specs.Images.{SameHeads}
@@ -21,9 +20,9 @@ use Rattle.td_journal.specs.Cell.{cell, cell_of, cell_bytes, bears}
 use Rattle.td_journal.specs.Images.{IsBorne, IsNext}
 use Rattle.td_journal.specs.Numbers.{floor_after, greatest}
 use Rattle.td_journal.specs.Ring.{told_after}
-use Rattle.td_standing.specs.Standing.{Standing, with_more, last_epoch}
+use Rattle.td_standing.specs.Standing.{Standing, with_more}
 use Rattle.td_standing.specs.Told.{inputs_of, folds_of, slots_of, ring_of, floor_of}
-use Rattle.td_standing.specs.Tells.{Tells, EachTells, TellsSince}
+use Rattle.td_standing.specs.Tells.{Tells, EachTells}
 use Rattle.td_group.specs.Groups.{payloads, Hold, AreCellBatches, may_follow, AreFresh, HasRoomFor, ChangesCells, Spares, IsReady, touched}
 use Rattle.td_group.proofs.Places.{CellsApart, opened_beside, one_cell, epochs_apart, epochs_apart_too, hold_same}
 

@@ -1,17 +1,17 @@
 -- What a ring tells while a group of epochs is put on it, and once it is.
-use Rattle.std.proofs.Common.{◌≡◌, ◌≢◌, ◌⊎◌, inl, inr, ⊎_elim, ℕ, suc, ◌+◌, ◌%◌, ◌<◌, ◌≤◌, ◌^◌, Bool, true, false, ◌&&◌, List, [], ◌∷◌, ◌++◌, length, Option, Some, None, refl, sym, ap, ◌∙◌, subst, arith, Ok}
+use Rattle.std.proofs.Common.{◌≡◌, ◌⊎◌, inl, inr, ⊎_elim, ℕ, suc, ◌+◌, ◌%◌, ◌<◌, ◌≤◌, ◌^◌, Bool, true, List, [], ◌∷◌, ◌++◌, length, Option, Some, None, refl, sym, ap, ◌∙◌, subst, arith, Ok}
 use Rattle.std.proofs.lemmas.Bool.{cases_Bool, and_parts}
 use Rattle.std.proofs.lemmas.List.{length-append}
 use Rattle.td_gate.specs.Region.{opened}
 use Rattle.td_journal.specs.declared.journal.Journal.{Journal}
 use Rattle.td_journal.specs.declared.submitted.Submitted.{Submitted}
 use Rattle.td_journal.specs.Numbers.{floor_after, may_come, raised}
-use Rattle.td_journal.specs.Cell.{Found, cell_of, cell_bytes, bears, found_in, where_borne, where_valid, is_cell, submitted_in, IsCellBatch}
+use Rattle.td_journal.specs.Cell.{cell_of, cell_bytes, bears, found_in, where_borne, where_valid, is_cell, submitted_in, IsCellBatch}
 use Rattle.td_journal.specs.Cell.Found.{ended, submitted}
 use Rattle.td_journal.specs.Ring.{found, told_after}
 use Rattle.td_journal.specs.Images.{IsBorne, IsNext}
 use Rattle.td_group.specs.Groups.{payloads, Hold, AreCellBatches, may_follow}
-use Rattle.td_group.proofs.Runs.{Runs, IsRead, read_from_runs, runs_from_read, runs_same, runs_append, floor_more}
+use Rattle.td_group.proofs.Runs.{Runs, IsRead, read_from_runs, runs_from_read, runs_same, runs_append}
 
 -- what is written for an epoch is found
 abbrev pub IsFoundAgain : Type 0

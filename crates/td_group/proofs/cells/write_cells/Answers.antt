@@ -1,11 +1,10 @@
-use Rattle.std.proofs.Common.{◌≡◌, ◌+◌, ◌*◌, ◌<◌, ◌≤◌, ℕ, suc, length, List, refl, sym, ap, ◌∙◌, subst, arith, rules}
+use Rattle.std.proofs.Common.{◌≡◌, ◌+◌, ◌*◌, ◌≤◌, suc, length, sym, ap, ◌∙◌, subst, arith}
 use Rattle.std.proofs.Math.Nat.{mul-le-mul_right, suc-mul}
 use Rattle.td_disk.specs.Disk.{SameOutside, bytes_at}
-use Rattle.td_gate.specs.CrashSafe.{CrashSafe}
 use Rattle.td_gate.specs.declared.region.Region.{Region}
 use Rattle.td_journal.specs.Cell.{cell_of, cell_len}
-use Rattle.td_group.specs.Groups.{ChangesCells, HasPieces}
-use Rattle.td_group.proofs.Moments.{HasClock, in_turn}
+use Rattle.td_group.specs.Groups.{ChangesCells}
+use Rattle.td_group.proofs.Moments.{in_turn}
 use Rattle.td_group.proofs.Pieces.{pieces_more}
 use Rattle.td_group.proofs.Places.{one_cell, then_change}
 use Rattle.td_group.proofs.cells.write_cells.Goals as goal

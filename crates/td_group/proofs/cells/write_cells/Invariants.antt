@@ -1,4 +1,4 @@
-use Rattle.std.proofs.Common.{◌≡◌, ◌↔◌, ◌≤◌}
+use Rattle.std.proofs.Common.{◌≡◌, ◌↔◌}
 use Rattle.td_gate.specs.CrashSafe.{CrashSafe}
 use Rattle.td_group.specs.Groups.{ChangesCells, HasPieces}
 use Rattle.td_group.proofs.cells.write_cells.Given as goal

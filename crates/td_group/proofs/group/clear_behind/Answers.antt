@@ -1,8 +1,8 @@
-use Rattle.std.proofs.Common.{◌≡◌, ℕ, suc, ◌+◌, ◌<◌, ◌≤◌, List, Bool, true, false, refl, sym, subst, arith, rules}
+use Rattle.std.proofs.Common.{suc, ◌+◌}
 use Rattle.td_gate.specs.CrashSafe.{CrashSafe}
 use Rattle.td_journal.specs.Cell.{cell_of}
 use Rattle.td_journal.specs.Images.{Clears}
-use Rattle.td_group.specs.Groups.{Spares, touched}
+use Rattle.td_group.specs.Groups.{Spares}
 use Rattle.td_group.proofs.Moments.{weaker_step}
 use Rattle.td_group.proofs.Ready.{spares_clears, by_fullness}
 use Rattle.td_group.proofs.group.clear_behind.Goals as goal

@@ -1,12 +1,11 @@
-use Rattle.std.proofs.Common.{◌≡◌, ℕ, suc, ◌+◌, ◌*◌, ◌<◌, ◌≤◌, List, [], ◌∷◌, length, Bool, true, false, refl, sym, ap, ◌∙◌, subst, arith, rules}
+use Rattle.std.proofs.Common.{◌≡◌, ℕ, suc, ◌+◌, List, length, ap, ◌∙◌, subst, arith}
 use Rattle.std.specs.Prelude.{None}
 use Rattle.td_gate.specs.CrashSafe.{CrashSafe}
 use Rattle.td_gate.specs.declared.region.Region.{Region}
 use Rattle.td_gate.specs.Region.{opened, Closes}
-use Rattle.td_journal.specs.declared.submitted.Submitted.{Submitted}
-use Rattle.td_journal.specs.Cell.{cell_of, cell_len}
+use Rattle.td_journal.specs.Cell.{cell_of}
 use Rattle.td_journal.specs.Images.{IsBorne}
-use Rattle.td_group.specs.Groups.{ChangesCells, HasPieces, Hold, Spares, gated, payloads, touched}
+use Rattle.td_group.specs.Groups.{ChangesCells, HasPieces, Hold, gated, payloads, touched}
 use Rattle.td_group.proofs.Moments.{HasClock}
 use Rattle.td_group.proofs.Pieces.{held, gated_size}
 use Rattle.td_group.proofs.Ready.{bytes_step, touched_wide, touched_more, two_steps, shut_step, put_step, shut_none, first_stays, behind_stays, borne_before, later_cell}

@@ -1,10 +1,7 @@
-use Rattle.std.proofs.Common.{◌≡◌, inl, inr, ⊎_elim, ℕ, ◌≤◌, List, length, suc, sym, subst, arith}
+use Rattle.std.proofs.Common.{inl, inr, ⊎_elim, ℕ, ◌≤◌, List, length, suc, subst, arith}
 use Rattle.td_gate.specs.Region.{Puts}
 use Rattle.td_journal.specs.Cell.{cell_of, cell_bytes}
 use Rattle.td_standing.specs.Told.{ring_of}
-use Rattle.td_standing.specs.Tells.{Tells}
-use Rattle.td_standing.specs.Standing.{with_more}
-use Rattle.td_group.specs.Groups.{touched}
 use Rattle.td_group.proofs.Standing.{Laws, ready_since, tells_ready, put_first, opened_first, changed}
 use Rattle.td_group.proofs.laws.group_is_safe.Goals as goal
 
