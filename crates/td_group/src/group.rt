@@ -1,0 +1,181 @@
+//! Putting a group of epochs on a ring.
+ghost use Rattle.std.specs.Prelude.{◌≡◌, ◌⊎◌, ◌↔◌, ◌+◌, ◌-◌, ◌^◌, ◌<◌, ◌≤◌, ◌==◌, ◌∷◌, nat_le, ℕ, suc, List, length, false, true, OnOk, IfErr, IsErrOf};
+ghost use Rattle.td_disk.specs.Disk.{IsDurable, Rises};
+ghost use Rattle.td_gate.specs.CrashSafe.{CrashSafe, Unchanged};
+ghost use Rattle.td_journal.specs.Cell.{cell_of, cell_len, ring_len};
+ghost use Rattle.td_journal.specs.Images.{IsBorne};
+ghost use Rattle.td_plan.specs.Lines.{Line};
+ghost use Rattle.td_head.specs.declared.head.Head.{Head as AnyHead};
+ghost use Rattle.td_standing.specs.Standing.{Standing, with_more};
+ghost use Rattle.td_standing.specs.Told.{inputs_of, ring_of};
+ghost use Rattle.td_standing.specs.Tells.{Tells, Keeps, TellsSince};
+ghost use Rattle.td_group.specs.Groups.{gated, AllFew, AreBatches, AreFresh, HasRoomFor, Spares, IsReady, touched};
+
+use crate::cells::{gated, put_cells};
+use crate::laws;
+use std::alloc::Global;
+use td_disk::Disk;
+use td_journal::{Journal, JournalError, Submitted};
+
+/// Closes the cell behind a group of `count` epochs where it bears the epoch behind it, unless the ring is full with the group. It refuses
+/// `Memory`, and then has written nothing; then `Device`.
+fn clear_behind<D: Disk>(
+    alloc: Global,
+    journal: &Journal,
+    device: &mut D,
+    first: u64,
+    count: u64,
+    is_full: bool,
+) -> Result<(), JournalError>
+    requires cells { 0 < journal.now.n }
+    requires records { journal.now.m ≤ 65536 }
+    requires room { journal.now.at + ring_len journal.now.m journal.now.n ≤ D.capacity device.old }
+    requires some { 0 < count }
+    requires few { touched is_full count ≤ journal.now.n }
+    requires small { first + count ≤ 2 ^ 63 }
+    ensures refusals { IfErr result (λ e. (e ≡ JournalError.Memory) ⊎ (e ≡ JournalError.Device)) }
+    ensures device { IsErrOf result JournalError.Device → Rises (D.failures device.old) (D.failures device.new) }
+    ensures counted { D.failures device.old ≤ D.failures device.new }
+    ensures stays { IsErrOf result JournalError.Device ⊎ (D.failures device.new ≡ D.failures device.old) }
+    ensures size { D.capacity device.new ≡ D.capacity device.old }
+    ensures lawful { D.is_lawful device.old ↔ D.is_lawful device.new }
+    ensures unwritten { IsErrOf result JournalError.Memory → D.is_lawful device.old
+        → CrashSafe Unchanged (D.state device.old) (D.state device.new) }
+    ensures same { IsErrOf result JournalError.Memory → D.is_lawful device.old
+        → (D.state device.new).bytes ≡ (D.state device.old).bytes }
+    ensures crash_safe { D.is_lawful device.old → IsDurable (D.state device.old)
+        → CrashSafe (Spares journal.now first (touched is_full count)) (D.state device.old) (D.state device.new) }
+    ensures durable { IfErr result (λ e. e ≡ JournalError.Memory) → D.is_lawful device.old
+        → IsDurable (D.state device.old) → IsDurable (D.state device.new) }
+    ensures gone { OnOk result (D.is_lawful device.old → IsDurable (D.state device.old) → is_full ≡ false
+        → IsBorne journal.now (D.state device.new).bytes (first + count) → ⊥) }
+{
+    td_journal::laws::cells();
+    td_gate::laws::durable_is_settled::<D>();
+    td_gate::laws::unchanged::<D>();
+    if is_full {
+        return Ok(());
+    }
+    journal.clear(alloc, device, first + count)?;
+    Ok(())
+}
+
+/// Gets a ring ready for a group of epochs, all but its first: closes the cell behind the group, as `clear_behind`, and the first cell of the
+/// group; and puts the others, `bytes`, with one sync for all. It refuses `Memory`, and then has written nothing; then `Device`.
+pub(crate) fn get_ready<D: Disk>(
+    alloc: Global,
+    journal: &Journal,
+    device: &mut D,
+    first: u64,
+    others: &[Submitted],
+    bytes: &[u8],
+    is_full: bool,
+) -> Result<(), JournalError>
+    requires cells { 0 < journal.now.n }
+    requires records { journal.now.m ≤ 65536 }
+    requires room { journal.now.at + ring_len journal.now.m journal.now.n ≤ D.capacity device.old }
+    requires few { touched is_full (length others.now + 1) ≤ journal.now.n }
+    requires small { first + length others.now + 1 ≤ 2 ^ 63 }
+    requires bytes { bytes.now ≡ gated journal.now.m (first + 1) others.now }
+    requires batches { AllFew journal.now.m others.now }
+    ensures refusals { IfErr result (λ e. (e ≡ JournalError.Memory) ⊎ (e ≡ JournalError.Device)) }
+    ensures device { IsErrOf result JournalError.Device → Rises (D.failures device.old) (D.failures device.new) }
+    ensures counted { D.failures device.old ≤ D.failures device.new }
+    ensures stays { IsErrOf result JournalError.Device ⊎ (D.failures device.new ≡ D.failures device.old) }
+    ensures size { D.capacity device.new ≡ D.capacity device.old }
+    ensures lawful { D.is_lawful device.old ↔ D.is_lawful device.new }
+    ensures unwritten { IsErrOf result JournalError.Memory → D.is_lawful device.old
+        → CrashSafe Unchanged (D.state device.old) (D.state device.new) }
+    ensures same { IsErrOf result JournalError.Memory → D.is_lawful device.old
+        → (D.state device.new).bytes ≡ (D.state device.old).bytes }
+    ensures crash_safe { D.is_lawful device.old → IsDurable (D.state device.old)
+        → CrashSafe (Spares journal.now first (touched is_full (length others.now + 1))) (D.state device.old) (D.state device.new) }
+    ensures durable { IfErr result (λ e. e ≡ JournalError.Memory) → D.is_lawful device.old
+        → IsDurable (D.state device.old) → IsDurable (D.state device.new) }
+    ensures ready { OnOk result (D.is_lawful device.old → IsDurable (D.state device.old)
+        → IsReady journal.now first others.now is_full (D.state device.new).bytes) }
+{
+    td_journal::laws::cells();
+    td_journal::laws::cells_read_back();
+    td_gate::laws::durable_is_settled::<D>();
+    clear_behind(
+        alloc,
+        journal,
+        device,
+        first,
+        others.len() as u64 + 1,
+        is_full,
+    )?;
+    let _size = device.size();
+    journal.cell_of(first).shut(device)?;
+    put_cells(journal, device, first + 1, others.len(), bytes)?;
+    Ok(())
+}
+
+/// Whether each cell of a ring is used by the epochs up to this one.
+fn is_full(journal: &Journal, last: u64) -> bool
+    requires { journal.now.kept < 2 ^ 63 }
+    ensures { result ≡ nat_le (journal.now.kept + journal.now.n) last }
+{
+    journal.kept + u64::from(journal.n) <= last
+}
+
+/// Puts a group of epochs on a ring, of which `first` is the number of the first, so that no stop leaves a part of it: the first one's cell is
+/// opened last of all, over the others. It takes three to five syncs, whatever the group's size. It refuses `Memory`, and then has written
+/// nothing; then `Device`.
+pub fn submit_group<D: Disk>(
+    alloc: Global,
+    journal: &Journal,
+    device: &mut D,
+    first: u64,
+    head: &Submitted,
+    others: &[Submitted],
+) -> Result<(), JournalError>
+    requires cells { 0 < journal.now.n }
+    requires records { journal.now.m ≤ 65536 }
+    requires room { journal.now.at + ring_len journal.now.m journal.now.n ≤ D.capacity device.old }
+    requires few { AllFew journal.now.m (head.now ∷ others.now) }
+    requires later { journal.now.kept < first }
+    requires free { first + length others.now ≤ journal.now.kept + journal.now.n }
+    requires small { first + length others.now + 1 ≤ 2 ^ 63 }
+    ensures refusals { IfErr result (λ e. (e ≡ JournalError.Memory) ⊎ (e ≡ JournalError.Device)) }
+    ensures device { IsErrOf result JournalError.Device → Rises (D.failures device.old) (D.failures device.new) }
+    ensures counted { D.failures device.old ≤ D.failures device.new }
+    ensures stays { IsErrOf result JournalError.Device ⊎ (D.failures device.new ≡ D.failures device.old) }
+    ensures size { D.capacity device.new ≡ D.capacity device.old }
+    ensures lawful { D.is_lawful device.old ↔ D.is_lawful device.new }
+    ensures unwritten { IsErrOf result JournalError.Memory → D.is_lawful device.old
+        → CrashSafe Unchanged (D.state device.old) (D.state device.new) }
+
+    // Each image since a moment up to the start of the call was one by then, or it tells the standing, or it with the whole group.
+    ensures begun { D.is_lawful device.old → (plan : List Line) (h : AnyHead) (side : ℕ) (s : Standing)
+        → journal.now ≡ ring_of h.shape s.epoch → HasRoomFor h.shape s first (suc (length others.now)) → AreFresh h.version s (head.now ∷ others.now)
+        → AreBatches (inputs_of plan) (head.now ∷ others.now)
+        → Keeps plan h side s (D.state device.old)
+        → TellsSince (Tells plan h side s) (Tells plan h side (with_more s (head.now ∷ others.now))) (D.state device.old) (D.state device.new) }
+
+    // After want of memory each image tells the standing still.
+    ensures kept { IsErrOf result JournalError.Memory → D.is_lawful device.old
+        → (plan : List Line) (h : AnyHead) (side : ℕ) (s : Standing)
+        → Keeps plan h side s (D.state device.old) → Keeps plan h side s (D.state device.new) }
+
+    // After Ok each image tells it with the group.
+    ensures done { OnOk result (D.is_lawful device.old → (plan : List Line) (h : AnyHead) (side : ℕ) (s : Standing)
+        → journal.now ≡ ring_of h.shape s.epoch → HasRoomFor h.shape s first (suc (length others.now)) → AreFresh h.version s (head.now ∷ others.now)
+        → AreBatches (inputs_of plan) (head.now ∷ others.now)
+        → Keeps plan h side s (D.state device.old)
+        → Keeps plan h side (with_more s (head.now ∷ others.now)) (D.state device.new)) }
+{
+    laws::group_is_safe::<D>();
+    td_standing::laws::recovered::<D>();
+    td_gate::laws::durable_is_settled::<D>();
+    td_gate::laws::unchanged::<D>();
+    td_journal::laws::cells_read_back();
+    let _size = device.size();
+    let payload = journal.payload(alloc, first, head.request, &head.batch)?;
+    let bytes = gated(alloc, journal, first + 1, others)?;
+    let is_full = is_full(journal, first + others.len() as u64);
+    get_ready(alloc, journal, device, first, others, &bytes, is_full)?;
+    journal.cell_of(first).put(device, &payload)?;
+    Ok(())
+}
