@@ -3,6 +3,7 @@ pub mod Bags
 pub mod Batches
 pub mod Counts
 pub mod Listed
+pub mod Packing
 pub mod Parts
 pub mod Rising
 pub mod Runs

@@ -62,7 +62,7 @@ module _ {X : Type 0} (cmp : X → X → Ordering) (total : IsTotalOrder cmp) (s
       let first : is_gt (cmp x y) ≡ false = not_above-from_not_below x y (h zero x (omega arith) (omega arith)) in
       ((first, below_through cmp total same x y ys first rest.0), rest)
 
-  not_below-from_not_above : (x y : X) → is_gt (cmp x y) ≡ false → is_lt (cmp y x) ≡ false
+  pub not_below-from_not_above : (x y : X) → is_gt (cmp x y) ≡ false → is_lt (cmp y x) ≡ false
   not_below-from_not_above x y e = by (cmp x y) refl e
     where
       by : (r : Ordering) → cmp x y ≡ r → is_gt (cmp x y) ≡ false → is_lt (cmp y x) ≡ false

@@ -7,5 +7,7 @@ pub mod Time
 pub mod Rises
 pub mod States
 pub mod ProvedOrders
+pub mod Numbers
+pub mod ProvedNumbers
 pub mod Steps
 pub mod Examples

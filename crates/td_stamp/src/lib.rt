@@ -11,6 +11,8 @@ mod groups;
 pub mod laws;
 mod member;
 mod members;
+mod numbers;
+mod sorting;
 mod states;
 mod time;
 mod values;
