@@ -75,6 +75,14 @@ last_but [] d e (suc s) h = refl
 last_but (x ∷ xs) d e zero h = refl
 last_but (x ∷ xs) d e (suc s) h = last_but xs d e s (λ f. h (ap suc f))
 
+-- another bag at the end, which is the same where it is among these
+pub last_if_read : (sources : List ℕ) (xs : Bags) (d e : List Rec) → (list_any (λ s. s == length xs) sources ≡ true → d ≡ e) → AreAlike sources (xs ++ d ∷ []) (xs ++ e ∷ [])
+last_if_read sources xs d e h = by (list_any (λ s. s == length xs) sources) refl
+  where
+    by : (b : Bool) → list_any (λ s. s == length xs) sources ≡ b → AreAlike sources (xs ++ d ∷ []) (xs ++ e ∷ [])
+    by true is = alike_same sources (xs ++ d ∷ []) (xs ++ e ∷ []) (ap (λ b. xs ++ b ∷ []) (h is))
+    by false is = alike_but sources (length xs) (xs ++ d ∷ []) (xs ++ e ∷ []) is (last_but xs d e)
+
 -- in later turns less is read
 pub reads_less : (P : ℕ → Type 0) (nodes : Nodes) → AllByRecursion P (reads true nodes) → AllByRecursion P (reads false nodes)
 reads_less P done h = tt

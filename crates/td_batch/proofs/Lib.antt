@@ -12,6 +12,7 @@ pub mod TurnsSolve
 pub mod Unique
 mod Alike
 mod Epochs
+mod InOrder
 mod Loops
 mod MoreEpochs
 mod Once

@@ -1,8 +1,8 @@
 //! What a vertex emits in a turn of its block.
-ghost use Rattle.std.specs.Prelude.{ℕ, ◌≡◌, ◌==◌, ◌+◌, ◌∷◌, ◌++◌, [], ◌||◌, None, true, IfOk, OnOk, is_none, length, map};
+ghost use Rattle.std.specs.Prelude.{ℕ, ◌≡◌, ◌==◌, ◌+◌, ◌∷◌, ◌++◌, [], ◌||◌, None, true, false, IsTrue, IfOk, OnOk, is_none, length, map};
 ghost use Rattle.std.specs.List.{list_any};
 ghost use Rattle.td_stamp.specs.States.{state_of};
-ghost use Rattle.td_plan.specs.Faults.{is_output};
+ghost use Rattle.td_plan.specs.Faults.{is_fold, is_output};
 ghost use Rattle.td_calls.specs.Fits.{lacking_code};
 ghost use Rattle.td_calls.specs.Callbacks.{arrivals};
 ghost use Rattle.td_batch.specs.Meaning.{emitted, bags_read, emission};
@@ -10,10 +10,10 @@ ghost use Rattle.td_batch.specs.Steps.Emitted.{input_of};
 ghost use Rattle.td_batch.specs.Steps.Sent.{changes_by};
 ghost use Rattle.td_batch.specs.Steps.Tree.{nodes_of, reads, AreAlike};
 
-use crate::arriving::arriving;
+use crate::arriving::{arriving, only_bag};
 use crate::emitted::{Before, Emitted};
 use crate::error::BatchError;
-use crate::sent::{Change, answer};
+use crate::sent::{Change, answer_one, answer_several};
 use crate::tree::Tree;
 use std::alloc::Global;
 use td_calls::{Closures, Law};
@@ -28,9 +28,50 @@ pub(crate) struct Given<'g, C> {
     pub batch: &'g Batch,
 }
 
+/// What a vertex emits, where somebody asks for it: else it emits nothing, and its closure is not called. Refusal: `Memory`.
+pub(crate) fn emission_if_asked<'b, 'a, L: Law, C: Closures<L>>(
+    alloc: Global,
+    given: &Given<'a, C>,
+    before: &'b Before<'a>,
+    bags: &'b [Emitted<'a>],
+    vertex: &Vertex,
+    rest: &Tree,
+    need: &[usize],
+    changes: &mut Vec<Change>,
+) -> Result<Emitted<'a>, BatchError>
+    requires stored { lacking_code (C.has_map given.now.calls.now) (C.has_group given.now.calls.now) (C.has_fold given.now.calls.now) vertex.now.vertex.kind ≡ None }
+    ensures read { IfOk result (λ bag. list_any (λ s. s == vertex.now.vertex.number) (reads (is_none before.now) (nodes_of rest.now) ++ need.now) ≡ true
+        → bag ≡ emission (input_of L.answers given.now.states.now given.now.batch.now) before.now bags.now vertex.now.vertex) }
+    ensures put_out { IfOk result (λ bag. is_output vertex.now.vertex.kind ≡ true
+        → bag ≡ emission (input_of L.answers given.now.states.now given.now.batch.now) before.now bags.now vertex.now.vertex) }
+    ensures kept { OnOk result (changes.new.items ≡ changes.old.items
+        ++ changes_by L.answers (state_of given.now.states.now vertex.now.vertex.number) vertex.now.vertex.number vertex.now.vertex.kind
+        (arrivals (map (emitted (bags_read vertex.now.vertex.kind before.now bags.now)) vertex.now.vertex.sources))) }
+{
+    if is_idle(vertex, rest, before.is_first(), need) {
+        return Ok(Emitted::nothing(alloc));
+    }
+    emission::<L, C>(alloc, given, before, bags, vertex, changes)
+}
+
+/// Whether nobody asks for what a vertex emits: neither is it read, nor put out, nor is a fold asked for its states.
+fn is_idle(vertex: &Vertex, rest: &Tree, is_first: bool, need: &[usize]) -> bool
+    ensures unread { IsTrue result → list_any (λ s. s == vertex.now.vertex.number) (reads is_first (nodes_of rest.now) ++ need.now) ≡ false }
+    ensures no_output { IsTrue result → is_output vertex.now.vertex.kind ≡ false }
+    ensures no_fold { IsTrue result → is_fold vertex.now.vertex.kind ≡ false }
+    ensures all_others { is_output vertex.now.vertex.kind ≡ false → is_fold vertex.now.vertex.kind ≡ false
+        → list_any (λ s. s == vertex.now.vertex.number) (reads is_first (nodes_of rest.now) ++ need.now) ≡ false → IsTrue result }
+{
+    match vertex.kind() {
+        Kind::Fold(_) => false,
+        Kind::Output => false,
+        _ => !is_needed(rest, is_first, need, usize::from(vertex.number())),
+    }
+}
+
 /// What a vertex emits, from the bags so far in this turn of its block, and those of the turn before. What a fold is to
 /// keep comes after the `changes` so far. Refusal: `Memory`.
-pub(crate) fn emission<'b, 'a, L: Law, C: Closures<L>>(
+fn emission<'b, 'a, L: Law, C: Closures<L>>(
     alloc: Global,
     given: &Given<'a, C>,
     before: &'b Before<'a>,
@@ -49,16 +90,14 @@ pub(crate) fn emission<'b, 'a, L: Law, C: Closures<L>>(
     if vertex.is_input() {
         return Ok(Emitted::given(alloc, given.batch, number));
     }
-    let arrived = arriving(alloc, before, bags, vertex)?;
-    let sent = answer::<L, C>(
-        alloc,
-        given.calls,
-        given.states,
-        number,
-        kind,
-        arrived,
-        changes,
-    )?;
+    let (calls, states) = (given.calls, given.states);
+    let sent = match only_bag(before, bags, vertex) {
+        Some(bag) => answer_one::<L, C>(alloc, calls, states, number, kind, bag, changes)?,
+        None => {
+            let arrived = arriving(alloc, before, bags, vertex)?;
+            answer_several::<L, C>(alloc, calls, states, number, kind, arrived, changes)?
+        }
+    };
     Ok(Emitted::own(sent))
 }
 

@@ -9,7 +9,7 @@ ghost use Rattle.td_batch.specs.Steps.Epoch.{IsAt, IsOuter};
 ghost use Rattle.td_batch.specs.Steps.Sent.{changes_by, with_change};
 ghost use Rattle.td_batch.specs.Steps.Tree.{nodes_of, reads, AreAlike};
 
-use crate::emission::{Given, emission, keep};
+use crate::emission::{Given, emission_if_asked, keep};
 use crate::emitted::{Before, Emitted};
 use crate::error::BatchError;
 use crate::rounds::go_round;
@@ -27,8 +27,8 @@ pub(crate) struct Brought {
     pub changes: Vec<Change>,
 }
 
-/// What an epoch brings. Each bag is let go when its last reader has had it, and one that nobody reads at once. Refusal:
-/// `Memory`.
+/// What an epoch brings. Each bag is let go when its last reader has had it, and none is made for which nobody asks.
+/// Refusal: `Memory`.
 pub(crate) fn bring<'a, L: Law, C: Closures<L>>(
     alloc: Global,
     given: &Given<'a, C>,
@@ -84,12 +84,14 @@ fn step<'b, 'a, L: Law, C: Closures<L>>(
         ++ changes_by L.answers (state_of given.now.states.now vertex.now.vertex.number) vertex.now.vertex.number vertex.now.vertex.kind
         (arrivals (map (emitted bags.old.items) vertex.now.vertex.sources))) }
 {
-    let bag = emission::<L, C>(
+    let bag = emission_if_asked::<L, C>(
         alloc,
         given,
         before,
         bags.as_slice(),
         vertex,
+        rest,
+        &[],
         &mut brought.changes,
     )?;
     if vertex.is_output() {

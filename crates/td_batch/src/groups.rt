@@ -1,17 +1,20 @@
 //! The arrivals at a vertex, key by key.
 ghost use Rattle.std.specs.Prelude.{◌≡◌, IfOk};
+ghost use Rattle.td_stamp.specs.Orders.{arrival_cmp};
+ghost use Rattle.td_stamp.specs.Bag.{IsBag};
 ghost use Rattle.td_stamp.specs.Groups.{groups};
 ghost use Rattle.td_batch.specs.Steps.Sent.{with_group};
 
+use crate::arriving::Arrived;
 use crate::error::BatchError;
 use std::marker::Model;
-use td_stamp::{Arrival, Bag, Item, Members, laws};
+use td_stamp::{Arrival, Item, laws};
 
 /// The keys of some arrivals, in order, each with its sorted items. One arrival is read ahead.
 #[derive(Drop)]
 pub(crate) struct Groups<'a> {
     ahead: Option<Arrival>,
-    rest: Members<'a, Arrival>,
+    rest: Arrived<'a>,
 }
 
 impl<'a> Model for Groups<'a> {
@@ -25,12 +28,13 @@ impl<'a> Model for Groups<'a> {
 }
 
 impl<'a> Groups<'a> {
-    /// The groups of these arrivals. It takes no memory.
-    pub(crate) fn of(arrivals: &'a Bag<Arrival>) -> Groups<'a>
-        ensures { result ≡ groups arrivals.now }
+    /// The groups of these arrivals, which come in order. It takes no memory.
+    pub(crate) fn of(arrived: Arrived<'a>) -> Groups<'a>
+        requires { IsBag arrival_cmp arrived }
+        ensures { result ≡ groups arrived.entry }
     {
         laws::groups_are_runs();
-        let mut rest = arrivals.list();
+        let mut rest = arrived;
         let ahead = rest.next();
         Groups { ahead, rest }
     }

@@ -11,7 +11,7 @@ ghost use Rattle.td_batch.specs.Steps.Emitted.{input_of};
 ghost use Rattle.td_batch.specs.Steps.Epoch.{IsAt, IsInner};
 ghost use Rattle.td_batch.specs.Steps.Tree.{nodes_of, reads, AreAlike};
 
-use crate::emission::{Given, emission, is_needed, keep};
+use crate::emission::{Given, emission_if_asked, is_needed, keep};
 use crate::emitted::{Before, Emitted};
 use crate::error::BatchError;
 use crate::tree::Tree;
@@ -93,7 +93,16 @@ fn emit<'b, 'a, L: Law, C: Closures<L>>(
 {
     // Folds stand outside loops: none of these is to keep a state.
     let mut none = Vec::new(alloc);
-    let bag = emission::<L, C>(alloc, given, &*before, bags.as_slice(), vertex, &mut none)?;
+    let bag = emission_if_asked::<L, C>(
+        alloc,
+        given,
+        &*before,
+        bags.as_slice(),
+        vertex,
+        rest,
+        need,
+        &mut none,
+    )?;
     keep(alloc, bags, bag, vertex, rest, before.is_first(), need)?;
     Ok(())
 }

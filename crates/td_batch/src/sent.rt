@@ -1,18 +1,20 @@
 //! What vertices send of the records that arrive at them.
 ghost use Rattle.std.specs.Prelude.{◌≡◌, ◌++◌, [], None, false, IsTrue, IfOk, OnOk, map, flat_map, filter, not};
-ghost use Rattle.td_stamp.specs.Orders.{rec_cmp};
-ghost use Rattle.td_stamp.specs.Bag.{bag_of, set_of, has};
-ghost use Rattle.td_stamp.specs.Groups.{rec_of, groups};
+ghost use Rattle.td_stamp.specs.Orders.{arrival_cmp, rec_cmp};
+ghost use Rattle.td_stamp.specs.Bag.{bag_of, set_of, has, IsBag};
+ghost use Rattle.td_stamp.specs.Groups.{arrival_of, rec_of};
 ghost use Rattle.td_stamp.specs.States.{state_of};
 ghost use Rattle.td_plan.specs.Faults.{is_input};
-ghost use Rattle.td_plan.specs.declared.vertex.Kind.TheVariants.{Fold};
 ghost use Rattle.td_calls.specs.Fits.{lacking_code};
 ghost use Rattle.td_calls.specs.Callbacks.{sends, nothing_kept};
 ghost use Rattle.td_batch.specs.Steps.Sent.{changes_by, is_repeat};
 
+use crate::arriving::Arrived;
+use crate::emitted::Emitted;
 use crate::error::BatchError;
 use crate::groups::Groups;
 use std::alloc::Global;
+use td_calls::laws::in_any_order;
 use td_calls::{Closures, Law};
 use td_plan::Kind;
 use td_stamp::{Arrival, Bag, Rec, State, States, laws};
@@ -25,9 +27,29 @@ pub(crate) struct Change {
     pub state: Option<State>,
 }
 
-/// What a vertex sends of what arrives at it in an epoch before which these states are kept. What a fold is to keep comes
-/// after the `changes` so far. Refusal: `Memory`.
-pub(crate) fn answer<L: Law, C: Closures<L>>(
+/// What a vertex sends of the records of one bag, which arrive at its port 0, in an epoch before which these states are
+/// kept. They are read where they stand. What a fold is to keep comes after the `changes` so far. Refusal: `Memory`.
+pub(crate) fn answer_one<L: Law, C: Closures<L>>(
+    alloc: Global,
+    calls: &C,
+    states: &States,
+    vertex: u8,
+    kind: Kind,
+    bag: &Emitted<'_>,
+    changes: &mut Vec<Change>,
+) -> Result<Bag<Rec>, BatchError>
+    requires stored { lacking_code (C.has_map calls.now) (C.has_group calls.now) (C.has_fold calls.now) kind ≡ None }
+    requires other { is_input kind ≡ false }
+    ensures sent { IfOk result (λ sent. sent ≡ sends L.answers (state_of states.now vertex) kind nothing_kept (map (arrival_of 0) bag.now)) }
+    ensures kept { OnOk result (changes.new.items ≡ changes.old.items ++ changes_by L.answers (state_of states.now vertex) vertex kind (map (arrival_of 0) bag.now)) }
+{
+    let arrived = Arrived::one(bag);
+    answer::<L, C>(alloc, calls, states, vertex, kind, arrived, changes)
+}
+
+/// What a vertex sends of records that arrive from several bags. What a fold is to keep comes after the `changes` so far.
+/// Refusal: `Memory`.
+pub(crate) fn answer_several<L: Law, C: Closures<L>>(
     alloc: Global,
     calls: &C,
     states: &States,
@@ -38,15 +60,42 @@ pub(crate) fn answer<L: Law, C: Closures<L>>(
 ) -> Result<Bag<Rec>, BatchError>
     requires stored { lacking_code (C.has_map calls.now) (C.has_group calls.now) (C.has_fold calls.now) kind ≡ None }
     requires other { is_input kind ≡ false }
-    ensures sent { IfOk result (λ bag. bag ≡ sends L.answers (state_of states.now vertex) kind nothing_kept arrived.items) }
+    ensures sent { IfOk result (λ sent. sent ≡ sends L.answers (state_of states.now vertex) kind nothing_kept arrived.items) }
     ensures kept { OnOk result (changes.new.items ≡ changes.old.items ++ changes_by L.answers (state_of states.now vertex) vertex kind arrived.items) }
 {
+    laws::bags::<Arrival>();
+    laws::groups_of_a_bag();
+    in_any_order();
+    let in_order = Bag::from_vec(alloc, arrived);
+    let arrived = Arrived::several(&in_order);
+    answer::<L, C>(alloc, calls, states, vertex, kind, arrived, changes)
+}
+
+/// What a vertex sends of what arrives, in order. What a fold is to keep comes after the `changes` so far. Refusal: `Memory`.
+fn answer<L: Law, C: Closures<L>>(
+    alloc: Global,
+    calls: &C,
+    states: &States,
+    vertex: u8,
+    kind: Kind,
+    arrived: Arrived<'_>,
+    changes: &mut Vec<Change>,
+) -> Result<Bag<Rec>, BatchError>
+    requires stored { lacking_code (C.has_map calls.now) (C.has_group calls.now) (C.has_fold calls.now) kind ≡ None }
+    requires other { is_input kind ≡ false }
+    requires in_order { IsBag arrival_cmp arrived }
+    ensures sent { IfOk result (λ sent. sent ≡ sends L.answers (state_of states.now vertex) kind nothing_kept arrived.entry) }
+    ensures kept { OnOk result (changes.new.items ≡ changes.old.items ++ changes_by L.answers (state_of states.now vertex) vertex kind arrived.entry) }
+{
     match kind {
-        Kind::Map(code) => mapped::<L, C>(alloc, calls, code, arrived.as_slice()),
-        Kind::Distinct => distinct(alloc, arrived.as_slice()),
-        Kind::Group(code) => grouped::<L, C>(alloc, calls, code, arrived),
-        Kind::Fold(code) => folded::<L, C>(alloc, calls, states, vertex, code, arrived, changes),
-        _ => passed(alloc, arrived.as_slice()),
+        Kind::Map(code) => mapped::<L, C>(alloc, calls, code, arrived),
+        Kind::Distinct => distinct(alloc, arrived),
+        Kind::Group(code) => grouped::<L, C>(alloc, calls, code, Groups::of(arrived)),
+        Kind::Fold(code) => {
+            let keys = Groups::of(arrived);
+            folded::<L, C>(alloc, calls, states, vertex, code, keys, changes)
+        }
+        _ => passed(alloc, arrived),
     }
 }
 
@@ -55,10 +104,10 @@ fn mapped<L: Law, C: Closures<L>>(
     alloc: Global,
     calls: &C,
     code: u16,
-    arrived: &[Arrival],
+    arrived: Arrived<'_>,
 ) -> Result<Bag<Rec>, BatchError>
     requires stored { IsTrue (C.has_map calls.now code) }
-    ensures { IfOk result (λ sent. sent ≡ bag_of rec_cmp (flat_map (λ a. L.answers.emit code a.item.port (rec_of a)) arrived.now)) }
+    ensures { IfOk result (λ sent. sent ≡ bag_of rec_cmp (flat_map (λ a. L.answers.emit code a.item.port (rec_of a)) arrived.entry)) }
 {
     let mut sent = Vec::new(alloc);
     for arrival in arrived {
@@ -71,16 +120,16 @@ fn mapped<L: Law, C: Closures<L>>(
 }
 
 /// The records that arrive, as an enter, a leave, a feedback and an output pass them on. Refusal: `Memory`.
-fn passed(alloc: Global, arrived: &[Arrival]) -> Result<Bag<Rec>, BatchError>
-    ensures { IfOk result (λ sent. sent ≡ bag_of rec_cmp (map rec_of arrived.now)) }
+fn passed(alloc: Global, arrived: Arrived<'_>) -> Result<Bag<Rec>, BatchError>
+    ensures { IfOk result (λ sent. sent ≡ bag_of rec_cmp (map rec_of arrived.entry)) }
 {
     let recs = records(alloc, arrived)?;
     Ok(Bag::from_vec(alloc, recs))
 }
 
 /// Each record that arrives, once. Refusal: `Memory`.
-fn distinct(alloc: Global, arrived: &[Arrival]) -> Result<Bag<Rec>, BatchError>
-    ensures { IfOk result (λ sent. sent ≡ filter (λ r. not (has rec_cmp r [])) (set_of rec_cmp (map rec_of arrived.now))) }
+fn distinct(alloc: Global, arrived: Arrived<'_>) -> Result<Bag<Rec>, BatchError>
+    ensures { IfOk result (λ sent. sent ≡ filter (λ r. not (has rec_cmp r [])) (set_of rec_cmp (map rec_of arrived.entry))) }
 {
     laws::member_order::<Rec>();
     laws::bags::<Rec>();
@@ -107,8 +156,8 @@ fn is_repeat(last: Option<Rec>, rec: Rec) -> bool
 }
 
 /// The records of arrivals. Refusal: `Memory`.
-fn records(alloc: Global, arrived: &[Arrival]) -> Result<Vec<Rec>, BatchError>
-    ensures { IfOk result (λ recs. recs.items ≡ map rec_of arrived.now) }
+fn records(alloc: Global, arrived: Arrived<'_>) -> Result<Vec<Rec>, BatchError>
+    ensures { IfOk result (λ recs. recs.items ≡ map rec_of arrived.entry) }
 {
     let mut recs = Vec::new(alloc);
     for arrival in arrived {
@@ -122,14 +171,11 @@ fn grouped<L: Law, C: Closures<L>>(
     alloc: Global,
     calls: &C,
     code: u16,
-    arrived: Vec<Arrival>,
+    mut keys: Groups<'_>,
 ) -> Result<Bag<Rec>, BatchError>
     requires stored { IsTrue (C.has_group calls.now code) }
-    ensures { IfOk result (λ sent. sent ≡ bag_of rec_cmp (flat_map (λ g. L.answers.group code g.0 g.1) (groups arrived.items))) }
+    ensures { IfOk result (λ sent. sent ≡ bag_of rec_cmp (flat_map (λ g. L.answers.group code g.0 g.1) keys.entry)) }
 {
-    laws::groups_of_a_bag();
-    let sorted = Bag::from_vec(alloc, arrived);
-    let mut keys = Groups::of(&sorted);
     let mut items = Vec::new(alloc);
     let mut sent = Vec::new(alloc);
     while let Some(key) = keys.next(&mut items)? {
@@ -149,16 +195,14 @@ fn folded<L: Law, C: Closures<L>>(
     states: &States,
     vertex: u8,
     code: u16,
-    arrived: Vec<Arrival>,
+    mut keys: Groups<'_>,
     changes: &mut Vec<Change>,
 ) -> Result<Bag<Rec>, BatchError>
     requires stored { IsTrue (C.has_fold calls.now code) }
-    ensures sent { IfOk result (λ sent. sent ≡ bag_of rec_cmp (flat_map (λ g. (L.answers.fold code g.0 (state_of states.now vertex g.0) g.1).1) (groups arrived.items))) }
-    ensures kept { OnOk result (changes.new.items ≡ changes.old.items ++ changes_by L.answers (state_of states.now vertex) vertex (Fold code) arrived.items) }
+    ensures sent { IfOk result (λ sent. sent ≡ bag_of rec_cmp (flat_map (λ g. (L.answers.fold code g.0 (state_of states.now vertex g.0) g.1).1) keys.entry)) }
+    ensures kept { OnOk result (changes.new.items ≡ changes.old.items
+        ++ map (λ g. record { vertex = vertex; key = g.0; state = (L.answers.fold code g.0 (state_of states.now vertex g.0) g.1).0 }) keys.entry) }
 {
-    laws::groups_of_a_bag();
-    let sorted = Bag::from_vec(alloc, arrived);
-    let mut keys = Groups::of(&sorted);
     let mut items = Vec::new(alloc);
     let mut sent = Vec::new(alloc);
     while let Some(key) = keys.next(&mut items)? {

@@ -6,13 +6,19 @@ use Rattle.td_stamp.specs.declared.values.Item.{Item}
 use Rattle.td_stamp.specs.declared.values.Rec.{Rec}
 use Rattle.td_stamp.specs.declared.values.State.{State}
 use Rattle.td_stamp.specs.declared.values.Arrival.{Arrival}
-use Rattle.td_stamp.specs.Groups.{groups, runs}
+use Rattle.td_stamp.specs.Groups.{arrival_of, groups, runs}
 use Rattle.td_stamp.specs.States.{StateList}
 use Rattle.td_plan.specs.declared.vertex.Kind.{Kind}
 use Rattle.td_plan.specs.declared.vertex.Kind.TheVariants.{Fold}
 use Rattle.td_calls.specs.Answers.{Answers}
 use Rattle.td_batch.specs.declared.sent.Change.{Change}
 use Rattle.td_batch.specs.Meaning.{with_kept}
+
+-- what is left of what arrives: the records of one bag, at port 0, where there is one, and else other arrivals, if any
+abbrev pub arrivals_left : Option (List Rec) → Option (List Arrival) → List Arrival
+arrivals_left (Some recs) several = map (arrival_of 0) recs
+arrivals_left None (Some several) = several
+arrivals_left None None = []
 
 -- the runs of one key, where these items of a key come before the first of them
 abbrev pub with_run : ℕ → List Item → List (ℕ × List Item) → List (ℕ × List Item)

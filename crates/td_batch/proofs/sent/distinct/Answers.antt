@@ -10,7 +10,7 @@ use Rattle.td_batch.proofs.sent.distinct.Goals as goal
 
 pub returns : goal.returns
 returns c =
-    let recs : List Rec = map rec_of c.args.arrived.now in
+    let recs : List Rec = map rec_of c.args.arrived in
     let all : List Rec = bag_of rec_cmp recs in
     let sent : List Rec = c.loop-rec.sent.items in
     let order = c.member_order.ensures in
