@@ -13,3 +13,4 @@ pub mod Pieces
 pub mod Counting
 pub mod Asked
 pub mod Obeyed
+mod Shown

@@ -4,7 +4,10 @@ use Rattle.std.specs.Io.KnownBytes.{Appends}
 use Rattle.std.specs.Fmt.{decimal, signed_decimal}
 use Rattle.td_stamp.specs.declared.values.State.{State}
 use Rattle.td_stamp.specs.States.{StateList}
+use Rattle.td_slots.specs.declared.slots.Checkpoint.{Checkpoint}
 use Rattle.td_journal.specs.declared.submitted.Submitted.{Submitted}
+use Rattle.td_journal.specs.declared.submitted.Counts.{Counts}
+use Rattle.td_journal.specs.Counts.{greatest_counted}
 use Rattle.td_standing.specs.Standing.{Standing, last_epoch, last_request}
 use Rattle.td_standing.specs.declared.error.KeeperError.{KeeperError}
 use Rattle.td_console.specs.declared.faults.Fault.{Fault}
@@ -45,6 +48,20 @@ epoch_lines e (s ∷ more) = epoch_line e s ++ epoch_lines (e + 1) more
 -- THE LINES FOR A STANDING
 abbrev pub shown : Standing → List ℕ
 shown s = head_lines s ++ state_lines s.states ++ epoch_lines (s.epoch + 1) s.submitted
+
+-- the same lines, of a checkpoint and the counts of the epochs after it
+abbrev pub counted_head : Checkpoint → List Counts → List ℕ
+counted_head at counts = kept_line at.epoch ++ told_line (at.epoch + length counts) ++ last_line (greatest_counted at.last counts)
+
+abbrev pub count_line : ℕ → Counts → List ℕ
+count_line e c = codes "epoch " ++ decimal e ++ 32 ∷ decimal c.records ++ 10 ∷ []
+
+abbrev pub count_lines : ℕ → List Counts → List ℕ
+count_lines e [] = []
+count_lines e (c ∷ more) = count_line e c ++ count_lines (e + 1) more
+
+abbrev pub counted_lines : Checkpoint → List Counts → List ℕ
+counted_lines at counts = counted_head at counts ++ state_lines at.states ++ count_lines (at.epoch + 1) counts
 
 -- they were appended to what a writer holds
 abbrev pub ShowsTold : Option (List ℕ) → Option (List ℕ) → Standing → Type 0

@@ -2,27 +2,28 @@
 ghost use Rattle.std.specs.Prelude.{◌≡◌, ◌≢◌, ◌⊎◌, ◌↔◌, ◌++◌, ◌+◌, ◌<◌, ◌^◌, ℕ, Ok, length, string_bytes, IfOk, IfErr, OnOk};
 ghost use Rattle.td_disk.specs.Disk.{IsDurable, Rises};
 ghost use Rattle.td_gate.specs.CrashSafe.{CrashSafe, Unchanged};
-ghost use Rattle.td_standing.specs.Standing.{Standing, standing_from};
-ghost use Rattle.td_standing.specs.Read.{standing_of, Refused};
+ghost use Rattle.td_standing.specs.Standing.{Standing};
+ghost use Rattle.td_standing.specs.Read.{Refused};
 ghost use Rattle.td_standing.specs.Told.{Told};
 ghost use Rattle.td_standing.specs.declared.error.KeeperError.TheVariants.{Device};
-ghost use Rattle.td_feed.specs.Shown.{shown, head_lines, last_line, state_line, state_lines, epoch_line, epoch_lines};
+ghost use Rattle.td_feed.specs.Shown.{counted_lines, counted_head, last_line, state_line, state_lines, count_line, count_lines};
 ghost use Rattle.td_feed.specs.Shown.{ShowsTold, IsRefusedAs};
 
+use itoa::Buffer;
 use std::alloc::Global;
 use std::fmt::Write;
 use td_console::{Fault, Sink, write_answer};
 use td_disk::Disk;
-use td_journal::{Submitted, greatest_request};
+use td_journal::{Counts, greatest_counted};
 use td_plan::Plan;
 use td_slots::Checkpoint;
 use td_stamp::{State, States};
-use td_standing::{Recovered, laws, recover_device};
+use td_standing::{Counted, count_device, laws};
 
 /// Writes what a disk tells for a plan: `kept C`, the epoch of its checkpoint; `told T`, the last epoch on it; `last Q`, the
 /// greatest request number, where there is one; a line `state VERTEX KEY A B` for each state of the checkpoint in order; and
 /// a line `epoch E COUNT` for each epoch after it, with the number of its records. It begins with a sync, and writes nothing
-/// to the disk.
+/// to the disk. Each record is read and found valid, and none is kept.
 ///
 /// Refusals, with nothing written to the writer: what the disk refuses, as a keeper's; `Memory`; and the keeper's `Device`.
 /// Where the writer failed, `Output`, and some may have been written.
@@ -44,19 +45,19 @@ pub fn show<D: Disk, W: Sink>(
     ensures crash_safe { D.is_lawful disk.old → CrashSafe Unchanged (D.state disk.old) (D.state disk.new) }
 {
     laws::told_in_parts();
-    let (_plan, recovered) = recover_device(alloc, disk, plan)?;
-    let text = text_of(alloc, &recovered)?;
+    let counted = count_device(alloc, disk, plan)?;
+    let text = text_of(alloc, &counted)?;
     write_answer(writer, text.as_str())
 }
 
 /// The lines for what was read. Refusal: `Memory`.
-fn text_of(alloc: Global, recovered: &Recovered) -> Result<String, Fault>
-    requires small { recovered.now.checkpoint.epoch + length recovered.now.submitted.items < 2 ^ 63 }
-    ensures ok { IfOk result (λ text. string_bytes text ≡ shown (standing_of recovered.now)) }
+fn text_of(alloc: Global, counted: &Counted) -> Result<String, Fault>
+    requires small { counted.now.checkpoint.epoch + length counted.now.submitted.items < 2 ^ 63 }
+    ensures ok { IfOk result (λ text. string_bytes text ≡ counted_lines counted.now.checkpoint counted.now.submitted.items) }
     ensures err { IfErr result (λ f. f ≡ Fault.Memory) }
 {
-    let checkpoint = &recovered.checkpoint;
-    let submitted = recovered.submitted.as_slice();
+    let checkpoint = &counted.checkpoint;
+    let submitted = counted.submitted.as_slice();
     let mut text = String::new(alloc);
     print_head(&mut text, checkpoint, submitted)?;
     print_states(&mut text, &checkpoint.states)?;
@@ -65,20 +66,16 @@ fn text_of(alloc: Global, recovered: &Recovered) -> Result<String, Fault>
 }
 
 /// Appends `kept C`, `told T`, and `last Q` where there is a request number. Refusal: `Memory`.
-fn print_head(
-    text: &mut String,
-    checkpoint: &Checkpoint,
-    submitted: &[Submitted],
-) -> Result<(), Fault>
+fn print_head(text: &mut String, checkpoint: &Checkpoint, submitted: &[Counts]) -> Result<(), Fault>
     requires small { checkpoint.now.epoch + length submitted.now < 2 ^ 63 }
-    ensures ok { OnOk result (string_bytes text.new ≡ string_bytes text.old ++ head_lines (standing_from checkpoint.now submitted.now)) }
+    ensures ok { OnOk result (string_bytes text.new ≡ string_bytes text.old ++ counted_head checkpoint.now submitted.now) }
     ensures err { IfErr result (λ f. f ≡ Fault.Memory) }
 {
     let kept = checkpoint.epoch;
     let told = kept + submitted.len() as u64;
     writeln!(text, "kept {kept}")?;
     writeln!(text, "told {told}")?;
-    print_last(text, greatest_request(checkpoint.last, submitted))
+    print_last(text, greatest_counted(checkpoint.last, submitted))
 }
 
 /// Appends `last Q`, where there is a request number. Refusal: `Memory`.
@@ -116,25 +113,29 @@ fn print_state(text: &mut String, vertex: u8, key: u64, state: State) -> Result<
 }
 
 /// Appends the lines of the epochs after one. Refusal: `Memory`.
-fn print_epochs(text: &mut String, kept: u64, submitted: &[Submitted]) -> Result<(), Fault>
+fn print_epochs(text: &mut String, kept: u64, submitted: &[Counts]) -> Result<(), Fault>
     requires small { kept + length submitted.now < 2 ^ 63 }
-    ensures ok { OnOk result (string_bytes text.new ≡ string_bytes text.old ++ epoch_lines (kept + 1) submitted.now) }
+    ensures ok { OnOk result (string_bytes text.new ≡ string_bytes text.old ++ count_lines (kept + 1) submitted.now) }
     ensures err { IfErr result (λ f. f ≡ Fault.Memory) }
 {
     let mut epoch = kept;
     for each in submitted {
         epoch += 1;
-        print_epoch(text, epoch, each)?;
+        print_epoch(text, epoch, *each)?;
     }
     Ok(())
 }
 
 /// Appends the line of an epoch. Refusal: `Memory`.
-fn print_epoch(text: &mut String, epoch: u64, submitted: &Submitted) -> Result<(), Fault>
-    ensures ok { OnOk result (string_bytes text.new ≡ string_bytes text.old ++ epoch_line epoch submitted.now) }
+fn print_epoch(text: &mut String, epoch: u64, counts: Counts) -> Result<(), Fault>
+    ensures ok { OnOk result (string_bytes text.new ≡ string_bytes text.old ++ count_line epoch counts) }
     ensures err { IfErr result (λ f. f ≡ Fault.Memory) }
 {
-    let count = submitted.batch.len();
-    writeln!(text, "epoch {epoch} {count}")?;
+    let mut number = Buffer::new();
+    text.push_str("epoch ")?;
+    text.push_str(number.format(epoch))?;
+    text.push_str(" ")?;
+    text.push_str(number.format(counts.records))?;
+    text.push_str("\n")?;
     Ok(())
 }

@@ -1,5 +1,5 @@
 -- A region of a disk: a payload, and the gate byte behind it.
-use Rattle.std.specs.Prelude.{◌≡◌, ◌≢◌, ◌⊎◌, ◌↔◌, ◌<◌, ◌≤◌, ℕ, ◌+◌, List, length, take, slice_index, Option, Some, None, Vec, if◌then◌else◌, ◌==◌}
+use Rattle.std.specs.Prelude.{◌≡◌, ◌≢◌, ◌⊎◌, ◌↔◌, ◌<◌, ◌≤◌, ℕ, ◌+◌, List, length, take, slice_index, Option, Some, None, Bool, true, false, Vec, if◌then◌else◌, ◌==◌}
 use Rattle.std.specs.declared.alloc.Global.{Global}
 use Rattle.td_disk.specs.Disk.{DiskState, bytes_at, SameOutside}
 use Rattle.td_gate.specs.declared.region.Region.{Region}
@@ -73,6 +73,11 @@ pub record KeepsDisk {D : Type 0} (capacity failures : D → ℕ) (is_lawful : D
 abbrev pub payload_of : Option (Vec ℕ Global) → Option (List ℕ)
 payload_of None = None
 payload_of (Some v) = Some v.items
+
+-- the same, of bytes that were filled where the gate was open
+abbrev pub payload_in : Bool → List ℕ → Option (List ℕ)
+payload_in true payload = Some payload
+payload_in false payload = None
 
 -- a payload that was read has so many bytes
 abbrev pub HasLength : Option (Vec ℕ Global) → ℕ → Type 0

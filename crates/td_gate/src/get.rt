@@ -1,13 +1,13 @@
 // Reading a region.
-ghost use Rattle.std.specs.Prelude.{◌≡◌, ◌+◌, ◌≤◌, List, ℕ, IfOk};
-ghost use Rattle.td_disk.specs.Disk.{CountsDevice};
+ghost use Rattle.std.specs.Prelude.{◌≡◌, ◌==◌, ◌+◌, ◌≤◌, List, ℕ, length, IfOk};
+ghost use Rattle.td_disk.specs.Disk.{CountsDevice, CountsFailures};
 ghost use Rattle.td_gate.specs.Reads.{IsRead};
-ghost use Rattle.td_gate.specs.Region.{opened, start_of, payload_of, HasLength, IsSettled};
+ghost use Rattle.td_gate.specs.Region.{gate_of, opened, start_of, payload_of, payload_in, HasLength, IsSettled};
 
 use crate::region::OPEN;
 use crate::{GateError, Region};
 use std::alloc::Global;
-use td_disk::Disk;
+use td_disk::{Disk, Fault};
 
 impl Region {
     /// The payload where the gate is open, else `None`. It refuses `Device` and `Memory`.
@@ -26,6 +26,23 @@ impl Region {
         ensures read { IsRead D.capacity D.is_lawful D.state device.old device.new }
     {
         self.start_if_open(alloc, device, self.len)
+    }
+
+    /// Whether the gate is open; where it is, the payload is read into `payload`, which has the region's length. It takes no
+    /// memory, so that one region after another is read with that of one. It refuses `Device`.
+    pub fn get_into<D: Disk>(&self, device: &mut D, payload: &mut [u8]) -> Result<bool, Fault>
+        requires room { self.now.at + self.now.len + 1 ≤ D.capacity device.old }
+        requires len { length payload.old ≡ self.now.len }
+        ensures found { IfOk result (λ is. D.is_lawful device.old
+            → payload_in is payload.new ≡ opened self.now (D.state device.old).bytes) }
+        ensures failures { CountsFailures result (D.failures device.old) (D.failures device.new) }
+        ensures read { IsRead D.capacity D.is_lawful D.state device.old device.new }
+    {
+        let is_open = self.is_open(device)?;
+        if is_open {
+            device.read(self.at, payload)?;
+        }
+        Ok(is_open)
     }
 
     /// The first `count` bytes of the payload where the gate is open, else `None`: for a header
@@ -50,6 +67,21 @@ impl Region {
         self.start_if_open(alloc, device, count)
     }
 
+    /// Reads whether the gate is open.
+    fn is_open<D: Disk>(&self, device: &mut D) -> Result<bool, Fault>
+        requires { self.now.at + self.now.len + 1 ≤ D.capacity device.old }
+        ensures open { IfOk result (λ is. D.is_lawful device.old
+            → is ≡ (gate_of self.now (D.state device.old).bytes == 0xA5)) }
+        ensures failures { CountsFailures result (D.failures device.old) (D.failures device.new) }
+        ensures read { IsRead D.capacity D.is_lawful D.state device.old device.new }
+    {
+        // The answer fits a u64, and so each sum of places on the disk does.
+        let _size = device.size();
+        let mut gate = [0];
+        device.read(self.at + self.len, &mut gate)?;
+        Ok(gate[0] == OPEN)
+    }
+
     /// Reads the gate, and the first bytes of the payload where it is open. It stands apart since
     /// both reads are it; what holds of every image is proved of each by its clause `found`.
     fn start_if_open<D: Disk>(
@@ -66,11 +98,7 @@ impl Region {
         ensures failures { CountsDevice result GateError.Device (D.failures device.old) (D.failures device.new) }
         ensures read { IsRead D.capacity D.is_lawful D.state device.old device.new }
     {
-        // The answer fits a u64, and so each sum of places on the disk does.
-        let _size = device.size();
-        let mut gate = [0];
-        device.read(self.at + self.len, &mut gate)?;
-        if gate[0] != OPEN {
+        if !self.is_open(device)? {
             return Ok(None);
         }
         let mut payload = vec![in alloc; 0; count as usize]?;

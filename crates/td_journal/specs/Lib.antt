@@ -1,5 +1,6 @@
 pub mod Refusals
 pub mod Numbers
+pub mod Counts
 pub mod Cell
 pub mod Ring
 pub mod Images

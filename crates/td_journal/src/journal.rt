@@ -5,21 +5,23 @@ ghost use Rattle.td_gate.specs.CrashSafe.{CrashSafe, Unchanged};
 ghost use Rattle.td_gate.specs.Reads.{IsRead};
 ghost use Rattle.td_gate.specs.Reading.{Each};
 ghost use Rattle.td_gate.specs.Region.{IsSettled, IsOpen, Puts};
-ghost use Rattle.td_journal.specs.Cell.{cell_of, ring_len, cell_bytes, is_batch, FitsEntry};
+ghost use Rattle.td_journal.specs.Cell.{cell_of, cell_len, ring_len, cell_bytes, is_batch, FitsEntry};
+ghost use Rattle.td_journal.specs.Counts.{counts_of};
 ghost use Rattle.td_journal.specs.Images.{Clears, IsGone};
 ghost use Rattle.td_journal.specs.Ring.{found, told_after};
-ghost use Rattle.td_journal.specs.Parsed.{found_by, IsDamage, Told, Refused};
+ghost use Rattle.td_journal.specs.Parsed.{AreKept, IsKept, IsDamage, Told, Refused};
 
 use crate::error::JournalError;
+use crate::keeping::{Counting, Keeping};
 use crate::numbers::floor_past;
-use crate::parse::submitted_by;
+use crate::parse::kept_by;
 use crate::payload::{ENTRY_LEN, cell_payload};
-use crate::submitted::Submitted;
+use crate::submitted::{Counts, Submitted};
 use std::alloc::Global;
 use td_disk::Disk;
 use td_gate::Region;
 use td_gate::fields::{FRONT_LEN, u64_at};
-use td_stamp::{Batch, EPOCHS_END};
+use td_stamp::{Batch, EPOCHS_END, Entry};
 
 /// `n` cells from the offset `at` on, each for a batch of at most `m` records. Epoch e stands in cell `e mod n`. The
 /// epochs up to `kept` may be overwritten.
@@ -114,22 +116,25 @@ impl Journal {
         Ok(())
     }
 
-    /// What the ring has for an epoch, where the epochs before it have this floor: what was submitted as it, or
-    /// nothing. It refuses `Damaged`, `Device` and `Memory`.
-    fn submitted_at<D: Disk>(
+    /// What is kept of what the ring has for an epoch, where the epochs before it have this floor: of what was submitted
+    /// as it, or nothing. `payload` has a cell's length, and any bytes before and after. It refuses `Damaged`, `Device`
+    /// and `Memory`.
+    fn kept_at<K: Keeping, D: Disk>(
         &self,
         alloc: Global,
         device: &mut D,
         inputs: &[u8],
         floor: Option<u64>,
         epoch: u64,
-    ) -> Result<Option<Submitted>, JournalError>
+        payload: &mut [u8],
+    ) -> Result<Option<K::Kept>, JournalError>
         requires cells { 0 < self.now.n }
         requires records { self.now.m ≤ 65536 }
         requires room { self.now.at + ring_len self.now.m self.now.n ≤ D.capacity device.old }
-        ensures found { IfOk result (λ s. D.is_lawful device.old → found inputs.now self.now (D.state device.old).bytes floor epoch ≡ found_by s) }
-        ensures batch { IfOk result (λ found. IfSome found (λ s. is_batch inputs.now s.batch ≡ true)) }
-        ensures small { IfOk result (λ found. IfSome found (λ _. epoch < 2 ^ 63)) }
+        requires len { length payload.old ≡ cell_len self.now.m }
+        ensures found { IfOk result (λ kept. IsKept K.kept_of inputs.now
+            (λ f. D.is_lawful device.old → found inputs.now self.now (D.state device.old).bytes floor epoch ≡ f) kept) }
+        ensures small { IfOk result (λ kept. IfSome kept (λ _. epoch < 2 ^ 63)) }
         ensures refused { IfErr result (λ e. (e ≡ JournalError.Device) ⊎ ((e ≡ JournalError.Memory) ⊎ (D.is_lawful device.old
             → IsDamage e (found inputs.now self.now (D.state device.old).bytes floor epoch)))) }
         ensures failures { CountsDevice result JournalError.Device (D.failures device.old) (D.failures device.new) }
@@ -140,16 +145,58 @@ impl Journal {
         }
         let _size = device.size();
         let cell = self.cell_of(epoch);
-        let Some(payload) = cell.get(alloc, device)? else {
-            return Ok(None);
-        };
-        if u64_at(&payload, 0) != epoch {
+        if !cell.get_into(device, payload)? {
             return Ok(None);
         }
-        match submitted_by(alloc, inputs, floor, self.m, &payload)? {
-            Some(submitted) => Ok(Some(submitted)),
+        if u64_at(payload, 0) != epoch {
+            return Ok(None);
+        }
+        match kept_by::<K>(alloc, inputs, floor, self.m, payload)? {
+            Some(kept) => Ok(Some(kept)),
             None => Err(JournalError::Damaged((epoch % u64::from(self.n)) as u32)),
         }
+    }
+
+    /// What is kept of what was submitted as the epochs after a checkpoint's: of what `read_from` gives, whose refusals
+    /// it has.
+    fn read_each<K: Keeping, D: Disk>(
+        &self,
+        alloc: Global,
+        device: &mut D,
+        inputs: &[u8],
+        checkpoint: u64,
+        floor: Option<u64>,
+    ) -> Result<Vec<K::Kept>, JournalError>
+        requires cells { 0 < self.now.n }
+        requires few { self.now.n ≤ 65536 }
+        requires records { self.now.m ≤ 65536 }
+        requires room { self.now.at + ring_len self.now.m self.now.n ≤ D.capacity device.old }
+        requires small { checkpoint < 2 ^ 63 }
+        ensures told { IfOk result (λ kept. AreKept K.kept_of inputs.now
+            (λ w. D.is_lawful device.old → told_after inputs.now self.now (D.state device.old).bytes floor checkpoint ≡ Told w) kept.items) }
+        ensures few_told { IfOk result (λ kept. length kept.items ≤ self.now.n) }
+        ensures below { IfOk result (λ kept. checkpoint + length kept.items < 2 ^ 63) }
+        ensures refused { IfErr result (λ e. (e ≡ JournalError.Device) ⊎ ((e ≡ JournalError.Memory) ⊎ (D.is_lawful device.old
+            → told_after inputs.now self.now (D.state device.old).bytes floor checkpoint ≡ Refused e))) }
+        ensures failures { CountsDevice result JournalError.Device (D.failures device.old) (D.failures device.new) }
+        ensures read { IsRead D.capacity D.is_lawful D.state device.old device.new }
+    {
+        td_gate::laws::reads_in_turn::<D>();
+        let mut payload = vec![in alloc; 0; FRONT_LEN + ENTRY_LEN * self.m as usize]?;
+        let mut told = Vec::new(alloc);
+        let mut greatest = floor;
+        for i in 0..self.n {
+            let epoch = checkpoint + 1 + u64::from(i);
+            match self.kept_at::<K, D>(alloc, device, inputs, greatest, epoch, &mut payload) {
+                Ok(Some(kept)) => {
+                    greatest = floor_past(greatest, K::request(&kept));
+                    told.push(kept)?;
+                }
+                Ok(None) => return Ok(told),
+                Err(refusal) => return Err(refusal),
+            }
+        }
+        Ok(told)
     }
 
     /// What was submitted as the epochs after a checkpoint's, as long as each stands in its cell: at most `n` epochs,
@@ -184,21 +231,34 @@ impl Journal {
         ensures failures { CountsDevice result JournalError.Device (D.failures device.old) (D.failures device.new) }
         ensures read { IsRead D.capacity D.is_lawful D.state device.old device.new }
     {
-        td_gate::laws::reads_in_turn::<D>();
-        let mut told = Vec::new(alloc);
-        let mut greatest = floor;
-        for i in 0..self.n {
-            let epoch = checkpoint + 1 + u64::from(i);
-            match self.submitted_at(alloc, device, inputs, greatest, epoch) {
-                Ok(Some(submitted)) => {
-                    greatest = floor_past(greatest, submitted.request);
-                    told.push(submitted)?;
-                }
-                Ok(None) => return Ok(told),
-                Err(refusal) => return Err(refusal),
-            }
-        }
-        Ok(told)
+        self.read_each::<Vec<Entry>, D>(alloc, device, inputs, checkpoint, floor)
+    }
+
+    /// The counts of what `read_from` gives, whose refusals it has: each payload is read and found valid as there, and none of
+    /// its records is kept. Beside the answer it takes memory for one payload.
+    pub fn read_counts<D: Disk>(
+        &self,
+        alloc: Global,
+        device: &mut D,
+        inputs: &[u8],
+        checkpoint: u64,
+        floor: Option<u64>,
+    ) -> Result<Vec<Counts>, JournalError>
+        requires cells { 0 < self.now.n }
+        requires few { self.now.n ≤ 65536 }
+        requires records { self.now.m ≤ 65536 }
+        requires room { self.now.at + ring_len self.now.m self.now.n ≤ D.capacity device.old }
+        requires small { checkpoint < 2 ^ 63 }
+        ensures told { IfOk result (λ counts. AreKept counts_of inputs.now
+            (λ w. D.is_lawful device.old → told_after inputs.now self.now (D.state device.old).bytes floor checkpoint ≡ Told w) counts.items) }
+        ensures few_told { IfOk result (λ counts. length counts.items ≤ self.now.n) }
+        ensures below { IfOk result (λ counts. checkpoint + length counts.items < 2 ^ 63) }
+        ensures refused { IfErr result (λ e. (e ≡ JournalError.Device) ⊎ ((e ≡ JournalError.Memory) ⊎ (D.is_lawful device.old
+            → told_after inputs.now self.now (D.state device.old).bytes floor checkpoint ≡ Refused e))) }
+        ensures failures { CountsDevice result JournalError.Device (D.failures device.old) (D.failures device.new) }
+        ensures read { IsRead D.capacity D.is_lawful D.state device.old device.new }
+    {
+        self.read_each::<Counting, D>(alloc, device, inputs, checkpoint, floor)
     }
 
     /// Whether as many epochs as there are cells stand after the kept one, before this epoch.

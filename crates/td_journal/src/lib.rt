@@ -5,6 +5,7 @@
 
 mod error;
 mod journal;
+mod keeping;
 pub mod laws;
 mod numbers;
 mod parse;
@@ -13,5 +14,5 @@ mod submitted;
 
 pub use error::JournalError;
 pub use journal::Journal;
-pub use numbers::greatest_request;
-pub use submitted::Submitted;
+pub use numbers::{greatest_counted, greatest_request};
+pub use submitted::{Counts, Submitted};

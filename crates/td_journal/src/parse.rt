@@ -2,14 +2,14 @@
 ghost use Rattle.std.specs.Prelude.{◌≡◌, ◌==◌, ◌+◌, ◌≤◌, true, false, drop, length, IfSome, IfNone, IfOk};
 ghost use Rattle.std.specs.List.{list_any};
 ghost use Rattle.td_journal.specs.Cell.{entry_in, cell_len};
-ghost use Rattle.td_journal.specs.Parsed.{may_follow, IsSubmittedBy};
+ghost use Rattle.td_journal.specs.Parsed.{may_come_after, IsKeptBy};
 
+use crate::keeping::Keeping;
 use crate::numbers::is_allowed;
 use crate::payload::ENTRY_LEN;
-use crate::submitted::Submitted;
 use std::alloc::{AllocError, Global};
 use td_gate::fields::{FRONT_LEN, Front, i64_at, named, u64_at};
-use td_stamp::{Bag, Entry, Rec};
+use td_stamp::{Entry, Rec};
 
 /// The record at a place of a payload, if it names an input.
 fn entry_at(inputs: &[u8], payload: &[u8], at: usize) -> Option<Entry>
@@ -28,28 +28,28 @@ fn entry_at(inputs: &[u8], payload: &[u8], at: usize) -> Option<Entry>
     Some(Entry { input, rec })
 }
 
-/// Whether a record may come after these.
-fn goes_on(entries: &[Entry], entry: &Entry) -> bool
-    ensures { result ≡ may_follow entries.now entry.now }
+/// Whether a record may come after the last one before it.
+fn goes_on(last: Option<Entry>, entry: &Entry) -> bool
+    ensures { result ≡ may_come_after last entry.now }
 {
     td_stamp::laws::orders();
-    match entries.last() {
+    match last {
         Some(last) => last.cmp(entry).is_le(),
         None => true,
     }
 }
 
-/// What was submitted by a payload, if it is valid after epochs with this floor. It refuses want of memory alone.
-pub(crate) fn submitted_by(
+/// What is kept of a payload, if it is valid after epochs with this floor. It refuses want of memory alone.
+pub(crate) fn kept_by<K: Keeping>(
     alloc: Global,
     inputs: &[u8],
     floor: Option<u64>,
     m: u32,
     payload: &[u8],
-) -> Result<Option<Submitted>, AllocError>
+) -> Result<Option<K::Kept>, AllocError>
     requires limit { m ≤ 65536 }
     requires len { length payload.now ≡ cell_len m }
-    ensures { IfOk result (λ found. IsSubmittedBy inputs.now floor m payload.now found) }
+    ensures { IfOk result (λ found. IsKeptBy K.kept_of inputs.now floor m payload.now found) }
 {
     let front = Front::read(payload);
     if !is_allowed(floor, front.request) {
@@ -58,18 +58,18 @@ pub(crate) fn submitted_by(
     if !front.is_plain(m) {
         return Ok(None);
     }
-    let Front { request, count, .. } = front;
-    let mut entries = Vec::with_capacity(alloc, count as usize)?;
-    for i in 0..count {
+    let mut keeping = K::begin(alloc, front.count)?;
+    let mut last = None;
+    for i in 0..front.count {
         let at = FRONT_LEN + ENTRY_LEN * i as usize;
         let Some(entry) = entry_at(inputs, payload, at) else {
             return Ok(None);
         };
-        if !goes_on(&entries, &entry) {
+        if !goes_on(last, &entry) {
             return Ok(None);
         }
-        entries.push(entry)?;
+        keeping.take(entry)?;
+        last = Some(entry);
     }
-    let batch = Bag::from_vec(alloc, entries);
-    Ok(Some(Submitted { request, batch }))
+    Ok(Some(keeping.end(alloc, &front)))
 }

@@ -7,3 +7,10 @@ pub struct Submitted {
     pub request: u64,
     pub batch: Batch,
 }
+
+/// The same, with how many records the batch has in place of these.
+#[derive(Clone, Copy, Debug, PartialEq, Eq)]
+pub struct Counts {
+    pub request: u64,
+    pub records: u32,
+}

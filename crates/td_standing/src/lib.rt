@@ -12,5 +12,5 @@ mod steps;
 pub use error::{KeeperError, Part};
 pub use format::format_device;
 pub use layout::{ring_of, slots_of};
-pub use parts::{Recovered, read_parts, recover_device};
+pub use parts::{Counted, Recovered, count_device, read_parts, recover_device};
 pub use steps::{raise_head, submit_batch, write_states};
