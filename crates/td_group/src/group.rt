@@ -16,6 +16,7 @@ use crate::laws;
 use std::alloc::Global;
 use td_disk::Disk;
 use td_journal::{Journal, JournalError, Submitted};
+use td_standing::submit_batch;
 
 /// Closes the cell behind a group of `count` epochs where it bears the epoch behind it, unless the ring is full with the group. It refuses
 /// `Memory`, and then has written nothing; then `Device`.
@@ -120,10 +121,67 @@ fn is_full(journal: &Journal, last: u64) -> bool
     journal.kept + u64::from(journal.n) <= last
 }
 
-/// Puts a group of epochs on a ring, of which `first` is the number of the first, so that no stop leaves a part of it: the first one's cell is
-/// opened last of all, over the others. It takes three to five syncs, whatever the group's size. It refuses `Memory`, and then has written
-/// nothing; then `Device`.
+/// Puts a group of epochs on a ring, of which `first` is the number of the first, so that no stop leaves a part of it. A group of one is put as
+/// `submit_batch` puts it; a greater one takes three to five syncs, whatever its size. It refuses `Memory`, and then has written nothing; then
+/// `Device`.
 pub fn submit_group<D: Disk>(
+    alloc: Global,
+    journal: &Journal,
+    device: &mut D,
+    first: u64,
+    group: &[Submitted],
+) -> Result<(), JournalError>
+    requires cells { 0 < journal.now.n }
+    requires records { journal.now.m ≤ 65536 }
+    requires room { journal.now.at + ring_len journal.now.m journal.now.n ≤ D.capacity device.old }
+    requires few { AllFew journal.now.m group.now }
+    requires later { journal.now.kept < first }
+    requires free { first + length group.now ≤ journal.now.kept + journal.now.n + 1 }
+    requires small { first + length group.now ≤ 2 ^ 63 }
+    ensures refusals { IfErr result (λ e. (e ≡ JournalError.Memory) ⊎ (e ≡ JournalError.Device)) }
+    ensures device { IsErrOf result JournalError.Device → Rises (D.failures device.old) (D.failures device.new) }
+    ensures counted { D.failures device.old ≤ D.failures device.new }
+    ensures stays { IsErrOf result JournalError.Device ⊎ (D.failures device.new ≡ D.failures device.old) }
+    ensures size { D.capacity device.new ≡ D.capacity device.old }
+    ensures lawful { D.is_lawful device.old ↔ D.is_lawful device.new }
+    ensures unwritten { IsErrOf result JournalError.Memory → D.is_lawful device.old
+        → CrashSafe Unchanged (D.state device.old) (D.state device.new) }
+
+    // What a crash may leave after the call is among what it may leave since the start.
+    ensures later { D.is_lawful device.old → IsDurable (D.state device.old)
+        → (D.state device.old).moment ≤ (D.state device.new).moment }
+
+    // Each image since a moment up to the start of the call was one by then, or it tells the standing, or it with the whole group.
+    ensures begun { D.is_lawful device.old → (plan : List Line) (h : AnyHead) (side : ℕ) (s : Standing)
+        → journal.now ≡ ring_of h.shape s.epoch → HasRoomFor h.shape s first (length group.now) → AreFresh h.version s group.now
+        → AreBatches (inputs_of plan) group.now
+        → Keeps plan h side s (D.state device.old)
+        → TellsSince (Tells plan h side s) (Tells plan h side (with_more s group.now)) (D.state device.old) (D.state device.new) }
+
+    // After want of memory each image tells the standing still.
+    ensures kept { IsErrOf result JournalError.Memory → D.is_lawful device.old
+        → (plan : List Line) (h : AnyHead) (side : ℕ) (s : Standing)
+        → Keeps plan h side s (D.state device.old) → Keeps plan h side s (D.state device.new) }
+
+    // After Ok each image tells it with the group.
+    ensures done { OnOk result (D.is_lawful device.old → (plan : List Line) (h : AnyHead) (side : ℕ) (s : Standing)
+        → journal.now ≡ ring_of h.shape s.epoch → HasRoomFor h.shape s first (length group.now) → AreFresh h.version s group.now
+        → AreBatches (inputs_of plan) group.now
+        → Keeps plan h side s (D.state device.old)
+        → Keeps plan h side (with_more s group.now) (D.state device.new)) }
+{
+    td_gate::laws::unchanged::<D>();
+    let Some((head, others)) = group.split_first() else {
+        return Ok(());
+    };
+    if others.is_empty() {
+        return submit_batch(alloc, journal, device, first, head.request, &head.batch);
+    }
+    put_group(alloc, journal, device, first, head, others)
+}
+
+/// Puts a group of epochs, its first one apart: that one's cell is opened last of all, over the others.
+fn put_group<D: Disk>(
     alloc: Global,
     journal: &Journal,
     device: &mut D,
@@ -146,6 +204,8 @@ pub fn submit_group<D: Disk>(
     ensures lawful { D.is_lawful device.old ↔ D.is_lawful device.new }
     ensures unwritten { IsErrOf result JournalError.Memory → D.is_lawful device.old
         → CrashSafe Unchanged (D.state device.old) (D.state device.new) }
+    ensures later { D.is_lawful device.old → IsDurable (D.state device.old)
+        → (D.state device.old).moment ≤ (D.state device.new).moment }
 
     // Each image since a moment up to the start of the call was one by then, or it tells the standing, or it with the whole group.
     ensures begun { D.is_lawful device.old → (plan : List Line) (h : AnyHead) (side : ℕ) (s : Standing)
