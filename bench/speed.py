@@ -14,12 +14,23 @@ import sys
 import tempfile
 
 sys.path.insert(0, str(pathlib.Path(__file__).resolve().parent))
-from run import COUNT, ROOT, TD, TOTAL, records
+from run import COUNT, RING, ROOT, TD, TOTAL, UNREAD, records
 
 CASES = [
     ("COUNT, 1,000,000 records, 100,000 keys, 1 epoch", "count", COUNT, 1),
     ("COUNT, 1,000,000 records, 100,000 keys, 1,000 epochs", "count", COUNT, 1000),
     ("TOTAL, 1,000,000 records, 100,000 keys, 1,000 epochs", "total", TOTAL, 1000),
+]
+
+
+# Plans without a tuned program: a name, the words of td, a plan, and records, keys, epochs and values.
+MORE = [
+    ("COUNT, 1,000,000 records", ["batch"], COUNT, (1_000_000, 100_000, 1), {}),
+    ("the same and 20 maps that nobody reads", ["batch"], UNREAD, (1_000_000, 100_000, 1), {}),
+    ("COUNT, 2,000,000 records", ["batch"], COUNT, (2_000_000, 100_000, 1), {}),
+    ("TOTAL, 2,000,000 records, 2,000 epochs", ["batch"], TOTAL, (2_000_000, 100_000, 2000), {}),
+    ("RING, 100,000 records of 4 keys", ["batch"], RING, (100_000, 4, 1), {"values": (0, 1_000_000)}),
+    ("RING, 200,000 records of 4 keys", ["batch"], RING, (200_000, 4, 1), {"values": (0, 1_000_000)}),
 ]
 
 
@@ -61,6 +72,12 @@ def main():
             base = medians["tuned"]
             for who, (seconds, megabytes) in medians.items():
                 print(f"| {name} | {who} | {seconds:.2f} | {seconds / base[0]:.1f} | {megabytes:.0f} | {megabytes / base[1]:.1f} |")
+        print("\n| Plan | Program | s | MB |\n|---|---|---|---|")
+        for name, words, plan, sizes, more in MORE:
+            text = place / "text"
+            text.write_text(plan + "--\n" + "".join(records(*sizes, 1, **more)))
+            for who, (seconds, megabytes) in measure(name, {str(td): [td, *words] for td in tds}, text, place).items():
+                print(f"| {name} | {who} | {seconds:.2f} | {megabytes:.0f} |")
 
 
 if __name__ == "__main__":

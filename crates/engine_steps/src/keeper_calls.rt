@@ -1,9 +1,10 @@
 //! Calls of a keeper, each with its answer.
 use crate::error::StepError;
 use crate::keeper_lines::{
-    print_number, print_received, print_submitted, print_upgraded, print_written,
+    print_all_submitted, print_number, print_received, print_submitted, print_upgraded,
+    print_written,
 };
-use crate::release::batch_of;
+use crate::release::{batch_of, group_of};
 use std::alloc::Global;
 use td_calls::Law;
 use td_core::Hall;
@@ -38,6 +39,16 @@ pub(crate) fn submit_as<D: Disk, L: Law>(
     text: &str,
 ) -> Result<(), StepError> {
     print_received(rt, keeper.submit_as(request, batch_of(alloc, text)?))
+}
+
+/// Submits at once the batches that a text writes, each with its request number.
+pub(crate) fn submit_all<D: Disk, L: Law>(
+    rt: &impl Print,
+    alloc: Global,
+    keeper: &mut Keeper<D, L>,
+    text: &str,
+) -> Result<(), StepError> {
+    print_all_submitted(rt, keeper.submit_all(group_of(alloc, text)?))
 }
 
 /// Raises the disk to the version of the format that has request numbers.

@@ -9,6 +9,8 @@ pub(crate) enum KeeperCall<'a> {
     Submit(&'a str),
     /// `submit_as REQUEST INPUT KEY VAL, ..`
     SubmitAs(u64, &'a str),
+    /// `submit_all REQUEST INPUT KEY VAL, ..; REQUEST ..`
+    SubmitAll(&'a str),
     Upgrade,
     /// `numbers`: the last request number, and the version of the format.
     Numbers,
@@ -36,6 +38,7 @@ pub(crate) fn keeper_call_of<'a>(name: &str, words: &'a str) -> Option<KeeperCal
             let (request, entries) = requested(words)?;
             Some(KeeperCall::SubmitAs(request, entries))
         }
+        ("submit_all", group) => Some(KeeperCall::SubmitAll(group)),
         ("upgrade", "") => Some(KeeperCall::Upgrade),
         ("numbers", "") => Some(KeeperCall::Numbers),
         ("keeper", "release") => Some(KeeperCall::Release),

@@ -1,7 +1,7 @@
 //! The answers of a keeper.
 use crate::error::StepError;
 use crate::lines::{print_entries, print_epoch, print_states};
-use td_keeper::Receipt;
+use td_keeper::{Group, GroupError, Receipt};
 use td_stamp::{Batch, EpochOut, States};
 use td_standing::KeeperError;
 
@@ -69,6 +69,28 @@ fn print_back(rt: &impl Print, refused: (KeeperError, Batch)) -> Result<(), Step
             print_entries(rt, &batch)
         }
     }
+}
+
+/// `ack from EPOCH`; or why the group is refused, but for want of memory, and how many batches come back.
+pub(crate) fn print_all_submitted(
+    rt: &impl Print,
+    submitted: Result<u64, (GroupError, Group)>,
+) -> Result<(), StepError> {
+    match submitted {
+        Ok(first) => Ok(println!(rt; "ack from {first}")?),
+        Err((GroupError::Keeper(KeeperError::Memory), _group)) => Err(StepError::Memory),
+        Err((error, group)) => print_group_back(rt, error, &group),
+    }
+}
+
+/// Why a group is refused, and how many batches come back.
+pub(crate) fn print_group_back(
+    rt: &impl Print,
+    error: GroupError,
+    group: &Group,
+) -> Result<(), StepError> {
+    let count = group.as_slice().len();
+    Ok(println!(rt; "refused: {error}, back came {count}")?)
 }
 
 /// `upgraded`, or `none` where the disk was of version 2.

@@ -7,7 +7,8 @@ use crate::gate::Passage;
 use crate::hall_command::HallCall;
 use crate::hands::Hands;
 use crate::keeper_calls::{
-    checkpoint, collect_by, cut_by, numbers, release_by, submit, submit_as, upgrade, write_cut,
+    checkpoint, collect_by, cut_by, numbers, release_by, submit, submit_all, submit_as, upgrade,
+    write_cut,
 };
 use crate::keeper_command::KeeperCall;
 use crate::keeper_lines::print_next_out;
@@ -130,6 +131,7 @@ impl Stage {
             KeeperCall::SubmitAs(request, entries) => {
                 submit_as(rt, self.alloc, keeper, request, entries)
             }
+            KeeperCall::SubmitAll(group) => submit_all(rt, self.alloc, keeper, group),
             KeeperCall::Upgrade => upgrade(rt, keeper),
             KeeperCall::Numbers => numbers(rt, keeper),
             KeeperCall::Release => release_by(rt, keeper, hall_of(&mut self.hall)?),

@@ -14,13 +14,14 @@ use Rattle.td_slots.specs.Slot.{are_states}
 use Rattle.td_slots.specs.declared.slots.Checkpoint.{Checkpoint}
 use Rattle.td_journal.specs.Cell.{is_batch}
 use Rattle.td_journal.specs.declared.submitted.Submitted.{Submitted}
-use Rattle.td_standing.specs.Standing.{Standing, standing_from, batches_of, submission, last_epoch, nothing_told, with_more, cut_at}
+use Rattle.td_group.specs.Groups.{AreBatches}
+use Rattle.td_standing.specs.Standing.{Standing, standing_from, batches_of, last_epoch, nothing_told, with_more, cut_at}
 use Rattle.td_standing.specs.Told.{inputs_of, folds_of}
 use Rattle.td_standing.specs.Tells.{side_after}
 use Rattle.td_standing.specs.Read.{MayStand}
 use Rattle.td_watch.specs.View.{View}
 use Rattle.td_watch.specs.Words.{IsAtMost, KeepsOrder}
-use Rattle.td_keeper.specs.Keeping.{Keeping, keeping_of, IsKeeping, IsFreshlyOpened, with_batch, with_checkpoint, words_at, words_of, published, IsBelow}
+use Rattle.td_keeper.specs.Keeping.{Keeping, keeping_of, IsKeeping, IsFreshlyOpened, with_epochs, with_checkpoint, words_at, words_of, published, IsBelow}
 
 -- a writer that published words is not above them
 at_most_itself : (words : List ℕ) → IsAtMost words words
@@ -29,6 +30,11 @@ at_most_itself words = (omega arith, omega arith, omega arith)
 pub now_published : (o : Option View) (words : List ℕ) → IsBelow (published o words) words
 now_published None words = tt
 now_published (Some v) words = at_most_itself words
+
+-- each batch of a group, one by one
+all_batches : (inputs : List ℕ) (x : List Submitted) → AreBatches inputs x → All (λ s. is_batch inputs s.batch ≡ true) x
+all_batches inputs [] all = All-nil (λ (s : Submitted). is_batch inputs s.batch ≡ true)
+all_batches inputs (s ∷ x) all = All-cons (λ (s : Submitted). is_batch inputs s.batch ≡ true) s x all.0 (all_batches inputs x all.1)
 
 module _ {D : Type 0} (answers : Answers) (k : Keeping D) where
   abbrev b : List (List Entry)
@@ -52,20 +58,19 @@ module _ {D : Type 0} (answers : Answers) (k : Keeping D) where
         watched = subst (λ (o : Option View). IsBelow o (words_of k)) (sym fresh.unwatched) tt;
       }
 
-  -- one epoch more
-  pub submitted : (device : D) (request : ℕ) (batch : List Entry) → IsKeeping k answers → is_batch (inputs_of k.plan) batch ≡ true
-      → length k.standing.submitted < k.head.shape.n → last_epoch k.standing + 1 < 2 ^ 63 → IsKeeping (with_batch k device request batch) answers
-  submitted device request batch is lawful room small =
+  -- some epochs more
+  pub submitted : (device : D) (x : List Submitted) → IsKeeping k answers → AreBatches (inputs_of k.plan) x
+      → length k.standing.submitted + length x ≤ k.head.shape.n → last_epoch k.standing + length x < 2 ^ 63 → IsKeeping (with_epochs k device x) answers
+  submitted device x is lawful room small =
       let w = k.standing.submitted in
-      let x : List Submitted = submission request batch ∷ [] in
       let P : Submitted → Type 0 = λ s. is_batch (inputs_of k.plan) s.batch ≡ true in
       let n = k.base - k.standing.epoch in
-      let size : length (w ++ x) ≡ length w + 1 = length-append w x in
+      let size : length (w ++ x) ≡ length w + length x = length-append w x in
       let most : n ≤ length b = omega (arith, is.from_checkpoint, is.released, length-map w (λ s. s.batch)) in
       let same : take n (batches_of (w ++ x)) ≡ take n b = ap (take n) (map-append (λ s. s.batch) w x) ∙ take-append-le n b (batches_of x) most in
       record {
         which = is.which;
-        batches = All-append P w x is.batches (All-cons P (submission request batch) [] lawful (All-nil P));
+        batches = All-append P w x is.batches (all_batches (inputs_of k.plan) x lawful);
         few = omega (arith, room, size);
         small = omega (arith, small, size);
         states = is.states;

@@ -1,5 +1,5 @@
 -- What the images since the start of a call tell, and those since an earlier moment, as advances of the standing.
-use Rattle.std.proofs.Common.{◌≡◌, inl, inr, ⊎_elim, ℕ, true, false, List, [], sym, ◌∙◌, subst, arith}
+use Rattle.std.proofs.Common.{◌≡◌, ◌⊎◌, inl, inr, ⊎_elim, ℕ, true, false, List, [], sym, ◌∙◌, subst, arith}
 use Rattle.std.specs.Prelude.{Ok}
 use Rattle.td_plan.specs.Lines.{Line}
 use Rattle.td_plan.specs.Tree.{Nodes, tree_of}
@@ -79,6 +79,19 @@ by_further {D = D} is_lawful state only answers together not_yet {k = k} {z = z}
     (λ old whole further.
     let keeps = keeps_of k.broken answers k.plan k.head k.side k.standing (state k.device) whole (held old) in
     from_start answers k.plan together k.head k.side k.standing x (state k.device) new (λ c. only k.device c old) (not_yet (tree_of k.plan) k.standing x) keeps further)
+
+-- the standing, or another under the same head
+pub one_or_other : (plan : List Line) → Together → (head : Head) (side : ℕ) (s t : Standing) (old new : DiskState) → ((c : List ℕ) → old.since old.moment c → old.images c)
+    → Keeps plan head side s old → TellsSince (Tells plan head side s) (Tells plan head side t) old new → (c : List ℕ) → new.since old.moment c → Told plan c (Ok s) ⊎ Told plan c (Ok t)
+one_or_other plan together head side s t old new only keeps begun c left =
+    ⊎_elim (λ was. inl (together plan head side s c (subst (Tells plan head side s) (sym (keeps.durable c (only c was))) keeps.tells)))
+    (λ now. ⊎_elim (λ told. inl (together plan head side s c told)) (λ told. inr (together plan head side t c told)) now)
+    (begun old.moment c (omega arith) left)
+
+-- nothing was written
+pub none_since : (plan : List Line) → Together → (head : Head) (side : ℕ) (s : Standing) (state : DiskState) → ((c : List ℕ) → state.since state.moment c → state.images c)
+    → Keeps plan head side s state → (c : List ℕ) → state.since state.moment c → Told plan c (Ok s)
+none_since plan together head side s state only keeps c left = together plan head side s c (subst (Tells plan head side s) (sym (keeps.durable c (only c left))) keeps.tells)
 
 -- the standing under one head or another
 module _ (answers : Answers) (plan : List Line) (together : Together) (head other : Head) (side : ℕ) (s : Standing) (old new : DiskState) where

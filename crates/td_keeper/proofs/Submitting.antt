@@ -1,5 +1,5 @@
 -- A batch that a keeper submits.
-use Rattle.std.proofs.Common.{◌≡◌, ◌==◌, ℕ, ◌+◌, ◌≤◌, Bool, true, false, ◌||◌, nat_le, nat_lt, List, [], ◌∷◌, ◌++◌, refl, sym, ◌∙◌, subst, arith, length-append}
+use Rattle.std.proofs.Common.{◌≡◌, ◌==◌, ℕ, ◌+◌, ◌^◌, ◌<◌, ◌≤◌, Bool, true, false, ◌||◌, nat_le, nat_lt, List, [], ◌∷◌, ◌++◌, length, refl, sym, ◌∙◌, subst, arith, length-append}
 use Rattle.std.proofs.lemmas.Bool.{le-leb, ltb-false}
 use Rattle.std.specs.Prelude.{Option, Some, None, max}
 use Rattle.std.specs.List.{list_all, list_any}
@@ -15,14 +15,14 @@ use Rattle.td_journal.specs.Numbers.{may_come, greatest}
 use Rattle.td_journal.specs.Cell.{is_batch}
 use Rattle.td_journal.specs.declared.submitted.Submitted.{Submitted}
 use Rattle.td_machine.specs.Steps.{accepts}
-use Rattle.td_standing.specs.Standing.{Standing, last_epoch, last_request, submission, with_more}
+use Rattle.td_group.specs.Groups.{AllFew, AreBatches, AreFresh, HasRoomFor}
+use Rattle.td_standing.specs.Standing.{Standing, last_epoch, last_request, with_more}
 use Rattle.td_standing.specs.Told.{inputs_of}
-use Rattle.td_standing.specs.Tells.{Keeps, HasRoom, IsFresh}
+use Rattle.td_standing.specs.Tells.{Keeps, IsFresh}
 use Rattle.td_standing.specs.Advanced.{HeldWhere}
 use Rattle.td_watch.specs.View.{View}
 use Rattle.td_keeper.specs.Keeping.{Keeping, words_at, IsBelow}
 use Rattle.td_keeper.specs.Refused.{is_new}
-use Rattle.td_keeper.proofs.Accepting.{IsAccepted}
 
 -- where nothing is broken, a keeper's disk keeps its standing
 pub keeps_of : (b : Bool) (answers : Answers) (plan : List Line) (head : Head) (side : ℕ) (s : Standing) (state : DiskState) → b ≡ false → HeldWhere b answers plan head side s state → Keeps plan head side s state
@@ -60,10 +60,10 @@ old_below s request old = by (request == 0) (nat_lt (last_request s) request) re
     by false true is none = absurd cc
     by false false is none = ltb-false (last_request s) request is
 
--- the greatest number after one epoch more
-pub greatest_more : (q : ℕ) (w : List Submitted) (request : ℕ) (batch : List Entry) → greatest q (w ++ submission request batch ∷ []) ≡ max (greatest q w) request
-greatest_more q [] request batch = refl
-greatest_more q (s ∷ w) request batch = greatest_more (max q s.request) w request batch
+-- the greatest number after some epochs more
+pub greatest_more : (q : ℕ) (w x : List Submitted) → greatest q (w ++ x) ≡ greatest (greatest q w) x
+greatest_more q [] x = refl
+greatest_more q (s ∷ w) x = greatest_more (max q s.request) w x
 
 -- the laws, as they are handed in
 abbrev pub Inputs : Type 0
@@ -75,15 +75,29 @@ InOrder = (inputs : List ℕ) (x : List Entry) → IsBag entry_cmp x → list_al
 pub lawful_batch : Inputs → InOrder → (plan : List Line) (batch : List Entry) → IsPlan plan → IsBag entry_cmp batch → accepts plan batch ≡ true → is_batch (inputs_of plan) batch ≡ true
 lawful_batch inputs in_order plan batch is sorted named = in_order (inputs_of plan) batch sorted (sym (inputs plan batch is) ∙ named)
 
-pub has_room : {D : Type 0} (k : Keeping D) (batch : List Entry) (epoch : ℕ) → IsAccepted k batch → epoch ≡ last_epoch k.standing + 1 → HasRoom k.head.shape k.standing epoch
-has_room k batch epoch is at = record { room = is.room; epoch = at; small = omega (arith, is.small, at) }
+-- a group that may come next
+pub record MayCome {D : Type 0} (k : Keeping D) (x : List Submitted) : Type 0 where
+  pub some : 0 < length x
+  pub whole : k.broken ≡ false
+  pub lawful : AreBatches (inputs_of k.plan) x
+  pub few : AllFew k.head.shape.m x
+  pub small : last_epoch k.standing + length x < 2 ^ 63
+  pub room : length k.standing.submitted + length x ≤ k.head.shape.n
+  pub fresh : AreFresh k.head.version k.standing x
+
+-- seen from inside, and as another list
+pub may_come_in : {D : Type 0} {k z : Keeping D} {x y : List Submitted} → k ≡ z → y ≡ x → MayCome z x → MayCome k y
+may_come_in {D = D} {z = z} {y = y} is same taken = subst (λ (v : Keeping D). MayCome v y) (sym is) (subst (λ (l : List Submitted). MayCome z l) (sym same) taken)
+
+pub has_room : {D : Type 0} (k : Keeping D) (x : List Submitted) (epoch : ℕ) → MayCome k x → epoch ≡ last_epoch k.standing + 1 → HasRoomFor k.head.shape k.standing epoch (length x)
+has_room k x epoch is at = record { some = is.some; room = is.room; epoch = at; small = omega (arith, is.small, at) }
 
 -- what is not one is none
 pub is_none : {X : Type 0} (o : Option X) → ((x : X) → o ≡ Some x → ⊥) → o ≡ None
 is_none None not_ = refl
 is_none (Some x) not_ = absurd (not_ x refl)
 
--- a writer that is not above a keeper is not above it after one epoch more
-pub below_more : (o : Option View) (s : Standing) (x : Submitted) (collected : ℕ) → IsBelow o (words_at s collected) → IsBelow o (words_at (with_more s (x ∷ [])) collected)
+-- a writer that is not above a keeper is not above it after some epochs more
+pub below_more : (o : Option View) (s : Standing) (x : List Submitted) (collected : ℕ) → IsBelow o (words_at s collected) → IsBelow o (words_at (with_more s x) collected)
 below_more None s x collected below = tt
-below_more (Some v) s x collected below = (omega (arith, below.0, length-append s.submitted (x ∷ [])), below.1, below.2)
+below_more (Some v) s x collected below = (omega (arith, below.0, length-append s.submitted x), below.1, below.2)

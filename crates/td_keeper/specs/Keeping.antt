@@ -100,13 +100,22 @@ module _ {D : Type 0} (k : Keeping D) where
   abbrev pub words_of : List ℕ
   words_of = words_at k.standing k.collected
 
+  -- with some epochs more
+  abbrev pub with_epochs : D → List Submitted → Keeping D
+  with_epochs device x = record k {
+    device = device;
+    standing = with_more k.standing x;
+    watch = published k.watch (words_at (with_more k.standing x) k.collected);
+  }
+
   -- with one epoch more
   abbrev pub with_batch : D → ℕ → List Entry → Keeping D
-  with_batch device request batch = record k {
-    device = device;
-    standing = with_more k.standing (submission request batch ∷ []);
-    watch = published k.watch (words_at (with_more k.standing (submission request batch ∷ [])) k.collected);
-  }
+  with_batch device request batch = with_epochs device (submission request batch ∷ [])
+
+  -- with a group of epochs more; nothing is published where there is none
+  abbrev pub with_group : D → List Submitted → Keeping D
+  with_group device [] = k
+  with_group device (x ∷ xs) = with_epochs device (x ∷ xs)
 
   -- with the cut that waited as its checkpoint
   abbrev pub with_checkpoint : D → Keeping D

@@ -1,5 +1,6 @@
 pub mod Keeping
 pub mod Refused
 pub mod Received
+pub mod Grouped
 pub mod Halls
 pub mod Driven

@@ -1,6 +1,5 @@
 //! Collecting outputs, and handing them out.
-ghost use Rattle.std.specs.Prelude.{◌≡◌, ◌⊎◌, ◌+◌, ◌∷◌, ◌++◌, ◌≤◌, length, Some, None, [], IfOk, IfErr, IfSome, IfNone, OnErr};
-ghost use Rattle.std.specs.VecDeque.{deque_len, deque_capacity};
+ghost use Rattle.std.specs.Prelude.{◌≡◌, ◌⊎◌, ◌+◌, ◌∷◌, length, None, [], IfOk, IfErr, IfSome, IfNone, OnErr};
 ghost use Rattle.td_machine.specs.Steps.{collect_step};
 ghost use Rattle.td_machine.specs.Reached.{IsReached};
 ghost use Rattle.td_machine.specs.Sound.{outs_by};
@@ -8,8 +7,8 @@ ghost use Rattle.td_keeper.specs.Halls.{IsOwn, with_collected, collected_hall, m
 ghost use Rattle.td_standing.specs.declared.error.KeeperError.TheVariants.{Foreign, Memory};
 
 use crate::keeper::Keeper;
+use crate::queue::append;
 use crate::watch::{publish, words_at};
-use std::collections::VecDeque;
 use td_batch::laws::run_joins;
 use td_calls::Law;
 use td_core::Hall;
@@ -89,15 +88,5 @@ impl<D: Disk, L: Law> Keeper<D, L> {
         ensures none_same { IfNone result (self.new ≡ self.old) }
     {
         self.queue.pop_front()
-    }
-}
-
-/// Puts outputs at the end of a queue that has room for them.
-fn append(queue: &mut VecDeque<EpochOut>, outs: Vec<EpochOut>)
-    requires { deque_len queue.old + length outs.items ≤ deque_capacity queue.old }
-    ensures { queue.new.items ≡ queue.old.items ++ outs.items }
-{
-    for out in outs {
-        queue.push_back_reserved(out);
     }
 }

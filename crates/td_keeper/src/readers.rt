@@ -38,6 +38,20 @@ impl<D: Disk, L: Law> Keeper<D, L> {
         u64::from(self.head.shape.cells()) <= self.submitted.len() as u64
     }
 
+    /// How many cells of the journal are free: so many epochs more it takes before a cut is written.
+    pub fn free(&self) -> u64
+        ensures { result ≡ self.now.head.shape.n - length self.now.standing.submitted }
+    {
+        u64::from(self.head.shape.cells()) - self.submitted.len() as u64
+    }
+
+    /// How many records an epoch may have.
+    pub fn records(&self) -> u32
+        ensures { result ≡ self.now.head.shape.m }
+    {
+        self.head.shape.records()
+    }
+
     /// The last epoch whose outputs were collected.
     pub fn collected(&self) -> u64
         ensures { result ≡ self.now.collected }

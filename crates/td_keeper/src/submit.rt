@@ -1,8 +1,10 @@
 //! Submitting batches.
-ghost use Rattle.std.specs.Prelude.{◌≡◌, ◌⊎◌, ◌↔◌, ◌+◌, ◌≤◌, max, [], ◌∷◌, false, true, Some, None, IfOk, IfErr, OnOk};
+ghost use Rattle.std.specs.Prelude.{◌≡◌, ◌⊎◌, ◌↔◌, ◌+◌, ◌≤◌, ℕ, max, [], ◌∷◌, length, false, true, Some, None, IfOk, IfErr, IfNone, OnOk};
 ghost use Rattle.td_disk.specs.Disk.{Rises};
 ghost use Rattle.td_gate.specs.CrashSafe.{CrashSafe, Unchanged};
+ghost use Rattle.td_journal.specs.Cell.{is_batch};
 ghost use Rattle.td_standing.specs.Standing.{last_epoch, last_request, submission};
+ghost use Rattle.td_standing.specs.Told.{inputs_of};
 ghost use Rattle.td_standing.specs.Tells.{IsFresh};
 ghost use Rattle.td_standing.specs.Advanced.{SinceAdvance, AdvancesSince};
 ghost use Rattle.td_keeper.specs.Keeping.{with_batch};
@@ -12,12 +14,12 @@ ghost use Rattle.td_standing.specs.declared.error.KeeperError.TheVariants.{Memor
 
 use crate::keeper::Keeper;
 use crate::receipt::Receipt;
-use crate::watch::{publish, words_at};
+use crate::submit_all::is_accepted;
 use td_calls::Law;
 use td_disk::Disk;
-use td_journal::{JournalError, Submitted};
+use td_journal::Submitted;
 use td_stamp::{Batch, EPOCHS_END};
-use td_standing::{KeeperError, laws, ring_of, submit_batch};
+use td_standing::{KeeperError, laws};
 
 /// The first version of the format that has request numbers.
 pub(crate) const NUMBERED: u32 = 2;
@@ -175,46 +177,16 @@ impl<D: Disk, L: Law> Keeper<D, L> {
     {
         laws::told_in_parts();
         laws::standings_advance::<L>();
-        laws::inputs_are_accepted();
-        td_journal::laws::batches_are_in_order();
-        td_gate::laws::unchanged::<D>();
-        // Read for their contracts alone.
-        let _plan = self.plan.vertices();
-        let _in_order = batch.list();
         if let Some(refusal) = self.refusal_of(&batch) {
             return Err((refusal, batch));
         }
-        let epoch = self.last_epoch() + 1;
-        let journal = ring_of(&self.head.shape, self.checkpoint.epoch);
-        if self.submitted.reserve(1).is_err() {
+        let Ok(mut group) = Vec::with_capacity(self.alloc, 1) else {
             return Err((KeeperError::Memory, batch));
-        }
-        match submit_batch(
-            self.alloc,
-            &journal,
-            &mut self.device,
-            epoch,
-            request,
-            &batch,
-        ) {
-            Ok(()) => {
-                self.submitted
-                    .push_back_reserved(Submitted { request, batch });
-                self.last_request = self.last_request.max(request);
-                let words = words_at(&self.checkpoint, &self.submitted, self.collected);
-                publish(&mut self.watch, words);
-                Ok(epoch)
-            }
-            Err(refusal) => match refusal {
-                JournalError::Device => {
-                    self.broken = true;
-                    Err((KeeperError::Device, batch))
-                }
-                JournalError::Memory => Err((KeeperError::Memory, batch)),
-                JournalError::Full | JournalError::TooManyRecords | JournalError::Damaged(_) => {
-                    unreachable!()
-                }
-            },
+        };
+        group.push_reserved(Submitted { request, batch });
+        match self.put_next(group) {
+            Ok(epoch) => Ok(epoch),
+            Err((refusal, group)) => Err((refusal, only_batch(group))),
         }
     }
 
@@ -240,12 +212,13 @@ impl<D: Disk, L: Law> Keeper<D, L> {
 
     /// Why a batch is refused, the device and memory aside.
     fn refusal_of(&self, batch: &Batch) -> Option<KeeperError>
-        ensures { result ≡ submit_refusal self.now batch.now }
+        ensures refusal { result ≡ submit_refusal self.now batch.now }
+        ensures lawful { IfNone result (is_batch (inputs_of self.now.plan) batch.now ≡ true) }
     {
         let shape = &self.head.shape;
         if self.broken {
             Some(KeeperError::Broken)
-        } else if !self.plan.accepts(batch) {
+        } else if !is_accepted(&self.plan, batch) {
             Some(KeeperError::NoSuchInput)
         } else if (shape.records() as usize) < batch.len() {
             Some(KeeperError::TooManyRecords)
@@ -256,5 +229,16 @@ impl<D: Disk, L: Law> Keeper<D, L> {
         } else {
             None
         }
+    }
+}
+
+/// The batch of a group of one.
+fn only_batch(mut group: Vec<Submitted>) -> Batch
+    requires { length group.items ≡ 1 }
+    ensures { (request : ℕ) × (group.items ≡ submission request result ∷ []) }
+{
+    match group.pop() {
+        Some(only) => only.batch,
+        None => unreachable!(),
     }
 }

@@ -1,0 +1,256 @@
+//! Submitting groups of batches.
+ghost use Rattle.std.specs.Prelude.{◌≡◌, ◌⊎◌, ◌↔◌, ◌+◌, ◌*◌, ◌^◌, ◌<◌, ◌≤◌, ◌++◌, [], ◌∷◌, length, false, true, Some, None, IfOk, IfErr, IfNone, IsTrue, OnOk};
+ghost use Rattle.std.specs.List.{list_all, list_any};
+ghost use Rattle.td_disk.specs.Disk.{Rises};
+ghost use Rattle.td_gate.specs.CrashSafe.{CrashSafe, Unchanged};
+ghost use Rattle.td_machine.specs.Steps.{accepts};
+ghost use Rattle.td_journal.specs.Cell.{is_batch};
+ghost use Rattle.td_journal.specs.Numbers.{greatest};
+ghost use Rattle.td_group.specs.Groups.{AllFew, AreBatches, AreFresh, may_follow};
+ghost use Rattle.td_standing.specs.Standing.{last_epoch, last_request};
+ghost use Rattle.td_standing.specs.Told.{inputs_of};
+ghost use Rattle.td_standing.specs.Advanced.{SinceAdvance, AdvancesSince};
+ghost use Rattle.td_keeper.specs.Keeping.{with_epochs, with_group};
+ghost use Rattle.td_keeper.specs.Grouped.{AllOrNone};
+ghost use Rattle.td_keeper.specs.Refused.{has_number, all_accepted, all_few, group_refusal};
+ghost use Rattle.td_standing.specs.declared.error.KeeperError.TheVariants.{Memory, Device};
+ghost use Rattle.td_keeper.specs.declared.group.GroupError.TheVariants.{Keeper as ByKeeper};
+
+use crate::group::{Group, GroupError};
+use crate::keeper::Keeper;
+use crate::laws::each_disk_holds;
+use crate::queue::append;
+use crate::submit::NUMBERED;
+use crate::watch::{publish, words_at};
+use td_calls::Law;
+use td_disk::Disk;
+use td_group::submit_group;
+use td_journal::{JournalError, Submitted, greatest_request};
+use td_plan::Plan;
+use td_stamp::{Batch, EPOCHS_END};
+use td_standing::{KeeperError, laws, ring_of};
+
+impl<D: Disk, L: Law> Keeper<D, L> {
+    /// Puts a group of batches on the journal at once, as the next epochs in this order, and answers the number of the first: from
+    /// then on all of them are acknowledged, and whatever a crash leaves of the disk tells them. A stop before that leaves none of them
+    /// or all. It takes three to five syncs, whatever the size of the group, and writes 25 + 24 M bytes for each batch and a journal of
+    /// M records an epoch; a group of one is put as `submit` puts it, and one of none is answered without a look at the disk. A writer
+    /// that is attached publishes the last of them.
+    ///
+    /// Refusals, with the group handed back, the first that holds: `Broken`; `OldVersion`, where a batch has a request number and the
+    /// disk is of version 1 of the format (`upgrade`); `Repeated`, where a request number is not above all before it, on the disk and in
+    /// the group; `NoSuchInput`, where a record of some batch names no input of the plan; `TooManyRecords`, where a batch has more than a
+    /// cell holds; `Epochs`, where the last number of an epoch would be passed; `Full`, where fewer cells are free. Then `Memory`; in
+    /// all these cases nothing is written. Then `Device`: the keeper is broken, and all epochs of the group may stand on the disk, or
+    /// none.
+    pub fn submit_all(&mut self, group: Group) -> Result<u64, (GroupError, Group)>
+        ensures acknowledged { IfOk result (λ first. first ≡ last_epoch self.old.standing + 1) }
+        ensures submitted { IfOk result (λ _. self.new ≡ with_group self.old self.new.device group) }
+        ensures accepted { IfOk result (λ _. group_refusal self.old group ≡ None) }
+        ensures refused { IfErr result (λ e. (group_refusal self.old group ≡ Some e.0)
+            ⊎ ((group_refusal self.old group ≡ None) × ((e.0 ≡ ByKeeper Memory) ⊎ (e.0 ≡ ByKeeper Device)))) }
+        ensures back { IfErr result (λ e. e.1 ≡ group) }
+        ensures unchanged { IfErr result (λ e. (self.new ≡ self.old) ⊎ ((e.0 ≡ ByKeeper Memory) × (self.new ≡ record self.old { device = self.new.device }))
+            ⊎ ((e.0 ≡ ByKeeper Device) × (self.new ≡ record self.old { device = self.new.device; broken = true }))) }
+        ensures device { IfErr result (λ e. e.0 ≡ ByKeeper Device → Rises (D.failures self.old.device) (D.failures self.new.device)) }
+        ensures broken { IfErr result (λ e. e.0 ≡ ByKeeper Device → self.new.broken ≡ true) }
+        ensures counted { D.failures self.old.device ≤ D.failures self.new.device }
+        ensures stays { OnOk result (D.failures self.new.device ≡ D.failures self.old.device) }
+        ensures stays_back { IfErr result (λ e. (e.0 ≡ ByKeeper Device) ⊎ (D.failures self.new.device ≡ D.failures self.old.device)) }
+        ensures size { D.capacity self.new.device ≡ D.capacity self.old.device }
+        ensures lawful { D.is_lawful self.old.device ↔ D.is_lawful self.new.device }
+        ensures unwritten { IfErr result (λ e. e.0 ≡ ByKeeper Memory → D.is_lawful self.old.device
+            → CrashSafe Unchanged (D.state self.old.device) (D.state self.new.device)) }
+
+        // What a crash may leave after the call is among what it may leave since the start.
+        ensures later { D.is_lawful self.old.device → (D.state self.old.device).moment ≤ (D.state self.new.device).moment }
+
+        // In each image since the start of the call the disk tells the standing, or that with the whole group.
+        ensures all_or_none { D.is_lawful self.old.device → self.old.broken ≡ false
+            → AllOrNone self.old.plan self.old.standing group (D.state self.old.device).moment (D.state self.new.device) }
+
+        // In each image since the start of the call the disk tells an advance of the standing with this group, which holds
+        // every epoch of the standing.
+        ensures images { D.is_lawful self.old.device → self.old.broken ≡ false
+            → SinceAdvance L.answers self.old.plan self.old.standing group (last_epoch self.old.standing) (D.state self.old.device).moment (D.state self.new.device) }
+
+        // Each image since an earlier moment was one by the start of the call, or the disk tells such an advance in it.
+        ensures further { D.is_lawful self.old.device → self.old.broken ≡ false
+            → AdvancesSince L.answers self.old.plan self.old.standing group (last_epoch self.old.standing) (D.state self.old.device) (D.state self.new.device) }
+
+        // After any refusal but `Device` it tells an advance without the group.
+        ensures nothing { IfErr result (λ e. (e.0 ≡ ByKeeper Device) ⊎ (D.is_lawful self.old.device → self.old.broken ≡ false
+            → AdvancesSince L.answers self.old.plan self.old.standing [] (last_epoch self.old.standing) (D.state self.old.device) (D.state self.new.device))) }
+
+        // The greatest request number is raised by those of the group.
+        ensures last_request { OnOk result (last_request self.new.standing ≡ greatest (last_request self.old.standing) group) }
+    {
+        laws::told_in_parts();
+        laws::standings_advance::<L>();
+        each_disk_holds(self);
+        if let Some(refusal) = self.refusal_of_group(group.as_slice()) {
+            return Err((refusal, group));
+        }
+        if group.as_slice().is_empty() {
+            return Ok(self.last_epoch() + 1);
+        }
+        match self.put_next(group.into_vec()) {
+            Ok(first) => Ok(first),
+            Err((refusal, group)) => { Err((GroupError::Keeper(refusal), Group::from_vec(group))) }
+        }
+    }
+
+    /// Puts a group that may come next on the journal, and answers the number of its first epoch. Refusals, with the group handed
+    /// back: `Memory`, and nothing is written; `Device`.
+    pub(crate) fn put_next(
+        &mut self,
+        group: Vec<Submitted>,
+    ) -> Result<u64, (KeeperError, Vec<Submitted>)>
+        requires some { 0 < length group.items }
+        requires whole { self.old.broken ≡ false }
+        requires lawful { AreBatches (inputs_of self.old.plan) group.items }
+        requires few { AllFew self.old.head.shape.m group.items }
+        requires small { last_epoch self.old.standing + length group.items < 2 ^ 63 }
+        requires room { length self.old.standing.submitted + length group.items ≤ self.old.head.shape.n }
+        requires fresh { AreFresh self.old.head.version self.old.standing group.items }
+        ensures acknowledged { IfOk result (λ first. first ≡ last_epoch self.old.standing + 1) }
+        ensures submitted { IfOk result (λ _. self.new ≡ with_epochs self.old self.new.device group.items) }
+        ensures refused { IfErr result (λ e. (e.0 ≡ Memory) ⊎ (e.0 ≡ Device)) }
+        ensures back { IfErr result (λ e. e.1 ≡ group) }
+        ensures unchanged { IfErr result (λ e. (self.new ≡ self.old) ⊎ ((e.0 ≡ Memory) × (self.new ≡ record self.old { device = self.new.device }))
+            ⊎ ((e.0 ≡ Device) × (self.new ≡ record self.old { device = self.new.device; broken = true }))) }
+        ensures device { IfErr result (λ e. e.0 ≡ Device → Rises (D.failures self.old.device) (D.failures self.new.device)) }
+        ensures broken { IfErr result (λ e. e.0 ≡ Device → self.new.broken ≡ true) }
+        ensures counted { D.failures self.old.device ≤ D.failures self.new.device }
+        ensures stays { OnOk result (D.failures self.new.device ≡ D.failures self.old.device) }
+        ensures stays_back { IfErr result (λ e. (e.0 ≡ Device) ⊎ (D.failures self.new.device ≡ D.failures self.old.device)) }
+        ensures size { D.capacity self.new.device ≡ D.capacity self.old.device }
+        ensures lawful { D.is_lawful self.old.device ↔ D.is_lawful self.new.device }
+        ensures unwritten { IfErr result (λ e. e.0 ≡ Memory → D.is_lawful self.old.device
+            → CrashSafe Unchanged (D.state self.old.device) (D.state self.new.device)) }
+        ensures later { D.is_lawful self.old.device → (D.state self.old.device).moment ≤ (D.state self.new.device).moment }
+        ensures all_or_none { D.is_lawful self.old.device → self.old.broken ≡ false
+            → AllOrNone self.old.plan self.old.standing group.items (D.state self.old.device).moment (D.state self.new.device) }
+        ensures images { D.is_lawful self.old.device → self.old.broken ≡ false
+            → SinceAdvance L.answers self.old.plan self.old.standing group.items (last_epoch self.old.standing) (D.state self.old.device).moment (D.state self.new.device) }
+        ensures further { D.is_lawful self.old.device → self.old.broken ≡ false
+            → AdvancesSince L.answers self.old.plan self.old.standing group.items (last_epoch self.old.standing) (D.state self.old.device) (D.state self.new.device) }
+        ensures nothing { IfErr result (λ e. (e.0 ≡ Device) ⊎ (D.is_lawful self.old.device → self.old.broken ≡ false
+            → AdvancesSince L.answers self.old.plan self.old.standing [] (last_epoch self.old.standing) (D.state self.old.device) (D.state self.new.device))) }
+        ensures last_request { OnOk result (last_request self.new.standing ≡ greatest (last_request self.old.standing) group.items) }
+    {
+        laws::told_in_parts();
+        laws::standings_advance::<L>();
+        td_gate::laws::unchanged::<D>();
+        let first = self.last_epoch() + 1;
+        let journal = ring_of(&self.head.shape, self.checkpoint.epoch);
+        if self.submitted.reserve(group.len()).is_err() {
+            return Err((KeeperError::Memory, group));
+        }
+        match submit_group(self.alloc, &journal, &mut self.device, first, &group) {
+            Ok(()) => {
+                self.last_request = greatest_request(self.last_request, &group);
+                append(&mut self.submitted, group);
+                let words = words_at(&self.checkpoint, &self.submitted, self.collected);
+                publish(&mut self.watch, words);
+                Ok(first)
+            }
+            Err(refusal) => match refusal {
+                JournalError::Device => {
+                    self.broken = true;
+                    Err((KeeperError::Device, group))
+                }
+                JournalError::Memory => Err((KeeperError::Memory, group)),
+                JournalError::Full | JournalError::TooManyRecords | JournalError::Damaged(_) => {
+                    unreachable!()
+                }
+            },
+        }
+    }
+
+    /// Why a group is refused, the device and memory aside.
+    fn refusal_of_group(&self, group: &[Submitted]) -> Option<GroupError>
+        ensures refusal { result ≡ group_refusal self.now group.now }
+        ensures lawful { IfNone result (AreBatches (inputs_of self.now.plan) group.now) }
+        ensures few { IfNone result (AllFew self.now.head.shape.m group.now) }
+    {
+        let shape = &self.head.shape;
+        if self.broken {
+            Some(GroupError::Keeper(KeeperError::Broken))
+        } else if has_number(group) && self.head.version < NUMBERED {
+            Some(GroupError::Keeper(KeeperError::OldVersion))
+        } else if !may_follow(self.last_request, group) {
+            Some(GroupError::Repeated)
+        } else if !all_accepted(&self.plan, group) {
+            Some(GroupError::Keeper(KeeperError::NoSuchInput))
+        } else if !all_few(shape.records() as usize, group) {
+            Some(GroupError::Keeper(KeeperError::TooManyRecords))
+        } else if EPOCHS_END - self.last_epoch() <= group.len() as u64 {
+            Some(GroupError::Keeper(KeeperError::Epochs))
+        } else if shape.cells() as usize - self.submitted.len() < group.len() {
+            Some(GroupError::Keeper(KeeperError::Full))
+        } else {
+            None
+        }
+    }
+}
+
+/// Whether one of a group has a request number.
+fn has_number(group: &[Submitted]) -> bool
+    ensures { result ≡ has_number group.now }
+{
+    group.iter().any(|each| each.request != 0)
+}
+
+/// Whether each request number of a group is above all before it, after this greatest one.
+fn may_follow(last: u64, group: &[Submitted]) -> bool
+    ensures { result ≡ may_follow (Some last) group.now }
+{
+    let mut greatest = last;
+    for each in group {
+        if each.request != 0 && each.request <= greatest {
+            return false;
+        }
+        greatest = greatest.max(each.request);
+    }
+    true
+}
+
+/// Whether a plan accepts each batch of a group.
+fn all_accepted(plan: &Plan, group: &[Submitted]) -> bool
+    ensures accepted { result ≡ all_accepted plan.now group.now }
+    ensures lawful { IsTrue result → AreBatches (inputs_of plan.now) group.now }
+{
+    for each in group {
+        if !is_accepted(plan, &each.batch) {
+            return false;
+        }
+    }
+    true
+}
+
+/// Whether a plan accepts a batch, as a journal for it does.
+pub(crate) fn is_accepted(plan: &Plan, batch: &Batch) -> bool
+    ensures accepted { result ≡ accepts plan.now batch.now }
+    ensures lawful { IsTrue result → is_batch (inputs_of plan.now) batch.now ≡ true }
+{
+    laws::inputs_are_accepted();
+    td_journal::laws::batches_are_in_order();
+    // Read for their contracts alone.
+    let _plan = plan.vertices();
+    let _in_order = batch.list();
+    plan.accepts(batch)
+}
+
+/// Whether no batch of a group has more records than this.
+fn all_few(most: usize, group: &[Submitted]) -> bool
+    ensures all { result ≡ all_few most group.now }
+    ensures few { IsTrue result → AllFew most group.now }
+{
+    for each in group {
+        if most < each.batch.len() {
+            return false;
+        }
+    }
+    true
+}
