@@ -8,7 +8,7 @@ Each run must answer as with ample memory, or write nothing to standard output, 
 status 1.
 
 Without files it also runs `engine_steps` on its rows (rows/steps.txt and rows/pointstamps.txt, and those of rows/keeper.txt,
-rows/requests.txt and rows/threads.txt whose disk does not stop or fail), where a call that was refused is made once more. Each run
+rows/groups.txt, rows/requests.txt and rows/threads.txt whose disk does not stop or fail), where a call that was refused is made once more. Each run
 must then answer as the row says, but for a line `refused: memory`; or, where the program itself lacked memory before the first
 call, end with status 1 and no answer.
 Where a feed was refused, which is not made once more, or the disk in memory could not grow its record of calls and failed, the
@@ -33,7 +33,7 @@ import tempfile
 ROOT = pathlib.Path(__file__).resolve().parent.parent
 TD = ROOT / "crates/td/out/td"
 STEPS = ROOT / "crates/engine_steps/out/engine_steps"
-ROWS = ("rows/steps.txt", "rows/pointstamps.txt", "rows/keeper.txt", "rows/requests.txt", "rows/threads.txt")
+ROWS = ("rows/steps.txt", "rows/pointstamps.txt", "rows/keeper.txt", "rows/groups.txt", "rows/requests.txt", "rows/threads.txt")
 # (a larger one makes thousands of allocations, and as many runs)
 EXAMPLES = [file for file in sorted((ROOT / "examples").glob("*.td")) if file.stat().st_size < 1000]
 REFUSED = (1, b"", b"td: memory\n")
@@ -167,7 +167,7 @@ class Played:
         if done[-1].startswith(OTHER_DISK):
             return True
         begin = max(index for index, step in enumerate(done) if step.startswith(OTHER_DISK))
-        acknowledged = max([int(line[4:]) for line in lines[self.lines_after(begin):at] if line.startswith(b"ack ")], default=0)
+        acknowledged = max([int(line.split()[-1]) for line in lines[self.lines_after(begin):at] if line.startswith(b"ack ")], default=0)
         told = [int(line.split(b":")[0].split()[1]) for line in lines[at + 1:] if line.startswith((b"kept ", b"epoch "))]
         # A disk that tells no epochs is refused as the row says.
         return told[-1] >= acknowledged if told else acknowledged == 0 and lines[at + 1:] == self.want[1][at:at + 1]
@@ -188,7 +188,7 @@ class Played:
         recovery = next((index for index, line in enumerate(lines) if index >= at and line.startswith(b"kept ")), len(lines))
         if any(line.startswith(b"epoch ") and line not in self.want[1] for line in lines[at:recovery]):
             return False
-        acknowledged = max([int(line[4:]) for line in lines[self.counts[begin]:recovery] if line.startswith(b"ack ")], default=0)
+        acknowledged = max([int(line.split()[-1]) for line in lines[self.counts[begin]:recovery] if line.startswith(b"ack ")], default=0)
         told = [int(line.split(b":")[0].split()[1]) for line in self.first_recovery(lines[recovery:])]
         return told[-1] >= acknowledged if told else acknowledged == 0
 
