@@ -2,7 +2,7 @@
 use crate::error::StepError;
 use crate::gate::Passage;
 use crate::keeper_command::requested;
-use crate::release::batch_of;
+use crate::release::{batch_of, group_of};
 use std::alloc::Global;
 use td_keeper::Command;
 
@@ -36,12 +36,16 @@ fn command_of(alloc: Global, line: &str) -> Result<Command, StepError> {
             let (request, entries) = requested(words).ok_or(StepError::Syntax)?;
             Ok(Command::SubmitAs(request, batch_of(alloc, entries)?))
         }
+        ("submit_all", group) => Ok(Command::SubmitAll(group_of(alloc, group)?)),
         ("release", "") => Ok(Command::Release),
         ("settle", "") => Ok(Command::Settle),
         ("collect", "") => Ok(Command::Collect),
         ("next_out", "") => Ok(Command::NextOut),
         ("cut", "") => Ok(Command::Cut),
         ("write_cut", "") => Ok(Command::WriteCut),
+        ("close_free", most) => Ok(Command::CloseFree(
+            most.parse().map_err(|_| StepError::Syntax)?,
+        )),
         _ => Err(StepError::Syntax),
     }
 }

@@ -1,6 +1,8 @@
 //! The replies of a keeper that is driven, and how its workers ended.
 use crate::error::StepError;
-use crate::keeper_lines::{print_next_out, print_number, print_receipt, print_written};
+use crate::keeper_lines::{
+    print_group_back, print_next_out, print_number, print_receipt, print_written,
+};
 use crate::lines::print_entries;
 use crate::worker::Replies;
 use td_keeper::Reply;
@@ -25,13 +27,16 @@ fn print_reply(rt: &impl Print, reply: Reply) -> Result<(), StepError> {
     match reply {
         Reply::Submitted(epoch) => print_number(rt, "ack", Ok(epoch)),
         Reply::SubmittedAs(receipt) => print_receipt(rt, receipt),
+        Reply::SubmittedAll(first, end) => Ok(println!(rt; "ack from {first} up to {end}")?),
         Reply::Released(count) => print_number(rt, "released", Ok(count)),
         Reply::Settled => Ok(println!(rt; "settled")?),
         Reply::Collected(count) => print_number(rt, "collected", Ok(count)),
         Reply::Out(out) => print_next_out(rt, out),
         Reply::CutTaken(epoch) => print_number(rt, "cut", Ok(epoch)),
         Reply::Written(epoch) => print_written(rt, Ok(epoch)),
+        Reply::Closed => Ok(println!(rt; "closed")?),
         Reply::Refused { error, batch } => print_refused(rt, error, batch),
+        Reply::RefusedAll { error, group } => print_group_back(rt, error, &group),
     }
 }
 

@@ -1,5 +1,6 @@
 -- What a disk keeps, and what may stand in cells.
-use Rattle.std.proofs.Common.{◌≡◌, ℕ, ◌<◌, ◌^◌, List, [], ◌∷◌, Result, Err, sym, subst}
+use Rattle.std.proofs.Common.{◌≡◌, ℕ, ◌<◌, ◌^◌, List, [], ◌∷◌, Result, Ok, Err, sym, subst}
+use Rattle.std.specs.Prelude.{OnOk}
 use Rattle.td_plan.specs.Lines.{Line}
 use Rattle.td_disk.specs.Disk.{DiskState, IsDurable}
 use Rattle.td_head.specs.declared.head.Head.{Head}
@@ -25,3 +26,8 @@ cell_batches inputs m (x ∷ xs) room few are fit = (
 
 abbrev pub as_err : AnyError → Result (Unit {0}) AnyError
 as_err e = Err e
+
+-- after Ok, a step more
+pub at_ok : {T E : Type 0} (r : Result T E) (P Q : Type 0) → (P → Q) → OnOk r P → OnOk r Q
+at_ok (Ok x) P Q step p = step p
+at_ok (Err e) P Q step p = tt

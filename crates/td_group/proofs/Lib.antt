@@ -1,3 +1,4 @@
+pub mod Closing
 pub mod Kept
 pub mod Moments
 pub mod Pieces

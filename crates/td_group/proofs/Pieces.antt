@@ -54,7 +54,7 @@ last_byte (b ∷ bs) = last_byte bs
 take_take : (n : ℕ) (l : List ℕ) → take n (take (n + 1) l) ≡ take n l
 take_take n l = grind (arith, common_steps)
 
-opened_open : (r : Region) (c : List ℕ) → gate_of r c ≡ 165 → opened r c ≡ Some (bytes_at r.at r.len c)
+pub opened_open : (r : Region) (c : List ℕ) → gate_of r c ≡ 165 → opened r c ≡ Some (bytes_at r.at r.len c)
 opened_open r c is = grind (arith, nat_tests)
 
 open_cell : (r : Region) (payload c : List ℕ) → length payload ≡ r.len → bytes_at r.at (r.len + 1) c ≡ payload ++ 165 ∷ [] → opened r c ≡ Some payload

@@ -12,7 +12,7 @@ use Rattle.td_journal.specs.Cell.{cell, cell_of}
 use Rattle.td_group.specs.Groups.{ChangesCells, Hold}
 
 -- the same bytes in a range
-bytes_same : (at n : ℕ) (c d : List ℕ) → length d ≡ length c → ((i : ℕ) → at ≤ i → i < at + n → get_or d i 0 ≡ get_or c i 0) → bytes_at at n d ≡ bytes_at at n c
+pub bytes_same : (at n : ℕ) (c d : List ℕ) → length d ≡ length c → ((i : ℕ) → at ≤ i → i < at + n → get_or d i 0 ≡ get_or c i 0) → bytes_at at n d ≡ bytes_at at n c
 bytes_same at n c d size same = ext_get_or 0 (bytes_at at n d) (bytes_at at n c)
     (omega (arith, length-take n (drop at d), length-take n (drop at c), length-drop at d, length-drop at c))
     (λ i l. let lt : i < n = omega (arith, length-take n (drop at d)) in

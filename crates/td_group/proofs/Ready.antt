@@ -20,7 +20,7 @@ bytes_step step old new clock read durable safe =
     let from = safe.each new.bytes (clock.counts_now old.moment new.bytes safe.later read) in
     subst (λ (d : List ℕ). step d new.bytes) (durable from.0 from.1) from.2
 
-wider : (j : Journal) (e n m : ℕ) (d c : List ℕ) → n ≤ m → ChangesCells j e n d c → ChangesCells j e m d c
+pub wider : (j : Journal) (e n m : ℕ) (d c : List ℕ) → n ≤ m → ChangesCells j e n d c → ChangesCells j e m d c
 wider j e n m d c le changes = record { size = changes.size; each = λ i beside. changes.each i (λ k lt. beside k (omega (arith, lt, le))) }
 
 pub spares_wider : (j : Journal) (e n m : ℕ) (d c : List ℕ) → n ≤ m → Spares j e n d c → Spares j e m d c
@@ -40,7 +40,7 @@ at_cell : (j : Journal) (e n k : ℕ) (d c : List ℕ) → k < n → SameOutside
 at_cell j e n k d c lt others = one_cell j e n k d c lt others
 
 -- what another cell than the one that changed holds
-other_cell : CellsApart → (j : Journal) (f g : ℕ) (d c : List ℕ) → f < g → g < f + j.n → SameOutside (cell_of j g).at ((cell_of j g).len + 1) d c → opened (cell_of j f) c ≡ opened (cell_of j f) d
+pub other_cell : CellsApart → (j : Journal) (f g : ℕ) (d c : List ℕ) → f < g → g < f + j.n → SameOutside (cell_of j g).at ((cell_of j g).len + 1) d c → opened (cell_of j f) c ≡ opened (cell_of j f) d
 other_cell apart j f g d c low high others =
     let here : g ≡ g + 0 = omega arith in
     opened_beside j g 1 (cell_of j f) d c (one_cell j g 1 0 d c (omega arith) (subst (λ h. SameOutside (cell_of j h).at ((cell_of j h).len + 1) d c) here others))

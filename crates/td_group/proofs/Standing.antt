@@ -1,5 +1,5 @@
 -- What a disk tells while a group of epochs is put on it, and once it is.
-use Rattle.std.proofs.Common.{◌≡◌, ◌⊎◌, inl, inr, ⊎_elim, ℕ, suc, ◌+◌, ◌%◌, ◌<◌, ◌≤◌, ◌^◌, Bool, true, false, nat_le, List, [], ◌∷◌, ◌++◌, length, Option, Some, None, refl, sym, ap, ◌∙◌, subst, arith, Ok}
+use Rattle.std.proofs.Common.{◌≡◌, ◌⊎◌, inl, inr, ⊎_elim, ℕ, zero, suc, ◌+◌, ◌%◌, ◌<◌, ◌≤◌, ◌^◌, Bool, true, false, nat_le, List, [], ◌∷◌, ◌++◌, length, Option, Some, None, refl, sym, ap, ◌∙◌, subst, arith, Ok}
 use Rattle.td_plan.specs.Lines.{Line}
 use Rattle.td_disk.specs.Disk.{DiskState, SameOutside}
 use Rattle.td_gate.specs.declared.region.Region.{Region}
@@ -20,10 +20,11 @@ use Rattle.td_journal.specs.Cell.{cell, cell_of, cell_bytes, bears}
 use Rattle.td_journal.specs.Images.{IsBorne, IsNext}
 use Rattle.td_journal.specs.Numbers.{floor_after, greatest}
 use Rattle.td_journal.specs.Ring.{told_after}
-use Rattle.td_standing.specs.Standing.{Standing, with_more}
+use Rattle.td_standing.specs.Standing.{Standing, last_epoch, with_more}
 use Rattle.td_standing.specs.Told.{inputs_of, folds_of, slots_of, ring_of, floor_of}
-use Rattle.td_standing.specs.Tells.{Tells, EachTells}
-use Rattle.td_group.specs.Groups.{payloads, Hold, AreCellBatches, may_follow, AreFresh, HasRoomFor, ChangesCells, Spares, IsReady, touched}
+use Rattle.td_standing.specs.Tells.{Tells, EachTells, TellsSince}
+use Rattle.td_group.specs.Groups.{payloads, Hold, AreCellBatches, may_follow, AreFresh, HasRoomFor, ChangesCells, Spares, IsReady, ClosesSome, AreFree, touched}
+use Rattle.td_group.proofs.Closing.{none_closed}
 use Rattle.td_group.proofs.Places.{CellsApart, opened_beside, one_cell, epochs_apart, epochs_apart_too, hold_same}
 
 -- the laws of the crates below, as they are handed in
@@ -75,15 +76,14 @@ module _ (laws : Laws) (plan : List Line) (head : Head) (side : ℕ) (s : Standi
     second = opened_beside (ring_of head.shape s.epoch) e n (slot (slots_of head.shape) 1) old new changes (λ k lt. turned (slot (slots_of head.shape) 1) (cell_of (ring_of head.shape s.epoch) (e + k)) (laws.slots_cells head.shape s.epoch ((e + k) % head.shape.n)).1);
   }
 
-  module _ (e k n : ℕ) (room : HasRoomFor head.shape s e k) (some : 0 < n) (wide : length s.submitted + n ≤ head.shape.n) (old new : List ℕ) (tells : Tells plan head side s old)
+  module _ (e n : ℕ) (place : e ≡ last_epoch s + 1) (some : 0 < n) (wide : length s.submitted + n ≤ head.shape.n) (old new : List ℕ) (tells : Tells plan head side s old)
       (changes : ChangesCells (ring_of head.shape s.epoch) e n old new) where
     next : IsNext (inputs_of plan) (ring_of head.shape s.epoch) old (floor_of head.version s.last) s.epoch s.submitted e
-    next = let most = room.room in let few = room.some in record { told = tells.submitted; room = omega (arith, most, few); epoch = room.epoch }
+    next = record { told = tells.submitted; room = omega (arith, some, wide); epoch = place }
 
     -- the cells of the epochs before
     before : (f : ℕ) → s.epoch < f → f < e → opened (cell_of (ring_of head.shape s.epoch) f) new ≡ opened (cell_of (ring_of head.shape s.epoch) f) old
     before f low high =
-        let place = room.epoch in
         opened_beside (ring_of head.shape s.epoch) e n (cell_of (ring_of head.shape s.epoch) f) old new changes
         (λ i lt. epochs_apart_too laws.apart (ring_of head.shape s.epoch) f (e + i) (omega (arith, high)) (omega (arith, place, low, lt, wide)))
 
@@ -99,20 +99,18 @@ module _ (laws : Laws) (plan : List Line) (head : Head) (side : ℕ) (s : Standi
         }
 
     -- ONCE the group stands in its cells
-    pub tells_more : (xs : List Submitted) → k ≡ length xs → AreFresh head.version s xs → AreCellBatches (inputs_of plan) head.shape.m xs
+    pub tells_more : (xs : List Submitted) → length s.submitted + length xs ≤ head.shape.n → e + length xs ≤ 2 ^ 63 → AreFresh head.version s xs → AreCellBatches (inputs_of plan) head.shape.m xs
         → Hold (ring_of head.shape s.epoch) new e (payloads head.shape.m e xs)
         → (length s.submitted + length xs < head.shape.n → IsBorne (ring_of head.shape s.epoch) new (e + length xs) → ⊥)
         → Tells plan head side (with_more s xs) new
-    tells_more xs size fresh ok hold nothing =
-        let heads = heads_beside e n old new changes in
-        let most = room.room in
-        let small = room.small in record {
+    tells_more xs most small fresh ok hold nothing =
+        let heads = heads_beside e n old new changes in record {
           canonical = tells.canonical;
           text = laws.text tells.canonical old new heads tells.text;
           head_is = laws.head tells.canonical plan old new heads ∙ tells.head_is;
           checkpoint = laws.slots head.version (folds_of plan) (slots_of head.shape) old new (slots_beside e n old new changes) ∙ tells.checkpoint;
           submitted = laws.more (inputs_of plan) (ring_of head.shape s.epoch) old new (floor_of head.version s.last) s.epoch e s.submitted xs next before hold ok
-              (ap (λ (o : Option ℕ). may_follow o xs) (floors head.version s.last s.submitted) ∙ fresh) (omega (arith, small, size)) (omega (arith, most, size)) nothing;
+              (ap (λ (o : Option ℕ). may_follow o xs) (floors head.version s.last s.submitted) ∙ fresh) small most nothing;
         }
 
   -- THE FIRST CELL IS OPENED over a ring that is ready
@@ -138,7 +136,7 @@ module _ (laws : Laws) (plan : List Line) (head : Head) (side : ℕ) (s : Standi
     opened_first changes is =
         let most = room.room in
         let place : suc e + length xs ≡ e + suc (length xs) = omega arith in
-        tells_more e (suc (length xs)) 1 room (omega arith) one_wide old new tells changes (x ∷ xs) refl fresh ok (
+        tells_more e 1 room.epoch (omega arith) one_wide old new tells changes (x ∷ xs) room.room room.small fresh ok (
           is,
           hold_same (ring_of head.shape s.epoch) old new (suc e) (payloads head.shape.m (suc e) xs)
               (λ f low high. behind changes f (omega (arith, low)) (omega (arith, high, payloads_long head.shape.m (suc e) xs, most))) ready.others,
@@ -160,9 +158,9 @@ module _ (laws : Laws) (plan : List Line) (head : Head) (side : ℕ) (s : Standi
     put_first put =
         let changes = changed put.others in
         ⊎_elim
-        (λ same. inl (tells_still e (suc (length xs)) 1 room (omega arith) one_wide old new tells changes (inl same)))
+        (λ same. inl (tells_still e 1 room.epoch (omega arith) one_wide old new tells changes (inl same)))
         (λ rest. ⊎_elim
-        (λ none. inl (tells_still e (suc (length xs)) 1 room (omega arith) one_wide old new tells changes (inr none)))
+        (λ none. inl (tells_still e 1 room.epoch (omega arith) one_wide old new tells changes (inr none)))
         (λ is. inr (opened_first changes is))
         rest)
         put.region
@@ -173,11 +171,31 @@ module _ (laws : Laws) (plan : List Line) (head : Head) (side : ℕ) (s : Standi
         → (t : ℕ) (c : List ℕ) → t ≤ old.moment → mid.since t c → old.since t c ⊎ Tells plan head side s c
     ready_since old mid each safe t c le left = ⊎_elim
         (λ was. inl was)
-        (λ from. inr (tells_still e k (touched is_full k) room some wide from.0 c (each from.0 from.1) from.2.cells from.2.first))
+        (λ from. inr (tells_still e (touched is_full k) room.epoch some wide from.0 c (each from.0 from.1) from.2.cells from.2.first))
         (safe.before t c le left)
 
     pub tells_ready : (old mid : DiskState) → ((t : ℕ) (c : List ℕ) → t ≤ mid.moment → mid.images c → mid.since t c) → EachTells plan head side s old → CrashSafe (Spares (ring_of head.shape s.epoch) e (touched is_full k)) old mid
         → EachTells plan head side s mid
     tells_ready old mid counts each safe c image =
         let from = safe.each c (counts old.moment c safe.later image) in
-        tells_still e k (touched is_full k) room some wide from.0 c (each from.0 from.1) from.2.cells from.2.first
+        tells_still e (touched is_full k) room.epoch some wide from.0 c (each from.0 from.1) from.2.cells from.2.first
+
+  -- WHILE CELLS THAT ARE FREE are closed
+  pub tells_closed : (e n : ℕ) → AreFree head.shape s e n → (old new : List ℕ) → Tells plan head side s old → ClosesSome (ring_of head.shape s.epoch) e n old new → Tells plan head side s new
+  tells_closed e zero free old new tells closes = subst (Tells plan head side s) (sym (none_closed (ring_of head.shape s.epoch) e old new closes)) tells
+  tells_closed e (suc n) free old new tells closes =
+      let here : e + 0 ≡ e = omega arith in
+      tells_still e (suc n) free.epoch (omega arith) free.room old new tells closes.cells
+      (subst (λ f. (opened (cell_of (ring_of head.shape s.epoch) f) new ≡ opened (cell_of (ring_of head.shape s.epoch) f) old) ⊎ (opened (cell_of (ring_of head.shape s.epoch) f) new ≡ None)) here (closes.each 0 (omega arith)))
+
+  module _ (e n : ℕ) (free : AreFree head.shape s e n) (old new : DiskState) (each : EachTells plan head side s old) (safe : CrashSafe (ClosesSome (ring_of head.shape s.epoch) e n) old new) where
+    pub closing_since : TellsSince (Tells plan head side s) (Tells plan head side s) old new
+    closing_since t c le left = ⊎_elim
+        (λ was. inl was)
+        (λ from. inr (inl (tells_closed e n free from.0 c (each from.0 from.1) from.2)))
+        (safe.before t c le left)
+
+    pub tells_after : ((c : List ℕ) → new.images c → new.since old.moment c) → EachTells plan head side s new
+    tells_after counts c image =
+        let from = safe.each c (counts c image) in
+        tells_closed e n free from.0 c (each from.0 from.1) from.2

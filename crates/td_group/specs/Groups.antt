@@ -82,6 +82,20 @@ pub record Spares (j : Journal) (e n : ℕ) (old new : List ℕ) : Type 0 where
   pub cells : ChangesCells j e n old new
   pub first : (opened (cell_of j e) new ≡ opened (cell_of j e) old) ⊎ (opened (cell_of j e) new ≡ None)
 
+-- Only the cells of n epochs from one on changed, and each of them is as it was or closed.
+pub record ClosesSome (j : Journal) (e n : ℕ) (old new : List ℕ) : Type 0 where
+  pub cells : ChangesCells j e n old new
+  pub each : (k : ℕ) → k < n → (opened (cell_of j (e + k)) new ≡ opened (cell_of j (e + k)) old) ⊎ (opened (cell_of j (e + k)) new ≡ None)
+
+-- The cells of n epochs from one on are closed.
+abbrev pub AreShut : Journal → List ℕ → ℕ → ℕ → Type 0
+AreShut j image e n = (k : ℕ) → k < n → opened (cell_of j (e + k)) image ≡ None
+
+-- No epoch of the standing stands in the cells of n epochs from this one on: it is the next one, and the ring has room for n more.
+pub record AreFree (sizes : Sizes) (s : Standing) (e n : ℕ) : Type 0 where
+  pub epoch : e ≡ last_epoch s + 1
+  pub room : length s.submitted + n ≤ sizes.n
+
 -- how many cells that may be: those of a group of k, and the one behind it, where the ring has one that no epoch of before uses
 abbrev pub touched : Bool → ℕ → ℕ
 touched is_full k = if is_full then k else suc k

@@ -14,7 +14,7 @@ ghost use Rattle.td_journal.specs.Cell.{cell_of, cell_bytes};
 ghost use Rattle.td_journal.specs.Images.{IsBorne, IsNext};
 ghost use Rattle.td_journal.specs.Numbers.{floor_after};
 ghost use Rattle.td_journal.specs.Ring.{told_after};
-ghost use Rattle.td_group.specs.Groups.{payloads, Hold, AreCellBatches, may_follow, AreFresh, HasRoomFor, Spares, IsReady, touched};
+ghost use Rattle.td_group.specs.Groups.{payloads, Hold, AreCellBatches, may_follow, AreFresh, HasRoomFor, Spares, IsReady, ClosesSome, AreFree, touched};
 
 use td_disk::Disk;
 
@@ -63,6 +63,24 @@ pub fn group_is_safe<D: Disk>()
         → CrashSafe (Puts (cell_of (ring_of head.shape s.epoch) e) (cell_bytes head.shape.m e x.request x.batch)) (D.state mid) (D.state new)
         → IsOpen (cell_of (ring_of head.shape s.epoch) e) (cell_bytes head.shape.m e x.request x.batch) (D.state new)
         → EachTells plan head side (with_more s (x ∷ xs)) (D.state new) }
+{
+    group_is_told();
+    td_head::laws::heads_tell();
+    td_slots::laws::slots_tell();
+    td_journal::laws::cells();
+    td_standing::laws::parts_are_apart();
+}
+
+/// The crash clause of cells that are closed, of which no told epoch uses one: an image tells what was told.
+pub fn closing_is_safe<D: Disk>()
+    ensures begun { (plan : List Line) (head : AnyHead) (side : ℕ) (s : Standing) (e n : ℕ) (old new : D)
+        → AreFree head.shape s e n → EachTells plan head side s (D.state old)
+        → CrashSafe (ClosesSome (ring_of head.shape s.epoch) e n) (D.state old) (D.state new)
+        → TellsSince (Tells plan head side s) (Tells plan head side s) (D.state old) (D.state new) }
+    ensures done { (plan : List Line) (head : AnyHead) (side : ℕ) (s : Standing) (e n : ℕ) (old new : D)
+        → AreFree head.shape s e n → EachTells plan head side s (D.state old) → D.is_lawful new
+        → CrashSafe (ClosesSome (ring_of head.shape s.epoch) e n) (D.state old) (D.state new)
+        → EachTells plan head side s (D.state new) }
 {
     group_is_told();
     td_head::laws::heads_tell();

@@ -14,17 +14,19 @@ use Rattle.td_standing.specs.Stops.{Advance}
 use Rattle.td_standing.specs.Advanced.{TellsAdvance, AdvancesSince, states_by}
 use Rattle.td_standing.specs.declared.error.KeeperError.{KeeperError}
 use Rattle.td_standing.specs.declared.error.KeeperError.TheVariants as error
+use Rattle.td_keeper.specs.declared.group.GroupError.{GroupError}
+use Rattle.td_keeper.specs.declared.group.GroupError.TheVariants.{Repeated, Keeper}
 use Rattle.td_keeper.specs.declared.command.Command.{Command}
-use Rattle.td_keeper.specs.declared.command.Command.TheVariants.{Submit, SubmitAs, Release, Settle, Collect, NextOut, Cut, WriteCut}
+use Rattle.td_keeper.specs.declared.command.Command.TheVariants.{Submit, SubmitAs, SubmitAll, Release, Settle, Collect, NextOut, Cut, WriteCut, CloseFree}
 use Rattle.td_keeper.specs.declared.command.Reply.{Reply}
-use Rattle.td_keeper.specs.declared.command.Reply.TheVariants.{Submitted, SubmittedAs, Released, Settled, Collected, Out, CutTaken, Written, Refused}
-use Rattle.td_keeper.specs.Keeping.{Keeping, IsKeeping, with_batch, with_checkpoint}
-use Rattle.td_keeper.specs.Refused.{submit_refusal, submit_as_refusal, write_refusal}
+use Rattle.td_keeper.specs.declared.command.Reply.TheVariants.{Submitted, SubmittedAs, SubmittedAll, Released, Settled, Collected, Out, CutTaken, Written, Closed, Refused, RefusedAll}
+use Rattle.td_keeper.specs.Keeping.{Keeping, IsKeeping, with_batch, with_epochs, with_group, with_checkpoint}
+use Rattle.td_keeper.specs.Refused.{submit_refusal, submit_as_refusal, group_refusal, write_refusal, close_refusal}
 use Rattle.td_keeper.specs.declared.receipt.Receipt.{Receipt}
 use Rattle.td_keeper.specs.declared.receipt.Receipt.TheVariants.{New, Already}
 use Rattle.td_keeper.specs.Received.{IsReceived, received_in}
 use Rattle.td_keeper.specs.Halls.{with_collected, with_cut, collected_hall, cut_hall}
-use Rattle.td_keeper.specs.Driven.{is_device, may_write, submitted_in, submitted_by, Advances, IsNotSubmitted, Submits, SubmitsAs, Releases, Settles, Collects, HandsOut, Cuts, Writes, Obeys, Driven, Rests}
+use Rattle.td_keeper.specs.Driven.{is_device, is_of_device, may_write, submitted_in, submitted_by, Advances, IsNotSubmitted, IsNoneSubmitted, Submits, SubmitsAs, SubmitsAll, Releases, Settles, Collects, HandsOut, Cuts, Writes, ClosesFree, Obeys, Driven, Rests}
 
 -- whether the device failed, both ways
 pub is_device_is : (e : KeeperError) → is_device e ≡ true → e ≡ error.Device
@@ -48,6 +50,18 @@ is_device_is error.LastGeneration is = absurd (cc)
 device_is : (e : KeeperError) → e ≡ error.Device → is_device e ≡ true
 device_is e is = ap is_device is
 
+pub is_of_device_is : (e : GroupError) → is_of_device e ≡ true → e ≡ Keeper error.Device
+is_of_device_is Repeated is = absurd (cc)
+is_of_device_is (Keeper e) is = ap (λ (f : KeeperError). Keeper f) (is_device_is e is)
+
+-- of a group that was refused: what holds with it where the device failed, and without it else
+pub none_in : (P : List AnySubmitted → Type 0) (x : List AnySubmitted) (e : GroupError) → P x → (e ≡ Keeper error.Device) ⊎ P [] → P (if is_of_device e then x else [])
+none_in P x e with_it other = by (is_of_device e) refl
+  where
+    by : (b : Bool) → is_of_device e ≡ b → P (if b then x else [])
+    by true is = with_it
+    by false is = ⊎_elim (λ device. absurd (let no : true ≡ false = sym (ap is_of_device device) ∙ is in cc)) (λ p. p) other
+
 -- of a submit that was refused: what holds with its batch where the device failed, and without it else
 pub refused_in : (P : List AnySubmitted → Type 0) (x : List AnySubmitted) (e : KeeperError) → P x → (e ≡ error.Device) ⊎ P [] → P (if is_device e then x else [])
 refused_in P x e with_it other = by (is_device e) refl
@@ -70,19 +84,25 @@ submit_broken k batch is = ap (λ (b : Bool). submit_refusal (record k { broken 
 submit_as_broken : {D : Type 0} (k : Keeping D) (request : ℕ) (batch : List Entry) → k.broken ≡ true → submit_as_refusal k request batch ≡ Some error.Broken
 submit_as_broken k request batch is = ap (λ (b : Bool). submit_as_refusal (record k { broken = b }) request batch) is
 
+group_broken : {D : Type 0} (k : Keeping D) (group : List AnySubmitted) → k.broken ≡ true → group_refusal k group ≡ Some (Keeper error.Broken)
+group_broken k group is = ap (λ (b : Bool). group_refusal (record k { broken = b }) group) is
+
 write_broken : {D : Type 0} (k : Keeping D) → k.broken ≡ true → write_refusal k ≡ Some error.Broken
 write_broken k is = ap (λ (b : Bool). write_refusal (record k { broken = b })) is
 
+close_broken : {D : Type 0} (k : Keeping D) → k.broken ≡ true → close_refusal k ≡ Some error.Broken
+close_broken k is = ap (λ (b : Bool). close_refusal (record k { broken = b })) is
+
 -- the refusal of one that is broken
-is_broken : (o : Option KeeperError) (e : KeeperError) (P : Type 0) → o ≡ Some error.Broken → (o ≡ Some e) ⊎ ((o ≡ None) × P) → e ≡ error.Broken
-is_broken o e P broken said =
+is_broken : {E : Type 0} (o : Option E) (b e : E) (P : Type 0) → o ≡ Some b → (o ≡ Some e) ⊎ ((o ≡ None) × P) → e ≡ b
+is_broken o b e P broken said =
     ⊎_elim
-    (λ is. let same : Some e ≡ Some error.Broken = sym is ∙ broken in cc)
-    (λ none. absurd (let no : None ≡ Some error.Broken = sym none.0 ∙ broken in cc))
+    (λ is. let same : Some e ≡ Some b = sym is ∙ broken in cc)
+    (λ none. absurd (let no : None ≡ Some b = sym none.0 ∙ broken in cc))
     said
 
-none_is_broken : (o : Option KeeperError) → o ≡ Some error.Broken → o ≡ None → ⊥
-none_is_broken o broken none = let no : None ≡ Some error.Broken = sym none ∙ broken in absurd (cc)
+none_is_broken : {E : Type 0} (o : Option E) (b : E) → o ≡ Some b → o ≡ None → ⊥
+none_is_broken o b broken none = let no : None ≡ Some b = sym none ∙ broken in absurd (cc)
 
 -- the laws, as they are handed in
 abbrev pub Submit-on : Answers → Type 0
@@ -128,33 +148,42 @@ module _ {D : Type 0} (is_lawful : D → Type 0) (state : D → DiskState) (fail
   releases (Refused e b) old new r = ⊎_elim (λ foreign. by old old new foreign.1.same (same old)) (λ memory. by old old new memory.1.same (same old)) r.1
   releases (Submitted n) old new r = absurd r
   releases (SubmittedAs n) old new r = absurd r
+  releases (SubmittedAll n m) old new r = absurd r
+  releases (RefusedAll e xs) old new r = absurd r
   releases Settled old new r = absurd r
   releases (Collected n) old new r = absurd r
   releases (Out o) old new r = absurd r
   releases (CutTaken n) old new r = absurd r
   releases (Written n) old new r = absurd r
+  releases Closed old new r = absurd r
 
   settles : (reply : Reply) (old new : Keeping D) → Settles is_lawful state failures answers reply old new → Rests old new
   settles Settled old new r = by old old new r.same (same old)
   settles (Refused e b) old new r = by old old new r.1.2.same (same old)
   settles (Submitted n) old new r = absurd r
   settles (SubmittedAs n) old new r = absurd r
+  settles (SubmittedAll n m) old new r = absurd r
+  settles (RefusedAll e xs) old new r = absurd r
   settles (Released n) old new r = absurd r
   settles (Collected n) old new r = absurd r
   settles (Out o) old new r = absurd r
   settles (CutTaken n) old new r = absurd r
   settles (Written n) old new r = absurd r
+  settles Closed old new r = absurd r
 
   collects : (reply : Reply) (old new : Keeping D) → Collects is_lawful state failures answers reply old new → Rests old new
   collects (Collected n) old new r = by old (with_collected old r.hall) new r.collected (record { device = refl; plan = refl; standing = refl; broken = refl })
   collects (Refused e b) old new r = ⊎_elim (λ foreign. by old old new foreign.1.same (same old)) (λ memory. by old old new memory.1.same (same old)) r.1
   collects (Submitted n) old new r = absurd r
   collects (SubmittedAs n) old new r = absurd r
+  collects (SubmittedAll n m) old new r = absurd r
+  collects (RefusedAll e xs) old new r = absurd r
   collects (Released n) old new r = absurd r
   collects Settled old new r = absurd r
   collects (Out o) old new r = absurd r
   collects (CutTaken n) old new r = absurd r
   collects (Written n) old new r = absurd r
+  collects Closed old new r = absurd r
 
   hands_out : (reply : Reply) (old new : Keeping D) → HandsOut is_lawful state failures answers reply old new → Rests old new
   hands_out (Out None) old new r = by old old new r.1 (same old)
@@ -162,11 +191,14 @@ module _ {D : Type 0} (is_lawful : D → Type 0) (state : D → DiskState) (fail
   hands_out (Refused e b) old new r = absurd r
   hands_out (Submitted n) old new r = absurd r
   hands_out (SubmittedAs n) old new r = absurd r
+  hands_out (SubmittedAll n m) old new r = absurd r
+  hands_out (RefusedAll e xs) old new r = absurd r
   hands_out (Released n) old new r = absurd r
   hands_out Settled old new r = absurd r
   hands_out (Collected n) old new r = absurd r
   hands_out (CutTaken n) old new r = absurd r
   hands_out (Written n) old new r = absurd r
+  hands_out Closed old new r = absurd r
 
   cuts : (reply : Reply) (old new : Keeping D) → Cuts is_lawful state failures answers reply old new → Rests old new
   cuts (CutTaken n) old new r = by old (with_cut (with_collected old r.hall) (cut_hall (collected_hall r.hall))) new r.cut (record { device = refl; plan = refl; standing = refl; broken = refl })
@@ -180,29 +212,34 @@ module _ {D : Type 0} (is_lawful : D → Type 0) (state : D → DiskState) (fail
       r.1
   cuts (Submitted n) old new r = absurd r
   cuts (SubmittedAs n) old new r = absurd r
+  cuts (SubmittedAll n m) old new r = absurd r
+  cuts (RefusedAll e xs) old new r = absurd r
   cuts (Released n) old new r = absurd r
   cuts Settled old new r = absurd r
   cuts (Collected n) old new r = absurd r
   cuts (Out o) old new r = absurd r
   cuts (Written n) old new r = absurd r
+  cuts Closed old new r = absurd r
 
   -- WHAT A COMMAND THAT DOES NOT WRITE leaves
   pub rests : (command : Command) (reply : Reply) (old new : Keeping D) → may_write command ≡ false → Obeys is_lawful state failures answers command reply old new → Rests old new
   rests (Submit batch) reply old new quiet obeys = absurd (cc)
   rests (SubmitAs request batch) reply old new quiet obeys = absurd (cc)
+  rests (SubmitAll group) reply old new quiet obeys = absurd (cc)
   rests Release reply old new quiet obeys = releases reply old new obeys
   rests Settle reply old new quiet obeys = settles reply old new obeys
   rests Collect reply old new quiet obeys = collects reply old new obeys
   rests NextOut reply old new quiet obeys = hands_out reply old new obeys
   rests Cut reply old new quiet obeys = cuts reply old new obeys
   rests WriteCut reply old new quiet obeys = absurd (cc)
+  rests (CloseFree most) reply old new quiet obeys = absurd (cc)
 
 -- WHAT ONE COMMAND DOES to a whole keeper of a lawful disk, with what it submitted
-record Goes {D : Type 0} (is_lawful : D → Type 0) (state : D → DiskState) (failures : D → ℕ) (answers : Answers) (old new : Keeping D) (x : List AnySubmitted) : Type 0 where
-  plan : new.plan ≡ old.plan
-  advances : Advances is_lawful state failures answers old new x
-  far : last_epoch old.standing ≤ last_epoch new.standing
-  on : new.broken ≡ false → (u : Standing) (y : List AnySubmitted) → Advance (states_by answers old.plan) (with_more new.standing y) u → Advance (states_by answers old.plan) (with_more old.standing (x ++ y)) u
+pub record Goes {D : Type 0} (is_lawful : D → Type 0) (state : D → DiskState) (failures : D → ℕ) (answers : Answers) (old new : Keeping D) (x : List AnySubmitted) : Type 0 where
+  pub plan : new.plan ≡ old.plan
+  pub advances : Advances is_lawful state failures answers old new x
+  pub far : last_epoch old.standing ≤ last_epoch new.standing
+  pub on : new.broken ≡ false → (u : Standing) (y : List AnySubmitted) → Advance (states_by answers old.plan) (with_more new.standing y) u → Advance (states_by answers old.plan) (with_more old.standing (x ++ y)) u
 
 module _ {D : Type 0} (is_lawful : D → Type 0) (state : D → DiskState) (failures : D → ℕ) (answers : Answers) (submit_on : Submit-on answers) (cut_on : Cut-on answers) (last : Last) where
   -- where it writes nothing
@@ -237,11 +274,10 @@ module _ {D : Type 0} (is_lawful : D → Type 0) (state : D → DiskState) (fail
       ⊎_elim (λ is. (ap (λ k. k.plan) is, ap (λ k. k.standing) is))
       (λ other. ⊎_elim (λ is. (ap (λ k. k.plan) is.1, ap (λ k. k.standing) is.1)) (λ is. (ap (λ k. k.plan) is.1, ap (λ k. k.standing) is.1)) other) left
 
-  -- where the batch is the next epoch
-  goes_submitted : (request : ℕ) (batch : List Entry) (old new : Keeping D) → new ≡ with_batch old new.device request batch
-      → Advances is_lawful state failures answers old new (submission request batch ∷ []) → Goes is_lawful state failures answers old new (submission request batch ∷ [])
-  goes_submitted request batch old new is advances =
-      let x : List AnySubmitted = submission request batch ∷ [] in
+  -- where some epochs come next
+  goes_epochs : (x : List AnySubmitted) (old new : Keeping D) → new ≡ with_epochs old new.device x
+      → Advances is_lawful state failures answers old new x → Goes is_lawful state failures answers old new x
+  goes_epochs x old new is advances =
       let standing : new.standing ≡ with_more old.standing x = ap (λ k. k.standing) is in
       let count = length-append old.standing.submitted x in record {
         plan = ap (λ k. k.plan) is;
@@ -251,6 +287,15 @@ module _ {D : Type 0} (is_lawful : D → Type 0) (state : D → DiskState) (fail
             submit_on (tree_of old.plan) old.standing u x y
             (subst (λ (s : Standing). Advance (states_by answers old.plan) (with_more s y) u) standing step);
       }
+
+  goes_submitted : (request : ℕ) (batch : List Entry) (old new : Keeping D) → new ≡ with_batch old new.device request batch
+      → Advances is_lawful state failures answers old new (submission request batch ∷ []) → Goes is_lawful state failures answers old new (submission request batch ∷ [])
+  goes_submitted request batch old new is advances = goes_epochs (submission request batch ∷ []) old new is advances
+
+  goes_group : (group : List AnySubmitted) (old new : Keeping D) → new ≡ with_group old new.device group
+      → Advances is_lawful state failures answers old new group → Goes is_lawful state failures answers old new group
+  goes_group [] old new is advances = goes_same old new [] (ap (λ k. k.plan) is) (ap (λ k. k.standing) is) (λ whole. refl) advances
+  goes_group (x ∷ xs) old new is advances = goes_epochs (x ∷ xs) old new is advances
 
   -- where it is not
   goes_refused : (refusal : Option KeeperError) (x : List AnySubmitted) (batch : List Entry) (e : KeeperError) (back : Option (List Entry)) (old new : Keeping D)
@@ -269,12 +314,15 @@ module _ {D : Type 0} (is_lawful : D → Type 0) (state : D → DiskState) (fail
   submits batch (Submitted n) old new r advances = goes_submitted 0 batch old new r.submitted advances
   submits batch (Refused e back) old new r advances = goes_refused (submit_refusal old batch) (submission 0 batch ∷ []) batch e back old new r advances
   submits batch (SubmittedAs n) old new r advances = absurd r
+  submits batch (SubmittedAll n m) old new r advances = absurd r
+  submits batch (RefusedAll e xs) old new r advances = absurd r
   submits batch (Released n) old new r advances = absurd r
   submits batch Settled old new r advances = absurd r
   submits batch (Collected n) old new r advances = absurd r
   submits batch (Out o) old new r advances = absurd r
   submits batch (CutTaken n) old new r advances = absurd r
   submits batch (Written n) old new r advances = absurd r
+  submits batch Closed old new r advances = absurd r
 
   answers_as : (request : ℕ) (batch : List Entry) (receipt : Receipt) (old new : Keeping D) → IsReceived request batch receipt old new
       → Advances is_lawful state failures answers old new (received_in request batch receipt) → Goes is_lawful state failures answers old new (received_in request batch receipt)
@@ -286,12 +334,41 @@ module _ {D : Type 0} (is_lawful : D → Type 0) (state : D → DiskState) (fail
   submits_as request batch (SubmittedAs receipt) old new r advances = answers_as request batch receipt old new r.received advances
   submits_as request batch (Refused e back) old new r advances = goes_refused (submit_as_refusal old request batch) (submission request batch ∷ []) batch e back old new r.refused advances
   submits_as request batch (Submitted n) old new r advances = absurd r
+  submits_as request batch (SubmittedAll n m) old new r advances = absurd r
+  submits_as request batch (RefusedAll e xs) old new r advances = absurd r
   submits_as request batch (Released n) old new r advances = absurd r
   submits_as request batch Settled old new r advances = absurd r
   submits_as request batch (Collected n) old new r advances = absurd r
   submits_as request batch (Out o) old new r advances = absurd r
   submits_as request batch (CutTaken n) old new r advances = absurd r
   submits_as request batch (Written n) old new r advances = absurd r
+  submits_as request batch Closed old new r advances = absurd r
+
+  goes_none : (group : List AnySubmitted) (e : GroupError) (back : List AnySubmitted) (old new : Keeping D)
+      → IsNoneSubmitted is_lawful state failures answers group e back old new
+      → Advances is_lawful state failures answers old new (if is_of_device e then group else []) → Goes is_lawful state failures answers old new (if is_of_device e then group else [])
+  goes_none group e back old new r advances =
+      let stays = kept_plan old new (e ≡ Keeper error.Memory) (e ≡ Keeper error.Device) r.unchanged in
+      goes_same old new (if is_of_device e then group else []) stays.0 stays.1 (λ whole. none (is_of_device e) refl whole) advances
+    where
+      none : (b : Bool) → is_of_device e ≡ b → new.broken ≡ false → (if b then group else []) ≡ []
+      none true is whole = absurd (let no : true ≡ false = sym (r.device (is_of_device_is e is)).broken ∙ whole in cc)
+      none false is whole = refl
+
+  submits_all : (group : List AnySubmitted) (reply : Reply) (old new : Keeping D) → SubmitsAll is_lawful state failures answers group reply old new
+      → Advances is_lawful state failures answers old new (submitted_in (SubmitAll group) reply) → Goes is_lawful state failures answers old new (submitted_in (SubmitAll group) reply)
+  submits_all group (SubmittedAll n m) old new r advances = goes_group group old new r.submitted advances
+  submits_all group (RefusedAll e back) old new r advances = goes_none group e back old new r advances
+  submits_all group (Submitted n) old new r advances = absurd r
+  submits_all group (SubmittedAs n) old new r advances = absurd r
+  submits_all group (Released n) old new r advances = absurd r
+  submits_all group Settled old new r advances = absurd r
+  submits_all group (Collected n) old new r advances = absurd r
+  submits_all group (Out o) old new r advances = absurd r
+  submits_all group (CutTaken n) old new r advances = absurd r
+  submits_all group (Written n) old new r advances = absurd r
+  submits_all group Closed old new r advances = absurd r
+  submits_all group (Refused e b) old new r advances = absurd r
 
   writes : (reply : Reply) (old new : Keeping D) → IsKeeping old answers → Writes is_lawful state failures answers reply old new
       → Advances is_lawful state failures answers old new [] → Goes is_lawful state failures answers old new []
@@ -320,22 +397,44 @@ module _ {D : Type 0} (is_lawful : D → Type 0) (state : D → DiskState) (fail
       (λ is. goes_same old new [] (ap (λ k. k.plan) is) (ap (λ k. k.standing) is) (λ whole. refl) advances) other) r.unchanged
   writes (Submitted n) old new kept r advances = absurd r
   writes (SubmittedAs n) old new kept r advances = absurd r
+  writes (SubmittedAll n m) old new kept r advances = absurd r
+  writes (RefusedAll e xs) old new kept r advances = absurd r
   writes (Released n) old new kept r advances = absurd r
   writes Settled old new kept r advances = absurd r
   writes (Collected n) old new kept r advances = absurd r
   writes (Out o) old new kept r advances = absurd r
   writes (CutTaken n) old new kept r advances = absurd r
+  writes Closed old new kept r advances = absurd r
 
-  one : (command : Command) (reply : Reply) (old new : Keeping D) → IsKeeping old answers → Obeys is_lawful state failures answers command reply old new
+  closes : (most : ℕ) (reply : Reply) (old new : Keeping D) → ClosesFree is_lawful state failures answers most reply old new
+      → Advances is_lawful state failures answers old new [] → Goes is_lawful state failures answers old new []
+  closes most Closed old new r advances = goes_same old new [] (ap (λ k. k.plan) r.same) (ap (λ k. k.standing) r.same) (λ whole. refl) advances
+  closes most (Refused e back) old new r advances =
+      ⊎_elim (λ is. goes_same old new [] (ap (λ k. k.plan) is) (ap (λ k. k.standing) is) (λ whole. refl) advances)
+      (λ failed. goes_same old new [] (ap (λ k. k.plan) failed.1) (ap (λ k. k.standing) failed.1) (λ whole. refl) advances) r.unchanged
+  closes most (Submitted n) old new r advances = absurd r
+  closes most (SubmittedAs n) old new r advances = absurd r
+  closes most (SubmittedAll n m) old new r advances = absurd r
+  closes most (RefusedAll e xs) old new r advances = absurd r
+  closes most (Released n) old new r advances = absurd r
+  closes most Settled old new r advances = absurd r
+  closes most (Collected n) old new r advances = absurd r
+  closes most (Out o) old new r advances = absurd r
+  closes most (CutTaken n) old new r advances = absurd r
+  closes most (Written w) old new r advances = absurd r
+
+  pub one : (command : Command) (reply : Reply) (old new : Keeping D) → IsKeeping old answers → Obeys is_lawful state failures answers command reply old new
       → is_lawful old.device → Goes is_lawful state failures answers old new (submitted_in command reply)
   one (Submit batch) reply old new kept obeys lawful = submits batch reply old new obeys.0 (obeys.1.advances lawful)
   one (SubmitAs request batch) reply old new kept obeys lawful = submits_as request batch reply old new obeys.0 (obeys.1.advances lawful)
+  one (SubmitAll group) reply old new kept obeys lawful = submits_all group reply old new obeys.0 (obeys.1.advances lawful)
   one Release reply old new kept obeys lawful = goes_rests old new (rests is_lawful state failures answers Release reply old new refl obeys) lawful
   one Settle reply old new kept obeys lawful = goes_rests old new (rests is_lawful state failures answers Settle reply old new refl obeys) lawful
   one Collect reply old new kept obeys lawful = goes_rests old new (rests is_lawful state failures answers Collect reply old new refl obeys) lawful
   one NextOut reply old new kept obeys lawful = goes_rests old new (rests is_lawful state failures answers NextOut reply old new refl obeys) lawful
   one Cut reply old new kept obeys lawful = goes_rests old new (rests is_lawful state failures answers Cut reply old new refl obeys) lawful
   one WriteCut reply old new kept obeys lawful = writes reply old new kept obeys.0 (obeys.1.advances lawful)
+  one (CloseFree most) reply old new kept obeys lawful = closes most reply old new obeys.0 (obeys.1.advances lawful)
 
 module _ {D : Type 0} (is_lawful : D → Type 0) (state : D → DiskState) (failures : D → ℕ) (answers : Answers) where
   -- a broken keeper writes nothing, and stays broken
@@ -350,7 +449,7 @@ module _ {D : Type 0} (is_lawful : D → Type 0) (state : D → DiskState) (fail
       → refusal ≡ Some error.Broken → IsNotSubmitted is_lawful state failures answers refusal batch e back old new → old.broken ≡ true
       → StaysBroken old new × ((if is_device e then x else []) ≡ [])
   broken_refused refusal x batch e back old new broken r is =
-      let named : e ≡ error.Broken = is_broken refusal e ((e ≡ error.Memory) ⊎ (e ≡ error.Device)) broken r.cause in
+      let named : e ≡ error.Broken = is_broken refusal error.Broken e ((e ≡ error.Memory) ⊎ (e ≡ error.Device)) broken r.cause in
       let none : (if is_device e then x else []) ≡ [] = ap (λ (f : KeeperError). if is_device f then x else []) named in (
         ⊎_elim (λ old_is. rests_broken old new (by old old new old_is (same old)) is)
             (λ other. ⊎_elim (λ memory. absurd (let no : error.Broken ≡ error.Memory = sym named ∙ memory.0 in cc)) (λ device. absurd (let no : error.Broken ≡ error.Device = sym named ∙ device.0 in cc)) other) r.unchanged,
@@ -359,53 +458,101 @@ module _ {D : Type 0} (is_lawful : D → Type 0) (state : D → DiskState) (fail
 
   broken_submits : (batch : List Entry) (reply : Reply) (old new : Keeping D) → Submits is_lawful state failures answers batch reply old new → old.broken ≡ true
       → StaysBroken old new × (submitted_in (Submit batch) reply ≡ [])
-  broken_submits batch (Submitted n) old new r is = absurd (none_is_broken (submit_refusal old batch) (submit_broken old batch is) r.accepted)
+  broken_submits batch (Submitted n) old new r is = absurd (none_is_broken (submit_refusal old batch) error.Broken (submit_broken old batch is) r.accepted)
   broken_submits batch (Refused e back) old new r is = broken_refused (submit_refusal old batch) (submission 0 batch ∷ []) batch e back old new (submit_broken old batch is) r is
   broken_submits batch (SubmittedAs n) old new r is = absurd r
+  broken_submits batch (SubmittedAll n m) old new r is = absurd r
+  broken_submits batch (RefusedAll e xs) old new r is = absurd r
   broken_submits batch (Released n) old new r is = absurd r
   broken_submits batch Settled old new r is = absurd r
   broken_submits batch (Collected n) old new r is = absurd r
   broken_submits batch (Out o) old new r is = absurd r
   broken_submits batch (CutTaken n) old new r is = absurd r
   broken_submits batch (Written n) old new r is = absurd r
+  broken_submits batch Closed old new r is = absurd r
 
   broken_submits_as : (request : ℕ) (batch : List Entry) (reply : Reply) (old new : Keeping D) → SubmitsAs is_lawful state failures answers request batch reply old new → old.broken ≡ true
       → StaysBroken old new × (submitted_in (SubmitAs request batch) reply ≡ [])
-  broken_submits_as request batch (SubmittedAs n) old new r is = absurd (none_is_broken (submit_as_refusal old request batch) (submit_as_broken old request batch is) r.accepted)
+  broken_submits_as request batch (SubmittedAs n) old new r is = absurd (none_is_broken (submit_as_refusal old request batch) error.Broken (submit_as_broken old request batch is) r.accepted)
   broken_submits_as request batch (Refused e back) old new r is =
       broken_refused (submit_as_refusal old request batch) (submission request batch ∷ []) batch e back old new (submit_as_broken old request batch is) r.refused is
   broken_submits_as request batch (Submitted n) old new r is = absurd r
+  broken_submits_as request batch (SubmittedAll n m) old new r is = absurd r
+  broken_submits_as request batch (RefusedAll e xs) old new r is = absurd r
   broken_submits_as request batch (Released n) old new r is = absurd r
   broken_submits_as request batch Settled old new r is = absurd r
   broken_submits_as request batch (Collected n) old new r is = absurd r
   broken_submits_as request batch (Out o) old new r is = absurd r
   broken_submits_as request batch (CutTaken n) old new r is = absurd r
   broken_submits_as request batch (Written n) old new r is = absurd r
+  broken_submits_as request batch Closed old new r is = absurd r
+
+  broken_submits_all : (group : List AnySubmitted) (reply : Reply) (old new : Keeping D) → SubmitsAll is_lawful state failures answers group reply old new → old.broken ≡ true
+      → StaysBroken old new × (submitted_in (SubmitAll group) reply ≡ [])
+  broken_submits_all group (SubmittedAll n m) old new r is = absurd (none_is_broken (group_refusal old group) (Keeper error.Broken) (group_broken old group is) r.accepted)
+  broken_submits_all group (RefusedAll e back) old new r is =
+      let named : e ≡ Keeper error.Broken = is_broken (group_refusal old group) (Keeper error.Broken) e ((e ≡ Keeper error.Memory) ⊎ (e ≡ Keeper error.Device)) (group_broken old group is) r.cause in
+      let none : (if is_of_device e then group else []) ≡ [] = ap (λ (f : GroupError). if is_of_device f then group else []) named in (
+        ⊎_elim (λ old_is. rests_broken old new (by old old new old_is (same old)) is)
+            (λ other. ⊎_elim (λ memory. absurd (let no : Keeper error.Broken ≡ Keeper error.Memory = sym named ∙ memory.0 in cc)) (λ device. absurd (let no : Keeper error.Broken ≡ Keeper error.Device = sym named ∙ device.0 in cc)) other) r.unchanged,
+        none,
+      )
+  broken_submits_all group (Submitted n) old new r is = absurd r
+  broken_submits_all group (SubmittedAs n) old new r is = absurd r
+  broken_submits_all group (Released n) old new r is = absurd r
+  broken_submits_all group Settled old new r is = absurd r
+  broken_submits_all group (Collected n) old new r is = absurd r
+  broken_submits_all group (Out o) old new r is = absurd r
+  broken_submits_all group (CutTaken n) old new r is = absurd r
+  broken_submits_all group (Written n) old new r is = absurd r
+  broken_submits_all group Closed old new r is = absurd r
+  broken_submits_all group (Refused e b) old new r is = absurd r
 
   broken_writes : (reply : Reply) (old new : Keeping D) → Writes is_lawful state failures answers reply old new → old.broken ≡ true → StaysBroken old new
-  broken_writes (Written w) old new r is = absurd (none_is_broken (write_refusal old) (write_broken old is) r.accepted)
+  broken_writes (Written w) old new r is = absurd (none_is_broken (write_refusal old) error.Broken (write_broken old is) r.accepted)
   broken_writes (Refused e back) old new r is =
-      let named : e ≡ error.Broken = is_broken (write_refusal old) e ((e ≡ error.Memory) ⊎ (e ≡ error.Device)) (write_broken old is) r.cause in
+      let named : e ≡ error.Broken = is_broken (write_refusal old) error.Broken e ((e ≡ error.Memory) ⊎ (e ≡ error.Device)) (write_broken old is) r.cause in
       ⊎_elim (λ many. absurd (let no : error.Broken ≡ error.TooManyKeys = sym named ∙ many.0 in cc))
       (λ other. ⊎_elim (λ failed. absurd (let no : error.Broken ≡ error.Device = sym named ∙ failed.0 in cc)) (λ old_is. rests_broken old new (by old old new old_is (same old)) is) other) r.unchanged
   broken_writes (Submitted n) old new r is = absurd r
   broken_writes (SubmittedAs n) old new r is = absurd r
+  broken_writes (SubmittedAll n m) old new r is = absurd r
+  broken_writes (RefusedAll e xs) old new r is = absurd r
   broken_writes (Released n) old new r is = absurd r
   broken_writes Settled old new r is = absurd r
   broken_writes (Collected n) old new r is = absurd r
   broken_writes (Out o) old new r is = absurd r
   broken_writes (CutTaken n) old new r is = absurd r
+  broken_writes Closed old new r is = absurd r
+
+  broken_closes : (most : ℕ) (reply : Reply) (old new : Keeping D) → ClosesFree is_lawful state failures answers most reply old new → old.broken ≡ true → StaysBroken old new
+  broken_closes most Closed old new r is = absurd (none_is_broken (close_refusal old) error.Broken (close_broken old is) r.accepted)
+  broken_closes most (Refused e back) old new r is =
+      let named : e ≡ error.Broken = is_broken (close_refusal old) error.Broken e (e ≡ error.Device) (close_broken old is) r.cause in
+      ⊎_elim (λ old_is. rests_broken old new (by old old new old_is (same old)) is) (λ failed. absurd (let no : error.Broken ≡ error.Device = sym named ∙ failed.0 in cc)) r.unchanged
+  broken_closes most (Submitted n) old new r is = absurd r
+  broken_closes most (SubmittedAs n) old new r is = absurd r
+  broken_closes most (SubmittedAll n m) old new r is = absurd r
+  broken_closes most (RefusedAll e xs) old new r is = absurd r
+  broken_closes most (Released n) old new r is = absurd r
+  broken_closes most Settled old new r is = absurd r
+  broken_closes most (Collected n) old new r is = absurd r
+  broken_closes most (Out o) old new r is = absurd r
+  broken_closes most (CutTaken n) old new r is = absurd r
+  broken_closes most (Written w) old new r is = absurd r
 
   broken_one : (command : Command) (reply : Reply) (old new : Keeping D) → Obeys is_lawful state failures answers command reply old new → old.broken ≡ true
       → StaysBroken old new × (submitted_in command reply ≡ [])
   broken_one (Submit batch) reply old new obeys is = broken_submits batch reply old new obeys.0 is
   broken_one (SubmitAs request batch) reply old new obeys is = broken_submits_as request batch reply old new obeys.0 is
+  broken_one (SubmitAll group) reply old new obeys is = broken_submits_all group reply old new obeys.0 is
   broken_one Release reply old new obeys is = (rests_broken old new (rests is_lawful state failures answers Release reply old new refl obeys) is, refl)
   broken_one Settle reply old new obeys is = (rests_broken old new (rests is_lawful state failures answers Settle reply old new refl obeys) is, refl)
   broken_one Collect reply old new obeys is = (rests_broken old new (rests is_lawful state failures answers Collect reply old new refl obeys) is, refl)
   broken_one NextOut reply old new obeys is = (rests_broken old new (rests is_lawful state failures answers NextOut reply old new refl obeys) is, refl)
   broken_one Cut reply old new obeys is = (rests_broken old new (rests is_lawful state failures answers Cut reply old new refl obeys) is, refl)
   broken_one WriteCut reply old new obeys is = (broken_writes reply old new obeys.0 is, refl)
+  broken_one (CloseFree most) reply old new obeys is = (broken_closes most reply old new obeys.0 is, refl)
 
   -- A BROKEN KEEPER WRITES NOTHING, whatever it is told
   pub driven_broken : (commands : List Command) (replies : List Reply) (old new : Keeping D) → Driven is_lawful state failures answers commands replies old new → old.broken ≡ true

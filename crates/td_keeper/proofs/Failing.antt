@@ -8,17 +8,19 @@ use Rattle.td_machine.specs.State.{HallState}
 use Rattle.td_machine.specs.Active.{unpassed}
 use Rattle.td_standing.specs.declared.error.KeeperError.{KeeperError}
 use Rattle.td_standing.specs.declared.error.KeeperError.TheVariants as error
+use Rattle.td_journal.specs.declared.submitted.Submitted.{Submitted as AnySubmitted}
+use Rattle.td_keeper.specs.declared.group.GroupError.{GroupError}
 use Rattle.td_keeper.specs.declared.command.Command.{Command}
-use Rattle.td_keeper.specs.declared.command.Command.TheVariants.{Submit, SubmitAs, Release, Settle, Collect, NextOut, Cut, WriteCut}
+use Rattle.td_keeper.specs.declared.command.Command.TheVariants.{Submit, SubmitAs, SubmitAll, Release, Settle, Collect, NextOut, Cut, WriteCut, CloseFree}
 use Rattle.td_keeper.specs.declared.command.Reply.{Reply}
-use Rattle.td_keeper.specs.declared.command.Reply.TheVariants.{Submitted, SubmittedAs, Released, Settled, Collected, Out, CutTaken, Written, Refused}
-use Rattle.td_keeper.specs.Keeping.{Keeping}
+use Rattle.td_keeper.specs.declared.command.Reply.TheVariants.{Submitted, SubmittedAs, SubmittedAll, Released, Settled, Collected, Out, CutTaken, Written, Closed, Refused, RefusedAll}
+use Rattle.td_keeper.specs.Keeping.{Keeping, with_group}
 use Rattle.td_keeper.specs.Refused.{submit_refusal, submit_as_refusal, first_unpassed, or_waiting, cut_refusal}
 use Rattle.td_keeper.specs.declared.receipt.Receipt.{Receipt}
 use Rattle.td_keeper.specs.declared.receipt.Receipt.TheVariants.{New, Already}
 use Rattle.td_keeper.specs.Received.{IsReceived}
-use Rattle.td_keeper.specs.Driven.{is_device, is_failed, some_failed, Fails, IsNotSubmitted, Submits, SubmitsAs, Writes, Obeys, Driven, Rests}
-use Rattle.td_keeper.proofs.Driving.{is_device_is, rests, driven_broken}
+use Rattle.td_keeper.specs.Driven.{is_device, is_of_device, is_failed, some_failed, Fails, IsNotSubmitted, Submits, SubmitsAs, SubmitsAll, Writes, ClosesFree, Obeys, Driven, Rests}
+use Rattle.td_keeper.proofs.Driving.{is_device_is, is_of_device_is, rests, driven_broken}
 
 -- of an error that is another
 other_error : (e f : KeeperError) → e ≡ f → is_device f ≡ false → is_device e ≡ true → ⊥
@@ -46,7 +48,9 @@ module _ {D : Type 0} (is_lawful : D → Type 0) (state : D → DiskState) (fail
   counted : (c : Command) (r : Reply) (old new : Keeping D) → Obeys is_lawful state failures answers c r old new → failures old.device ≤ failures new.device
   counted (Submit batch) r old new obeys = obeys.1.counted
   counted (SubmitAs request batch) r old new obeys = obeys.1.counted
+  counted (SubmitAll group) r old new obeys = obeys.1.counted
   counted WriteCut r old new obeys = obeys.1.counted
+  counted (CloseFree most) r old new obeys = obeys.1.counted
   counted Release r old new obeys = at_rest old new (rests is_lawful state failures answers Release r old new refl obeys)
   counted Settle r old new obeys = at_rest old new (rests is_lawful state failures answers Settle r old new refl obeys)
   counted Collect r old new obeys = at_rest old new (rests is_lawful state failures answers Collect r old new refl obeys)
@@ -68,7 +72,9 @@ module _ {D : Type 0} (is_lawful : D → Type 0) (state : D → DiskState) (fail
       → Fails is_lawful state failures answers old new
   failed (Submit batch) e b old new obeys is = obeys.0.device (is_device_is e is)
   failed (SubmitAs request batch) e b old new obeys is = obeys.0.refused.device (is_device_is e is)
+  failed (SubmitAll group) e b old new obeys is = absurd obeys.0
   failed WriteCut e b old new obeys is = obeys.0.device (is_device_is e is)
+  failed (CloseFree most) e b old new obeys is = obeys.0.device (is_device_is e is)
   failed Release e b old new obeys is = absurd (⊎_elim (λ foreign. other_error e error.Foreign foreign.0 refl is) (λ memory. other_error e error.Memory memory.0 refl is) obeys.1)
   failed Settle e b old new obeys is = absurd (other_error e (error.NotPassed obeys.1.0) obeys.1.1 refl is)
   failed Collect e b old new obeys is = absurd (⊎_elim (λ foreign. other_error e error.Foreign foreign.0 refl is) (λ memory. other_error e error.Memory memory.0 refl is) obeys.1)
@@ -78,16 +84,32 @@ module _ {D : Type 0} (is_lawful : D → Type 0) (state : D → DiskState) (fail
       (λ other. ⊎_elim (λ memory. other_error e error.Memory memory.0 refl is)
       (λ some. ⊎_elim (λ refused. cut_never_device old some.hall e refused is) (λ memory. other_error e error.Memory memory refl is) some.cause) other) obeys.1)
 
+  failed_all : (c : Command) (e : GroupError) (b : List AnySubmitted) (old new : Keeping D) → Obeys is_lawful state failures answers c (RefusedAll e b) old new → is_of_device e ≡ true
+      → Fails is_lawful state failures answers old new
+  failed_all (SubmitAll group) e b old new obeys is = obeys.0.device (is_of_device_is e is)
+  failed_all (Submit batch) e b old new obeys is = absurd obeys.0
+  failed_all (SubmitAs request batch) e b old new obeys is = absurd obeys.0
+  failed_all WriteCut e b old new obeys is = absurd obeys.0
+  failed_all (CloseFree most) e b old new obeys is = absurd obeys.0
+  failed_all Release e b old new obeys is = absurd obeys
+  failed_all Settle e b old new obeys is = absurd obeys
+  failed_all Collect e b old new obeys is = absurd obeys
+  failed_all NextOut e b old new obeys is = absurd obeys
+  failed_all Cut e b old new obeys is = absurd obeys
+
   one_failed : (c : Command) (r : Reply) (old new : Keeping D) → Obeys is_lawful state failures answers c r old new → is_failed r ≡ true → Fails is_lawful state failures answers old new
   one_failed c (Refused e b) old new obeys is = failed c e b old new obeys is
   one_failed c (Submitted n) old new obeys is = absurd (cc)
   one_failed c (SubmittedAs n) old new obeys is = absurd (cc)
+  one_failed c (SubmittedAll n m) old new obeys is = absurd (cc)
+  one_failed c (RefusedAll e xs) old new obeys is = failed_all c e xs old new obeys is
   one_failed c (Released n) old new obeys is = absurd (cc)
   one_failed c Settled old new obeys is = absurd (cc)
   one_failed c (Collected n) old new obeys is = absurd (cc)
   one_failed c (Out o) old new obeys is = absurd (cc)
   one_failed c (CutTaken n) old new obeys is = absurd (cc)
   one_failed c (Written w) old new obeys is = absurd (cc)
+  one_failed c Closed old new obeys is = absurd (cc)
 
   pub driven_failed : (commands : List Command) (replies : List Reply) (old new : Keeping D) → Driven is_lawful state failures answers commands replies old new
       → some_failed replies ≡ true → Fails is_lawful state failures answers old new
@@ -129,23 +151,49 @@ module _ {D : Type 0} (is_lawful : D → Type 0) (state : D → DiskState) (fail
   whole_submit_as request batch (SubmittedAs receipt) old new r quiet = whole_received request batch receipt old new r.received
   whole_submit_as request batch (Refused e b) old new r quiet = whole_refused (submit_as_refusal old request batch) batch e b old new r.refused quiet
   whole_submit_as request batch (Submitted n) old new r quiet = absurd r
+  whole_submit_as request batch (SubmittedAll n m) old new r quiet = absurd r
+  whole_submit_as request batch (RefusedAll e xs) old new r quiet = absurd r
   whole_submit_as request batch (Released n) old new r quiet = absurd r
   whole_submit_as request batch Settled old new r quiet = absurd r
   whole_submit_as request batch (Collected n) old new r quiet = absurd r
   whole_submit_as request batch (Out o) old new r quiet = absurd r
   whole_submit_as request batch (CutTaken n) old new r quiet = absurd r
   whole_submit_as request batch (Written w) old new r quiet = absurd r
+  whole_submit_as request batch Closed old new r quiet = absurd r
 
   whole_submit : (batch : List Entry) (r : Reply) (old new : Keeping D) → Submits is_lawful state failures answers batch r old new → is_failed r ≡ false → new.broken ≡ old.broken
   whole_submit batch (Submitted n) old new r quiet = ap (λ k. k.broken) r.submitted
   whole_submit batch (Refused e b) old new r quiet = whole_refused (submit_refusal old batch) batch e b old new r quiet
   whole_submit batch (SubmittedAs n) old new r quiet = absurd r
+  whole_submit batch (SubmittedAll n m) old new r quiet = absurd r
+  whole_submit batch (RefusedAll e xs) old new r quiet = absurd r
   whole_submit batch (Released n) old new r quiet = absurd r
   whole_submit batch Settled old new r quiet = absurd r
   whole_submit batch (Collected n) old new r quiet = absurd r
   whole_submit batch (Out o) old new r quiet = absurd r
   whole_submit batch (CutTaken n) old new r quiet = absurd r
   whole_submit batch (Written w) old new r quiet = absurd r
+  whole_submit batch Closed old new r quiet = absurd r
+
+  whole_group : (group : List AnySubmitted) (old new : Keeping D) → new ≡ with_group old new.device group → new.broken ≡ old.broken
+  whole_group [] old new is = ap (λ k. k.broken) is
+  whole_group (x ∷ xs) old new is = ap (λ k. k.broken) is
+
+  whole_submit_all : (group : List AnySubmitted) (r : Reply) (old new : Keeping D) → SubmitsAll is_lawful state failures answers group r old new → is_failed r ≡ false → new.broken ≡ old.broken
+  whole_submit_all group (SubmittedAll n m) old new r quiet = whole_group group old new r.submitted
+  whole_submit_all group (RefusedAll e back) old new r quiet =
+      ⊎_elim (λ is. ap (λ k. k.broken) is)
+      (λ other. ⊎_elim (λ is. ap (λ k. k.broken) is.1) (λ is. absurd (let both : true ≡ false = sym (ap is_of_device is.0) ∙ quiet in cc)) other) r.unchanged
+  whole_submit_all group (Submitted n) old new r quiet = absurd r
+  whole_submit_all group (SubmittedAs n) old new r quiet = absurd r
+  whole_submit_all group (Released n) old new r quiet = absurd r
+  whole_submit_all group Settled old new r quiet = absurd r
+  whole_submit_all group (Collected n) old new r quiet = absurd r
+  whole_submit_all group (Out o) old new r quiet = absurd r
+  whole_submit_all group (CutTaken n) old new r quiet = absurd r
+  whole_submit_all group (Written w) old new r quiet = absurd r
+  whole_submit_all group Closed old new r quiet = absurd r
+  whole_submit_all group (Refused e b) old new r quiet = absurd r
 
   whole_write : (r : Reply) (old new : Keeping D) → Writes is_lawful state failures answers r old new → is_failed r ≡ false → new.broken ≡ old.broken
   whole_write (Written w) old new r quiet = ⊎_elim (λ none. ap (λ k. k.broken) none.2) (λ some. ap (λ k. k.broken) some.1) r.cut
@@ -154,11 +202,29 @@ module _ {D : Type 0} (is_lawful : D → Type 0) (state : D → DiskState) (fail
       (λ other. ⊎_elim (λ is. absurd (let both : true ≡ false = sym (ap is_device is.0) ∙ quiet in cc)) (λ is. ap (λ k. k.broken) is) other) r.unchanged
   whole_write (Submitted n) old new r quiet = absurd r
   whole_write (SubmittedAs n) old new r quiet = absurd r
+  whole_write (SubmittedAll n m) old new r quiet = absurd r
+  whole_write (RefusedAll e xs) old new r quiet = absurd r
   whole_write (Released n) old new r quiet = absurd r
   whole_write Settled old new r quiet = absurd r
   whole_write (Collected n) old new r quiet = absurd r
   whole_write (Out o) old new r quiet = absurd r
   whole_write (CutTaken n) old new r quiet = absurd r
+  whole_write Closed old new r quiet = absurd r
+
+  whole_close : (most : ℕ) (r : Reply) (old new : Keeping D) → ClosesFree is_lawful state failures answers most r old new → is_failed r ≡ false → new.broken ≡ old.broken
+  whole_close most Closed old new r quiet = ap (λ k. k.broken) r.same
+  whole_close most (Refused e b) old new r quiet =
+      ⊎_elim (λ is. ap (λ k. k.broken) is) (λ is. absurd (let both : true ≡ false = sym (ap is_device is.0) ∙ quiet in cc)) r.unchanged
+  whole_close most (Submitted n) old new r quiet = absurd r
+  whole_close most (SubmittedAs n) old new r quiet = absurd r
+  whole_close most (SubmittedAll n m) old new r quiet = absurd r
+  whole_close most (RefusedAll e xs) old new r quiet = absurd r
+  whole_close most (Released n) old new r quiet = absurd r
+  whole_close most Settled old new r quiet = absurd r
+  whole_close most (Collected n) old new r quiet = absurd r
+  whole_close most (Out o) old new r quiet = absurd r
+  whole_close most (CutTaken n) old new r quiet = absurd r
+  whole_close most (Written w) old new r quiet = absurd r
 
   -- of one that is as it was
   as_whole : (old new : Keeping D) → Rests old new → (new.broken ≡ old.broken) × (failures new.device ≡ failures old.device)
@@ -168,7 +234,9 @@ module _ {D : Type 0} (is_lawful : D → Type 0) (state : D → DiskState) (fail
       → (new.broken ≡ old.broken) × (failures new.device ≡ failures old.device)
   one_whole (Submit batch) r old new obeys quiet = (whole_submit batch r old new obeys.0 quiet, obeys.1.stays quiet)
   one_whole (SubmitAs request batch) r old new obeys quiet = (whole_submit_as request batch r old new obeys.0 quiet, obeys.1.stays quiet)
+  one_whole (SubmitAll group) r old new obeys quiet = (whole_submit_all group r old new obeys.0 quiet, obeys.1.stays quiet)
   one_whole WriteCut r old new obeys quiet = (whole_write r old new obeys.0 quiet, obeys.1.stays quiet)
+  one_whole (CloseFree most) r old new obeys quiet = (whole_close most r old new obeys.0 quiet, obeys.1.stays quiet)
   one_whole Release r old new obeys quiet = as_whole old new (rests is_lawful state failures answers Release r old new refl obeys)
   one_whole Settle r old new obeys quiet = as_whole old new (rests is_lawful state failures answers Settle r old new refl obeys)
   one_whole Collect r old new obeys quiet = as_whole old new (rests is_lawful state failures answers Collect r old new refl obeys)

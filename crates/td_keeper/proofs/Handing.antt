@@ -1,5 +1,5 @@
 -- What commands hand out, and what is left in the queue, is what the batch meaning has.
-use Rattle.std.proofs.Common.{◌≡◌, ⊎_elim, ℕ, zero, suc, ◌+◌, ◌-◌, ◌≤◌, Bool, true, false, List, [], ◌∷◌, ◌++◌, length, take, drop, refl, sym, ap, ◌∙◌, subst, arith}
+use Rattle.std.proofs.Common.{◌≡◌, ◌⊎◌, ⊎_elim, ℕ, zero, suc, ◌+◌, ◌-◌, ◌≤◌, Bool, true, false, List, [], ◌∷◌, ◌++◌, length, take, drop, refl, sym, ap, ◌∙◌, subst, arith}
 use Rattle.std.specs.Prelude.{Option, Some, None, if◌then◌else◌}
 use Rattle.std.proofs.lemmas.List.{append-nil, append_assoc, length-append, length-map, length-drop, map-append, take-append-le, drop-append-le, drop-drop, length-take-le, take-append-drop, take-map}
 use Rattle.td_stamp.specs.declared.values.Entry.{Entry}
@@ -16,21 +16,24 @@ use Rattle.td_machine.specs.Sound.{outs_by}
 use Rattle.td_disk.specs.Disk.{DiskState}
 use Rattle.td_journal.specs.declared.submitted.Submitted.{Submitted as AnySubmitted}
 use Rattle.td_standing.specs.Standing.{Standing, last_epoch, submission, batches_of, with_more, cut_at}
+use Rattle.td_keeper.specs.declared.group.GroupError.{GroupError}
+use Rattle.td_keeper.specs.declared.group.GroupError.TheVariants.{Keeper}
 use Rattle.td_keeper.specs.declared.command.Command.{Command}
-use Rattle.td_keeper.specs.declared.command.Command.TheVariants.{Submit, SubmitAs, Release, Settle, Collect, NextOut, Cut, WriteCut}
+use Rattle.td_keeper.specs.declared.command.Command.TheVariants.{Submit, SubmitAs, SubmitAll, Release, Settle, Collect, NextOut, Cut, WriteCut, CloseFree}
 use Rattle.td_keeper.specs.declared.command.Reply.{Reply}
-use Rattle.td_keeper.specs.declared.command.Reply.TheVariants.{Submitted, SubmittedAs, Released, Settled, Collected, Out, CutTaken, Written, Refused}
-use Rattle.td_keeper.specs.Keeping.{Keeping, IsKeeping, with_batch}
+use Rattle.td_keeper.specs.declared.command.Reply.TheVariants.{Submitted, SubmittedAs, SubmittedAll, Released, Settled, Collected, Out, CutTaken, Written, Closed, Refused, RefusedAll}
+use Rattle.td_keeper.specs.Keeping.{Keeping, IsKeeping, with_batch, with_group}
 use Rattle.td_keeper.specs.Halls.{IsOwn, meant_outs, with_collected}
 use Rattle.td_standing.specs.declared.error.KeeperError.{KeeperError}
+use Rattle.td_standing.specs.declared.error.KeeperError.TheVariants as error
 use Rattle.td_keeper.specs.declared.receipt.Receipt.{Receipt}
 use Rattle.td_keeper.specs.declared.receipt.Receipt.TheVariants.{New, Already}
 use Rattle.td_keeper.specs.Received.{IsReceived, received_in}
 use Rattle.td_keeper.specs.Refused.{submit_refusal, submit_as_refusal}
-use Rattle.td_keeper.specs.Driven.{is_device, submitted_in, submitted_by, handed_in, handed_out, outs_beyond, HandsOn, IsNotSubmitted, Obeys, Driven}
+use Rattle.td_keeper.specs.Driven.{is_device, is_of_device, submitted_in, submitted_by, handed_in, handed_out, outs_beyond, HandsOn, IsNotSubmitted, IsNoneSubmitted, Obeys, Driven}
 use Rattle.td_keeper.proofs.Collecting.{OutsJoin}
 use Rattle.td_keeper.proofs.Runs.{out_at, length_outs, take_on}
-use Rattle.td_keeper.proofs.Driving.{is_device_is, driven_broken}
+use Rattle.td_keeper.proofs.Driving.{is_device_is, is_of_device_is, driven_broken}
 
 -- outputs, and then others
 numbered-append : (n : ℕ) (xs ys : List (List Output)) → numbered n (xs ++ ys) ≡ numbered n xs ++ numbered (n + length xs) ys
@@ -258,6 +261,14 @@ module _ {D : Type 0} (is_lawful : D → Type 0) (state : D → DiskState) (fail
   hands_submitted request batch old mid new y hs is rest =
       one_more answers outs_join old mid new (submission request batch ∷ []) y hs (ap (λ k. k.plan) is) (ap (λ k. k.standing) is) (ap (λ k. k.collected) is) (ap (λ k. k.queue) is) rest
 
+  -- what a refusal leaves as it was
+  left_alike : (old mid : Keeping D) (E F : Type 0) → (mid ≡ old) ⊎ (E × (mid ≡ record old { device = mid.device })) ⊎ (F × (mid ≡ record old { device = mid.device; broken = true }))
+      → (mid.plan ≡ old.plan) × (mid.standing ≡ old.standing) × (mid.collected ≡ old.collected) × (mid.queue ≡ old.queue)
+  left_alike old mid E F left =
+      ⊎_elim (λ is. (ap (λ k. k.plan) is, ap (λ k. k.standing) is, ap (λ k. k.collected) is, ap (λ k. k.queue) is))
+      (λ other. ⊎_elim (λ is. (ap (λ k. k.plan) is.1, ap (λ k. k.standing) is.1, ap (λ k. k.collected) is.1, ap (λ k. k.queue) is.1))
+      (λ is. (ap (λ k. k.plan) is.1, ap (λ k. k.standing) is.1, ap (λ k. k.collected) is.1, ap (λ k. k.queue) is.1)) other) left
+
   -- or it is not
   hands_refused : (refusal : Option KeeperError) (x : List AnySubmitted) (batch : List Entry) (e : KeeperError) (b : Option (List Entry)) (old mid new : Keeping D) (y : List AnySubmitted) (hs : List EpochOut)
       → IsKeeping old answers → IsNotSubmitted is_lawful state failures answers refusal batch e b old mid → (mid.broken ≡ true → y ≡ []) → HandsOn answers mid new y hs
@@ -265,10 +276,7 @@ module _ {D : Type 0} (is_lawful : D → Type 0) (state : D → DiskState) (fail
   hands_refused refusal x batch e b old mid new y hs kept r none rest = by (is_device e) refl
     where
       alike : (mid.plan ≡ old.plan) × (mid.standing ≡ old.standing) × (mid.collected ≡ old.collected) × (mid.queue ≡ old.queue)
-      alike =
-          ⊎_elim (λ is. (ap (λ k. k.plan) is, ap (λ k. k.standing) is, ap (λ k. k.collected) is, ap (λ k. k.queue) is))
-          (λ other. ⊎_elim (λ is. (ap (λ k. k.plan) is.1, ap (λ k. k.standing) is.1, ap (λ k. k.collected) is.1, ap (λ k. k.queue) is.1))
-          (λ is. (ap (λ k. k.plan) is.1, ap (λ k. k.standing) is.1, ap (λ k. k.collected) is.1, ap (λ k. k.queue) is.1)) other) r.unchanged
+      alike = left_alike old mid (e ≡ error.Memory) (e ≡ error.Device) r.unchanged
 
       on : HandsOn answers old new y hs
       on = same_all answers outs_join old mid new y hs alike.0 alike.1 alike.2 alike.3 rest
@@ -279,6 +287,31 @@ module _ {D : Type 0} (is_lawful : D → Type 0) (state : D → DiskState) (fail
           let no : y ≡ [] = none (r.device (is_device_is e is)).broken in
           subst (λ (l : List AnySubmitted). HandsOn answers old new (x ++ l) hs) (sym no)
           (perhaps answers outs_join old new x hs kept (subst (λ (l : List AnySubmitted). HandsOn answers old new l hs) no on))
+
+  -- a group is the next epochs, or it is not
+  hands_group : (group : List AnySubmitted) (old mid new : Keeping D) (y : List AnySubmitted) (hs : List EpochOut) → mid ≡ with_group old mid.device group
+      → HandsOn answers mid new y hs → HandsOn answers old new (group ++ y) hs
+  hands_group [] old mid new y hs is rest = as_it_was answers outs_join old mid new y hs is rest
+  hands_group (x ∷ xs) old mid new y hs is rest =
+      one_more answers outs_join old mid new (x ∷ xs) y hs (ap (λ k. k.plan) is) (ap (λ k. k.standing) is) (ap (λ k. k.collected) is) (ap (λ k. k.queue) is) rest
+
+  hands_none : (group : List AnySubmitted) (e : GroupError) (back : List AnySubmitted) (old mid new : Keeping D) (y : List AnySubmitted) (hs : List EpochOut)
+      → IsKeeping old answers → IsNoneSubmitted is_lawful state failures answers group e back old mid → (mid.broken ≡ true → y ≡ []) → HandsOn answers mid new y hs
+      → HandsOn answers old new ((if is_of_device e then group else []) ++ y) hs
+  hands_none group e back old mid new y hs kept r none rest = by (is_of_device e) refl
+    where
+      alike : (mid.plan ≡ old.plan) × (mid.standing ≡ old.standing) × (mid.collected ≡ old.collected) × (mid.queue ≡ old.queue)
+      alike = left_alike old mid (e ≡ Keeper error.Memory) (e ≡ Keeper error.Device) r.unchanged
+
+      on : HandsOn answers old new y hs
+      on = same_all answers outs_join old mid new y hs alike.0 alike.1 alike.2 alike.3 rest
+
+      by : (d : Bool) → is_of_device e ≡ d → HandsOn answers old new ((if d then group else []) ++ y) hs
+      by false is = on
+      by true is =
+          let no : y ≡ [] = none (r.device (is_of_device_is e is)).broken in
+          subst (λ (l : List AnySubmitted). HandsOn answers old new (group ++ l) hs) (sym no)
+          (perhaps answers outs_join old new group hs kept (subst (λ (l : List AnySubmitted). HandsOn answers old new l hs) no on))
 
   hands_received : (request : ℕ) (batch : List Entry) (receipt : Receipt) (old mid new : Keeping D) (y : List AnySubmitted) (hs : List EpochOut) → IsReceived request batch receipt old mid
       → HandsOn answers mid new y hs → HandsOn answers old new (received_in request batch receipt ++ y) hs
@@ -295,58 +328,88 @@ module _ {D : Type 0} (is_lawful : D → Type 0) (state : D → DiskState) (fail
   hands (SubmitAs request batch) (Refused e b) old mid new y hs kept kept_mid obeys none rest =
       hands_refused (submit_as_refusal old request batch) (submission request batch ∷ []) batch e b old mid new y hs kept obeys.0.refused none rest
   hands (SubmitAs request batch) (Submitted n) old mid new y hs kept kept_mid obeys none rest = absurd obeys.0
+  hands (SubmitAs request batch) (SubmittedAll n m) old mid new y hs kept kept_mid obeys none rest = absurd obeys.0
+  hands (SubmitAs request batch) (RefusedAll e xs) old mid new y hs kept kept_mid obeys none rest = absurd obeys.0
   hands (SubmitAs request batch) (Released n) old mid new y hs kept kept_mid obeys none rest = absurd obeys.0
   hands (SubmitAs request batch) Settled old mid new y hs kept kept_mid obeys none rest = absurd obeys.0
   hands (SubmitAs request batch) (Collected n) old mid new y hs kept kept_mid obeys none rest = absurd obeys.0
   hands (SubmitAs request batch) (Out o) old mid new y hs kept kept_mid obeys none rest = absurd obeys.0
   hands (SubmitAs request batch) (CutTaken n) old mid new y hs kept kept_mid obeys none rest = absurd obeys.0
   hands (SubmitAs request batch) (Written w) old mid new y hs kept kept_mid obeys none rest = absurd obeys.0
+  hands (SubmitAs request batch) Closed old mid new y hs kept kept_mid obeys none rest = absurd obeys.0
   hands (Submit batch) (SubmittedAs n) old mid new y hs kept kept_mid obeys none rest = absurd obeys.0
+  hands (Submit batch) (SubmittedAll n m) old mid new y hs kept kept_mid obeys none rest = absurd obeys.0
+  hands (Submit batch) (RefusedAll e xs) old mid new y hs kept kept_mid obeys none rest = absurd obeys.0
   hands (Submit batch) (Released n) old mid new y hs kept kept_mid obeys none rest = absurd obeys.0
   hands (Submit batch) Settled old mid new y hs kept kept_mid obeys none rest = absurd obeys.0
   hands (Submit batch) (Collected n) old mid new y hs kept kept_mid obeys none rest = absurd obeys.0
   hands (Submit batch) (Out o) old mid new y hs kept kept_mid obeys none rest = absurd obeys.0
   hands (Submit batch) (CutTaken n) old mid new y hs kept kept_mid obeys none rest = absurd obeys.0
   hands (Submit batch) (Written w) old mid new y hs kept kept_mid obeys none rest = absurd obeys.0
+  hands (Submit batch) Closed old mid new y hs kept kept_mid obeys none rest = absurd obeys.0
+  hands (SubmitAll group) (SubmittedAll n m) old mid new y hs kept kept_mid obeys none rest = hands_group group old mid new y hs obeys.0.submitted rest
+  hands (SubmitAll group) (RefusedAll e back) old mid new y hs kept kept_mid obeys none rest = hands_none group e back old mid new y hs kept obeys.0 none rest
+  hands (SubmitAll group) (Submitted n) old mid new y hs kept kept_mid obeys none rest = absurd obeys.0
+  hands (SubmitAll group) (SubmittedAs n) old mid new y hs kept kept_mid obeys none rest = absurd obeys.0
+  hands (SubmitAll group) (Released n) old mid new y hs kept kept_mid obeys none rest = absurd obeys.0
+  hands (SubmitAll group) Settled old mid new y hs kept kept_mid obeys none rest = absurd obeys.0
+  hands (SubmitAll group) (Collected n) old mid new y hs kept kept_mid obeys none rest = absurd obeys.0
+  hands (SubmitAll group) (Out o) old mid new y hs kept kept_mid obeys none rest = absurd obeys.0
+  hands (SubmitAll group) (CutTaken n) old mid new y hs kept kept_mid obeys none rest = absurd obeys.0
+  hands (SubmitAll group) (Written w) old mid new y hs kept kept_mid obeys none rest = absurd obeys.0
+  hands (SubmitAll group) Closed old mid new y hs kept kept_mid obeys none rest = absurd obeys.0
+  hands (SubmitAll group) (Refused e b) old mid new y hs kept kept_mid obeys none rest = absurd obeys.0
   hands Release (Released n) old mid new y hs kept kept_mid obeys none rest = as_it_was answers outs_join old mid new y hs obeys.same rest
   hands Release (Refused e b) old mid new y hs kept kept_mid obeys none rest =
       ⊎_elim (λ foreign. as_it_was answers outs_join old mid new y hs foreign.1.same rest) (λ memory. as_it_was answers outs_join old mid new y hs memory.1.same rest) obeys.1
   hands Release (Submitted n) old mid new y hs kept kept_mid obeys none rest = absurd obeys
   hands Release (SubmittedAs n) old mid new y hs kept kept_mid obeys none rest = absurd obeys
+  hands Release (SubmittedAll n m) old mid new y hs kept kept_mid obeys none rest = absurd obeys
+  hands Release (RefusedAll e xs) old mid new y hs kept kept_mid obeys none rest = absurd obeys
   hands Release Settled old mid new y hs kept kept_mid obeys none rest = absurd obeys
   hands Release (Collected n) old mid new y hs kept kept_mid obeys none rest = absurd obeys
   hands Release (Out o) old mid new y hs kept kept_mid obeys none rest = absurd obeys
   hands Release (CutTaken n) old mid new y hs kept kept_mid obeys none rest = absurd obeys
   hands Release (Written w) old mid new y hs kept kept_mid obeys none rest = absurd obeys
+  hands Release Closed old mid new y hs kept kept_mid obeys none rest = absurd obeys
   hands Settle Settled old mid new y hs kept kept_mid obeys none rest = as_it_was answers outs_join old mid new y hs obeys.same rest
   hands Settle (Refused e b) old mid new y hs kept kept_mid obeys none rest = as_it_was answers outs_join old mid new y hs obeys.1.2.same rest
   hands Settle (Submitted n) old mid new y hs kept kept_mid obeys none rest = absurd obeys
   hands Settle (SubmittedAs n) old mid new y hs kept kept_mid obeys none rest = absurd obeys
+  hands Settle (SubmittedAll n m) old mid new y hs kept kept_mid obeys none rest = absurd obeys
+  hands Settle (RefusedAll e xs) old mid new y hs kept kept_mid obeys none rest = absurd obeys
   hands Settle (Released n) old mid new y hs kept kept_mid obeys none rest = absurd obeys
   hands Settle (Collected n) old mid new y hs kept kept_mid obeys none rest = absurd obeys
   hands Settle (Out o) old mid new y hs kept kept_mid obeys none rest = absurd obeys
   hands Settle (CutTaken n) old mid new y hs kept kept_mid obeys none rest = absurd obeys
   hands Settle (Written w) old mid new y hs kept kept_mid obeys none rest = absurd obeys
+  hands Settle Closed old mid new y hs kept kept_mid obeys none rest = absurd obeys
   hands Collect (Collected n) old mid new y hs kept kept_mid obeys none rest = collected_from answers outs_join old mid new y hs kept kept_mid obeys.hall (obeys.brings.own) obeys.brings.outs obeys.collected rest
   hands Collect (Refused e b) old mid new y hs kept kept_mid obeys none rest =
       ⊎_elim (λ foreign. as_it_was answers outs_join old mid new y hs foreign.1.same rest) (λ memory. as_it_was answers outs_join old mid new y hs memory.1.same rest) obeys.1
   hands Collect (Submitted n) old mid new y hs kept kept_mid obeys none rest = absurd obeys
   hands Collect (SubmittedAs n) old mid new y hs kept kept_mid obeys none rest = absurd obeys
+  hands Collect (SubmittedAll n m) old mid new y hs kept kept_mid obeys none rest = absurd obeys
+  hands Collect (RefusedAll e xs) old mid new y hs kept kept_mid obeys none rest = absurd obeys
   hands Collect (Released n) old mid new y hs kept kept_mid obeys none rest = absurd obeys
   hands Collect Settled old mid new y hs kept kept_mid obeys none rest = absurd obeys
   hands Collect (Out o) old mid new y hs kept kept_mid obeys none rest = absurd obeys
   hands Collect (CutTaken n) old mid new y hs kept kept_mid obeys none rest = absurd obeys
   hands Collect (Written w) old mid new y hs kept kept_mid obeys none rest = absurd obeys
+  hands Collect Closed old mid new y hs kept kept_mid obeys none rest = absurd obeys
   hands NextOut (Out None) old mid new y hs kept kept_mid obeys none rest = as_it_was answers outs_join old mid new y hs obeys.1 rest
   hands NextOut (Out (Some out)) old mid new y hs kept kept_mid obeys none rest = handed_first answers outs_join old mid new y hs out obeys.0 obeys.1 rest
   hands NextOut (Refused e b) old mid new y hs kept kept_mid obeys none rest = absurd obeys
   hands NextOut (Submitted n) old mid new y hs kept kept_mid obeys none rest = absurd obeys
   hands NextOut (SubmittedAs n) old mid new y hs kept kept_mid obeys none rest = absurd obeys
+  hands NextOut (SubmittedAll n m) old mid new y hs kept kept_mid obeys none rest = absurd obeys
+  hands NextOut (RefusedAll e xs) old mid new y hs kept kept_mid obeys none rest = absurd obeys
   hands NextOut (Released n) old mid new y hs kept kept_mid obeys none rest = absurd obeys
   hands NextOut Settled old mid new y hs kept kept_mid obeys none rest = absurd obeys
   hands NextOut (Collected n) old mid new y hs kept kept_mid obeys none rest = absurd obeys
   hands NextOut (CutTaken n) old mid new y hs kept kept_mid obeys none rest = absurd obeys
   hands NextOut (Written w) old mid new y hs kept kept_mid obeys none rest = absurd obeys
+  hands NextOut Closed old mid new y hs kept kept_mid obeys none rest = absurd obeys
   hands Cut (CutTaken n) old mid new y hs kept kept_mid obeys none rest =
       let is = obeys.cut in
       let S = obeys.hall in
@@ -364,11 +427,14 @@ module _ {D : Type 0} (is_lawful : D → Type 0) (state : D → DiskState) (fail
       obeys.1
   hands Cut (Submitted n) old mid new y hs kept kept_mid obeys none rest = absurd obeys
   hands Cut (SubmittedAs n) old mid new y hs kept kept_mid obeys none rest = absurd obeys
+  hands Cut (SubmittedAll n m) old mid new y hs kept kept_mid obeys none rest = absurd obeys
+  hands Cut (RefusedAll e xs) old mid new y hs kept kept_mid obeys none rest = absurd obeys
   hands Cut (Released n) old mid new y hs kept kept_mid obeys none rest = absurd obeys
   hands Cut Settled old mid new y hs kept kept_mid obeys none rest = absurd obeys
   hands Cut (Collected n) old mid new y hs kept kept_mid obeys none rest = absurd obeys
   hands Cut (Out o) old mid new y hs kept kept_mid obeys none rest = absurd obeys
   hands Cut (Written w) old mid new y hs kept kept_mid obeys none rest = absurd obeys
+  hands Cut Closed old mid new y hs kept kept_mid obeys none rest = absurd obeys
   hands WriteCut (Written w) old mid new y hs kept kept_mid obeys none rest =
       ⊎_elim
       (λ no. same_all answers outs_join old mid new y hs (ap (λ k. k.plan) no.2) (ap (λ k. k.standing) no.2) (ap (λ k. k.collected) no.2) (ap (λ k. k.queue) no.2) rest)
@@ -387,11 +453,32 @@ module _ {D : Type 0} (is_lawful : D → Type 0) (state : D → DiskState) (fail
       obeys.0.unchanged
   hands WriteCut (Submitted n) old mid new y hs kept kept_mid obeys none rest = absurd obeys.0
   hands WriteCut (SubmittedAs n) old mid new y hs kept kept_mid obeys none rest = absurd obeys.0
+  hands WriteCut (SubmittedAll n m) old mid new y hs kept kept_mid obeys none rest = absurd obeys.0
+  hands WriteCut (RefusedAll e xs) old mid new y hs kept kept_mid obeys none rest = absurd obeys.0
   hands WriteCut (Released n) old mid new y hs kept kept_mid obeys none rest = absurd obeys.0
   hands WriteCut Settled old mid new y hs kept kept_mid obeys none rest = absurd obeys.0
   hands WriteCut (Collected n) old mid new y hs kept kept_mid obeys none rest = absurd obeys.0
   hands WriteCut (Out o) old mid new y hs kept kept_mid obeys none rest = absurd obeys.0
   hands WriteCut (CutTaken n) old mid new y hs kept kept_mid obeys none rest = absurd obeys.0
+  hands WriteCut Closed old mid new y hs kept kept_mid obeys none rest = absurd obeys.0
+  hands (CloseFree most) Closed old mid new y hs kept kept_mid obeys none rest =
+      let is = obeys.0.same in
+      same_all answers outs_join old mid new y hs (ap (λ k. k.plan) is) (ap (λ k. k.standing) is) (ap (λ k. k.collected) is) (ap (λ k. k.queue) is) rest
+  hands (CloseFree most) (Refused e b) old mid new y hs kept kept_mid obeys none rest =
+      ⊎_elim
+      (λ is. same_all answers outs_join old mid new y hs (ap (λ k. k.plan) is) (ap (λ k. k.standing) is) (ap (λ k. k.collected) is) (ap (λ k. k.queue) is) rest)
+      (λ few. same_all answers outs_join old mid new y hs (ap (λ k. k.plan) few.1) (ap (λ k. k.standing) few.1) (ap (λ k. k.collected) few.1) (ap (λ k. k.queue) few.1) rest)
+      obeys.0.unchanged
+  hands (CloseFree most) (Submitted n) old mid new y hs kept kept_mid obeys none rest = absurd obeys.0
+  hands (CloseFree most) (SubmittedAs n) old mid new y hs kept kept_mid obeys none rest = absurd obeys.0
+  hands (CloseFree most) (SubmittedAll n m) old mid new y hs kept kept_mid obeys none rest = absurd obeys.0
+  hands (CloseFree most) (RefusedAll e xs) old mid new y hs kept kept_mid obeys none rest = absurd obeys.0
+  hands (CloseFree most) (Released n) old mid new y hs kept kept_mid obeys none rest = absurd obeys.0
+  hands (CloseFree most) Settled old mid new y hs kept kept_mid obeys none rest = absurd obeys.0
+  hands (CloseFree most) (Collected n) old mid new y hs kept kept_mid obeys none rest = absurd obeys.0
+  hands (CloseFree most) (Out o) old mid new y hs kept kept_mid obeys none rest = absurd obeys.0
+  hands (CloseFree most) (CutTaken n) old mid new y hs kept kept_mid obeys none rest = absurd obeys.0
+  hands (CloseFree most) (Written w) old mid new y hs kept kept_mid obeys none rest = absurd obeys.0
 
   -- WHAT COMMANDS HAND OUT
   pub driven_hands : (commands : List Command) (replies : List Reply) (old new : Keeping D) → IsKeeping old answers → Driven is_lawful state failures answers commands replies old new

@@ -14,3 +14,4 @@ mod Driving
 mod Failing
 mod Handing
 mod Receiving
+mod Acknowledging

@@ -1,6 +1,6 @@
 -- The greatest request number of a keeper never falls.
 use Rattle.std.proofs.Common.{◌≡◌, ◌⊎◌, ⊎_elim, ℕ, ◌-◌, ◌≤◌, Bool, true, false, List, [], ◌∷◌, refl, sym, ap, subst, arith}
-use Rattle.std.specs.Prelude.{Ok}
+use Rattle.std.specs.Prelude.{Ok, max}
 use Rattle.td_stamp.specs.declared.values.Entry.{Entry}
 use Rattle.td_stamp.specs.States.{StateList}
 use Rattle.td_plan.specs.Lines.{Line}
@@ -9,6 +9,7 @@ use Rattle.td_calls.specs.Answers.{Answers}
 use Rattle.td_batch.specs.Meaning.{run}
 use Rattle.td_head.specs.declared.head.Head.{Head}
 use Rattle.td_disk.specs.Disk.{DiskState}
+use Rattle.td_journal.specs.Numbers.{greatest}
 use Rattle.td_journal.specs.declared.submitted.Submitted.{Submitted as AnySubmitted}
 use Rattle.td_standing.specs.Standing.{Standing, last_epoch, last_request, submission, with_more, cut_at}
 use Rattle.td_standing.specs.Stops.{Advance, Holds}
@@ -16,16 +17,18 @@ use Rattle.td_standing.specs.Told.{Told}
 use Rattle.td_standing.specs.Tells.{Tells}
 use Rattle.td_standing.specs.Advanced.{HeldWhere}
 use Rattle.td_standing.specs.declared.error.KeeperError.TheVariants as error
+use Rattle.td_keeper.specs.declared.group.GroupError.TheVariants.{Keeper}
 use Rattle.td_keeper.specs.declared.command.Command.{Command}
-use Rattle.td_keeper.specs.declared.command.Command.TheVariants.{Submit, SubmitAs, Release, Settle, Collect, NextOut, Cut, WriteCut}
+use Rattle.td_keeper.specs.declared.command.Command.TheVariants.{Submit, SubmitAs, SubmitAll, Release, Settle, Collect, NextOut, Cut, WriteCut, CloseFree}
 use Rattle.td_keeper.specs.declared.command.Reply.{Reply}
-use Rattle.td_keeper.specs.declared.command.Reply.TheVariants.{Submitted, SubmittedAs, Released, Settled, Collected, Out, CutTaken, Written, Refused}
+use Rattle.td_keeper.specs.declared.command.Reply.TheVariants.{Submitted, SubmittedAs, SubmittedAll, Released, Settled, Collected, Out, CutTaken, Written, Closed, Refused, RefusedAll}
 use Rattle.td_keeper.specs.declared.receipt.Receipt.{Receipt}
 use Rattle.td_keeper.specs.declared.receipt.Receipt.TheVariants.{New, Already}
-use Rattle.td_keeper.specs.Keeping.{Keeping, with_batch}
+use Rattle.td_keeper.specs.Keeping.{Keeping, with_batch, with_group}
 use Rattle.td_keeper.specs.Received.{IsReceived}
-use Rattle.td_keeper.specs.Driven.{Submits, SubmitsAs, Writes, Obeys, Driven, Rests}
+use Rattle.td_keeper.specs.Driven.{Submits, SubmitsAs, SubmitsAll, Writes, ClosesFree, Obeys, Driven, Rests}
 use Rattle.td_keeper.proofs.Driving.{rests}
+use Rattle.td_keeper.proofs.Submitting.{greatest_more}
 
 -- the laws, as they are handed in
 abbrev pub More : Type 0
@@ -33,6 +36,11 @@ More = (s : Standing) (x : AnySubmitted) → (last_request s ≤ last_request (w
 
 abbrev pub AtCut : Type 0
 AtCut = (s : Standing) (k : ℕ) (states : StateList) → last_request (cut_at s k states) ≡ last_request s
+
+-- the greatest of some numbers is one of them, or as great
+least : (q : ℕ) (w : List AnySubmitted) → q ≤ greatest q w
+least q [] = omega arith
+least q (s ∷ w) = let later = least (max q s.request) w in omega (arith, later)
 
 module _ {D : Type 0} (more : More) where
   alike : (old new : Keeping D) → new.standing ≡ old.standing → last_request old.standing ≤ last_request new.standing
@@ -45,6 +53,14 @@ module _ {D : Type 0} (more : More) where
   received request batch (New epoch) old new r = risen request batch old new r.2
   received request batch (Already last) old new r = alike old new (ap (λ k. k.standing) r.2)
 
+  of_group : (group : List AnySubmitted) (old new : Keeping D) → new ≡ with_group old new.device group → last_request old.standing ≤ last_request new.standing
+  of_group [] old new is = alike old new (ap (λ k. k.standing) is)
+  of_group (x ∷ xs) old new is =
+      let s = old.standing in
+      let after : last_request (with_more s (x ∷ xs)) ≡ greatest (last_request s) (x ∷ xs) = greatest_more s.last s.submitted (x ∷ xs) in
+      let rises = least (last_request s) (x ∷ xs) in
+      subst (λ (t : Standing). last_request s ≤ last_request t) (sym (ap (λ k. k.standing) is)) (omega (arith, after, rises))
+
   refused : (old new : Keeping D) (E F : Type 0) → (new ≡ old) ⊎ (E × (new ≡ record old { device = new.device })) ⊎ (F × (new ≡ record old { device = new.device; broken = true }))
       → last_request old.standing ≤ last_request new.standing
   refused old new E F left =
@@ -56,23 +72,43 @@ module _ {D : Type 0} (is_lawful : D → Type 0) (state : D → DiskState) (fail
   submits batch (Submitted n) old new r = risen more 0 batch old new r.submitted
   submits batch (Refused e b) old new r = refused more old new (e ≡ error.Memory) (e ≡ error.Device) r.unchanged
   submits batch (SubmittedAs n) old new r = absurd r
+  submits batch (SubmittedAll n m) old new r = absurd r
+  submits batch (RefusedAll e xs) old new r = absurd r
   submits batch (Released n) old new r = absurd r
   submits batch Settled old new r = absurd r
   submits batch (Collected n) old new r = absurd r
   submits batch (Out o) old new r = absurd r
   submits batch (CutTaken n) old new r = absurd r
   submits batch (Written n) old new r = absurd r
+  submits batch Closed old new r = absurd r
 
   submits_as : (request : ℕ) (batch : List Entry) (r : Reply) (old new : Keeping D) → SubmitsAs is_lawful state failures answers request batch r old new → last_request old.standing ≤ last_request new.standing
   submits_as request batch (SubmittedAs receipt) old new r = received more request batch receipt old new r.received
   submits_as request batch (Refused e b) old new r = refused more old new (e ≡ error.Memory) (e ≡ error.Device) r.refused.unchanged
   submits_as request batch (Submitted n) old new r = absurd r
+  submits_as request batch (SubmittedAll n m) old new r = absurd r
+  submits_as request batch (RefusedAll e xs) old new r = absurd r
   submits_as request batch (Released n) old new r = absurd r
   submits_as request batch Settled old new r = absurd r
   submits_as request batch (Collected n) old new r = absurd r
   submits_as request batch (Out o) old new r = absurd r
   submits_as request batch (CutTaken n) old new r = absurd r
   submits_as request batch (Written n) old new r = absurd r
+  submits_as request batch Closed old new r = absurd r
+
+  submits_all : (group : List AnySubmitted) (r : Reply) (old new : Keeping D) → SubmitsAll is_lawful state failures answers group r old new → last_request old.standing ≤ last_request new.standing
+  submits_all group (SubmittedAll n m) old new r = of_group more group old new r.submitted
+  submits_all group (RefusedAll e back) old new r = refused more old new (e ≡ Keeper error.Memory) (e ≡ Keeper error.Device) r.unchanged
+  submits_all group (Submitted n) old new r = absurd r
+  submits_all group (SubmittedAs n) old new r = absurd r
+  submits_all group (Released n) old new r = absurd r
+  submits_all group Settled old new r = absurd r
+  submits_all group (Collected n) old new r = absurd r
+  submits_all group (Out o) old new r = absurd r
+  submits_all group (CutTaken n) old new r = absurd r
+  submits_all group (Written n) old new r = absurd r
+  submits_all group Closed old new r = absurd r
+  submits_all group (Refused e b) old new r = absurd r
 
   writes : (r : Reply) (old new : Keeping D) → Writes is_lawful state failures answers r old new → last_request old.standing ≤ last_request new.standing
   writes (Written w) old new r =
@@ -87,11 +123,28 @@ module _ {D : Type 0} (is_lawful : D → Type 0) (state : D → DiskState) (fail
       (λ other. ⊎_elim (λ failed. alike more old new (ap (λ k. k.standing) failed.1)) (λ is. alike more old new (ap (λ k. k.standing) is)) other) r.unchanged
   writes (Submitted n) old new r = absurd r
   writes (SubmittedAs n) old new r = absurd r
+  writes (SubmittedAll n m) old new r = absurd r
+  writes (RefusedAll e xs) old new r = absurd r
   writes (Released n) old new r = absurd r
   writes Settled old new r = absurd r
   writes (Collected n) old new r = absurd r
   writes (Out o) old new r = absurd r
   writes (CutTaken n) old new r = absurd r
+  writes Closed old new r = absurd r
+
+  closes : (most : ℕ) (r : Reply) (old new : Keeping D) → ClosesFree is_lawful state failures answers most r old new → last_request old.standing ≤ last_request new.standing
+  closes most Closed old new r = alike more old new (ap (λ k. k.standing) r.same)
+  closes most (Refused e b) old new r = ⊎_elim (λ is. alike more old new (ap (λ k. k.standing) is)) (λ failed. alike more old new (ap (λ k. k.standing) failed.1)) r.unchanged
+  closes most (Submitted n) old new r = absurd r
+  closes most (SubmittedAs n) old new r = absurd r
+  closes most (SubmittedAll n m) old new r = absurd r
+  closes most (RefusedAll e xs) old new r = absurd r
+  closes most (Released n) old new r = absurd r
+  closes most Settled old new r = absurd r
+  closes most (Collected n) old new r = absurd r
+  closes most (Out o) old new r = absurd r
+  closes most (CutTaken n) old new r = absurd r
+  closes most (Written w) old new r = absurd r
 
   rested : (old new : Keeping D) → Rests old new → last_request old.standing ≤ last_request new.standing
   rested old new is = alike more old new is.standing
@@ -99,7 +152,9 @@ module _ {D : Type 0} (is_lawful : D → Type 0) (state : D → DiskState) (fail
   one : (c : Command) (r : Reply) (old new : Keeping D) → Obeys is_lawful state failures answers c r old new → last_request old.standing ≤ last_request new.standing
   one (Submit batch) r old new obeys = submits batch r old new obeys.0
   one (SubmitAs request batch) r old new obeys = submits_as request batch r old new obeys.0
+  one (SubmitAll group) r old new obeys = submits_all group r old new obeys.0
   one WriteCut r old new obeys = writes r old new obeys.0
+  one (CloseFree most) r old new obeys = closes most r old new obeys.0
   one Release r old new obeys = rested old new (rests is_lawful state failures answers Release r old new refl obeys)
   one Settle r old new obeys = rested old new (rests is_lawful state failures answers Settle r old new refl obeys)
   one Collect r old new obeys = rested old new (rests is_lawful state failures answers Collect r old new refl obeys)

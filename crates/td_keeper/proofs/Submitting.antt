@@ -1,7 +1,8 @@
 -- A batch that a keeper submits.
-use Rattle.std.proofs.Common.{◌≡◌, ◌==◌, ℕ, ◌+◌, ◌^◌, ◌<◌, ◌≤◌, Bool, true, false, ◌||◌, nat_le, nat_lt, List, [], ◌∷◌, ◌++◌, length, refl, sym, ◌∙◌, subst, arith, length-append}
+use Rattle.std.proofs.Common.{◌≡◌, ◌==◌, ℕ, ◌+◌, ◌-◌, ◌^◌, ◌<◌, ◌≤◌, Bool, true, false, ◌||◌, nat_le, nat_lt, List, [], ◌∷◌, ◌++◌, length, refl, sym, ap, ◌∙◌, subst, arith, length-append}
 use Rattle.std.proofs.lemmas.Bool.{le-leb, ltb-false}
-use Rattle.std.specs.Prelude.{Option, Some, None, max}
+use Rattle.std.specs.Prelude.{Option, Some, None, max, min}
+use Rattle.std.proofs.Math.Nat.{min-le_right}
 use Rattle.std.specs.List.{list_all, list_any}
 use Rattle.td_stamp.specs.declared.values.Entry.{Entry}
 use Rattle.td_stamp.specs.Orders.{entry_cmp}
@@ -13,15 +14,16 @@ use Rattle.td_disk.specs.Disk.{DiskState}
 use Rattle.td_head.specs.declared.head.Head.{Head}
 use Rattle.td_journal.specs.Numbers.{may_come, greatest}
 use Rattle.td_journal.specs.Cell.{is_batch}
+use Rattle.td_journal.specs.declared.journal.Journal.{Journal}
 use Rattle.td_journal.specs.declared.submitted.Submitted.{Submitted}
 use Rattle.td_machine.specs.Steps.{accepts}
-use Rattle.td_group.specs.Groups.{AllFew, AreBatches, AreFresh, HasRoomFor}
+use Rattle.td_group.specs.Groups.{AllFew, AreBatches, AreFresh, AreFree, AreShut, HasRoomFor}
 use Rattle.td_standing.specs.Standing.{Standing, last_epoch, last_request, with_more}
-use Rattle.td_standing.specs.Told.{inputs_of}
+use Rattle.td_standing.specs.Told.{inputs_of, ring_of}
 use Rattle.td_standing.specs.Tells.{Keeps, IsFresh}
 use Rattle.td_standing.specs.Advanced.{HeldWhere}
 use Rattle.td_watch.specs.View.{View}
-use Rattle.td_keeper.specs.Keeping.{Keeping, words_at, IsBelow}
+use Rattle.td_keeper.specs.Keeping.{Keeping, IsKeeping, FreeAreShut, words_at, IsBelow}
 use Rattle.td_keeper.specs.Refused.{is_new}
 
 -- where nothing is broken, a keeper's disk keeps its standing
@@ -91,6 +93,34 @@ may_come_in {D = D} {z = z} {y = y} is same taken = subst (λ (v : Keeping D). M
 
 pub has_room : {D : Type 0} (k : Keeping D) (x : List Submitted) (epoch : ℕ) → MayCome k x → epoch ≡ last_epoch k.standing + 1 → HasRoomFor k.head.shape k.standing epoch (length x)
 has_room k x epoch is at = record { some = is.some; room = is.room; epoch = at; small = omega (arith, is.small, at) }
+
+-- the cells that no epoch uses, seen from inside
+pub free_in : {D : Type 0} (answers : Answers) {k z : Keeping D} (last most free count : ℕ) → k ≡ z → last ≡ last_epoch z.standing → free ≡ z.head.shape.n - length z.standing.submitted → count ≡ min most free → IsKeeping k answers
+    → AreFree k.head.shape k.standing (last + 1) count
+free_in {D = D} answers {k = k} last most free count is at left least keeping =
+    let here : last ≡ last_epoch k.standing = at ∙ sym (ap (λ (v : Keeping D). last_epoch v.standing) is) in
+    let room : free ≡ k.head.shape.n - length k.standing.submitted = left ∙ sym (ap (λ (v : Keeping D). v.head.shape.n - length v.standing.submitted) is) in
+    let few : count ≤ free = subst (λ n. n ≤ free) (sym least) (min-le_right most free) in
+    record { epoch = omega (arith, here); room = omega (arith, room, few, keeping.few) }
+
+-- they are closed, seen from inside
+pub shut_in : {D : Type 0} {k z : Keeping D} (j : Journal) (image : List ℕ) (last most free count : ℕ) → k ≡ z → j ≡ ring_of k.head.shape k.standing.epoch → last ≡ last_epoch z.standing → free ≡ z.head.shape.n - length z.standing.submitted → count ≡ min most free
+    → FreeAreShut k most image → AreShut j image (last + 1) count
+shut_in {D = D} {k = k} j image last most free count is ring at left least shut =
+    let here : last ≡ last_epoch k.standing = at ∙ sym (ap (λ (v : Keeping D). last_epoch v.standing) is) in
+    let room : count ≡ min most (k.head.shape.n - length k.standing.submitted) = least ∙ ap (min most) (left ∙ sym (ap (λ (v : Keeping D). v.head.shape.n - length v.standing.submitted) is)) in
+    subst (λ (i : Journal). AreShut i image (last + 1) count) (sym ring)
+    (subst (λ (n : ℕ). AreShut (ring_of k.head.shape k.standing.epoch) image (last + 1) n) (sym room)
+    (subst (λ (e : ℕ). AreShut (ring_of k.head.shape k.standing.epoch) image (e + 1) (min most (k.head.shape.n - length k.standing.submitted))) (sym here) shut))
+
+pub shut_out : {D : Type 0} {k z : Keeping D} (j : Journal) (image : List ℕ) (last most free count : ℕ) → k ≡ z → j ≡ ring_of k.head.shape k.standing.epoch → last ≡ last_epoch z.standing → free ≡ z.head.shape.n - length z.standing.submitted → count ≡ min most free
+    → AreShut j image (last + 1) count → FreeAreShut k most image
+shut_out {D = D} {k = k} j image last most free count is ring at left least shut =
+    let here : last ≡ last_epoch k.standing = at ∙ sym (ap (λ (v : Keeping D). last_epoch v.standing) is) in
+    let room : count ≡ min most (k.head.shape.n - length k.standing.submitted) = least ∙ ap (min most) (left ∙ sym (ap (λ (v : Keeping D). v.head.shape.n - length v.standing.submitted) is)) in
+    subst (λ (i : Journal). AreShut i image (last_epoch k.standing + 1) (min most (k.head.shape.n - length k.standing.submitted))) ring
+    (subst (λ (e : ℕ). AreShut j image (e + 1) (min most (k.head.shape.n - length k.standing.submitted))) here
+    (subst (λ (n : ℕ). AreShut j image (last + 1) n) room shut))
 
 -- what is not one is none
 pub is_none : {X : Type 0} (o : Option X) → ((x : X) → o ≡ Some x → ⊥) → o ≡ None

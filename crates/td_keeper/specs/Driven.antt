@@ -19,13 +19,17 @@ use Rattle.td_journal.specs.declared.submitted.Submitted.{Submitted as AnySubmit
 use Rattle.td_standing.specs.Standing.{last_epoch, batches_of, submission}
 use Rattle.td_standing.specs.Advanced.{AdvancesSince}
 use Rattle.td_keeper.specs.declared.receipt.Receipt.{Receipt}
+use Rattle.td_keeper.specs.declared.receipt.Receipt.TheVariants.{New}
 use Rattle.td_keeper.specs.declared.command.Command.{Command}
-use Rattle.td_keeper.specs.declared.command.Command.TheVariants.{Submit, SubmitAs, Release, Settle, Collect, NextOut, Cut, WriteCut}
+use Rattle.td_keeper.specs.declared.command.Command.TheVariants.{Submit, SubmitAs, SubmitAll, Release, Settle, Collect, NextOut, Cut, WriteCut, CloseFree}
 use Rattle.td_keeper.specs.declared.command.Reply.{Reply}
-use Rattle.td_keeper.specs.declared.command.Reply.TheVariants.{Submitted, SubmittedAs, Released, Settled, Collected, Out, CutTaken, Written, Refused}
-use Rattle.td_keeper.specs.Keeping.{Keeping, IsKeeping, since_base, with_batch, with_checkpoint}
-use Rattle.td_keeper.specs.Refused.{is_new, submit_refusal, submit_as_refusal, write_refusal, cut_refusal}
+use Rattle.td_keeper.specs.declared.command.Reply.TheVariants.{Submitted, SubmittedAs, SubmittedAll, Released, Settled, Collected, Out, CutTaken, Written, Closed, Refused, RefusedAll}
+use Rattle.td_keeper.specs.declared.group.GroupError.{GroupError}
+use Rattle.td_keeper.specs.declared.group.GroupError.TheVariants.{Repeated, Keeper}
+use Rattle.td_keeper.specs.Keeping.{Keeping, IsKeeping, since_base, with_batch, with_group, with_checkpoint, FreeAreShut}
+use Rattle.td_keeper.specs.Refused.{is_new, submit_refusal, submit_as_refusal, group_refusal, write_refusal, close_refusal, cut_refusal}
 use Rattle.td_keeper.specs.Received.{IsReceived, received_in}
+use Rattle.td_keeper.specs.Grouped.{AllOrNone}
 use Rattle.td_keeper.specs.Halls.{IsOwn, lacking, with_released, with_collected, with_cut, collected_hall, cut_hall, last_passed, meant_outs}
 
 -- the replies of the calls that work on a pool's hall
@@ -50,9 +54,15 @@ abbrev pub is_device : KeeperError → Bool
 is_device Device = true
 is_device _ = false
 
+-- or in a submit of a group
+abbrev pub is_of_device : GroupError → Bool
+is_of_device Repeated = false
+is_of_device (Keeper error) = is_device error
+
 -- whether a reply says so, and whether one of some does
 abbrev pub is_failed : Reply → Bool
 is_failed (Refused error back) = is_device error
+is_failed (RefusedAll error back) = is_of_device error
 is_failed _ = false
 
 abbrev pub some_failed : List Reply → Bool
@@ -63,16 +73,20 @@ some_failed (reply ∷ replies) = is_failed reply || some_failed replies
 abbrev pub may_write : Command → Bool
 may_write (Submit batch) = true
 may_write (SubmitAs request batch) = true
+may_write (SubmitAll group) = true
 may_write WriteCut = true
+may_write (CloseFree most) = true
 may_write _ = false
 
--- WHAT A COMMAND SUBMITTED, by its reply: its batch, where it was acknowledged, or where the device failed in it; not a request
--- that was there already
+-- WHAT A COMMAND SUBMITTED, by its reply: its batch or its group, where it was acknowledged, or where the device failed in it; not
+-- a request that was there already
 abbrev pub submitted_in : Command → Reply → List AnySubmitted
 submitted_in (Submit batch) (Submitted epoch) = submission 0 batch ∷ []
 submitted_in (Submit batch) (Refused error back) = if is_device error then submission 0 batch ∷ [] else []
 submitted_in (SubmitAs request batch) (SubmittedAs receipt) = received_in request batch receipt
 submitted_in (SubmitAs request batch) (Refused error back) = if is_device error then submission request batch ∷ [] else []
+submitted_in (SubmitAll group) (SubmittedAll first end) = group
+submitted_in (SubmitAll group) (RefusedAll error back) = if is_of_device error then group else []
 submitted_in _ _ = []
 
 -- and what commands did, in order
@@ -158,6 +172,27 @@ module _ {D : Type 0} (is_lawful : D → Type 0) (state : D → DiskState) (fail
   SubmitsAs request batch (SubmittedAs receipt) old new = IsAnswered request batch receipt old new
   SubmitsAs request batch (Refused error back) old new = IsNotAnswered request batch error back old new
   SubmitsAs request batch _ old new = ⊥
+
+  -- TO SUBMIT A GROUP: all of it is acknowledged, as the epochs from the first up to the end
+  pub record IsAllSubmitted (group : List AnySubmitted) (first end : ℕ) (old new : Keeping D) : Type 0 where
+    pub accepted : group_refusal old group ≡ None
+    pub submitted : new ≡ with_group old new.device group
+    pub first_is : first ≡ last_epoch old.standing + 1
+    pub end_is : end ≡ last_epoch new.standing + 1
+
+  -- or it comes back, by the first cause of these or for want of memory or of the device, and what was kept in memory is as it was
+  pub record IsNoneSubmitted (group : List AnySubmitted) (error : GroupError) (back : List AnySubmitted) (old new : Keeping D) : Type 0 where
+    pub group_back : back ≡ group
+    pub cause : (group_refusal old group ≡ Some error) ⊎ ((group_refusal old group ≡ None) × ((error ≡ Keeper Memory) ⊎ (error ≡ Keeper Device)))
+    pub unchanged : (new ≡ old) ⊎ ((error ≡ Keeper Memory) × (new ≡ record old { device = new.device })) ⊎ ((error ≡ Keeper Device) × (new ≡ record old { device = new.device; broken = true }))
+    pub memory : error ≡ Keeper Memory → Unwritten old new
+    pub device : error ≡ Keeper Device → Fails old new
+    pub images : is_lawful old.device → old.broken ≡ false → AllOrNone old.plan old.standing group (state old.device).moment (state new.device)
+
+  abbrev pub SubmitsAll : List AnySubmitted → Reply → Keeping D → Keeping D → Type 0
+  SubmitsAll group (SubmittedAll first end) old new = IsAllSubmitted group first end old new
+  SubmitsAll group (RefusedAll error back) old new = IsNoneSubmitted group error back old new
+  SubmitsAll group _ old new = ⊥
 
   -- A HALL UNDER THE LOCK, one to which plays lead, was found so, and the keeper is as it was
   pub record Finds (found : HallState → Type 0) (old new : Keeping D) : Type 0 where
@@ -247,16 +282,36 @@ module _ {D : Type 0} (is_lawful : D → Type 0) (state : D → DiskState) (fail
   Writes (Refused error back) old new = IsNotWritten error back old new
   Writes _ old new = ⊥
 
+  -- TO CLOSE CELLS that no epoch uses, so many of those that come next: they are, and nothing else changed
+  pub record IsClosed (most : ℕ) (old new : Keeping D) : Type 0 where
+    pub accepted : close_refusal old ≡ None
+    pub same : new ≡ record old { device = new.device }
+    pub closed : is_lawful old.device → FreeAreShut old most (state new.device).bytes
+
+  -- or it is refused
+  pub record IsNotClosed (error : KeeperError) (back : Option (List Entry)) (old new : Keeping D) : Type 0 where
+    pub no_batch : back ≡ None
+    pub cause : (close_refusal old ≡ Some error) ⊎ ((close_refusal old ≡ None) × (error ≡ Device))
+    pub unchanged : (new ≡ old) ⊎ ((error ≡ Device) × (new ≡ record old { device = new.device; broken = true }))
+    pub device : error ≡ Device → Fails old new
+
+  abbrev pub ClosesFree : ℕ → Reply → Keeping D → Keeping D → Type 0
+  ClosesFree most Closed old new = IsClosed most old new
+  ClosesFree most (Refused error back) old new = IsNotClosed error back old new
+  ClosesFree most _ old new = ⊥
+
   -- ONE COMMAND, with its reply; and the images since an earlier moment, where it writes
   abbrev pub Obeys : Command → Reply → Keeping D → Keeping D → Type 0
   Obeys (Submit batch) reply old new = Submits batch reply old new × MayWrite reply old new (submitted_in (Submit batch) reply)
   Obeys (SubmitAs request batch) reply old new = SubmitsAs request batch reply old new × MayWrite reply old new (submitted_in (SubmitAs request batch) reply)
+  Obeys (SubmitAll group) reply old new = SubmitsAll group reply old new × MayWrite reply old new (submitted_in (SubmitAll group) reply)
   Obeys Release reply old new = Releases reply old new
   Obeys Settle reply old new = Settles reply old new
   Obeys Collect reply old new = Collects reply old new
   Obeys NextOut reply old new = HandsOut reply old new
   Obeys Cut reply old new = Cuts reply old new
   Obeys WriteCut reply old new = Writes reply old new × MayWrite reply old new []
+  Obeys (CloseFree most) reply old new = ClosesFree most reply old new × MayWrite reply old new []
 
   -- COMMANDS, one after another, with their replies; between them stands a keeper whose memory is right
   abbrev pub Driven : List Command → List Reply → Keeping D → Keeping D → Type 0
@@ -264,6 +319,13 @@ module _ {D : Type 0} (is_lawful : D → Type 0) (state : D → DiskState) (fail
   Driven [] (reply ∷ replies) old new = ⊥
   Driven (command ∷ commands) [] old new = ⊥
   Driven (command ∷ commands) (reply ∷ replies) old new = (mid : Keeping D) × IsKeeping mid answers × Obeys command reply old mid × Driven commands replies mid new
+
+-- A REPLY ACKNOWLEDGES no epoch beyond the n-th
+abbrev pub AcknowledgesUpTo : ℕ → Reply → Type 0
+AcknowledgesUpTo n (Submitted epoch) = epoch ≤ n
+AcknowledgesUpTo n (SubmittedAs (New epoch)) = epoch ≤ n
+AcknowledgesUpTo n (SubmittedAll first end) = end ≤ n + 1
+AcknowledgesUpTo n _ = Unit {0}
 
 -- WHAT A COMMAND THAT DOES NOT WRITE leaves as it was
 pub record Rests {D : Type 0} (old new : Keeping D) : Type 0 where

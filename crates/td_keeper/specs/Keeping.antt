@@ -1,5 +1,5 @@
 -- What contracts see of a keeper, and what each keeper keeps right.
-use Rattle.std.specs.Prelude.{◌≡◌, ℕ, ◌-◌, ◌^◌, ◌<◌, ◌≤◌, Bool, true, false, List, [], ◌∷◌, length, drop, All, Option, Some, None}
+use Rattle.std.specs.Prelude.{◌≡◌, ℕ, ◌+◌, ◌-◌, min, ◌^◌, ◌<◌, ◌≤◌, Bool, true, false, List, [], ◌∷◌, length, drop, All, Option, Some, None}
 use Rattle.td_stamp.specs.declared.values.Entry.{Entry}
 use Rattle.td_stamp.specs.declared.epoch_out.EpochOut.{EpochOut}
 use Rattle.td_stamp.specs.States.{StateList}
@@ -12,10 +12,11 @@ use Rattle.td_slots.specs.Slot.{are_states}
 use Rattle.td_slots.specs.declared.slots.Checkpoint.{Checkpoint}
 use Rattle.td_journal.specs.Cell.{is_batch}
 use Rattle.td_journal.specs.declared.submitted.Submitted.{Submitted}
+use Rattle.td_group.specs.Groups.{AreShut}
 use Rattle.td_watch.specs.View.{View, view_of}
 use Rattle.td_watch.specs.Words.{IsAtMost}
 use Rattle.td_standing.specs.Standing.{Standing, standing_from, last_epoch, batches_of, submission, with_more, cut_at}
-use Rattle.td_standing.specs.Told.{inputs_of, folds_of}
+use Rattle.td_standing.specs.Told.{inputs_of, folds_of, ring_of}
 use Rattle.td_standing.specs.Tells.{side_after}
 use Rattle.td_keeper.specs.declared.keeper.Taken.{Taken}
 
@@ -95,6 +96,10 @@ module _ {D : Type 0} (k : Keeping D) where
   -- the batches of the epochs after the base
   abbrev pub since_base : List (List Entry)
   since_base = drop (k.base - k.standing.epoch) (batches_of k.standing.submitted)
+
+  -- In an image the cells of the journal that no epoch of the standing uses are closed, so many of those that come next.
+  abbrev pub FreeAreShut : ℕ → List ℕ → Type 0
+  FreeAreShut most image = AreShut (ring_of k.head.shape k.standing.epoch) image (last_epoch k.standing + 1) (min most (k.head.shape.n - length k.standing.submitted))
 
   -- its words
   abbrev pub words_of : List ℕ

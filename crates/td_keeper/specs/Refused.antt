@@ -94,6 +94,10 @@ module _ {D : Type 0} (k : Keeping D) where
       else (if nat_lt k.head.shape.k (length k.base_states) then Some TooManyKeys
       else None))
 
+  -- FREE CELLS THAT ARE CLOSED
+  abbrev pub close_refusal : Option KeeperError
+  close_refusal = if k.broken then Some Broken else None
+
   -- A CUT of a hall of this keeper's: an epoch was released after the base, and the first of these has not passed; or a cut waits
   abbrev pub first_unpassed : ℕ → Option ℕ → Option KeeperError
   first_unpassed base None = None

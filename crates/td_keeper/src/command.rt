@@ -1,4 +1,5 @@
 //! What a keeper is told to do beside workers, and what it replies.
+use crate::group::{Group, GroupError};
 use crate::receipt::Receipt;
 use td_stamp::{Batch, EpochOut};
 use td_standing::KeeperError;
@@ -10,6 +11,8 @@ pub enum Command {
     Submit(Batch),
     /// To submit a batch under a request number.
     SubmitAs(u64, Batch),
+    /// To submit a group of batches at once.
+    SubmitAll(Group),
     /// To release into the pool's hall the epochs that it lacks.
     Release,
     /// To wait until every released epoch has passed, or the pool is stopped.
@@ -22,6 +25,8 @@ pub enum Command {
     Cut,
     /// To write the cut that waits.
     WriteCut,
+    /// To close at most so many cells that no epoch uses, those that come next.
+    CloseFree(u64),
 }
 
 /// What it replies.
@@ -31,6 +36,8 @@ pub enum Reply {
     Submitted(u64),
     /// What the submit under a request number came to.
     SubmittedAs(Receipt),
+    /// The group is acknowledged as the epochs from the first number up to, and without, the second.
+    SubmittedAll(u64, u64),
     /// So many epochs were released.
     Released(u64),
     /// Every released epoch has passed.
@@ -43,9 +50,16 @@ pub enum Reply {
     CutTaken(u64),
     /// The cut that waited was written, and its epoch; None where none waited.
     Written(Option<u64>),
+    /// These cells are closed.
+    Closed,
     /// The command was refused. A batch that was to be submitted comes back.
     Refused {
         error: KeeperError,
         batch: Option<Batch>,
+    },
+    /// The group was not submitted, and comes back.
+    RefusedAll {
+        error: GroupError,
+        group: Group,
     },
 }

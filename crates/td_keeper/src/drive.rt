@@ -93,6 +93,10 @@ impl<D: Disk, L: Law> Keeper<D, L> {
                 Ok(receipt) => Reply::SubmittedAs(receipt),
                 Err((error, batch)) => refused(error, Some(batch)),
             },
+            Command::SubmitAll(group) => match self.submit_all(group) {
+                Ok(first) => Reply::SubmittedAll(first, self.last_epoch() + 1),
+                Err((error, group)) => Reply::RefusedAll { error, group },
+            },
             Command::Release => match self.release_in(rt, pool) {
                 Ok(count) => Reply::Released(count),
                 Err(error) => refused(error, None),
@@ -112,6 +116,10 @@ impl<D: Disk, L: Law> Keeper<D, L> {
             },
             Command::WriteCut => match self.write_cut() {
                 Ok(epoch) => Reply::Written(epoch),
+                Err(error) => refused(error, None),
+            },
+            Command::CloseFree(most) => match self.close_free(most) {
+                Ok(()) => Reply::Closed,
                 Err(error) => refused(error, None),
             },
         }

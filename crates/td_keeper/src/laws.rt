@@ -1,13 +1,13 @@
 //! Laws of keepers. Each is the contract of a function that does nothing.
-ghost use Rattle.std.specs.Prelude.{◌≡◌, ◌≤◌, false, List, ℕ};
-ghost use Rattle.td_standing.specs.Standing.{Standing, last_request};
+ghost use Rattle.std.specs.Prelude.{◌≡◌, ◌≤◌, false, List, ℕ, All};
+ghost use Rattle.td_standing.specs.Standing.{Standing, last_epoch, last_request};
 ghost use Rattle.td_standing.specs.Told.{Told};
 ghost use Rattle.td_standing.specs.Read.{Stood};
 ghost use Rattle.td_standing.specs.Advanced.{HeldWhere};
 ghost use Rattle.td_keeper.specs.Keeping.{Keeping, IsKeeping};
 ghost use Rattle.td_keeper.specs.declared.command.Command.{Command as AnyCommand};
 ghost use Rattle.td_keeper.specs.declared.command.Reply.{Reply as AnyReply};
-ghost use Rattle.td_keeper.specs.Driven.{may_write, Obeys, Rests};
+ghost use Rattle.td_keeper.specs.Driven.{may_write, AcknowledgesUpTo, Obeys, Driven, Rests};
 
 use crate::keeper::Keeper;
 use td_calls::Law;
@@ -49,3 +49,13 @@ pub fn others_rest<D: Disk, L: Law>()
     ensures { (command : AnyCommand) (reply : AnyReply) (old new : Keeping D) → may_write command ≡ false
         → Obeys D.is_lawful D.state D.failures L.answers command reply old new → Rests old new }
 {}
+
+/// What commands acknowledge is counted by the keeper that they leave, whatever else they come to: so a lawful disk of it holds each of
+/// these epochs, image by image, also after a fault of the device (`each_disk_holds`).
+pub fn acknowledged_is_counted<D: Disk, L: Law>()
+    ensures { (commands : List AnyCommand) (replies : List AnyReply) (old new : Keeping D) → IsKeeping old L.answers → D.is_lawful old.device
+        → Driven D.is_lawful D.state D.failures L.answers commands replies old new
+        → (new.plan ≡ old.plan) × All (AcknowledgesUpTo (last_epoch new.standing)) replies }
+{
+    laws::advances_join::<L>();
+}

@@ -4,6 +4,7 @@
 #![tactic(auto)]
 
 mod beside;
+mod close_free;
 mod collect;
 mod command;
 mod cut;

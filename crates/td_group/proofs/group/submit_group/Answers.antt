@@ -1,12 +1,12 @@
-use Rattle.std.proofs.Common.{◌≡◌, ◌⊎◌, ℕ, ◌<◌, ◌≤◌, ◌^◌, ◌&&◌, ◌==◌, Bool, true, false, List, [], ◌∷◌, length, Result, Ok, Err, refl, sym, ap, ◌∙◌, subst, arith}
-use Rattle.std.specs.Prelude.{OnOk}
+use Rattle.std.proofs.Common.{◌≡◌, ◌⊎◌, ℕ, ◌&&◌, ◌==◌, Bool, true, false, List, [], ◌∷◌, length, refl, sym, ap, ◌∙◌, subst, arith}
 use Rattle.td_journal.specs.Cell.{is_batch}
 use Rattle.td_journal.specs.Numbers.{may_come}
 use Rattle.td_journal.specs.declared.submitted.Submitted.{Submitted}
 use Rattle.td_standing.specs.Standing.{with_more, last_request}
 use Rattle.td_standing.specs.Told.{inputs_of, floor_of}
-use Rattle.td_standing.specs.Tells.{Tells, Keeps, HasRoom, IsFresh}
+use Rattle.td_standing.specs.Tells.{Tells, Keeps, HasRoom}
 use Rattle.td_group.specs.Groups.{AreBatches, HasRoomFor, may_follow}
+use Rattle.td_group.proofs.Kept.{at_ok}
 use Rattle.td_group.proofs.group.submit_group.Goals as goal
 
 is_zero : (n : ℕ) → (n == 0) ≡ true → n ≡ 0
@@ -19,10 +19,6 @@ none_left (x ∷ l) is = absurd (let no = is_zero (length (x ∷ l)) is in omega
 first_of : (a b : Bool) → (a && b) ≡ true → a ≡ true
 first_of true b is = refl
 first_of false b is = absurd (let no : false ≡ true = is in cc)
-
-at_ok : {T E : Type 0} (r : Result T E) (P Q : Type 0) → (P → Q) → OnOk r P → OnOk r Q
-at_ok (Ok x) P Q step p = step p
-at_ok (Err e) P Q step p = tt
 
 pub returns-then-is_empty-clause-begun : goal.returns-then-is_empty-clause-begun
 returns-then-is_empty-clause-begun g c lawful plan h side s ring room fresh valid keeps t f le left =

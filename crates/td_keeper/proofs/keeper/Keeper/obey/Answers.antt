@@ -2,8 +2,8 @@ use Rattle.std.proofs.Common.{◌≡◌, ◌∙◌, List, [], ◌∷◌, true, f
 use Rattle.td_journal.specs.declared.submitted.Submitted.{Submitted}
 use Rattle.td_standing.specs.Standing.{last_epoch, submission}
 use Rattle.td_standing.specs.Advanced.{AdvancesSince}
-use Rattle.td_keeper.specs.Driven.{is_device}
-use Rattle.td_keeper.proofs.Driving.{refused_in, received_since}
+use Rattle.td_keeper.specs.Driven.{is_device, is_of_device}
+use Rattle.td_keeper.proofs.Driving.{refused_in, none_in, received_since}
 use Rattle.std.specs.Prelude.{Option, Result, Ok, Err, ℕ}
 use Rattle.td_standing.specs.declared.error.KeeperError.{KeeperError}
 use Rattle.td_standing.specs.declared.error.KeeperError.TheVariants as error
@@ -15,13 +15,20 @@ as_ok o = Ok o
 abbrev as_err : KeeperError → Result (Option ℕ) KeeperError
 as_err e = Err e
 
-error_of : Result (Option ℕ) KeeperError → KeeperError
+abbrev as_closed : KeeperError → Result (Unit {0}) KeeperError
+as_closed e = Err e
+
+error_of : {T : Type 0} → Result T KeeperError → KeeperError
 error_of (Ok o) = error.Memory
 error_of (Err e) = e
 
 as_error : (e : KeeperError) → as_err e ≡ as_err error.Device → e ≡ error.Device
 unfolding error_of
 as_error e is = ap error_of is
+
+closed_error : (e : KeeperError) → as_closed e ≡ as_closed error.Device → e ≡ error.Device
+unfolding error_of
+closed_error e is = ap error_of is
 
 pub returns-in-Err-clause-obeyed : goal.returns-in-Err-clause-obeyed
 returns-in-Err-clause-obeyed g c =
@@ -133,6 +140,70 @@ returns-in-Err-submit_as-clause-obeyed g c =
           since = λ whole.
               refused_in (λ (x : List Submitted). AdvancesSince g.L.Law.answers old.plan old.standing x (last_epoch old.standing) (state old.device) (state c.submit_as.new.self.device))
               (submission c.in-SubmitAs.request c.in-SubmitAs.batch ∷ []) c.in-Err-submit_as.error (e.further lawful whole) (⊎_elim inl (λ none. inr (none lawful whole)) e.nothing);
+        };
+      },
+    )
+
+pub returns-in-Err-submit_all-clause-obeyed : goal.returns-in-Err-submit_all-clause-obeyed
+returns-in-Err-submit_all-clause-obeyed g c =
+    let e = c.in-Err-submit_all.ensures in
+    let old = c.args.self.now in
+    let state = g.D.Disk.state in
+    rw c.in-SubmitAll.is (
+      record {
+        group_back = e.back;
+        cause = e.refused;
+        unchanged = e.unchanged;
+        memory = e.unwritten;
+        device = λ failed. record { broken = e.broken failed; risen = e.device failed };
+        images = e.all_or_none;
+      },
+      record {
+        counted = e.counted;
+        stays = λ quiet. ⊎_elim (λ failed. absurd (let both : true ≡ false = sym (ap is_of_device failed) ∙ quiet in cc)) (λ same. same) e.stays_back;
+        advances = λ lawful. record {
+          lawful = e.lawful.0 lawful;
+          later = e.later lawful;
+          since = λ whole.
+              none_in (λ (x : List Submitted). AdvancesSince g.L.Law.answers old.plan old.standing x (last_epoch old.standing) (state old.device) (state c.submit_all.new.self.device))
+              c.in-SubmitAll.group c.in-Err-submit_all.error (e.further lawful whole) (⊎_elim inl (λ none. inr (none lawful whole)) e.nothing);
+        };
+      },
+    )
+
+pub returns-in-Ok-close_free-clause-obeyed : goal.returns-in-Ok-close_free-clause-obeyed
+returns-in-Ok-close_free-clause-obeyed g c =
+    let e = c.in-Ok-close_free.ensures in
+    rw c.in-CloseFree.is (
+      record { accepted = e.accepted; same = e.done; closed = e.closed },
+      record {
+        counted = e.counted;
+        stays = λ quiet. ⊎_elim (λ failed. absurd (let both : Ok c.in-Ok-close_free.field-0 ≡ Err error.Device = failed in cc)) (λ same. same) e.stays;
+        advances = λ lawful. record {
+          lawful = e.lawful.0 lawful;
+          later = e.later lawful;
+          since = λ whole. e.further lawful whole;
+        };
+      },
+    )
+
+pub returns-in-Err-close_free-clause-obeyed : goal.returns-in-Err-close_free-clause-obeyed
+returns-in-Err-close_free-clause-obeyed g c =
+    let e = c.in-Err-close_free.ensures in
+    rw (c.in-CloseFree.is, c.refused-in-Err-close_free.ensures) (
+      record {
+        no_batch = refl;
+        cause = e.refused;
+        unchanged = e.unchanged;
+        device = λ failed. record { broken = ap (λ k. k.broken) (e.broken (ap as_closed failed)); risen = e.device (ap as_closed failed) };
+      },
+      record {
+        counted = e.counted;
+        stays = λ quiet. ⊎_elim (λ failed. absurd (let both : true ≡ false = sym (ap is_device (closed_error c.in-Err-close_free.error failed)) ∙ quiet in cc)) (λ same. same) e.stays;
+        advances = λ lawful. record {
+          lawful = e.lawful.0 lawful;
+          later = e.later lawful;
+          since = λ whole. e.further lawful whole;
         };
       },
     )
