@@ -1,35 +1,42 @@
 #!/usr/bin/env python3
-"""Stops four feeds and three streams at each of their writes and syncs, and crashes them in five ways.
+"""Stops four feeds and three streams at each of their writes and syncs, and crashes them in five ways, the streams in seven.
 
     bench/each_stop.py          needs crates/td/out/td and crates/engine_steps/out/engine_steps (see the README), and for the streams
                                 strace; without it says so, and stops the feeds alone
 
 The feeds are `engine_steps`' on a disk in memory. One has 40 epochs: a plan with two folds and a group, small batches, a ring
 of three cells, and a cut before it is full. Another is the running total of docs/TUTORIAL.md, two epochs and a cut after
-them, whose last lines stand here. A feed stops at the K-th write or sync, for each K until none is met; of each range that was
+them, whose last lines stand here. The epochs up to a cut are put on the disk as a group, as many as the ring has free cells. A feed
+stops at the K-th write or sync, for each K until none is met; of each range that was
 written and not synced a crash leaves the old bytes, the new ones, or 00, a5 or ff all over. Then `show` tells what is left, and
 the epochs that are not told are fed on. It is required of each stop that
 
-- what is told is what was acknowledged, or one epoch more, with as many records in each epoch as were fed;
+- what is told is what was acknowledged, or, where `ack` was the next line, that and the whole group after it, with as many records in
+  each epoch as were fed;
 - the lines that were written before the stop are those of a feed that is not stopped, up to there;
 - the feed that goes on writes the output lines of all epochs after the checkpoint, acknowledges the rest, and ends with the
   states of the whole.
 
-The other two have the same plans, and one of them fewer epochs: each epoch has a request number, and some are fed twice. After a
-stop such a feed is fed again from its beginning, whatever is told. It must answer `again` for each request that stands on the
+The end of each group must have been told at some stop, and so must no epoch.
+
+The other two have the same plans, and one of them fewer epochs: each epoch has a request number, and some are fed twice, which ends a
+group. After a stop such a feed is fed again from its beginning, whatever is told. It must answer `again` for each request that stands on the
 disk already, acknowledge the others, and end as a feed that was not stopped: with each request once.
 
 The streams are of the plan with two folds and a ring of three cells, by `td stream` on a file. From the K-th write or sync on strace
-has each fail, and tells what was written and synced before; so it is known here what a crash leaves. Of two streams nobody asks for
+has each fail, and tells what was written and synced before; so it is known here what a crash leaves: also, of the ranges that were not
+synced, every second one old and the others new. All lines of a stream are given at once: a group goes as far as the next cut, asked for or
+due, or the next epoch that comes twice. Of two streams nobody asks for
 a cut but after the last epoch: one cuts where the ring is full, and after a stop is streamed on with `--cut-every 2`; the other the
 other way round. The third has request numbers, lines `cut`, and epochs that come twice, and is streamed again from its beginning.
 What is required of feeds is required of them, with the lines of a stream: first those of the epochs that the disk told at the
-start, and then for each epoch its `ack`, its output lines, and the cut that is due. So none is written of an epoch that was
-not acknowledged, or told at the start. In the end each is as a stream that was not stopped.
+start, and then for each group `ack` of each of its epochs, their output lines, and the cut that is due. So none is written of an epoch
+that was not acknowledged, or told at the start. In the end each is as a stream that was not stopped.
 
 The output lines are those of `td batch` on all epochs. The states of the plan with two folds are reckoned here from these lines
 and the records."""
 
+import collections
 import concurrent.futures
 import os
 import pathlib
@@ -50,6 +57,8 @@ TOTAL = "0 input\n1 fold 40 0\n2 output 1\n"
 TOTAL_EPOCHS = [([(7, 5)], False), ([(7, -2), (8, 1)], True)]
 TOTAL_STATES = ["state 1 7 3 2", "state 1 8 1 1"]
 FILLS = ("old", "new", "00", "a5", "ff")
+# Of streams a crash may also leave every second range old, from the first on or from the second on.
+FILLS_OF_STREAMS = FILLS + ("old first", "new first")
 # So many stops are played by one run of the program.
 STOPS_OF_A_RUN = 40
 # What strace tells, and a sync in a list of calls, beside the writes, each with its place and its bytes.
@@ -74,6 +83,20 @@ def made_epochs(count):
 
 def lines_of(records):
     return [f"0 {key} {val}" for key, val in records] + ["."]
+
+
+def orders_of(lines):
+    """What lines ask for, one after another: of an epoch its request number, 0 for none, and None of a cut."""
+    orders, request = collections.deque(), 0
+    for line in lines:
+        if line.startswith("req "):
+            request = int(line.removeprefix("req "))
+        elif line == ".":
+            orders.append(request)
+            request = 0
+        elif line == "cut":
+            orders.append(None)
+    return orders
 
 
 def text_of(lines):
@@ -112,7 +135,7 @@ def states_after(epochs, outputs):
 class Feed:
     """A feed's plan, its disk's shape, its epochs and their output lines, and the states that it ends with."""
 
-    kind, goes_on = "feed", "each was fed on to the whole"
+    kind, goes_on, fills = "feed", "each was fed on to the whole", FILLS
 
     def __init__(self, plan, shape, epochs, states=None):
         self.plan, self.shape, self.epochs = plan, shape, epochs
@@ -137,20 +160,63 @@ class Feed:
         is_cut_left = told > kept and self.epochs[told - 1][1]
         return ["cut"] * is_cut_left + self.input_after(told)
 
+    @staticmethod
+    def request(number):
+        """The request number of an epoch, 0 for none."""
+        return 0
+
+    def is_new(self, order, last):
+        """Whether an order is for an epoch that does not stand on a disk with these epochs."""
+        return order is not None and (order == 0 or order > self.request(last))
+
+    def steps(self, lines, kept, told, most=None):
+        """What is done at once of what these lines ask for, on a disk that tells this: the numbers of a group's epochs, the request
+        number of an epoch that is there, or None, a cut. A cut that nobody asks for is due after so many epochs, None for never. (A ring of
+        three cells is full before a group has 256 epochs, or 1 MiB of cells.)"""
+        steps, orders = [], orders_of(lines)
+        cut, last, room = kept, told, most or int(self.shape.split()[1])
+        while True:
+            if most and last - cut >= most:
+                steps.append(None)
+                cut = last
+            if not orders:
+                return steps
+            first, order = last + 1, orders.popleft()
+            if not self.is_new(order, last):
+                steps.append(order)
+                cut = last if order is None else cut
+                continue
+            last += 1
+            while orders and last - cut < room and self.is_new(orders[0], last):
+                orders.popleft()
+                last += 1
+            steps.append(range(first, last + 1))
+
     def written(self, kept, told):
-        """What a feed of all that is left writes."""
-        written, done = [], kept
-        for number, (_, is_cut) in enumerate(self.epochs[:told][-1:] + self.epochs[told:], max(told, 1)):
-            if number > told:
-                written.append(f"ack {number}")
-            if is_cut and number > kept:
-                written += [line for lines in self.outputs[done + 1:number + 1] for line in lines] + [f"cut {number}"]
-                done = number
+        """What a feed of all that is left writes: outputs come at a cut, of the last epoch on the disk."""
+        written, done, last = [], kept, told
+        for step in self.steps(self.rest(kept, told), kept, told):
+            if step is None:
+                written += [line for lines in self.outputs[done + 1:last + 1] for line in lines] + [f"cut {last}"]
+                done = last
+            elif isinstance(step, int):
+                written.append(f"again {step}")
+            else:
+                written += [f"ack {number}" for number in step]
+                last = step[-1]
         return written
 
     def whole(self):
         """What a feed that is not stopped writes."""
         return self.written(0, 0)
+
+    def whole_steps(self):
+        """What one that is not stopped does at once."""
+        return self.steps(self.input_after(0), 0, 0)
+
+    def ends(self):
+        """The last epochs that may be told after a stop, in order: none, and that of each group."""
+        return [0] + [step[-1] for step in self.whole_steps() if isinstance(step, range)]
 
     def last(self, told):
         """The line of `show` for the last request number where so much is told, if there is one."""
@@ -197,20 +263,6 @@ class NumberedFeed(Feed):
     def rest(self, kept, told):
         return self.input_after(0)
 
-    def written(self, kept, told):
-        """What a feed of everything writes: a cut is at the last epoch on the disk, and writes the outputs that were not written."""
-        written, done, last = [], kept, told
-        for number, (_, is_cut) in enumerate(self.epochs, 1):
-            answers = [f"again {self.request(number)}"] * self.times(number)
-            if number > last:
-                answers[0] = f"ack {number}"
-                last = number
-            written += answers
-            if is_cut:
-                written += [line for lines in self.outputs[done + 1:last + 1] for line in lines] + [f"cut {last}"]
-                done = last
-        return written
-
     def last(self, told):
         return [f"last {self.request(told)}"] if told else []
 
@@ -219,35 +271,37 @@ class Stream(Feed):
     """A feed that comes line by line, by `td stream` on a file. A cut is due after so many epochs, None for no number, and after a stop
     after so many others."""
 
-    kind, goes_on = "stream", "each was streamed on to the whole"
+    kind, goes_on, fills = "stream", "each was streamed on to the whole", FILLS_OF_STREAMS
 
     def __init__(self, plan, shape, epochs, every, every_after):
         super().__init__(plan, shape, epochs)
         self.every, self.every_after = every, every_after
 
     def whole(self):
-        return self.streamed(self.input_after(0), 0, 0, self.every)
+        return self.streamed(self.whole_steps(), 0, 0)
+
+    def whole_steps(self):
+        return self.steps(self.input_after(0), 0, 0, self.most(self.every))
 
     def written(self, kept, told):
-        return self.streamed(self.rest(kept, told), kept, told, self.every_after)
+        return self.streamed(self.steps(self.rest(kept, told), kept, told, self.most(self.every_after)), kept, told)
 
-    def streamed(self, lines, kept, told, every):
-        """What a stream of these lines writes: first the outputs of what was told, then those of each epoch after its `ack`. A cut is due
-        where the journal is full, or where so many epochs stand after the last one."""
-        most = min(int(self.shape.split()[1]), every or EPOCHS)
-        written = [line for lines in self.outputs[kept + 1:told + 1] for line in lines]
-        cut, last, request = kept, told, None
-        for line in ["", *lines]:
-            if line.startswith("req "):
-                request = int(line[4:])
-            elif line == "." and request and request <= self.request(last):
-                written.append(f"again {request}")
-            elif line == ".":
-                last += 1
-                written += [f"ack {last}", *self.outputs[last]]
-            if line == "cut" or last - cut >= most:
+    def most(self, every):
+        """After how many epochs a cut is due: where the journal is full, or after as many as were asked for."""
+        return min(int(self.shape.split()[1]), every or EPOCHS)
+
+    def streamed(self, steps, kept, told):
+        """What a stream writes that does this: first the outputs of what was told, then those of each group after its `ack` lines."""
+        written, last = [line for lines in self.outputs[kept + 1:told + 1] for line in lines], told
+        for step in steps:
+            if step is None:
                 written.append(f"cut {last}")
-                cut = last
+            elif isinstance(step, int):
+                written.append(f"again {step}")
+            else:
+                last = step[-1]
+                written += [f"ack {number}" for number in step]
+                written += [line for number in step for line in self.outputs[number]]
         return written
 
     def words(self, disk, workers, every):
@@ -320,8 +374,10 @@ def crashed(image, calls, fill):
     """What a crash leaves after some calls, the last of which failed: a write may have written all the same, and a sync is none."""
     calls = calls[:-1] if calls[-1] is SYNC else calls
     synced = len(calls) - calls[::-1].index(SYNC) if SYNC in calls else 0
-    left = {"old": lambda data: b"", "new": lambda data: data}.get(fill, lambda data: bytes.fromhex(fill) * len(data))
-    return made(image, calls[:synced] + [(at, left(data)) for at, data in calls[synced:]])
+    old, new = lambda data: b"", lambda data: data
+    left = {"old": (old, old), "new": (new, new), "old first": (old, new), "new first": (new, old)}.get(
+        fill, (lambda data: bytes.fromhex(fill) * len(data),) * 2)
+    return made(image, calls[:synced] + [(at, left[odd % 2](data)) for odd, (at, data) in enumerate(calls[synced:])])
 
 
 def told_by(shown):
@@ -343,7 +399,10 @@ def read_stop(name, feed, answer):
     if before != whole[:len(before)] or (not is_met and before != whole):
         sys.exit(f"{name}: what was written is no beginning of the whole: {written}")
     last = [line for line in shown if line.startswith("last ")]
-    if told not in (acknowledged, acknowledged + 1) or counts != wanted or last != feed.last(told):
+    ends = feed.ends()
+    is_group_next = any(line.startswith("ack ") for line in whole[len(before):][:1])
+    lawful = ends[ends.index(acknowledged):][:1 + is_group_next] if acknowledged in ends else []
+    if told not in lawful or counts != wanted or last != feed.last(told):
         sys.exit(f"{name}: {acknowledged} epochs were acknowledged, and this is told: {shown}")
     return is_met, kept, told
 
@@ -407,7 +466,7 @@ def play_stops(stream, folder):
     image = stream.formatted(folder / "fresh")
     calls = read_whole(stream, image, folder / "fresh")
     stops = range(1, len(calls) + 1)
-    left = {(stop, fill): crashed(image, calls[:stop], fill) for stop in stops for fill in FILLS}
+    left = {(stop, fill): crashed(image, calls[:stop], fill) for stop in stops for fill in FILLS_OF_STREAMS}
     images = list(dict.fromkeys(left.values()))
     with concurrent.futures.ThreadPoolExecutor() as pool:
         written = list(pool.map(lambda stop: stop_stream(stream, image, calls[:stop], folder / f"stop{stop}"), stops))
@@ -430,13 +489,13 @@ def stop_each_of_stream(stream):
 
 
 def tell(feed, runs):
-    """Prints how many stops were met; the script ends where some number of epochs was never told."""
+    """Prints how many stops were met; the script ends where the end of some group was never told."""
     met = sum(met for met, _ in runs)
-    told = set().union(*[told for _, told in runs])
-    if told != set(range(len(feed.epochs) + 1)):
-        sys.exit(f"some numbers of epochs were never told: {set(range(len(feed.epochs) + 1)) - told}")
-    print(f"a {feed.kind} of {len(feed.epochs)} epochs stopped at each of its {met // len(FILLS)} writes and syncs, {met} crashes: "
-          f"nothing acknowledged was lost, and {feed.goes_on}")
+    told, ends = set().union(*[told for _, told in runs]), feed.ends()
+    if told != set(ends):
+        sys.exit(f"some ends of groups were never told: {set(ends) - told}")
+    print(f"a {feed.kind} of {len(feed.epochs)} epochs in {len(ends) - 1} groups stopped at each of its {met // len(feed.fills)} writes and syncs, "
+          f"{met} crashes: nothing acknowledged was lost, and {feed.goes_on}")
 
 
 def is_traced():

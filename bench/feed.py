@@ -3,13 +3,15 @@
 
     bench/feed.py [--epochs N] [--recovery-only | --numbers-only] [FOLDER]     needs crates/td/out/td (see the README) and a C compiler
 
-TOTAL on a file of FOLDER (by default of the system's folder for such files): 20,000 epochs of 1, 10 and 1,000 records with 100
-keys, and a cut each 1,000 epochs. Beside it, one after the other in each of three rounds:
+TOTAL on a file of FOLDER (by default of the system's folder for such files): 20,000 epochs of 1 and 10 records and
+2,000 of 1,000, with 100 keys, and a cut each 1,000 epochs. Beside it, one after the other in each of five rounds:
 
-- `limit`: bench/feed_limit.c, which makes the same writes and syncs and nothing else;
-- `sqlite`: sqlite3 with synchronous=FULL and a write-ahead log, which keeps the same totals, one transaction an epoch.
+- the limit: bench/feed_limit.c, which makes the writes and syncs of a feed and nothing else, one epoch at a time, and in the groups
+  in which `td feed` puts epochs on the disk;
+- sqlite3 with synchronous=FULL and a write-ahead log, which keeps the same totals, as many epochs a transaction as a group has.
 
-It prints epochs a second, of each the best round, and the ratio to the limit. Wanted: at least 0.85.
+It prints epochs a second, of each the median round, and the ratios. Wanted: 5 times one epoch at a time with 1 and 10 records, at least
+half of the same groups with 1,000, and more than sqlite3.
 
 Then what request numbers cost: epochs of one record without numbers and with them, and the latter fed once more to the same disk, which
 finds each of them there; the seconds of each in the middle of five rounds.
@@ -19,6 +21,7 @@ Then recovery: a full journal of 65,536 cells of 16 records is shown and fed not
 at most 3 times the plain read, and 3 times the records."""
 
 import argparse
+import itertools
 import os
 import pathlib
 import shutil
@@ -35,7 +38,10 @@ TOTAL = "0 input\n1 fold 40 0\n2 output 1\n"
 KEYS = 100
 CUT_EVERY = 1000
 SIZES = (1, 10, 1000)
-ROUNDS = 3
+ROUNDS = 5
+
+# A group of `td feed` has at most so many epochs, whose cells have at most so many bytes.
+GROUP, BYTES = 256, 1 << 20
 
 
 def batches(epochs, size):
@@ -73,9 +79,14 @@ def time_feed(folder, size, cells):
     return seconds, memory
 
 
-def time_limit(folder, limit, epochs, size, cells):
+def group_of(size):
+    """How many epochs of so many records a group has."""
+    return max(1, min(GROUP, BYTES // (26 + 24 * size)))
+
+
+def time_limit(folder, limit, epochs, size, cells, group):
     disk = folder / "limit.disk"
-    printed = subprocess.run([limit, disk, str(size), str(cells), str(KEYS), str(epochs), str(CUT_EVERY)],
+    printed = subprocess.run([limit, disk, *map(str, (size, cells, KEYS, epochs, CUT_EVERY, "group", group))],
                              check=True, capture_output=True, text=True).stdout
     disk.unlink()
     return float(printed)
@@ -88,9 +99,11 @@ def time_sqlite(folder, epochs, size):
     base.execute("PRAGMA synchronous=FULL")
     base.execute("CREATE TABLE totals (key INTEGER PRIMARY KEY, a INTEGER, b INTEGER)")
     begin = time.monotonic()
-    for batch in batches(epochs, size):
+    each = iter(batches(epochs, size))
+    for _ in range(0, epochs, group_of(size)):
         base.execute("BEGIN")
-        base.executemany("INSERT INTO totals VALUES (?, ?, 1) ON CONFLICT (key) DO UPDATE SET a = a + excluded.a, b = b + 1", batch)
+        for batch in itertools.islice(each, group_of(size)):
+            base.executemany("INSERT INTO totals VALUES (?, ?, 1) ON CONFLICT (key) DO UPDATE SET a = a + excluded.a, b = b + 1", batch)
         base.execute("COMMIT")
     seconds = time.monotonic() - begin
     base.close()
@@ -99,19 +112,21 @@ def time_sqlite(folder, epochs, size):
     return seconds
 
 
-def compare(folder, limit, epochs):
-    print("| Records an epoch | td feed | the limit | sqlite3 | td to the limit |")
-    print("|---|---|---|---|---|")
+def compare(folder, limit, all_epochs):
+    print("| Records an epoch | td feed | one epoch at a time | td to it | in the same groups | td to it | sqlite3 | td to it |")
+    print("|---|---|---|---|---|---|---|---|")
     for size in SIZES:
-        cells = min(CUT_EVERY, epochs)
+        epochs = all_epochs if size < 100 else all_epochs // 10
+        cells, group = min(CUT_EVERY, epochs), group_of(size)
         write_input(folder / "input", epochs, size)
-        times = {"td": [], "limit": [], "sqlite": []}
+        times = {"td": [], "alone": [], "groups": [], "sqlite": []}
         for _ in range(ROUNDS):
-            times["limit"].append(time_limit(folder, limit, epochs, size, cells))
+            times["alone"].append(time_limit(folder, limit, epochs, size, cells, 1))
+            times["groups"].append(time_limit(folder, limit, epochs, size, cells, group))
             times["td"].append(time_feed(folder, size, cells)[0])
             times["sqlite"].append(time_sqlite(folder, epochs, size))
-        td, low, other = (epochs / min(times[name]) for name in ("td", "limit", "sqlite"))
-        print(f"| {size:,} | {td:,.0f} | {low:,.0f} | {other:,.0f} | {td / low:.2f} |", flush=True)
+        td, alone, groups, other = (epochs / statistics.median(times[name]) for name in ("td", "alone", "groups", "sqlite"))
+        print(f"| {size:,} | {td:,.0f} | {alone:,.0f} | {td / alone:.2f} | {groups:,.0f} | {td / groups:.2f} | {other:,.0f} | {td / other:.2f} |", flush=True)
 
 
 def compare_numbers(folder, epochs):

@@ -1,10 +1,11 @@
 /* The writes and syncs of `td feed`, and nothing else: what a feed of so many epochs cannot be faster than.
 
-   feed_limit FILE M N K EPOCHS CUT_EVERY [plain]
+   feed_limit FILE M N K EPOCHS CUT_EVERY [plain | group G]
 
    It makes the file at its whole size, and then puts EPOCHS cells and, each CUT_EVERY epochs and at the end, a slot: a gate
    that is open is closed and synced, the payload is written and synced, the gate is opened and synced. It prints the seconds
-   of that part. `plain`: it reads the file from end to end in pieces of 64 KiB, and prints the seconds of that. */
+   of that part. `group G`: G epochs at once, up to the next cut: where the first one's gate is open it is closed and synced, the others
+   are written, gates and all, and synced, and then the first one's payload and gate, as before. `plain`: it reads the file from end to end in pieces of 64 KiB, and prints the seconds of that. */
 #include <fcntl.h>
 #include <stdio.h>
 #include <stdlib.h>
@@ -41,6 +42,17 @@ static void put(off_t at, size_t length, int is_open) {
     write_synced(&open, 1, at + (off_t)length);
 }
 
+/* Puts a group of cells from this epoch on, of which the first is opened last. */
+static void put_group(off_t cells, size_t cell, long n, long first, long count) {
+    const unsigned char closed = 0;
+    off_t at = cells + first % n * (off_t)(cell + 1);
+    if (first >= n) write_synced(&closed, 1, at + (off_t)cell);
+    for (long epoch = first + 1; epoch < first + count; epoch++)
+        if (pwrite(file, payload, cell + 1, cells + epoch % n * (off_t)(cell + 1)) != (ssize_t)(cell + 1)) die("write");
+    if (count > 1 && SYNC(file) != 0) die("sync");
+    put(at, cell, 0);
+}
+
 static void read_all(const char *name) {
     double begin = seconds();
     ssize_t got;
@@ -54,13 +66,14 @@ static void read_all(const char *name) {
 
 int main(int count, char **words) {
     if (count == 8) return read_all(words[1]), 0;
-    if (count != 7) return 2;
+    if (count != 7 && count != 9) return 2;
+    long group = count == 9 ? atol(words[8]) : 1;
     long m = atol(words[2]), n = atol(words[3]), k = atol(words[4]), epochs = atol(words[5]), every = atol(words[6]);
     size_t cell = 24 + 24 * (size_t)m, slot = 24 + 32 * (size_t)k;
     off_t slots = HEADS, cells = HEADS + 2 * (off_t)(slot + 1), size = cells + n * (off_t)(cell + 1);
     int slot_open[2] = {1, 0}, newest = 0;
     file = open(words[1], O_RDWR | O_CREAT | O_TRUNC, 0644);
-    payload = calloc(1, cell > slot ? cell : slot);
+    payload = calloc(1, (cell > slot ? cell : slot) + 1);
     if (file < 0 || payload == NULL) die(words[1]);
     if (ftruncate(file, size) != 0) die("size");
     /* A format writes zeros over all bytes. */
@@ -71,8 +84,11 @@ int main(int count, char **words) {
     }
     if (fsync(file) != 0) die("sync");
     double begin = seconds();
-    for (long epoch = 1; epoch <= epochs; epoch++) {
-        put(cells + epoch % n * (off_t)(cell + 1), cell, epoch >= n);
+    for (long epoch = 0; epoch < epochs;) {
+        long left = every - epoch % every < epochs - epoch ? every - epoch % every : epochs - epoch;
+        long many = group < left ? group : left;
+        put_group(cells, cell, n, epoch + 1, many);
+        epoch += many;
         if (epoch % every == 0) {
             int side = 1 - newest;
             put(slots + side * (off_t)(slot + 1), slot, slot_open[side]);

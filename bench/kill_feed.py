@@ -4,12 +4,14 @@ lost, and nothing doubled.
 
     bench/kill_feed.py [SEED]       needs crates/td/out/td (see the README)
 
-The file is formatted for a plan with two folds and a group. Each feed has epochs of a few records, with a cut after each fifth; it
+The file is formatted for a plan with two folds and a group. Each feed has epochs of a few records, with a cut after each fifth, so that
+the epochs up to one are put on the disk as a group; it
 gets SIGKILL after a random number of its `ack` lines and a random while after that, as long as some epochs take. 150 kills are of
 feeds of 60 epochs without request numbers: `td show` tells which epochs are on the disk, and the next feed begins with the first
 that is not. It is required that
 
-- after each kill what is told is what was acknowledged, or one epoch more, with as many records in each epoch as were fed;
+- after each kill what is told is what was acknowledged, or, where no cut was left before it, that and the whole group after it, with as
+  many records in each epoch as were fed;
 - a feed's output lines are those of the epochs after the checkpoint that it began with, from the first on;
 - after a last feed, which is let end, the states are those of all epochs, each once.
 
@@ -17,7 +19,8 @@ that is not. It is required that
 whatever the disk has of them, until each was answered; then that feed is let end, and the next 180 epochs are sent. It is required
 that
 
-- a feed answers `again` for each epoch that an earlier one acknowledged, and for at most one more, and acknowledges the next ones;
+- a feed answers `again` for each epoch that an earlier one answered, and for those up to the end of a group, the one that is known or
+  the next, and acknowledges the next ones;
 - its output lines are those of the epochs after the checkpoint that it began with, from the first on;
 - at the end `td show` tells the same as of a file to which all that was sent once, by feeds that were not killed.
 
@@ -27,10 +30,11 @@ lines of what it has written before it writes more. Such a stream gets SIGKILL a
 random while. Its producer begins again with the first epoch that it has no answer for, or, each eighth time, with the very first
 of all. It is required that
 
-- after each kill what is told is what was acknowledged, or one epoch more, and the checkpoint is no older than the last `cut`;
-- a stream's lines are, from the first on: the output lines of the epochs that `td show` told after the checkpoint; then for each
-  epoch `again`, where it was told, so wherever it was acknowledged, and else `ack` and after that its output lines; and `cut` where
-  a cut is due;
+- a stream's lines are, from the first on: the output lines of the epochs that `td show` told after the checkpoint; then `again` for
+  each epoch that was told, so for each that was acknowledged; and the others in some groups of epochs that were written at once, none
+  beyond a cut that is due: `ack` of each epoch of the group, after these the output lines of all, and `cut` where a cut is due;
+- after each kill what is told is where these lines end, the end of the group in which they do, or, where a group was to come next, one
+  of the epochs up to which that may go; and the checkpoint is no older than the last `cut`;
 - these lines come while the producer waits for them;
 - a last stream of all epochs from the very first on, which is let end, answers `again` for each that was told, and then `td show` tells
   the same as of a file to which all was sent once, by one stream that was not killed.
@@ -166,13 +170,22 @@ def killed(disk, plan, text, made):
     return written[:written.rfind(b"\n") + 1].decode().splitlines(), was_there
 
 
+def lawful_ends(known):
+    """The last epochs of which one is told, where so many are known to be on the disk: the end of the last one's group, and that of
+    the next group, if all of the last is known. A group of a feed ends where a cut follows."""
+    end = known + -known % EPOCHS_OF_A_CUT
+    return (end, end + EPOCHS_OF_A_CUT) if end == known else (end,)
+
+
 def check_feed(written, first, told, kill):
-    """How many epochs a feed acknowledged; the script ends where they are not told, or more than one beyond them."""
+    """How many epochs a feed acknowledged; the script ends where they are not told, or others than those of the next group are."""
     acknowledged = numbers_after("ack ", written)
     if acknowledged != list(range(first, first + len(acknowledged))):
         sys.exit(f"kill {kill}: {acknowledged} were acknowledged by a feed of the epochs from {first} on")
-    if told - (first - 1 + len(acknowledged)) not in (0, 1):
-        sys.exit(f"kill {kill}: {acknowledged} were acknowledged by a feed of the epochs from {first} on, and {told} is told")
+    known = first - 1 + len(acknowledged)
+    lawful = lawful_ends(known) if f"cut {known}" in written else lawful_ends(known)[:1]
+    if told not in lawful:
+        sys.exit(f"kill {kill}: {acknowledged} were acknowledged by a feed of the epochs from {first} on, and {told} is told: {written[-3:]}")
     return len(acknowledged)
 
 
@@ -214,7 +227,7 @@ def check_outputs(feeds, epochs, states):
 
 def kill_half(made, folder):
     """Kills feeds without request numbers, each of which goes on where the disk ends: how many came between two epochs, how many
-    told an epoch that was not yet acknowledged, and how many epochs there are."""
+    told epochs that were not yet acknowledged, and how many epochs there are."""
     epochs, feeds = Epochs(made), []
     inside = beyond = 0
     disk, plan = f"{folder}/disk", f"{folder}/plan"
@@ -239,16 +252,18 @@ def kill_half(made, folder):
 
 
 def check_again(written, first, last, known, kill):
-    """How many epochs a feed from `first` on has answered, where those up to `known` were acknowledged before, and whether the disk
-    had one more; the script ends where its answers are others than `again` for these, and then `ack` in turn."""
+    """How many epochs a feed from `first` on has answered, where those up to `known` were answered before, and whether the disk
+    had more; the script ends where its answers are others than `again` for these, and then `ack` in turn."""
     answers = [line for line in written if line.startswith(("ack ", "again "))]
     again = len([line for line in answers if line.startswith("again ")])
     numbers = range(first, first + len(answers))
     wanted = [f"again {request(number)}" for number in numbers[:again]] + [f"ack {number}" for number in numbers[again:]]
-    there = known - first + 1
-    if answers != wanted or len(answers) > last - first + 1 or again > there + 1 or (len(answers) > again and again < there):
+    lawful = lawful_ends(known)
+    told = first - 1 + again
+    is_told = len(answers) > again or len(answers) == last - first + 1
+    if answers != wanted or len(answers) > last - first + 1 or told > lawful[-1] or (is_told and told not in lawful):
         sys.exit(f"kill {kill}: {known} epochs were known to be on the disk, and a feed of {first} to {last} wrote {written}")
-    return len(answers), again - there == 1
+    return len(answers), told > known
 
 
 def kill_numbered_half(made, folder):
@@ -291,45 +306,73 @@ def check_once(disk, once, plan, epochs, feeds, last):
 
 def said_of(epochs, first, last, kept, told, every):
     """What a stream of the epochs from `first` to `last` writes, where this checkpoint and this last epoch are told and a cut is due
-    after so many epochs: the lines that come before it reads, and those for each epoch."""
+    after so many epochs: the lines that come before it reads, and those for each epoch, each in three parts: the answer, outputs,
+    a cut."""
     outputs = epochs.outputs(last)
-    said, cut = [flat(outputs[kept + 1:told + 1])], kept
+    said, cut = [([], flat(outputs[kept + 1:told + 1]), [])], kept
     for number in range(first - 1, last + 1):
         if number >= first:
-            said.append([f"ack {number}", *outputs[number]] if number > told else [f"again {request(number)}"])
+            said.append(([f"ack {number}"], outputs[number], []) if number > told else ([f"again {request(number)}"], [], []))
         if max(number, told) - cut >= every:
             cut = max(number, told)
-            said[-1].append(f"cut {cut}")
+            said[-1][2].append(f"cut {cut}")
     return said
 
 
-def pieces_of(epochs, said, first, known, made):
-    """What a producer writes at once, each piece with the count of lines that come before it: many epochs of those that have an
-    answer, and of the others most often one."""
-    before = list(itertools.accumulate(map(len, said)))
-    pieces, number, last = [], first, first + len(said) - 2
+def counts_before(said):
+    """How many lines come before each part of what is said, and how many there are: in whatever groups the epochs are put."""
+    return [0, *itertools.accumulate(len(flat(each)) for each in said)]
+
+
+def pieces_of(first, last, known, made):
+    """The last epoch of each piece that a producer writes at once: many epochs of those that have an answer, and of the others most
+    often one."""
+    ends, number = [], first
     while number <= last:
         few = made.choice((1, 1, 1, EPOCHS_AT_ONCE))
-        until = min(number + ANSWERED_AT_ONCE - 1, known) if number <= known else min(number + few - 1, last)
-        pieces.append((epochs.streamed_text(number, until), before[number - first]))
-        number = until + 1
-    return pieces
+        ends.append(min(number + ANSWERED_AT_ONCE - 1, known) if number <= known else min(number + few - 1, last))
+        number = ends[-1] + 1
+    return ends
 
 
 def lines_before_kill(said, known, made):
     """How many lines of a stream come before it is killed, of which so many epochs are known to be answered already."""
-    answers = made.randrange(known + MOST_ACKS + 1)
-    return len(flat(said[:answers])) + made.randrange(len(said[answers]) + 1)
+    answers, before = made.randrange(known + MOST_ACKS + 1), counts_before(said)
+    return before[answers] + made.randrange(before[answers + 1] - before[answers] + 1)
+
+
+def group_ends(said, at, most):
+    """The parts of `said` before which a group may end that begins with this one: new epochs up to this part, or to the first with a cut.
+    Any other part stands alone."""
+    for end in range(at + 1, most + 1):
+        yield end
+        answer, _, cut = said[end - 1]
+        if cut or not numbers_after("ack ", answer):
+            return
+
+
+def told_after(written, said, first, pieces):
+    """How many parts of `said` the disk may stand for where so much is written, in whatever groups the epochs of each piece were put;
+    empty where that is no beginning of what is said. The pieces that were given are told by their last epochs, in order."""
+    before, reached, told = counts_before(said), {0}, set()
+    piece_ends = [1] + [end - first + 2 for begin, end in zip([first - 1, *pieces], pieces) for _ in range(begin, end)]
+    for at, most in enumerate(piece_ends):
+        for end in group_ends(said, at, most) if at in reached else ():
+            group = flat(flat(parts) for parts in zip(*said[at:end]))
+            lines = written[before[at]:before[end]]
+            if lines == group[:len(lines)]:
+                (told if before[end] > len(written) else reached).add(end)
+    return told | {at for at in reached if before[at] == len(written)}
 
 
 class Producer(threading.Thread):
-    """Gives a stream the pieces of its input, each once so many lines of the stream have come, and takes these; and tells when those
-    have come after which the stream is to be killed."""
+    """Gives a stream the pieces of its input, each once so many lines of the stream have come, and takes these; and tells how many it
+    gave, and when those lines have come after which the stream is to be killed."""
 
     def __init__(self, stream, pieces, wanted):
         super().__init__()
         self.stream, self.pieces, self.wanted = stream, pieces, wanted
-        self.taken, self.count = b"", 0
+        self.taken, self.count, self.given = b"", 0, 0
         self.have_come = threading.Event()
 
     def run(self):
@@ -337,6 +380,7 @@ class Producer(threading.Thread):
             for text, before in self.pieces:
                 if not self.take(before):
                     break
+                self.given += 1
                 self.stream.stdin.write(text.encode())
             self.stream.stdin.close()
         except BrokenPipeError:
@@ -361,8 +405,8 @@ class Producer(threading.Thread):
 
 
 def killed_stream(disk, plan, every, pieces, wanted, made):
-    """Streams, and kills the stream a while after so many lines: what it wrote, in whole lines, and its status before; None where it was
-    still there."""
+    """Streams, and kills the stream a while after so many lines: what it wrote, in whole lines, how many pieces it was given, and its
+    status before; None where it was still there."""
     words = ["--workers", str(made.choice((1, 2, 4))), *(["--cut-every", str(every)] if every != CELLS else [])]
     with subprocess.Popen([TD, "stream", disk, plan, *words], stdin=subprocess.PIPE, stdout=subprocess.PIPE, bufsize=0) as run:
         producer = Producer(run, pieces, wanted)
@@ -374,16 +418,16 @@ def killed_stream(disk, plan, every, pieces, wanted, made):
         producer.join()
     if not have_come:
         sys.exit(f"a producer waited {SECONDS_OF_A_WAIT} s for {wanted} lines, and got {producer.lines()}")
-    return producer.lines(), status
+    return producer.lines(), producer.given, status
 
 
-def check_stream(written, status, said, acknowledged, kept, told, kill):
+def check_stream(written, status, said, first, pieces, kept, told, was_told, kill):
     """How many epochs a stream answered; the script ends where its lines are others, or where what it acknowledged or cut is not told."""
-    wanted = flat(said) if status is not None else flat(said)[:len(written)]
-    if status not in (None, 0) or written != wanted:
-        sys.exit(f"kill {kill}: a stream of status {status} wrote {written}, and not {wanted}")
-    if told - acknowledged not in (0, 1) or kept < max(numbers_after("cut ", written), default=0):
-        sys.exit(f"kill {kill}: {acknowledged} was acknowledged, and the checkpoint {kept} and the last epoch {told} are told after {written}")
+    lawful = {max(was_told, first - 2 + parts) for parts in told_after(written, said, first, pieces)}
+    if status not in (None, 0) or not lawful or (status == 0 and len(written) != counts_before(said)[-1]):
+        sys.exit(f"kill {kill}: a stream of status {status} was given {first} to {pieces}, and wrote {written}, and not {said}")
+    if told not in lawful or kept < max(numbers_after("cut ", written), default=0):
+        sys.exit(f"kill {kill}: the checkpoint {kept} and the last epoch {told}, and not one of {lawful}, are told after {written}")
     return len([line for line in written if line.startswith(("ack ", "again "))])
 
 
@@ -399,12 +443,16 @@ def kill_streams(made, folder):
         first = 1 if kill % KILLS_OF_A_BEGINNING == 0 else known + 1
         last, every = known + EPOCHS_OF_A_STREAM, made.choice((EPOCHS_OF_A_CUT, CELLS))
         said = said_of(epochs, first, last, kept, told, every)
-        pieces = pieces_of(epochs, said, first, known, made)
-        written, status = killed_stream(disk, plan, every, pieces, lines_before_kill(said, known - first + 1, made), made)
+        pieces = pieces_of(first, last, known, made)
+        texts = [epochs.streamed_text(begin + 1, end) for begin, end in zip([first - 1, *pieces], pieces)]
+        before = [counts_before(said)[begin - first + 2] for begin in [first - 1, *pieces[:-1]]]
+        wanted = lines_before_kill(said, known - first + 1, made)
+        written, given, status = killed_stream(disk, plan, every, list(zip(texts, before)), wanted, made)
         streams.append((kept, written))
+        was_told = told
         acknowledged = max([told, *numbers_after("ack ", written)])
         kept, told, _ = shown(disk, plan, epochs)
-        count = check_stream(written, status, said, acknowledged, kept, told, kill)
+        count = check_stream(written, status, said, first, pieces[:given], kept, told, was_told, kill)
         inside += status is None and 0 < count < last - first + 1
         beyond += told > acknowledged
         known = max(known, first - 1 + count)
@@ -418,9 +466,9 @@ def stream_all(disk, once, plan, epochs, kept, told):
     last = told + 1
     for file, kept, told in ((disk, kept, told), (once, 0, 0)):
         written = td("stream", file, plan, text=epochs.streamed_text(1, last) + "cut\n")
-        wanted = flat(said_of(epochs, 1, last, kept, told, CELLS)) + [f"cut {last}"]
-        if written != wanted:
-            sys.exit(f"a stream that was let end, with a checkpoint at {kept} and {told} told, wrote {written}, and not {wanted}")
+        said = said_of(epochs, 1, last, kept, told, CELLS)
+        if written[-1:] != [f"cut {last}"] or told_after(written[:-1], said, 1, [last]) != {len(said)}:
+            sys.exit(f"a stream that was let end, with a checkpoint at {kept} and {told} told, wrote {written}, and not {said}, and a cut")
 
 
 def main():
@@ -436,7 +484,7 @@ def main():
     for kills, what, way, (inside, beyond, told) in ways:
         if 2 * inside < kills:
             sys.exit(f"{way}: {inside} of {kills} kills alone came between two epochs")
-        print(f"{kills} {what} killed, and {way}: {inside} of them between two epochs, and {beyond} told an epoch that was "
+        print(f"{kills} {what} killed, and {way}: {inside} of them between two epochs, and {beyond} told epochs that were "
               f"not yet acknowledged: {told} epochs, none lost and none twice (seed {seed})")
 
 

@@ -339,7 +339,8 @@ and cannot be cut any more unless later epochs remove states: copy it to one wit
     cut 1
 
 **`device`**: a read, a write or a sync of DISK failed, as where its device is lost, or the file system is full. Each epoch with an
-`ack` was on the device before; the next one may be, or may not. **Do not feed that file again at once.** After a sync that failed, an
+`ack` was on the device before; of the next ones all that were to be put there together may be, or none. **Do not feed that file
+again at once.** After a sync that failed, an
 operating system may keep in its memory what the device never got, and answer reads, and later syncs, from there: what `td` would then
 tell and acknowledge, a loss of power would take away. So stop; mend the device, or make room; start the machine again, or take the file
 system off and put it on again, so that what is read is what the device has (or copy the file past that memory, as by `dd
@@ -365,21 +366,22 @@ may go on for ever, the end of a line has not, or an epoch has more than 2^32 li
     td: input
 
 **`output`**: standard output cannot be written: it is closed, or the disk is full, or who read it went away, as `head` does. What was
-written until then stays; an epoch whose `ack` could not be written stands on the disk all the same, and a disk whose `version 2` could
-not is raised; but what stands after such an epoch in the input of `td feed` or `td stream` is not on the disk: look with `td show`, and
-feed the rest.
+written until then stays; epochs whose `ack` could not be written, one or all that were put on the disk together, stand there all the
+same, and a disk whose `version 2` could not is raised; but what stands after such epochs in the input of `td feed` or `td stream` is
+not on the disk: look with `td show`, and feed the rest.
 
     $ td help >&-
     td: output
-    $ td format total.disk total.plan 4 2 3; printf '0 7 5\n.\n.\n' | td feed total.disk total.plan >&-; td show total.disk total.plan
+    $ td format total.disk total.plan 4 2 3; printf '0 7 5\n.\n.\ncut\n.\n' | td feed total.disk total.plan >&-; td show total.disk total.plan
     td: output
     kept 0
-    told 1
+    told 2
     epoch 1 1
+    epoch 2 0
 
 **`memory`**: the system refused memory. The program keeps the whole input, so an input that is cut in two needs half; but `td stream` keeps
-one line and the epochs since the last cut, so cut more often. Nothing was written, but by `td feed` and `td stream`: look with `td show`
-where the disk stands.
+64 KiB of it, one line, at most 256 epochs that it has read ahead, and the epochs since the last cut, so cut more often. Nothing was
+written, but by `td feed` and `td stream`: look with `td show` where the disk stands.
 
 **`spent`**: `td run`, `sim`, `feed` and `stream` number their tasks, and 2^63 of them were taken. No machine comes so far.
 "#;

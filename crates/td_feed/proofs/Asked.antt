@@ -1,6 +1,6 @@
 -- Reading what is asked for line by line.
 use Rattle.std.proofs.Common.{◌≡◌, ◌⊎◌, inl, inr, ℕ, ◌+◌, ◌<◌, ◌↔◌, ◌==◌, Bool, true, false, cond, List, [], ◌∷◌, ◌++◌, length, length-append, arith, Option, Some, None, Result, Ok, Err, All, refl, sym, ap, ◌∙◌, subst, append_assoc, append-nil}
-use Rattle.std.specs.Prelude.{if◌then◌else◌}
+use Rattle.std.specs.Prelude.{if◌then◌else◌, IfOk, IfSome}
 use Rattle.std.specs.List.{slice_split, onto_first}
 use Rattle.std.specs.Io.KnownBytes.{prepend_known, Consumes, IsAtEnd}
 use Rattle.std.specs.Option.{IsSome, option_to_list}
@@ -12,15 +12,18 @@ use Rattle.td_plan.specs.Lines.{Line as PlanLine}
 use Rattle.td_plan.specs.Inputs.{is_input_of}
 use Rattle.td_plan.specs.Text.{text_lines, without_empty_last}
 use Rattle.td_console.specs.declared.data_line.DataLine.TheVariants.{PassedOver, Record, Close}
+use Rattle.td_console.specs.declared.faults.LineFault.{LineFault}
 use Rattle.td_console.specs.declared.faults.LineFault.TheVariants.{NoSuchInput}
 use Rattle.td_console.specs.declared.faults.Fault.{Fault}
 use Rattle.td_console.specs.declared.faults.Fault.TheVariants.{Line}
 use Rattle.td_feed.specs.declared.order.FeedLine.{FeedLine}
 use Rattle.td_feed.specs.declared.order.FeedLine.TheVariants.{Data, Request, Cut}
 use Rattle.td_feed.specs.declared.order.Order.{Order}
+use Rattle.td_feed.specs.declared.at_once.Asked.{Asked}
+use Rattle.td_feed.specs.declared.at_once.Asked.TheVariants.{One}
 use Rattle.td_feed.specs.declared.order.Order.TheVariants as order
 use Rattle.td_feed.specs.Orders.{Orders, order_for, is_between, with_cut, with_request, with_line, feed_line_of, orders_from, and_then, ended}
-use Rattle.td_feed.specs.Asked.{Script, script_after, script_from, after_order, Completes, TakesLine, Asks, SameScript, script_left}
+use Rattle.td_feed.specs.Asked.{Script, script_after, script_from, after_order, after_orders, script_on, script_ahead, Completes, HasFault, TakesLine, Asks, IsOf, SameScript, script_left}
 
 -- there is always a part
 some_part : (p : ℕ → Bool) (xs : List ℕ) → (part : List ℕ) × (parts : List (List ℕ)) × (slice_split p xs ≡ part ∷ parts)
@@ -113,6 +116,16 @@ module _ (whole : Option (List ℕ)) where
   ends left line part taken so end none (inr some) =
       subst (λ (o : Option (List ℕ)). TakesLine whole (prepend_known part left) o) (sym some.1)
       (subst (λ p. TakesLine whole (prepend_known p left) (Some line)) (sym none) (at_end left line (subst (λ p. IsSoFar whole (prepend_known p left) line) none so) end some.0))
+
+-- a line that stands whole in what was read
+pub given : (rest : Option (List ℕ)) (bytes left line : List ℕ) → All (λ b. (b == 10) ≡ false) line × (bytes ≡ line ++ 10 ∷ left) → TakesLine (prepend_known bytes rest) (prepend_known left rest) (Some line)
+given None bytes left line so = tt
+given (Some r) bytes left line so = ap text_lines (ap (λ x. x ++ r) so.1 ∙ append_assoc line (10 ∷ left) r) ∙ whole_line line (left ++ r) so.0
+
+pub ok_some : {A E : Type 0} (r : Result (Option A) E) (P Q : A → Type 0) → ((a : A) → P a → Q a) → IfOk r (λ o. IfSome o P) → IfOk r (λ o. IfSome o Q)
+ok_some (Ok (Some a)) P Q f h = f a h
+ok_some (Ok None) P Q f h = h
+ok_some (Err e) P Q f h = h
 
 -- orders that were read before others
 abbrev prefixed : List Order → Orders → Orders
@@ -245,16 +258,16 @@ module _ (plan : List PlanLine) (n m : ℕ) (read next : Orders) (rest left : Op
       by (Some s) (Some r) (Some l) same takes = same ∙ ap (script_from plan n read) takes ∙ is (text_lines l)
 
   pub on_some : (s : Option Script) (line : List ℕ) (order : Order) → SameScript s (script_left rest plan n read) → TakesLine rest left (Some line) → Completes plan n read m next line (Some order)
-      → Asks s (script_left left plan m next) (Some order)
+      → Asks s (script_left left plan m next) (Some (One order))
   on_some s line order same takes is = by s rest left same takes
     where
-      by : (s : Option Script) (rest left : Option (List ℕ)) → SameScript s (script_left rest plan n read) → TakesLine rest left (Some line) → Asks s (script_left left plan m next) (Some order)
+      by : (s : Option Script) (rest left : Option (List ℕ)) → SameScript s (script_left rest plan n read) → TakesLine rest left (Some line) → Asks s (script_left left plan m next) (Some (One order))
       by None rest left same takes = tt
       by (Some s) None left same takes = absurd same
       by (Some s) (Some r) None same takes = absurd takes
       by (Some s) (Some r) (Some l) same takes =
           let is_so : s ≡ after_order (Some order) (script_from plan m next (text_lines l)) = same ∙ ap (script_from plan n read) takes ∙ is (text_lines l) in
-          (ap (λ (t : Script). t.orders) is_so, ap (λ (t : Script). t.is_sound) is_so)
+          (order ∷ [], refl, ap (λ (t : Script). t.orders) is_so, ap (λ (t : Script). t.is_sound) is_so)
 
   pub on_end : (s : Option Script) → SameScript s (script_left rest plan n read) → TakesLine rest left None → read.orders ≡ [] → is_between read ≡ true → Asks s (script_left left plan n read) None
   on_end s same takes none between = by s rest left same takes
@@ -266,6 +279,75 @@ module _ (plan : List PlanLine) (n m : ℕ) (read next : Orders) (rest left : Op
       by (Some s) (Some r) (Some l) same takes =
           let is_so : s ≡ record { orders = read.orders; is_sound = is_between read } = same ∙ ap (script_from plan n read) takes in
           (ap (λ (t : Script). t.orders) is_so ∙ none, ap (λ (t : Script). t.is_sound) is_so ∙ between)
+
+-- WHAT STANDS AHEAD
+pub same_through : (a b c : Option Script) → SameScript a b → SameScript b c → SameScript a c
+same_through None b c ab bc = tt
+same_through (Some a) None c ab bc = absurd ab
+same_through (Some a) (Some b) None ab bc = absurd bc
+same_through (Some a) (Some b) (Some c) ab bc = ab ∙ bc
+
+pub asks_through : (a b c : Option Script) (asked : Option Asked) → SameScript a b → Asks b c asked → Asks a c asked
+asks_through None b c asked ab bc = tt
+asks_through (Some a) None c asked ab bc = absurd ab
+asks_through (Some a) (Some b) c asked ab bc = subst (λ s. Asks (Some s) c asked) (sym ab) bc
+
+pub at_fault : (plan : List PlanLine) (n : ℕ) (read : Orders) (line : List ℕ) (fault : Fault) → read.orders ≡ [] → with_line plan n read (feed_line_of line) ≡ Err fault
+    → HasFault plan n read line
+at_fault plan n read line fault none is more =
+    ap (script_after read (λ r. script_from plan (n + 1) r more)) is ∙ (λ i. record { orders = none i; is_sound = false })
+
+-- a line was added
+pub line_added : (plan : List PlanLine) (n m : ℕ) (read next : Orders) (before after : List Order) (stopped : Option (ℕ × LineFault)) (rest left : Option (List ℕ)) (line : List ℕ)
+    → TakesLine rest left (Some line)
+    → ((more : List (List ℕ)) → script_on plan n read before None (line ∷ more) ≡ script_on plan m next after stopped more)
+    → SameScript (script_ahead rest plan n read before None) (script_ahead left plan m next after stopped)
+line_added plan n m read next before after stopped None left line takes added = tt
+line_added plan n m read next before after stopped (Some r) None line takes added = absurd takes
+line_added plan n m read next before after stopped (Some r) (Some l) line takes added = ap (script_on plan n read before None) takes ∙ added (text_lines l)
+
+-- an order was put ahead, after those that stand there, or a fault
+pub one_ahead : (plan : List PlanLine) (n m : ℕ) (read next : Orders) (line : List ℕ) (before after : List Order) (order : Order)
+    → Completes plan n read m next line (Some order) → after ≡ before ++ order ∷ []
+    → (more : List (List ℕ)) → script_on plan n read before None (line ∷ more) ≡ script_on plan m next after None more
+one_ahead plan n m read next line before after order is pushed more =
+    ap (after_orders before) (is more)
+    ∙ (λ i. record { orders = sym (append_assoc before (order ∷ []) (script_from plan m next more).orders) i; is_sound = (script_from plan m next more).is_sound })
+    ∙ (λ i. record { orders = sym pushed i ++ (script_from plan m next more).orders; is_sound = (script_from plan m next more).is_sound })
+
+pub none_ahead : (plan : List PlanLine) (n m : ℕ) (read next : Orders) (line : List ℕ) (before : List Order) → Completes plan n read m next line None
+    → (more : List (List ℕ)) → script_on plan n read before None (line ∷ more) ≡ script_on plan m next before None more
+none_ahead plan n m read next line before is more = ap (after_orders before) (is more)
+
+pub fault_ahead : (plan : List PlanLine) (n m : ℕ) (read next : Orders) (line : List ℕ) (before : List Order) (fault : ℕ × LineFault) → HasFault plan n read line
+    → (more : List (List ℕ)) → script_on plan n read before None (line ∷ more) ≡ script_on plan m next before (Some fault) more
+fault_ahead plan n m read next line before fault is more = ap (after_orders before) (is more)
+
+-- the first order was put ahead, or there is none
+pub first_ahead : (plan : List PlanLine) (n m : ℕ) (read next : Orders) (after : List Order) (order : Order) (rest left : Option (List ℕ))
+    → Asks (script_left rest plan n read) (script_left left plan m next) (Some (One order)) → after ≡ order ∷ []
+    → SameScript (script_ahead rest plan n read [] None) (script_ahead left plan m next after None)
+first_ahead plan n m read next after order None left asks pushed = tt
+first_ahead plan n m read next after order (Some r) None asks pushed = absurd asks
+first_ahead plan n m read next after order (Some r) (Some l) asks pushed =
+    λ i. record { orders = (asks.2 ∙ ap (λ os. os ++ (script_from plan m next (text_lines l)).orders) (asks.1 ∙ sym pushed)) i; is_sound = asks.3 i }
+
+pub none_follows : (plan : List PlanLine) (n m : ℕ) (read next : Orders) (rest left : Option (List ℕ))
+    → Asks (script_left rest plan n read) (script_left left plan m next) None
+    → Asks (script_ahead rest plan n read [] None) (script_ahead left plan m next [] None) None
+none_follows plan n m read next None left asks = tt
+none_follows plan n m read next (Some r) None asks = absurd asks
+none_follows plan n m read next (Some r) (Some l) asks = asks
+
+-- some that stand ahead are asked for
+pub asks_ahead : (plan : List PlanLine) (n : ℕ) (read : Orders) (before taken after : List Order) (stopped : Option (ℕ × LineFault)) (rest : Option (List ℕ)) (asked : Asked)
+    → IsOf asked taken → before ≡ taken ++ after
+    → Asks (script_ahead rest plan n read before stopped) (script_ahead rest plan n read after stopped) (Some asked)
+asks_ahead plan n read before taken after stopped None asked of is = tt
+asks_ahead plan n read before taken after None (Some r) asked of is =
+    (taken, of, ap (λ os. os ++ (script_from plan n read (text_lines r)).orders) is ∙ append_assoc taken after (script_from plan n read (text_lines r)).orders, refl)
+asks_ahead plan n read before taken after (Some fault) (Some r) asked of is =
+    (taken, of, ap (λ os. os ++ []) is ∙ append_assoc taken after [], refl)
 
 abbrev got : Result (List Order) Fault → List Order
 got (Ok os) = os

@@ -1,9 +1,8 @@
 -- How what a feed's calls leave of a keeper comes together.
-use Rattle.std.proofs.Common.{◌≡◌, ◌⊎◌, ⊎_elim, inl, inr, ℕ, suc, ◌+◌, ◌-◌, ◌≤◌, Bool, false, List, [], ◌∷◌, ◌++◌, length, take, drop, refl, sym, ap, ◌∙◌, subst, arith}
+use Rattle.std.proofs.Common.{◌≡◌, ◌⊎◌, ⊎_elim, inl, inr, ℕ, ◌+◌, ◌-◌, ◌≤◌, Bool, false, List, [], ◌∷◌, ◌++◌, length, take, drop, refl, sym, ap, ◌∙◌, subst, arith}
 use Rattle.std.specs.Prelude.{Option, Some, None, IfSome, Result, Ok, Err, OnOk, OnErr}
 use Rattle.std.proofs.lemmas.List.{append-nil, append_assoc, length-append, take_at, take-append-le, take_all, take-map, take-append-drop, length-drop}
 use Rattle.std.proofs.Math.Seq.{take-append-add}
-use Rattle.std.proofs.Math.Nat.{add-suc}
 use Rattle.td_stamp.specs.declared.values.Entry.{Entry}
 use Rattle.td_stamp.specs.States.{StateList}
 use Rattle.td_plan.specs.Lines.{Line}
@@ -15,14 +14,15 @@ use Rattle.td_gate.specs.CrashSafe.{CrashSafe, Unchanged}
 use Rattle.td_head.specs.declared.head.Head.{Head}
 use Rattle.td_journal.specs.declared.submitted.Submitted.{Submitted}
 use Rattle.td_journal.specs.Numbers.{greatest}
-use Rattle.td_standing.specs.Standing.{Standing, last_epoch, last_request, submission, batches_of, with_more, cut_at}
+use Rattle.td_standing.specs.Standing.{Standing, last_epoch, last_request, batches_of, with_more, cut_at}
 use Rattle.td_standing.specs.Stops.{Advance, Begins, Stands}
 use Rattle.td_standing.specs.declared.error.KeeperError.{KeeperError}
 use Rattle.td_standing.specs.Told.{Told}
 use Rattle.td_standing.specs.Tells.{Tells, Keeps}
 use Rattle.td_standing.specs.Advanced.{TellsAdvance, SinceAdvance, HeldWhere, states_by}
 use Rattle.td_keeper.specs.declared.command.Reply.{Reply}
-use Rattle.td_keeper.specs.Keeping.{Keeping, IsKeeping, with_batch, with_checkpoint}
+use Rattle.td_keeper.specs.Grouped.{AllOrNone}
+use Rattle.td_keeper.specs.Keeping.{Keeping, IsKeeping, with_epochs, with_group, with_checkpoint}
 use Rattle.td_feed.specs.Fed.{TellsHistory, EachTellsHistory, EachTellsSome}
 use Rattle.td_feed.specs.Carried.{StandsFor, Carries, Stopped, Leaves}
 use Rattle.td_feed.proofs.Newness.{greatest-append}
@@ -98,6 +98,17 @@ one_more h b w (r ∷ rest) e le =
     let same : length w ≡ length h = omega (arith, ap length e, length-append h (b ∷ []), length-append w (r ∷ rest), le) in
     inl (sym (take_at w (r ∷ rest) (length w) refl) ∙ ap (take (length w)) (sym e) ∙ take_at h (b ∷ []) (length w) (sym same))
 
+-- a standing with epochs more stands for the history with them
+more_stands : (answers : Answers) (plan : List Line) (s : Standing) (history x : List Submitted) → Stands (states_by answers plan) s history
+    → Stands (states_by answers plan) (with_more s x) (history ++ x)
+more_stands answers plan s history x is = record {
+  before = is.before;
+  epochs = is.epochs;
+  states = is.states;
+  last = is.last;
+  whole = ap (λ (l : List Submitted). l ++ x) is.whole ∙ append_assoc is.before s.submitted x;
+}
+
 module _ {D : Type 0} (answers : Answers) where
   -- what moves neither plan nor standing
   pub unmoved : (old new : Keeping D) → new.plan ≡ old.plan → new.standing ≡ old.standing → new.broken ≡ false → Carries answers old new []
@@ -129,22 +140,20 @@ module _ {D : Type 0} (answers : Answers) where
   pub carried_by : (old new : Keeping D) (x : Reply → List Submitted) → {r t : Reply} → r ≡ t → Carries answers old new (x r) → Carries answers old new (x t)
   carried_by old new x is carries = subst (λ (r : Reply). Carries answers old new (x r)) is carries
 
-  -- a batch that was submitted
-  pub submitted : (old new : Keeping D) (device : D) (request : ℕ) (batch : List Entry) → old.broken ≡ false → new ≡ with_batch old device request batch → Carries answers old new (submission request batch ∷ [])
-  submitted old new device request batch whole is =
-      let x : List Submitted = submission request batch ∷ [] in
+  -- epochs that were submitted
+  pub submitted : (old new : Keeping D) (device : D) (x : List Submitted) → old.broken ≡ false → new ≡ with_epochs old device x → Carries answers old new x
+  submitted old new device x whole is =
       subst (λ (k : Keeping D). Carries answers old k x) (sym is) (record {
         plan = refl;
         whole = whole;
         last = greatest-append old.standing.last old.standing.submitted x;
-        stands = λ history s. record {
-          before = s.before;
-          epochs = s.epochs;
-          states = s.states;
-          last = s.last;
-          whole = ap (λ (l : List Submitted). l ++ x) s.whole ∙ append_assoc s.before old.standing.submitted x;
-        };
+        stands = λ history s. more_stands answers old.plan old.standing history x s;
       })
+
+  -- or a group, if there is one
+  pub grouped : (old new : Keeping D) (x : List Submitted) → old.broken ≡ false → new ≡ with_group old new.device x → Carries answers old new x
+  grouped old new [] whole is = unmoved old new (ap (λ (k : Keeping D). k.plan) is) (ap (λ (k : Keeping D). k.standing) is) (ap (λ (k : Keeping D). k.broken) is ∙ whole)
+  grouped old new (s ∷ x) whole is = submitted old new new.device (s ∷ x) whole is
 
 module _ (answers : Answers) (stands_on : Stands-on answers) where
   -- an image that tells an advance of a standing by nothing
@@ -195,42 +204,62 @@ module _ {D : Type 0} (is_lawful : D → Type 0) (state : D → DiskState) (answ
     (before : is_lawful new.device → is_lawful old.device)
     (counts : is_lawful new.device → (c : List ℕ) → (state new.device).images c → (state new.device).since (state old.device).moment c) where
   pub stopped_one : (x : Submitted) → (is_lawful old.device → SinceAdvance answers old.plan old.standing (x ∷ []) (last_epoch old.standing) (state old.device).moment (state new.device))
-      → Stopped is_lawful state answers old new (x ∷ []) 0
+      → Stopped is_lawful state answers old new (x ∷ []) 0 1
   stopped_one x since history is lawful c image =
       ⊎_elim (λ t. inl (subst (λ (h : List Submitted). TellsHistory answers old.plan h c) (sym (append-nil history)) t)) (λ t. inr (omega arith, t))
       (one_told answers stands_on old.plan old.standing history x c is (since (before lawful) c (counts lawful c image)))
 
   pub stopped_none : (is_lawful old.device → SinceAdvance answers old.plan old.standing [] (last_epoch old.standing) (state old.device).moment (state new.device))
-      → Stopped is_lawful state answers old new [] 0
+      → Stopped is_lawful state answers old new [] 0 0
   stopped_none since history is lawful c image =
       inl (subst (λ (h : List Submitted). TellsHistory answers old.plan h c) (sym (append-nil history))
       (still_told answers stands_on old.plan old.standing history c is (since (before lawful) c (counts lawful c image))))
 
+-- and in a call that submits a group
+module _ {D : Type 0} (is_lawful : D → Type 0) (state : D → DiskState) (answers : Answers) (old new : Keeping D)
+    (before : is_lawful new.device → is_lawful old.device)
+    (counts : is_lawful new.device → (c : List ℕ) → (state new.device).images c → (state new.device).since (state old.device).moment c) where
+  pub stopped_all : (x : List Submitted) → (is_lawful old.device → AllOrNone old.plan old.standing x (state old.device).moment (state new.device))
+      → Stopped is_lawful state answers old new x 0 (length x)
+  stopped_all x since history is lawful c image =
+      ⊎_elim
+      (λ told. inl (subst (λ (h : List Submitted). TellsHistory answers old.plan h c) (sym (append-nil history)) (record { standing = old.standing; told = told; stands = is })))
+      (λ told. inr (
+        omega arith,
+        subst (λ (l : List Submitted). TellsHistory answers old.plan (history ++ l) c) (sym (take_all (0 + length x) x (omega arith)))
+            (record { standing = with_more old.standing x; told = told; stands = more_stands answers old.plan old.standing history x is }),
+      ))
+      (since (before lawful) c (counts lawful c image))
+
 module _ {D : Type 0} (is_lawful : D → Type 0) (state : D → DiskState) (answers : Answers) where
   -- a refusal with nothing submitted
   pub leaves_none : (old new : Keeping D) (more : List Submitted) → Carries answers old new [] → Leaves is_lawful state answers old new more
-  leaves_none old new more is = record { count = 0; few = omega arith; left = inl is }
+  leaves_none old new more is = record { count = 0; group = 0; few = omega arith; left = inl is }
 
   -- with all of them
   pub leaves_all : (old new : Keeping D) (more : List Submitted) → Carries answers old new more → Leaves is_lawful state answers old new more
   leaves_all old new more is =
-      record { count = length more; few = omega arith; left = inl (subst (λ (x : List Submitted). Carries answers old new x) (sym (take_all (length more) more (omega arith))) is) }
+      record { count = length more; group = 0; few = omega arith; left = inl (subst (λ (x : List Submitted). Carries answers old new x) (sym (take_all (length more) more (omega arith))) is) }
 
   -- a refusal in the middle
   pub then_leaves : (a b c : Keeping D) (x y z all : List Submitted) → all ≡ x ++ (y ++ z) → Carries answers a b x → Leaves is_lawful state answers b c y → Leaves is_lawful state answers a c all
   then_leaves a b c x y z all is first rest = record {
     count = length x + rest.count;
+    group = rest.group;
     few = omega (arith, rest.few, ap length is, length-append x (y ++ z), length-append y z);
     left = ⊎_elim
         (λ whole. inl (subst (λ (l : List Submitted). Carries answers a c l) (sym (part rest.count rest.few)) (then_carries answers a b c x (take rest.count y) first whole)))
         (λ stopped. inr (λ history stands lawful i image.
         ⊎_elim
         (λ t. inl (tells history i rest.count rest.few t))
-        (λ t. inr (omega (arith, t.0, ap length is, length-append x (y ++ z), length-append y z), subst (λ (n : ℕ). TellsHistory answers a.plan (history ++ take n all) i) (add-suc (length x) rest.count) (tells history i (suc rest.count) t.0 t.1)))
+        (λ t. inr (omega (arith, t.0, ap length is, length-append x (y ++ z), length-append y z), subst (λ (n : ℕ). TellsHistory answers a.plan (history ++ take n all) i) (in_turn (length x) rest.count rest.group) (tells history i (rest.count + rest.group) t.0 t.1)))
         (stopped (history ++ x) (first.stands history stands) lawful i image)))
         rest.left;
   }
     where
+      in_turn : (a b c : ℕ) → a + (b + c) ≡ a + b + c
+      in_turn a b c = omega arith
+
       part : (n : ℕ) → n ≤ length y → take (length x + n) all ≡ x ++ take n y
       part n le = ap (λ (l : List Submitted). take (length x + n) l) is ∙ take-append-add x (y ++ z) n ∙ ap (λ (l : List Submitted). x ++ l) (take-append-le n y z le)
 
@@ -274,6 +303,7 @@ module _ {D : Type 0} (is_lawful : D → Type 0) (state : D → DiskState) (answ
       → EachTellsSome answers old.plan history more (state new.device)
   ended_some old new history more is leaves held lawful = record {
     count = leaves.count;
+    group = leaves.group;
     each = ⊎_elim
         (λ whole c image. inl (subst (λ (p : List Line). TellsHistory answers p (history ++ take leaves.count more) c) whole.plan (each_told new (history ++ take leaves.count more) whole.whole (whole.stands history is) held lawful c image)))
         (λ stopped c image. ⊎_elim inl (λ t. inr t.1) (stopped history is lawful c image))
@@ -290,7 +320,7 @@ module _ {D : Type 0} (is_lawful : D → Type 0) (state : D → DiskState) (answ
 -- the same history, with nothing submitted
 pub none_more : (answers : Answers) (plan : List Line) (history more : List Submitted) (state : DiskState) → EachTellsHistory answers plan history state → EachTellsSome answers plan history more state
 none_more answers plan history more state told =
-    record { count = 0; each = λ c image. inl (subst (λ (h : List Submitted). TellsHistory answers plan h c) (sym (append-nil history)) (told c image)) }
+    record { count = 0; group = 0; each = λ c image. inl (subst (λ (h : List Submitted). TellsHistory answers plan h c) (sym (append-nil history)) (told c image)) }
 
 module _ (answers : Answers) (plan : List Line) (history : List Submitted) (old now : DiskState) (safe : CrashSafe Unchanged old now)
     (counts : (c : List ℕ) → now.images c → now.since old.moment c) (told : EachTellsHistory answers plan history old) where

@@ -6,7 +6,8 @@ use Rattle.td_disk.specs.Disk.{Rises, CountsDevice}
 use Rattle.td_standing.specs.declared.error.KeeperError.{KeeperError}
 use Rattle.td_standing.specs.declared.error.KeeperError.TheVariants as error
 use Rattle.td_keeper.specs.declared.command.Reply.{Reply}
-use Rattle.td_keeper.specs.declared.command.Reply.TheVariants.{Submitted, SubmittedAs, Released, Settled, Collected, Out, CutTaken, Written, Refused}
+use Rattle.td_keeper.specs.declared.command.Reply.TheVariants.{Submitted, SubmittedAs, SubmittedAll, Released, Settled, Collected, Out, CutTaken, Written, Closed, Refused, RefusedAll}
+use Rattle.td_keeper.specs.declared.group.GroupError.TheVariants as group
 use Rattle.td_keeper.specs.Driven.{is_device, some_failed}
 use Rattle.td_core.specs.declared.error.HallError.TheVariants as hall
 use Rattle.td_pool.specs.declared.error.PoolError.{PoolError}
@@ -86,23 +87,31 @@ pub counts_told : (result : Result Reply Fault) (reply : Reply) (n m : ℕ) → 
     → IfErr result (λ f. (is_refused reply ≡ true) × (f ≡ fault_in reply)) → n ≤ m → (some_failed (reply ∷ []) ≡ true → Rises n m) → (some_failed (reply ∷ []) ≡ false → m ≡ n)
     → CountsDevice result (Keeper error.Device) n m
 counts_told (Err f) (Refused e b) n m ok err later rose same = counts_error e f n m err.1 later (λ is. rose (or_false (is_device e) ∙ is)) (λ is. same (or_false (is_device e) ∙ is))
+counts_told (Err f) (RefusedAll (group.Keeper e) b) n m ok err later rose same = counts_error e f n m err.1 later (λ is. rose (or_false (is_device e) ∙ is)) (λ is. same (or_false (is_device e) ∙ is))
+counts_told (Err f) (RefusedAll group.Repeated b) n m ok err later rose same =
+    record { later = later; rises = λ device. absurd (let not_so = device in let other = err.1 in cc); stays = inr (same refl) }
 counts_told (Err f) (Submitted k) n m ok err later rose same = absurd (let not_so = err.0 in cc)
 counts_told (Err f) (SubmittedAs k) n m ok err later rose same = absurd (let not_so = err.0 in cc)
+counts_told (Err f) (SubmittedAll k i) n m ok err later rose same = absurd (let not_so = err.0 in cc)
 counts_told (Err f) (Released k) n m ok err later rose same = absurd (let not_so = err.0 in cc)
 counts_told (Err f) Settled n m ok err later rose same = absurd (let not_so = err.0 in cc)
 counts_told (Err f) (Collected k) n m ok err later rose same = absurd (let not_so = err.0 in cc)
 counts_told (Err f) (Out o) n m ok err later rose same = absurd (let not_so = err.0 in cc)
 counts_told (Err f) (CutTaken k) n m ok err later rose same = absurd (let not_so = err.0 in cc)
 counts_told (Err f) (Written w) n m ok err later rose same = absurd (let not_so = err.0 in cc)
+counts_told (Err f) Closed n m ok err later rose same = absurd (let not_so = err.0 in cc)
 counts_told (Ok r) (Refused e b) n m ok err later rose same = absurd (let not_so = ok.1 in cc)
+counts_told (Ok r) (RefusedAll e b) n m ok err later rose same = absurd (let not_so = ok.1 in cc)
 counts_told (Ok r) (Submitted k) n m ok err later rose same = record { later = later; rises = λ device. absurd (let not_so = device in cc); stays = inr (same refl) }
 counts_told (Ok r) (SubmittedAs k) n m ok err later rose same = record { later = later; rises = λ device. absurd (let not_so = device in cc); stays = inr (same refl) }
+counts_told (Ok r) (SubmittedAll k i) n m ok err later rose same = record { later = later; rises = λ device. absurd (let not_so = device in cc); stays = inr (same refl) }
 counts_told (Ok r) (Released k) n m ok err later rose same = record { later = later; rises = λ device. absurd (let not_so = device in cc); stays = inr (same refl) }
 counts_told (Ok r) Settled n m ok err later rose same = record { later = later; rises = λ device. absurd (let not_so = device in cc); stays = inr (same refl) }
 counts_told (Ok r) (Collected k) n m ok err later rose same = record { later = later; rises = λ device. absurd (let not_so = device in cc); stays = inr (same refl) }
 counts_told (Ok r) (Out o) n m ok err later rose same = record { later = later; rises = λ device. absurd (let not_so = device in cc); stays = inr (same refl) }
 counts_told (Ok r) (CutTaken k) n m ok err later rose same = record { later = later; rises = λ device. absurd (let not_so = device in cc); stays = inr (same refl) }
 counts_told (Ok r) (Written w) n m ok err later rose same = record { later = later; rises = λ device. absurd (let not_so = device in cc); stays = inr (same refl) }
+counts_told (Ok r) Closed n m ok err later rose same = record { later = later; rises = λ device. absurd (let not_so = device in cc); stays = inr (same refl) }
 
 -- a worker's refusal is none of the device's
 worker_no_device : (r : PoolError) → pool_fault r ≡ Keeper error.Device → ⊥

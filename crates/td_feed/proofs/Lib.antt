@@ -7,6 +7,7 @@ pub mod Printable
 pub mod Narrowed
 pub mod Refused
 pub mod Lines
+pub mod PlainLines
 pub mod Wording
 pub mod Reread
 pub mod Pieces
@@ -14,3 +15,4 @@ pub mod Counting
 pub mod Asked
 pub mod Obeyed
 mod Shown
+pub mod Acknowledged

@@ -12,14 +12,15 @@ use Rattle.td_disk.specs.Disk.{DiskState}
 use Rattle.td_journal.specs.declared.submitted.Submitted.{Submitted as AnySubmitted}
 use Rattle.td_standing.specs.declared.error.KeeperError.TheVariants as error
 use Rattle.td_keeper.specs.declared.command.Command.{Command}
-use Rattle.td_keeper.specs.declared.command.Command.TheVariants.{Submit, SubmitAs, Release, Settle, Collect, NextOut, Cut, WriteCut}
+use Rattle.td_keeper.specs.declared.command.Command.TheVariants.{Submit, SubmitAs, SubmitAll, Release, Settle, Collect, NextOut, Cut, WriteCut, CloseFree}
 use Rattle.td_keeper.specs.declared.command.Reply.{Reply}
-use Rattle.td_keeper.specs.declared.command.Reply.TheVariants.{Submitted, SubmittedAs, Released, Settled, Collected, Out, CutTaken, Written, Refused}
+use Rattle.td_keeper.specs.declared.command.Reply.TheVariants.{Submitted, SubmittedAs, SubmittedAll, Released, Settled, Collected, Out, CutTaken, Written, Closed, Refused, RefusedAll}
 use Rattle.td_keeper.specs.Keeping.{Keeping}
 use Rattle.td_keeper.specs.Driven.{submitted_in, submitted_by, Obeys, Driven}
 use Rattle.td_pool.specs.declared.error.PoolError.{PoolError}
 use Rattle.td_console.specs.declared.faults.Fault.{Fault}
 use Rattle.td_console.specs.declared.faults.Fault.TheVariants.{Output, Memory, Keeper}
+use Rattle.td_feed.specs.Carried.{is_refused}
 use Rattle.td_feed.specs.Fed.{pool_fault}
 use Rattle.td_feed.specs.Said.{request_in, line_of, lines_of, Says, SaysSome, SaysBy, SaysFrom, SaysFed, Refuses}
 
@@ -29,6 +30,7 @@ is_quiet Release = true
 is_quiet Settle = true
 is_quiet Collect = true
 is_quiet Cut = true
+is_quiet (CloseFree most) = true
 is_quiet _ = false
 
 module _ {D : Type 0} (is_lawful : D → Type 0) (state : D → DiskState) (failures : D → ℕ) (answers : Answers) where
@@ -120,7 +122,7 @@ module _ {D : Type 0} (is_lawful : D → Type 0) (state : D → DiskState) (fail
   -- a refused command writes nothing
   pub refused_some : (w : Option (List ℕ)) (c : Command) (old new : Keeping D) → Refuses is_lawful state failures answers c old new → SaysSome is_lawful state failures answers w w old new
   refused_some w c old new (inl is) = record { commands = []; replies = []; driven = is; text = []; unsaid = []; lines = refl; said = Appends-nil w }
-  refused_some w c old new (inr told) = unsaid_one w c (Refused told.0 told.1) old new told.2
+  refused_some w c old new (inr told) = unsaid_one w c told.0 old new told.2
 
   -- AT AN ANSWER
   pub then_by : (result : Result (Unit {0}) Fault) (u v w : Option (List ℕ)) (a b c : Keeping D) (x y : List AnySubmitted) → Says is_lawful state failures answers u v a b x
@@ -151,48 +153,74 @@ module _ {D : Type 0} (is_lawful : D → Type 0) (state : D → DiskState) (fail
   quiet_release : (r : Reply) (old new : Keeping D) → Obeys is_lawful state failures answers Release r old new → line_of 0 r ≡ []
   quiet_release (Submitted n) old new not_so = absurd not_so
   quiet_release (SubmittedAs n) old new not_so = absurd not_so
+  quiet_release (SubmittedAll n m) old new not_so = absurd not_so
+  quiet_release (RefusedAll e xs) old new not_so = absurd not_so
   quiet_release (Released n) old new is = refl
   quiet_release Settled old new is = refl
   quiet_release (Collected n) old new is = refl
   quiet_release (Out o) old new not_so = absurd not_so
   quiet_release (CutTaken n) old new is = refl
+  quiet_release Closed old new is = refl
   quiet_release (Written w) old new not_so = absurd not_so
   quiet_release (Refused e b) old new is = refl
 
   quiet_settle : (r : Reply) (old new : Keeping D) → Obeys is_lawful state failures answers Settle r old new → line_of 0 r ≡ []
   quiet_settle (Submitted n) old new not_so = absurd not_so
   quiet_settle (SubmittedAs n) old new not_so = absurd not_so
+  quiet_settle (SubmittedAll n m) old new not_so = absurd not_so
+  quiet_settle (RefusedAll e xs) old new not_so = absurd not_so
   quiet_settle (Released n) old new is = refl
   quiet_settle Settled old new is = refl
   quiet_settle (Collected n) old new is = refl
   quiet_settle (Out o) old new not_so = absurd not_so
   quiet_settle (CutTaken n) old new is = refl
+  quiet_settle Closed old new is = refl
   quiet_settle (Written w) old new not_so = absurd not_so
   quiet_settle (Refused e b) old new is = refl
 
   quiet_collect : (r : Reply) (old new : Keeping D) → Obeys is_lawful state failures answers Collect r old new → line_of 0 r ≡ []
   quiet_collect (Submitted n) old new not_so = absurd not_so
   quiet_collect (SubmittedAs n) old new not_so = absurd not_so
+  quiet_collect (SubmittedAll n m) old new not_so = absurd not_so
+  quiet_collect (RefusedAll e xs) old new not_so = absurd not_so
   quiet_collect (Released n) old new is = refl
   quiet_collect Settled old new is = refl
   quiet_collect (Collected n) old new is = refl
   quiet_collect (Out o) old new not_so = absurd not_so
   quiet_collect (CutTaken n) old new is = refl
+  quiet_collect Closed old new is = refl
   quiet_collect (Written w) old new not_so = absurd not_so
   quiet_collect (Refused e b) old new is = refl
 
   quiet_cut : (r : Reply) (old new : Keeping D) → Obeys is_lawful state failures answers Cut r old new → line_of 0 r ≡ []
   quiet_cut (Submitted n) old new not_so = absurd not_so
   quiet_cut (SubmittedAs n) old new not_so = absurd not_so
+  quiet_cut (SubmittedAll n m) old new not_so = absurd not_so
+  quiet_cut (RefusedAll e xs) old new not_so = absurd not_so
   quiet_cut (Released n) old new is = refl
   quiet_cut Settled old new is = refl
   quiet_cut (Collected n) old new is = refl
   quiet_cut (Out o) old new not_so = absurd not_so
   quiet_cut (CutTaken n) old new is = refl
+  quiet_cut Closed old new is = refl
   quiet_cut (Written w) old new not_so = absurd not_so
   quiet_cut (Refused e b) old new is = refl
 
-  -- releasing, settling, collecting and cutting write nothing
+  quiet_close : (most : ℕ) (r : Reply) (old new : Keeping D) → Obeys is_lawful state failures answers (CloseFree most) r old new → line_of 0 r ≡ []
+  quiet_close most (Submitted n) old new not_so = absurd not_so.0
+  quiet_close most (SubmittedAs n) old new not_so = absurd not_so.0
+  quiet_close most (SubmittedAll n m) old new not_so = absurd not_so.0
+  quiet_close most (RefusedAll e xs) old new not_so = absurd not_so.0
+  quiet_close most (Out o) old new not_so = absurd not_so.0
+  quiet_close most (Written w) old new not_so = absurd not_so.0
+  quiet_close most (Released n) old new is = refl
+  quiet_close most Settled old new is = refl
+  quiet_close most (Collected n) old new is = refl
+  quiet_close most (CutTaken n) old new is = refl
+  quiet_close most Closed old new is = refl
+  quiet_close most (Refused e b) old new is = refl
+
+  -- releasing, settling, collecting, cutting and closing cells write no line
   pub quietly : (w : Option (List ℕ)) (c : Command) (r : Reply) (old new : Keeping D) → is_quiet c ≡ true → Obeys is_lawful state failures answers c r old new
       → Driven is_lawful state failures answers (c ∷ []) (r ∷ []) old new → Says is_lawful state failures answers w w old new []
   quietly w Release r old new quiet is driven = says_silent w Release r old new driven (quiet_release r old new is)
@@ -201,8 +229,10 @@ module _ {D : Type 0} (is_lawful : D → Type 0) (state : D → DiskState) (fail
   quietly w Cut r old new quiet is driven = says_silent w Cut r old new driven (quiet_cut r old new is)
   quietly w (Submit batch) r old new not_so is driven = absurd (let is = not_so in cc)
   quietly w (SubmitAs request batch) r old new not_so is driven = absurd (let is = not_so in cc)
+  quietly w (SubmitAll group) r old new not_so is driven = absurd (let is = not_so in cc)
   quietly w NextOut r old new not_so is driven = absurd (let is = not_so in cc)
   quietly w WriteCut r old new not_so is driven = absurd (let is = not_so in cc)
+  quietly w (CloseFree most) r old new quiet is driven = says_silent w (CloseFree most) r old new driven (quiet_close most r old new is)
 
   -- the lines of one reply, where they were to be written
   pub said_by : (result : Result (Unit {0}) Fault) (w v : Option (List ℕ)) (c : Command) (r : Reply) (old new : Keeping D) (x : List AnySubmitted) (P : Type 0)
@@ -265,20 +295,37 @@ module _ {D : Type 0} (is_lawful : D → Type 0) (state : D → DiskState) (fail
   none_out None not_some = refl
   none_out (Some out) not_some = absurd (not_some out refl)
 
+  -- of a refusal
+  quiet_refused : (r : Reply) → is_refused r ≡ true → line_of 0 r ≡ []
+  quiet_refused (Refused e b) is = refl
+  quiet_refused (RefusedAll e xs) is = refl
+  quiet_refused (Submitted n) is = absurd (let no : false ≡ true = is in cc)
+  quiet_refused (SubmittedAs n) is = absurd (let no : false ≡ true = is in cc)
+  quiet_refused (SubmittedAll n m) is = absurd (let no : false ≡ true = is in cc)
+  quiet_refused (Released n) is = absurd (let no : false ≡ true = is in cc)
+  quiet_refused Settled is = absurd (let no : false ≡ true = is in cc)
+  quiet_refused (Collected n) is = absurd (let no : false ≡ true = is in cc)
+  quiet_refused (Out o) is = absurd (let no : false ≡ true = is in cc)
+  quiet_refused (CutTaken n) is = absurd (let no : false ≡ true = is in cc)
+  quiet_refused (Written w) is = absurd (let no : false ≡ true = is in cc)
+  quiet_refused Closed is = absurd (let no : false ≡ true = is in cc)
+
   -- and a command that is refused
   pub holding_refused : (u v : Option (List ℕ)) (a b c : Keeping D) (held : List ℕ) → Holding u v a b held → Refuses is_lawful state failures answers NextOut b c
       → SaysSome is_lawful state failures answers u v a c
   holding_refused u v a b c held so_far (inl is) = subst (λ (k : Keeping D). SaysSome is_lawful state failures answers u v a k) (sym is) so_far.some
   holding_refused u v a b c held so_far (inr told) =
       let s = so_far.some in
-      let r : Reply = Refused told.0 told.1 in
+      let r : Reply = told.0 in
+      let nothing : lines_of (NextOut ∷ []) (r ∷ []) ≡ [] = ap (λ (l : List ℕ). l ++ []) (quiet_refused r told.1) in
       record {
         commands = s.commands ++ NextOut ∷ [];
         replies = s.replies ++ r ∷ [];
         driven = driven-append s.commands s.replies (NextOut ∷ []) (r ∷ []) a b c s.driven told.2;
         text = s.text;
         unsaid = s.unsaid;
-        lines = lines-append s.commands s.replies (NextOut ∷ []) (r ∷ []) a b s.driven ∙ append-nil (lines_of s.commands s.replies) ∙ s.lines;
+        lines = lines-append s.commands s.replies (NextOut ∷ []) (r ∷ []) a b s.driven
+            ∙ (ap (λ (l : List ℕ). lines_of s.commands s.replies ++ l) nothing ∙ (append-nil (lines_of s.commands s.replies) ∙ s.lines));
         said = s.said;
       }
 

@@ -1,5 +1,5 @@
 -- Orders that were obeyed, one after another, of a script that may be known.
-use Rattle.std.proofs.Common.{◌≡◌, ℕ, true, false, List, [], ◌∷◌, ◌++◌, refl, sym, ap, ◌∙◌, subst, append-nil, append_assoc}
+use Rattle.std.proofs.Common.{◌≡◌, ℕ, zero, suc, true, false, List, [], ◌∷◌, ◌++◌, refl, sym, ap, ◌∙◌, subst, append-nil, append_assoc}
 use Rattle.std.specs.Prelude.{Option, Some, None, Result}
 use Rattle.std.proofs.lemmas.Option.{IfSome_then}
 use Rattle.std.specs.Option.{IfSome}
@@ -7,11 +7,14 @@ use Rattle.td_calls.specs.Answers.{Answers}
 use Rattle.td_disk.specs.Disk.{DiskState}
 use Rattle.td_journal.specs.declared.submitted.Submitted.{Submitted}
 use Rattle.td_journal.specs.Numbers.{greatest}
-use Rattle.td_standing.specs.Standing.{last_request}
+use Rattle.td_stamp.specs.declared.values.Entry.{Entry}
+use Rattle.td_standing.specs.Standing.{last_request, submission}
 use Rattle.td_keeper.specs.Keeping.{Keeping}
 use Rattle.td_feed.specs.declared.order.Order.{Order}
-use Rattle.td_feed.specs.Orders.{submissions, new_after}
-use Rattle.td_feed.specs.Asked.{Script, Asks}
+use Rattle.td_feed.specs.declared.at_once.Asked.{Asked}
+use Rattle.td_feed.specs.declared.at_once.Asked.TheVariants.{One, Epochs}
+use Rattle.td_feed.specs.Orders.{submissions, order_for, new_after}
+use Rattle.td_feed.specs.Asked.{Script, Asks, IsOf, asked_for}
 use Rattle.td_feed.specs.Carried.{new_to, Carries, Leaves}
 use Rattle.td_console.specs.declared.faults.Fault.{Fault}
 use Rattle.td_feed.specs.Said.{Says, SaysBy}
@@ -25,6 +28,34 @@ abbrev pub IsPart : Option Script → List Order → Option Script → Type 0
 IsPart None done left = Unit {0}
 IsPart (Some all) done None = ⊥
 IsPart (Some all) done (Some left) = (all.orders ≡ done ++ left.orders) × (all.is_sound ≡ left.is_sound)
+
+-- what is asked for, as orders, where they are not known
+each_order : List Submitted → List Order
+each_order [] = []
+each_order (s ∷ group) = order_for s.request s.batch ∷ each_order group
+
+as_orders : Asked → List Order
+as_orders (One order) = order ∷ []
+as_orders (Epochs group) = each_order group
+
+one_submits : (request : ℕ) (batch : List Entry) (orders : List Order) → submissions (order_for request batch ∷ orders) ≡ submission request batch ∷ submissions orders
+one_submits zero batch orders = refl
+one_submits (suc q) batch orders = refl
+
+each_submits : (group : List Submitted) → submissions (each_order group) ≡ group
+unfolding each_order
+each_submits [] = refl
+each_submits (s ∷ group) = one_submits s.request s.batch (each_order group) ∙ ap (λ (l : List Submitted). s ∷ l) (each_submits group)
+
+these : (asked : Asked) → submissions (as_orders asked) ≡ asked_for asked
+unfolding as_orders
+these (One order) = refl
+these (Epochs group) = each_submits group
+
+-- and where they are
+those : (asked : Asked) (orders : List Order) → IsOf asked orders → submissions orders ≡ asked_for asked
+those (One order) orders is = ap submissions is
+those (Epochs group) orders is = is
 
 module _ {D : Type 0} (is_lawful : D → Type 0) (state : D → DiskState) (failures : D → ℕ) (answers : Answers) where
   -- THE ORDERS SO FAR were obeyed by a keeper, and its lines written
@@ -41,47 +72,59 @@ module _ {D : Type 0} (is_lawful : D → Type 0) (state : D → DiskState) (fail
       by None = tt
       by (Some s) = (refl, refl)
 
-  module _ (all left next : Option Script) (u v w : Option (List ℕ)) (old there new : Keeping D) (order : Order) (so : HasObeyed all left u v old there) (asks : Asks left next (Some order)) where
-    abbrev one : List Order
-    one = order ∷ []
+  module _ (all left next : Option Script) (u v w : Option (List ℕ)) (old there new : Keeping D) (asked : Asked) (so : HasObeyed all left u v old there) (asks : Asks left next (Some asked)) where
+    abbrev more : List Submitted
+    more = asked_for asked
 
-    also_new : new_to old (submissions (so.done ++ one)) ≡ new_to old (submissions so.done) ++ new_to there (submissions one)
-    also_new = ap (new_to old) (submissions-append so.done one) ∙ new_on answers old there (submissions so.done) (submissions one) so.carried
-
-    pub one_obeyed : Says is_lawful state failures answers v w there new (new_to there (submissions one)) → Carries answers there new (new_to there (submissions one)) → HasObeyed all next u w old new
-    one_obeyed said carried = record {
-      done = so.done ++ one;
-      known = part all left next so.known asks;
-      said = subst (λ (x : List Submitted). Says is_lawful state failures answers u w old new x) (sym also_new)
-          (says_then is_lawful state failures answers u v w old there new (new_to old (submissions so.done)) (new_to there (submissions one)) so.said said);
-      carried = subst (λ (x : List Submitted). Carries answers old new x) (sym also_new) (then_carries answers old there new (new_to old (submissions so.done)) (new_to there (submissions one)) so.carried carried);
-    }
+    -- the orders that were asked for
+    orders : (o : List Order) × (submissions o ≡ more) × IsPart all (so.done ++ o) next
+    orders = by all left next so.known asks
       where
-        part : (all left next : Option Script) → IsPart all so.done left → Asks left next (Some order) → IsPart all (so.done ++ one) next
-        part None left next is a = tt
-        part (Some s) None next is a = absurd is
-        part (Some s) (Some l) None is a = absurd a
-        part (Some s) (Some l) (Some n) is a = (is.0 ∙ ap (λ os. so.done ++ os) a.0 ∙ sym (append_assoc so.done one n.orders), is.1 ∙ a.1)
-
-    -- or one of them was refused
-    pub one_refused : Leaves is_lawful state answers there new (new_to there (submissions one)) → IfSome all (λ s. Leaves is_lawful state answers old new (new_to old (submissions s.orders)))
-    one_refused leaves = by all left next so.known asks
-      where
-        whole : (s : Script) (more : List Order) → s.orders ≡ so.done ++ (order ∷ more)
-            → new_to old (submissions s.orders) ≡ new_to old (submissions so.done) ++ (new_to there (submissions one) ++ new_after (greatest (last_request there.standing) (new_to there (submissions one))) (submissions more))
-        whole s more is =
-            ap (new_to old) (ap submissions is ∙ submissions-append so.done (order ∷ more) ∙ ap (λ (l : List Submitted). submissions so.done ++ l) (submissions-append one more))
-            ∙ new_on answers old there (submissions so.done) (submissions one ++ submissions more) so.carried
-            ∙ ap (λ (l : List Submitted). new_to old (submissions so.done) ++ l) (new_after-append (last_request there.standing) (submissions one) (submissions more))
-
-        by : (all left next : Option Script) → IsPart all so.done left → Asks left next (Some order) → IfSome all (λ s. Leaves is_lawful state answers old new (new_to old (submissions s.orders)))
-        by None left next is a = tt
+        by : (all left next : Option Script) → IsPart all so.done left → Asks left next (Some asked) → (o : List Order) × (submissions o ≡ more) × IsPart all (so.done ++ o) next
+        by None left next is a = (as_orders asked, these asked, tt)
         by (Some s) None next is a = absurd is
         by (Some s) (Some l) None is a = absurd a
         by (Some s) (Some l) (Some n) is a =
-            then_leaves is_lawful state answers old there new (new_to old (submissions so.done)) (new_to there (submissions one))
-            (new_after (greatest (last_request there.standing) (new_to there (submissions one))) (submissions n.orders)) (new_to old (submissions s.orders))
-            (whole s n.orders (is.0 ∙ ap (λ os. so.done ++ os) a.0)) so.carried leaves
+            (a.0, those asked a.0 a.1, (is.0 ∙ ap (λ os. so.done ++ os) a.2 ∙ sym (append_assoc so.done a.0 n.orders), is.1 ∙ a.3))
+
+    also_new : new_to old (submissions (so.done ++ orders.0)) ≡ new_to old (submissions so.done) ++ new_to there more
+    also_new =
+        ap (new_to old) (submissions-append so.done orders.0 ∙ ap (λ (l : List Submitted). submissions so.done ++ l) orders.1)
+        ∙ new_on answers old there (submissions so.done) more so.carried
+
+    pub some_obeyed : Says is_lawful state failures answers v w there new (new_to there more) → Carries answers there new (new_to there more) → HasObeyed all next u w old new
+    some_obeyed said carried = record {
+      done = so.done ++ orders.0;
+      known = orders.2;
+      said = subst (λ (x : List Submitted). Says is_lawful state failures answers u w old new x) (sym also_new)
+          (says_then is_lawful state failures answers u v w old there new (new_to old (submissions so.done)) (new_to there more) so.said said);
+      carried = subst (λ (x : List Submitted). Carries answers old new x) (sym also_new) (then_carries answers old there new (new_to old (submissions so.done)) (new_to there more) so.carried carried);
+    }
+
+    -- or they were refused
+    pub some_refused : Leaves is_lawful state answers there new (new_to there more) → IfSome all (λ s. Leaves is_lawful state answers old new (new_to old (submissions s.orders)))
+    some_refused leaves = by all next orders.2
+      where
+        o : List Order
+        o = orders.0
+
+        others : List Order → List Submitted
+        others later = new_after (greatest (last_request there.standing) (new_to there more)) (submissions later)
+
+        whole : (s : Script) (later : List Order) → s.orders ≡ (so.done ++ o) ++ later
+            → new_to old (submissions s.orders) ≡ new_to old (submissions so.done) ++ (new_to there more ++ others later)
+        whole s later is =
+            ap (new_to old) (ap submissions (is ∙ append_assoc so.done o later) ∙ submissions-append so.done (o ++ later)
+            ∙ ap (λ (l : List Submitted). submissions so.done ++ l) (submissions-append o later ∙ ap (λ (l : List Submitted). l ++ submissions later) orders.1))
+            ∙ new_on answers old there (submissions so.done) (more ++ submissions later) so.carried
+            ∙ ap (λ (l : List Submitted). new_to old (submissions so.done) ++ l) (new_after-append (last_request there.standing) more (submissions later))
+
+        by : (all next : Option Script) → IsPart all (so.done ++ o) next → IfSome all (λ s. Leaves is_lawful state answers old new (new_to old (submissions s.orders)))
+        by None next is = tt
+        by (Some s) None is = absurd is
+        by (Some s) (Some n) is =
+            then_leaves is_lawful state answers old there new (new_to old (submissions so.done)) (new_to there more) (others n.orders) (new_to old (submissions s.orders))
+            (whole s n.orders is.0) so.carried leaves
 
   module _ (all left next : Option Script) (u v : Option (List ℕ)) (old there : Keeping D) (so : HasObeyed all left u v old there) where
     -- where no further one was asked for

@@ -1,5 +1,5 @@
 -- What a feed leaves on a disk.
-use Rattle.std.specs.Prelude.{◌⊎◌, ℕ, suc, List, ◌++◌, take, Ok}
+use Rattle.std.specs.Prelude.{◌⊎◌, ℕ, ◌+◌, List, ◌++◌, take, Ok}
 use Rattle.td_plan.specs.Lines.{Line}
 use Rattle.td_calls.specs.Answers.{Answers}
 use Rattle.td_core.specs.declared.error.HallError.{HallError}
@@ -27,10 +27,11 @@ pub record TellsHistory (answers : Answers) (plan : List Line) (history : List S
 abbrev pub EachTellsHistory : Answers → List Line → List Submitted → DiskState → Type 0
 EachTellsHistory answers plan history state = (c : List ℕ) → state.images c → TellsHistory answers plan history c
 
--- of more batches, each image tells so many after the history, or one more
+-- of more batches, each image tells so many after the history, or with these the whole group that came next
 pub record EachTellsSome (answers : Answers) (plan : List Line) (history more : List Submitted) (state : DiskState) : Type 0 where
   pub count : ℕ
-  pub each : (c : List ℕ) → state.images c → TellsHistory answers plan (history ++ take count more) c ⊎ TellsHistory answers plan (history ++ take (suc count) more) c
+  pub group : ℕ
+  pub each : (c : List ℕ) → state.images c → TellsHistory answers plan (history ++ take count more) c ⊎ TellsHistory answers plan (history ++ take (count + group) more) c
 
 -- the fault for a hall's refusal
 abbrev pub hall_fault : HallError → Fault

@@ -1,5 +1,5 @@
 -- What the input of a feed asks for, or its first fault.
-use Rattle.std.specs.Prelude.{◌≡◌, ◌⊎◌, ℕ, zero, suc, ◌+◌, ◌==◌, ◌&&◌, max, Bool, true, false, IsTrue, if◌then◌else◌, List, [], ◌∷◌, ◌++◌, codes, Option, Some, None, option_map, Result, Ok, Err}
+use Rattle.std.specs.Prelude.{◌≡◌, ◌⊎◌, ℕ, zero, suc, ◌+◌, ◌<◌, ◌==◌, ◌&&◌, max, Bool, true, false, IsTrue, if◌then◌else◌, List, [], ◌∷◌, ◌++◌, length, codes, Option, Some, None, option_map, Result, Ok, Err}
 use Rattle.std.specs.List.{list_all}
 use Rattle.std.specs.Str.{bytes_eq}
 use Rattle.std.specs.Char.{is_ascii}
@@ -150,3 +150,10 @@ is_of_input _ = false
 abbrev pub Gives : Result Orders Fault → Result Orders Fault → Type 0
 Gives (Ok read) wanted = wanted ≡ Ok read
 Gives (Err fault) wanted = (fault ≡ Memory) ⊎ (wanted ≡ Err fault)
+
+-- WHAT THE FIRST LINE of some bytes says, and what comes after it
+pub record IsFirstLine (bytes : List ℕ) (said : Option FeedLine) (rest : List ℕ) : Type 0 where
+  pub line : List ℕ
+  pub lines : text_lines bytes ≡ line ∷ text_lines rest
+  pub says : said ≡ feed_line_of line
+  pub shorter : length rest < length bytes

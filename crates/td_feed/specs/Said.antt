@@ -1,23 +1,24 @@
 -- What a feed writes: the lines of what its keeper replied.
-use Rattle.std.specs.Prelude.{◌≡◌, ◌⊎◌, ℕ, List, [], ◌∷◌, ◌++◌, codes, Option, Some, Result, Ok, Err}
+use Rattle.std.specs.Prelude.{◌≡◌, ◌⊎◌, ℕ, zero, suc, ◌-◌, true, List, [], ◌∷◌, ◌++◌, codes, All, Option, Some, Result, Ok, Err}
 use Rattle.std.specs.Fmt.{decimal}
 use Rattle.std.specs.Io.KnownBytes.{Appends}
-use Rattle.td_stamp.specs.declared.values.Entry.{Entry}
 use Rattle.td_plan.specs.Lines.{Line as PlanLine}
 use Rattle.td_calls.specs.Answers.{Answers}
 use Rattle.td_disk.specs.Disk.{DiskState}
 use Rattle.td_journal.specs.declared.submitted.Submitted.{Submitted as AnySubmitted}
 use Rattle.td_watch.specs.View.{View}
-use Rattle.td_standing.specs.declared.error.KeeperError.{KeeperError}
 use Rattle.td_standing.specs.Told.{Told}
+use Rattle.td_standing.specs.Standing.{Standing, last_epoch}
+use Rattle.td_standing.specs.Advanced.{HeldWhere}
 use Rattle.td_keeper.specs.declared.command.Command.{Command}
 use Rattle.td_keeper.specs.declared.command.Reply.{Reply}
-use Rattle.td_keeper.specs.declared.command.Reply.TheVariants.{Submitted, SubmittedAs, Out, Written, Refused}
+use Rattle.td_keeper.specs.declared.command.Reply.TheVariants.{Submitted, SubmittedAs, SubmittedAll, Out, Written, Refused, RefusedAll}
+use Rattle.td_keeper.specs.declared.group.GroupError.TheVariants.{Keeper}
 use Rattle.td_keeper.specs.declared.command.Command.TheVariants.{SubmitAs}
 use Rattle.td_keeper.specs.declared.receipt.Receipt.TheVariants.{New, Already}
-use Rattle.td_keeper.specs.Keeping.{Keeping, IsFreshlyOpened}
-use Rattle.td_keeper.specs.Driven.{submitted_by, Driven}
-use Rattle.td_feed.specs.Carried.{new_to}
+use Rattle.td_keeper.specs.Keeping.{Keeping, IsKeeping, IsFreshlyOpened}
+use Rattle.td_keeper.specs.Driven.{submitted_by, AcknowledgesUpTo, Driven}
+use Rattle.td_feed.specs.Carried.{new_to, is_refused}
 use Rattle.td_console.specs.Answer.{output_text}
 use Rattle.td_console.specs.declared.faults.Fault.{Fault}
 use Rattle.td_console.specs.declared.faults.Fault.TheVariants.{Memory, Output}
@@ -26,6 +27,11 @@ use Rattle.td_console.specs.Refusals.{keeper_fault}
 -- `ack E`, `again Q` and `cut E`
 abbrev pub ack_line : ℕ → List ℕ
 ack_line epoch = codes "ack " ++ decimal epoch ++ 10 ∷ []
+
+-- `ack E` of n epochs from one on
+abbrev pub ack_lines : ℕ → ℕ → List ℕ
+ack_lines epoch zero = []
+ack_lines epoch (suc n) = ack_line epoch ++ ack_lines (suc epoch) n
 
 abbrev pub again_line : ℕ → List ℕ
 again_line request = codes "again " ++ decimal request ++ 10 ∷ []
@@ -44,6 +50,7 @@ abbrev pub line_of : ℕ → Reply → List ℕ
 line_of request (Submitted epoch) = ack_line epoch
 line_of request (SubmittedAs (New epoch)) = ack_line epoch
 line_of request (SubmittedAs (Already last)) = again_line request
+line_of request (SubmittedAll first end) = ack_lines first (end - first)
 line_of request (Out (Some out)) = output_text (out ∷ [])
 line_of request (Written (Some epoch)) = cut_line epoch
 line_of request _ = []
@@ -56,6 +63,7 @@ lines_of _ _ = []
 -- the fault for a refusal
 abbrev pub fault_in : Reply → Fault
 fault_in (Refused error back) = keeper_fault error
+fault_in (RefusedAll (Keeper error) back) = keeper_fault error
 fault_in _ = Memory
 
 module _ {D : Type 0} (is_lawful : D → Type 0) (state : D → DiskState) (failures : D → ℕ) (answers : Answers) where
@@ -83,15 +91,20 @@ module _ {D : Type 0} (is_lawful : D → Type 0) (state : D → DiskState) (fail
   SaysBy (Err fault) before after old new x = (fault ≡ Output) ⊎ SaysSome before after old new
 
   -- A FEED OF A DISK: its keeper is what the disk tells, perhaps with a watch attached, and what was written are the lines of what
-  -- that keeper replied; it was told what submits those of these that are new to it
+  -- that keeper replied; it was told what submits those of these that are new to it; and the disk that is left holds what the keeper
+  -- stands for in the end, image by image
   pub record SaysFrom (result : Result (Unit {0}) Fault) (plan : List PlanLine) (disk left : D) (before after : Option (List ℕ)) (x : List AnySubmitted) : Type 0 where
     pub keeper : Keeping D
     pub fresh : IsFreshlyOpened keeper
     pub plan_is : keeper.plan ≡ plan
     pub told : is_lawful disk → Told plan (state keeper.device).bytes (Ok keeper.standing)
     pub watch : Option View
+    pub kept : IsKeeping (record keeper { watch = watch }) answers
+    pub lawful : is_lawful disk → is_lawful keeper.device
     pub ended : Keeping D
     pub left_is : left ≡ ended.device
+    pub lawful_left : is_lawful disk → is_lawful left
+    pub holds : is_lawful left → HeldWhere ended.broken answers ended.plan ended.head ended.side ended.standing (state left)
     pub said : SaysBy result before after (record keeper { watch = watch }) ended (new_to keeper x)
 
   -- at a refusal before there is a keeper, or before it is told anything, nothing is written
@@ -101,4 +114,10 @@ module _ {D : Type 0} (is_lawful : D → Type 0) (state : D → DiskState) (fail
 
   -- ONE COMMAND that was refused: by the keeper, or before it was told
   abbrev pub Refuses : Command → Keeping D → Keeping D → Type 0
-  Refuses command old new = (new ≡ old) ⊎ ((error : KeeperError) × (back : Option (List Entry)) × Driven is_lawful state failures answers (command ∷ []) (Refused error back ∷ []) old new)
+  Refuses command old new = (new ≡ old) ⊎ ((reply : Reply) × (is_refused reply ≡ true) × Driven is_lawful state failures answers (command ∷ []) (reply ∷ []) old new)
+
+-- AN IMAGE TELLS EACH EPOCH that some replies acknowledge
+pub record TellsAcknowledged (plan : List PlanLine) (replies : List Reply) (image : List ℕ) : Type 0 where
+  pub standing : Standing
+  pub told : Told plan image (Ok standing)
+  pub acknowledged : All (AcknowledgesUpTo (last_epoch standing)) replies

@@ -1,27 +1,35 @@
 //! Where the orders of a feed come from, one after another.
-ghost use Rattle.std.specs.Prelude.{◌≡◌, [], Option, Some, None, true, option_map, IfOk, IfErr};
-ghost use Rattle.td_feed.specs.Orders.{is_between};
-ghost use Rattle.td_feed.specs.Asked.{unread, Script, script_left, script_of, Asks, Completes, is_of_reader};
+ghost use Rattle.std.specs.Prelude.{◌≡◌, ◌<◌, ◌≤◌, ◌++◌, ◌∷◌, ℕ, List, [], Option, Some, None, true, false, length, option_map, OnOk, IfOk, IfErr, IfSome, IfNone};
+ghost use Rattle.td_group.specs.Groups.{may_follow};
+ghost use Rattle.td_feed.specs.declared.order.Order.{Order as AnyOrder};
+ghost use Rattle.td_feed.specs.Orders.{is_between, submissions};
+ghost use Rattle.td_feed.specs.declared.at_once.Asked.TheVariants.{One};
+ghost use Rattle.td_feed.specs.Asked.{unread, Script, script_left, script_of, script_on, script_ahead, SameScript, Asks, IsOf, MayFollow, Completes, HasFault, is_of_reader, IsOfLine};
 
+use crate::at_once::{Asked, Room, take_fitting};
 use crate::line_reader::Lines;
 use crate::order::{Order, Orders, is_between, no_orders, with_line};
 use std::alloc::Global;
 use std::collections::VecDeque;
 use std::mem;
 use td_console::{Fault, LineFault, Source};
+use td_journal::Submitted;
+use td_keeper::Group;
 use td_plan::Plan;
 
 /// How many lines one order may take.
 const LINES: u64 = 1 << 32;
 
-/// What is asked for, order by order.
+/// What is asked for, order by order, or several at once.
 pub(crate) trait Asking {
     /// The orders that come, up to the first fault or to the end, where they are known.
     ghost script: { Self → Option Script };
 
-    /// The next order; None at the end. Refusals: those of a reader; the first fault of the lines; `Memory`.
-    fn next_order(&mut self, alloc: Global) -> Result<Option<Order>, Fault>
+    /// The next order, or a group of epochs that are at hand and find this room; None at the end. Refusals: those of a reader; the first
+    /// fault of the lines; `Memory`.
+    fn next_asked(&mut self, alloc: Global, room: &Room) -> Result<Option<Asked>, Fault>
         ensures asked { IfOk result (Asks (script self.old) (script self.new)) }
+        ensures rising { IfOk result (MayFollow room.now.last) }
         ensures err { IfErr result (λ f. is_of_reader f ≡ true) };
 }
 
@@ -32,38 +40,160 @@ pub(crate) struct Listed(pub(crate) VecDeque<Order>);
 impl Asking for Listed {
     ghost script = { λ l. Some (record { orders = l.0.items; is_sound = true }) };
 
-    fn next_order(&mut self, _alloc: Global) -> Result<Option<Order>, Fault> {
-        Ok(self.0.pop_front())
+    fn next_asked(&mut self, alloc: Global, room: &Room) -> Result<Option<Asked>, Fault> {
+        Ok(take_asked(alloc, &mut self.0, room))
     }
 }
 
-/// The orders of a reader's lines, of which the next has this number, each read when it is asked for.
+/// Takes the first orders, as many as submit epochs that together find this room, and else one; None where there is none.
+fn take_asked(alloc: Global, orders: &mut VecDeque<Order>, room: &Room) -> Option<Asked>
+    ensures some { IfSome result (λ asked. (taken : List AnyOrder) × IsOf asked taken × (orders.old.items ≡ taken ++ orders.new.items)) }
+    ensures none { IfNone result ((orders.old.items ≡ []) × (orders.new.items ≡ [])) }
+    ensures rising { MayFollow room.now.last result }
+{
+    let group = take_group(alloc, orders, room);
+    if !group.is_empty() {
+        return Some(Asked::Epochs(Group::from_vec(group)));
+    }
+    Some(Asked::One(orders.pop_front()?))
+}
+
+/// Takes the first orders, as many as submit epochs that together find this room; fewer where memory runs out.
+fn take_group(alloc: Global, orders: &mut VecDeque<Order>, room: &Room) -> Vec<Submitted>
+    ensures taken { (taken : List AnyOrder) × (orders.old.items ≡ taken ++ orders.new.items) × (submissions taken ≡ result.items) }
+    ensures none { result.items ≡ [] → orders.new.items ≡ orders.old.items }
+    ensures rising { may_follow (Some room.now.last) result.items ≡ true }
+{
+    let mut group = Vec::new(alloc);
+    let mut last = room.last;
+    for _epoch in 0..room.epochs {
+        if group.reserve(1).is_err() {
+            break;
+        }
+        let Some(submitted) = take_fitting(orders, room, last) else {
+            break;
+        };
+        last = last.max(submitted.request);
+        group.push_reserved(submitted);
+    }
+    group
+}
+
+/// The orders of a reader's lines, of which the next has this number. Those whose lines the input has given already are read ahead,
+/// up to the first line with a fault; each other one is read when it is asked for.
 #[derive(Drop)]
 pub(crate) struct Streamed<'a, I: Source> {
     plan: &'a Plan,
     lines: Lines<I>,
     number: u64,
     read: Orders,
+    ahead: VecDeque<Order>,
+    stopped: Option<(u64, LineFault)>,
     ghost none_ready: { read.orders ≡ [] },
 }
 
 impl<'a, I: Source> Streamed<'a, I> {
     /// The orders of a reader's lines.
     pub(crate) fn new(alloc: Global, plan: &'a Plan, reader: I) -> Streamed<'a, I>
-        ensures { script_left (unread (I.remaining result.lines.reader) result.lines.unread) result.plan.now result.number result.read ≡ option_map (script_of plan.now) (I.remaining reader) }
+        ensures { script_ahead (unread (I.remaining result.lines.reader) result.lines.unread) result.plan.now result.number result.read result.ahead.items result.stopped ≡ option_map (script_of plan.now) (I.remaining reader) }
     {
         Streamed {
             plan,
             lines: Lines::new(alloc, reader),
             number: 1,
             read: no_orders(alloc),
+            ahead: VecDeque::new(alloc),
+            stopped: None,
         }
     }
 
-    /// The order that one line more completes, if it does. Refusals: the line's fault; `Memory`.
+    /// Whether an order stands ahead. Where none does, it waits for the next one; false at the end. Refusals: the fault after those
+    /// that stood ahead; those of a reader; a line's fault; `Memory`.
+    fn is_any_ahead(&mut self, alloc: Global) -> Result<bool, Fault>
+        ensures some { IfOk result (λ any. any ≡ true → (0 < length self.new.ahead.items)
+            × SameScript (script_ahead (unread (I.remaining self.old.lines.reader) self.old.lines.unread) self.old.plan.now self.old.number self.old.read self.old.ahead.items self.old.stopped)
+            (script_ahead (unread (I.remaining self.new.lines.reader) self.new.lines.unread) self.new.plan.now self.new.number self.new.read self.new.ahead.items self.new.stopped)) }
+        ensures none { IfOk result (λ any. any ≡ false
+            → Asks (script_ahead (unread (I.remaining self.old.lines.reader) self.old.lines.unread) self.old.plan.now self.old.number self.old.read self.old.ahead.items self.old.stopped)
+            (script_ahead (unread (I.remaining self.new.lines.reader) self.new.lines.unread) self.new.plan.now self.new.number self.new.read self.new.ahead.items self.new.stopped) None) }
+        ensures err { IfErr result (λ f. is_of_reader f ≡ true) }
+    {
+        if !self.ahead.is_empty() {
+            return Ok(true);
+        }
+        if let Some((number, fault)) = self.stopped {
+            return Err(Fault::Line(number, fault));
+        }
+        let Some(order) = self.next_order(alloc)? else {
+            return Ok(false);
+        };
+        self.ahead.push_back(order)?;
+        Ok(true)
+    }
+
+    /// Waits for the lines of the next order, which it reads. None at the end. Refusals: those of a reader; a line's fault; `Memory`.
+    fn next_order(&mut self, alloc: Global) -> Result<Option<Order>, Fault>
+        ensures order { IfOk result (λ order. Asks (script_left (unread (I.remaining self.old.lines.reader) self.old.lines.unread) self.old.plan.now self.old.number self.old.read)
+            (script_left (unread (I.remaining self.new.lines.reader) self.new.lines.unread) self.new.plan.now self.new.number self.new.read) (option_map One order)) }
+        ensures same { (self.new.plan.now ≡ self.old.plan.now) × (self.new.ahead ≡ self.old.ahead) × (self.new.stopped ≡ self.old.stopped) }
+        ensures err { IfErr result (λ f. is_of_reader f ≡ true) }
+    {
+        for _line in 0..LINES {
+            let Some(line) = self.lines.next_line(alloc)? else {
+                return self.ended();
+            };
+            if let Some(order) = self.with_line(alloc, line.as_slice())? {
+                return Ok(Some(order));
+            }
+        }
+        Err(Fault::Input)
+    }
+
+    /// Reads the lines that the input has given already, until so many orders stand ahead, or a line has a fault. Refusal: `Memory`,
+    /// and `Input` after more lines than can be numbered.
+    fn read_ahead(&mut self, alloc: Global, most: u64) -> Result<(), Fault>
+        ensures same { OnOk result (SameScript (script_ahead (unread (I.remaining self.old.lines.reader) self.old.lines.unread) self.old.plan.now self.old.number self.old.read self.old.ahead.items self.old.stopped)
+            (script_ahead (unread (I.remaining self.new.lines.reader) self.new.lines.unread) self.new.plan.now self.new.number self.new.read self.new.ahead.items self.new.stopped)) }
+        ensures grows { OnOk result (length self.old.ahead.items ≤ length self.new.ahead.items) }
+        ensures err { IfErr result (λ f. is_of_reader f ≡ true) }
+    {
+        for _line in 0..LINES {
+            if self.stopped.is_some() || most <= self.ahead.len() as u64 {
+                return Ok(());
+            }
+            let Some(line) = self.lines.given_line(alloc)? else {
+                return Ok(());
+            };
+            self.add_line(alloc, line.as_slice())?;
+        }
+        Ok(())
+    }
+
+    /// Puts ahead the order that one line more completes, if it does; or notes the line's fault. Refusals: `Memory`; `Input` after
+    /// more lines than can be numbered.
+    fn add_line(&mut self, alloc: Global, line: &[u8]) -> Result<(), Fault>
+        requires { self.old.stopped ≡ None }
+        ensures added { OnOk result ((more : List (List ℕ)) → script_on self.old.plan.now self.old.number self.old.read self.old.ahead.items None (line.now ∷ more)
+            ≡ script_on self.new.plan.now self.new.number self.new.read self.new.ahead.items self.new.stopped more) }
+        ensures same { (self.new.plan.now ≡ self.old.plan.now) × (self.new.lines ≡ self.old.lines) }
+        ensures grows { OnOk result (length self.old.ahead.items ≤ length self.new.ahead.items) }
+        ensures err { IfErr result (λ f. is_of_reader f ≡ true) }
+    {
+        match self.with_line(alloc, line) {
+            Ok(Some(order)) => self.ahead.push_back(order)?,
+            Ok(None) => {}
+            Err(Fault::Line(number, fault)) => self.stopped = Some((number, fault)),
+            Err(fault) => return Err(fault),
+        }
+        Ok(())
+    }
+
+    /// The order that one line more completes, if it does. Refusals: the line's fault; `Memory`; `Input` after more lines than can be
+    /// numbered.
     fn with_line(&mut self, alloc: Global, line: &[u8]) -> Result<Option<Order>, Fault>
         ensures order { IfOk result (Completes self.old.plan.now self.old.number self.old.read self.new.number self.new.read line.now) }
-        ensures same { (self.new.plan.now ≡ self.old.plan.now) × (self.new.lines ≡ self.old.lines) }
+        ensures fault { IfErr result (λ f. IsOfLine f → HasFault self.old.plan.now self.old.number self.old.read line.now) }
+        ensures same { (self.new.plan.now ≡ self.old.plan.now) × (self.new.lines ≡ self.old.lines) × (self.new.ahead ≡ self.old.ahead) × (self.new.stopped ≡ self.old.stopped) }
         ensures err { IfErr result (λ f. is_of_reader f ≡ true) }
     {
         let Some(next) = self.number.checked_add(1) else {
@@ -91,17 +221,13 @@ impl<'a, I: Source> Streamed<'a, I> {
 }
 
 impl<'a, I: Source> Asking for Streamed<'a, I> {
-    ghost script = { λ s. script_left (unread (I.remaining s.lines.reader) s.lines.unread) s.plan.now s.number s.read };
+    ghost script = { λ s. script_ahead (unread (I.remaining s.lines.reader) s.lines.unread) s.plan.now s.number s.read s.ahead.items s.stopped };
 
-    fn next_order(&mut self, alloc: Global) -> Result<Option<Order>, Fault> {
-        for _line in 0..LINES {
-            let Some(line) = self.lines.next_line(alloc)? else {
-                return self.ended();
-            };
-            if let Some(order) = self.with_line(alloc, line.as_slice())? {
-                return Ok(Some(order));
-            }
+    fn next_asked(&mut self, alloc: Global, room: &Room) -> Result<Option<Asked>, Fault> {
+        if !self.is_any_ahead(alloc)? {
+            return Ok(None);
         }
-        Err(Fault::Input)
+        self.read_ahead(alloc, room.epochs)?;
+        Ok(take_asked(alloc, &mut self.ahead, room))
     }
 }

@@ -27,6 +27,7 @@ use td_console::{Fault, Sink, Source, lack_fault, read_all};
 use td_core::Hall;
 use td_disk::Disk;
 use td_keeper::Keeper;
+use td_keeper::laws::each_is_kept;
 use td_plan::Plan;
 use td_standing::laws;
 
@@ -99,6 +100,7 @@ pub fn feed<
         Ok(keeper) => keeper,
         Err((refusal, disk)) => return (disk, Err(Fault::from(refusal))),
     };
+    each_is_kept(&keeper);
     let (keeper, ended) = obey(rt, alloc, keeper, plan, workers, reader, writer, calls);
     (keeper.into_disk(), ended)
 }

@@ -1,5 +1,5 @@
 //! Laws of the definitions. Each is the contract of a function that does nothing.
-ghost use Rattle.std.specs.Prelude.{◌≡◌, ◌++◌, List, ℕ, true, Ok};
+ghost use Rattle.std.specs.Prelude.{◌≡◌, ◌++◌, List, ℕ, true, Option, Result as AnyResult, Ok};
 ghost use Rattle.td_gate.specs.Reading.{Each};
 ghost use Rattle.td_stamp.specs.declared.values.Entry.{Entry as AnyEntry};
 ghost use Rattle.td_stamp.specs.States.{StateList};
@@ -16,6 +16,14 @@ ghost use Rattle.td_feed.specs.Orders.{orders_of, submitted_by, new_after};
 ghost use Rattle.td_feed.specs.declared.order.Order.{Order as AnyOrder};
 ghost use Rattle.td_feed.specs.Asked.{script_of};
 ghost use Rattle.td_feed.specs.Dumped.{dump_text, AsksFor, FitsLines};
+ghost use Rattle.td_console.specs.declared.faults.Fault.{Fault as AnyFault};
+ghost use Rattle.td_keeper.specs.declared.command.Command.{Command as AnyCommand};
+ghost use Rattle.td_keeper.specs.declared.command.Reply.{Reply as AnyReply};
+ghost use Rattle.td_keeper.specs.Driven.{Driven};
+ghost use Rattle.td_feed.specs.Said.{SaysFrom, TellsAcknowledged};
+
+use td_calls::Law;
+use td_disk::Disk;
 
 /// WHAT WAS DUMPED IS FED. The text of a standing that may stand on a disk asks for the epochs of that standing, each under its
 /// request number. Those that a disk tells are all new after its checkpoint; so a disk that stands for the history up to the
@@ -39,3 +47,16 @@ pub fn dumps_are_fed()
 pub fn scripts()
     ensures { (plan : List Line) (input : List ℕ) (orders : List AnyOrder) → orders_of plan input ≡ Ok orders → script_of plan input ≡ record { orders = orders; is_sound = true } }
 {}
+
+/// EACH EPOCH THAT IS ACKNOWLEDGED IS TOLD. Whatever a feed or a stream came to, and whatever a crash leaves of its disk then, that tells
+/// each epoch for which an `ack` line was written, and each that the keeper acknowledged beside.
+pub fn acknowledged_is_told<D: Disk, L: Law>()
+    ensures { (result : AnyResult (Unit {0}) AnyFault) (plan : List Line) (disk left : D) (before after : Option (List ℕ)) (x : List AnySubmitted)
+        (from : SaysFrom D.is_lawful D.state D.failures L.answers result plan disk left before after x) → D.is_lawful disk
+        → (commands : List AnyCommand) (replies : List AnyReply)
+        → Driven D.is_lawful D.state D.failures L.answers commands replies (record from.keeper { watch = from.watch }) from.ended
+        → (c : List ℕ) → (D.state left).images c → TellsAcknowledged plan replies c }
+{
+    td_standing::laws::told_in_parts();
+    td_keeper::laws::acknowledged_is_counted::<D, L>();
+}

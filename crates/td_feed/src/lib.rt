@@ -4,6 +4,7 @@
 #![tactic(auto)]
 
 mod asking;
+mod at_once;
 mod dumping;
 mod feeding;
 mod formatting;

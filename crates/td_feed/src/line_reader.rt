@@ -1,5 +1,5 @@
 //! The lines of a reader, as they come.
-ghost use Rattle.std.specs.Prelude.{◌≡◌, ◌⊎◌, ◌++◌, ◌∷◌, ◌==◌, List, ℕ, [], true, false, All, IfOk, IfErr, option_map};
+ghost use Rattle.std.specs.Prelude.{◌≡◌, ◌⊎◌, ◌++◌, ◌∷◌, ◌==◌, List, ℕ, [], Some, true, false, All, IfOk, IfErr, IfSome, IfNone, option_map};
 ghost use Rattle.std.specs.Io.KnownBytes.{Consumes, IsAtEnd};
 ghost use Rattle.td_feed.specs.Asked.{TakesLine, unread};
 
@@ -9,7 +9,7 @@ use std::marker::Model;
 use td_console::{Fault, Source};
 
 /// How many bytes are read at a time, at most.
-const PIECE: usize = 4096;
+const PIECE: usize = 65_536;
 
 /// How many reads one line may take.
 const READS: u64 = 1 << 32;
@@ -55,6 +55,21 @@ impl Unread {
         }
     }
 
+    /// The next line, where it stands whole in these bytes, without its line feed, which is passed over too. Refusal: `Memory`.
+    fn whole_line(&mut self, alloc: Global) -> Result<Option<Vec<u8>>, Fault>
+        ensures some { IfOk result (λ line. IfSome line (λ l. All (λ b. (b == 10) ≡ false) l.items × (self.old ≡ l.items ++ 10 ∷ self.new))) }
+        ensures none { IfOk result (λ line. IfNone line (self.new ≡ self.old)) }
+        ensures err { IfErr result (λ f. f ≡ Fault.Memory) }
+    {
+        let unread = &self.bytes[self.start..];
+        let Some(end) = unread.iter().position(|b| *b == b'\n') else {
+            return Ok(None);
+        };
+        let line = Vec::from_slice(alloc, &unread[..end])?;
+        self.start += end + 1;
+        Ok(Some(line))
+    }
+
     /// Takes in bytes that were read, where none are left. Refusal: `Memory`.
     fn take_in(&mut self, piece: &[u8]) -> Result<(), Fault>
         requires { self.old ≡ [] }
@@ -68,7 +83,7 @@ impl Unread {
     }
 }
 
-/// A reader whose lines are taken one by one. It holds a piece of what it has read, and no more of the input than that and one line.
+/// A reader whose lines are taken one by one. Of the input it holds a piece that was read, and no more than that and one line.
 #[derive(Drop)]
 pub(crate) struct Lines<I: Source> {
     reader: I,
@@ -105,6 +120,17 @@ impl<I: Source> Lines<I> {
             }
         }
         Err(Fault::Input)
+    }
+
+    /// The next line, where the input has given all of it already; else None, with nothing changed. It waits for nothing. Refusal:
+    /// `Memory`.
+    pub(crate) fn given_line(&mut self, alloc: Global) -> Result<Option<Vec<u8>>, Fault>
+        ensures line { IfOk result (λ line. IfSome line (λ l.
+            TakesLine (unread (I.remaining self.old.reader) self.old.unread) (unread (I.remaining self.new.reader) self.new.unread) (Some l.items))) }
+        ensures none { IfOk result (λ line. IfNone line (self.new ≡ self.old)) }
+        ensures err { IfErr result (λ f. f ≡ Fault.Memory) }
+    {
+        self.unread.whole_line(alloc)
     }
 
     /// Reads some bytes, where none are left, and answers whether the input has ended instead. Refusals: `Input`, `Memory`.

@@ -1,12 +1,15 @@
 //! What the input of a feed asks for, line by line.
-ghost use Rattle.std.specs.Prelude.{◌≡◌, ◌⊎◌, ◌<◌, ◌^◌, [], true, All, IfOk, IfErr, Some, Ok, Err, length};
-ghost use Rattle.td_plan.specs.Text.{words};
+ghost use Rattle.std.specs.Prelude.{◌≡◌, ◌⊎◌, ◌<◌, ◌^◌, [], true, false, All, IfOk, IfErr, MatchOption, Some, None, Ok, Err, length};
+ghost use Rattle.std.specs.Bool.{OnTrue};
+ghost use Rattle.td_plan.specs.Text.{text_lines, words};
 ghost use Rattle.td_feed.specs.Orders.{is_cut, request_of, positive, feed_line_of, is_between, order_for, with_cut, with_request, with_line};
-ghost use Rattle.td_feed.specs.Orders.{no_orders, orders_of, is_of_input, IsAccepted, Gives};
+ghost use Rattle.td_feed.specs.Orders.{no_orders, orders_of, is_of_input, IsAccepted, IsFirstLine, Gives};
 
 use std::alloc::Global;
 use std::marker::Model;
-use td_console::{DataLine, Fault, LineFault, ascii_text, first_line, is_input, read_data_line};
+use td_console::{
+    DataLine, Fault, LineFault, ascii_text, first_line, is_input, plain_record, read_data_line,
+};
 use td_plan::Plan;
 use td_plan::text::{natural, next_word};
 use td_stamp::{Batch, Entry, Rec};
@@ -62,8 +65,8 @@ pub fn read_orders(alloc: Global, plan: &Plan, input: &[u8]) -> Result<Vec<Order
     let mut read = no_orders(alloc);
     let mut number: u64 = 1;
     let mut rest = input;
-    while let Some((line, others)) = first_line(rest) {
-        read = with_line(alloc, plan, read, number, line)?;
+    while let Some((said, others)) = first_feed_line(rest) {
+        read = with_said(alloc, plan, read, number, said)?;
         number += 1;
         rest = others;
     }
@@ -96,7 +99,21 @@ pub(crate) fn with_line(
     ensures gives { Gives result (with_line plan.now number read (feed_line_of line.now)) }
     ensures of_input { IfErr result (λ f. is_of_input f ≡ true) }
 {
-    let said = match read_feed_line(line) {
+    with_said(alloc, plan, read, number, read_feed_line(line))
+}
+
+/// The same for what a line says, if it has a form.
+fn with_said(
+    alloc: Global,
+    plan: &Plan,
+    read: Orders,
+    number: u64,
+    said: Option<FeedLine>,
+) -> Result<Orders, Fault>
+    ensures gives { Gives result (with_line plan.now number read said) }
+    ensures of_input { IfErr result (λ f. is_of_input f ≡ true) }
+{
+    let said = match said {
         Some(FeedLine::Data(said)) => said,
         Some(FeedLine::Request(request)) => return with_request(read, number, request),
         Some(FeedLine::Cut) => return with_cut(read, number),
@@ -205,17 +222,48 @@ fn with_record(
     })
 }
 
-/// What a line says, if it has a form.
+/// What the first line of some bytes says, if it has a form, and the bytes after that line. Most lines are plain, and are read in
+/// one pass.
+fn first_feed_line(bytes: &[u8]) -> Option<(Option<FeedLine>, &[u8])>
+    ensures { MatchOption result (text_lines bytes.now ≡ []) (λ p. IsFirstLine bytes.now p.0 p.1.now) }
+{
+    match plain_record(bytes) {
+        Some((input, rec, others)) => {
+            let said = FeedLine::Data(DataLine::Record(input, rec));
+            Some((Some(said), others))
+        }
+        None => {
+            let (line, others) = first_line(bytes)?;
+            Some((read_feed_line(line), others))
+        }
+    }
+}
+
+/// What a line says, if it has a form. A line that begins with a digit is a data line, or has no form.
 fn read_feed_line(line: &[u8]) -> Option<FeedLine>
     ensures { result ≡ feed_line_of line.now }
 {
     let text = ascii_text(line)?;
+    if begins_with_digit(line) {
+        return Some(FeedLine::Data(read_data_line(text)?));
+    }
     if is_cut(text) {
         return Some(FeedLine::Cut);
     }
     match read_request(text) {
         Some(request) => Some(FeedLine::Request(request)),
         None => Some(FeedLine::Data(read_data_line(text)?)),
+    }
+}
+
+/// Whether the first byte of a line is a digit: then it is neither `cut` nor `req Q`.
+fn begins_with_digit(line: &[u8]) -> bool
+    ensures no_cut { OnTrue result (is_cut (words line.now) ≡ false) }
+    ensures no_request { OnTrue result (request_of (words line.now) ≡ None) }
+{
+    match line.split_first() {
+        Some((byte, _)) => byte.is_ascii_digit(),
+        None => false,
     }
 }
 

@@ -1,9 +1,10 @@
 //! What a feed writes: the lines of its keeper's replies.
-ghost use Rattle.std.specs.Prelude.{◌≡◌, ◌⊎◌, string_bytes, IfOk, IfErr, OnOk};
+ghost use Rattle.std.specs.Prelude.{◌≡◌, ◌⊎◌, ◌-◌, ◌++◌, string_bytes, IfOk, IfErr, OnOk};
 ghost use Rattle.std.specs.Io.KnownBytes.{Appends};
-ghost use Rattle.td_feed.specs.Said.{line_of as line_in, request_in};
+ghost use Rattle.td_feed.specs.Said.{line_of as line_in, ack_line, ack_lines, request_in};
 
 use std::alloc::Global;
+use std::fmt::Write;
 use td_console::{Fault, Sink, print_epoch, write_answer};
 use td_keeper::{Command, Receipt, Reply};
 
@@ -32,7 +33,7 @@ pub(crate) fn request_in(command: &Command) -> u64
     }
 }
 
-/// The lines of a reply: `ack E` where an epoch is on the disk, `again Q` where one with this request number or a greater was there
+/// The lines of a reply: `ack E` where an epoch is on the disk, one for each of a group, `again Q` where one with this request number or a greater was there
 /// already, the output lines of one that is handed out, `cut E` where a cut is on the disk, and else none. Refusal: `Memory`.
 fn line_of(alloc: Global, request: u64, reply: &Reply) -> Result<String, Fault>
     ensures ok { IfOk result (λ line. string_bytes line ≡ line_in request reply.now) }
@@ -42,6 +43,7 @@ fn line_of(alloc: Global, request: u64, reply: &Reply) -> Result<String, Fault>
         Reply::Submitted(epoch) | Reply::SubmittedAs(Receipt::New(epoch)) => {
             Ok(format!(in alloc; "ack {epoch}\n")?)
         }
+        Reply::SubmittedAll(first, end) => ack_lines(alloc, *first, *end),
         Reply::SubmittedAs(Receipt::Already(_)) => Ok(format!(in alloc; "again {request}\n")?),
         Reply::Written(Some(epoch)) => Ok(format!(in alloc; "cut {epoch}\n")?),
         Reply::Out(Some(out)) => {
@@ -51,4 +53,25 @@ fn line_of(alloc: Global, request: u64, reply: &Reply) -> Result<String, Fault>
         }
         _ => Ok(String::new(alloc)),
     }
+}
+
+/// `ack E` of each epoch from the first up to, and without, the end. Refusal: `Memory`.
+fn ack_lines(alloc: Global, first: u64, end: u64) -> Result<String, Fault>
+    ensures ok { IfOk result (λ lines. string_bytes lines ≡ ack_lines first (end - first)) }
+    ensures err { IfErr result (λ f. f ≡ Fault.Memory) }
+{
+    let mut lines = String::new(alloc);
+    for epoch in first..end {
+        print_ack(&mut lines, epoch)?;
+    }
+    Ok(lines)
+}
+
+/// Appends `ack E`. Refusal: `Memory`.
+fn print_ack(lines: &mut String, epoch: u64) -> Result<(), Fault>
+    ensures ok { OnOk result (string_bytes lines.new ≡ string_bytes lines.old ++ ack_line epoch) }
+    ensures err { IfErr result (λ f. f ≡ Fault.Memory) }
+{
+    writeln!(lines, "ack {epoch}")?;
+    Ok(())
 }

@@ -32,15 +32,18 @@ use td_standing::laws;
 use td_watch::Writer;
 
 /// Does what `feed` does, order by order as the input comes. The output lines of the epochs that the disk tells are written first.
-/// When an epoch is closed it is put on the disk, `ack E` is written, or `again Q`, and once it has passed its output lines are
-/// written, all before the next line is read. A cut is taken and written at a line `cut`; where `cut_every` epochs stand after the
-/// last one, if that is given; and where the journal is full, so that one more epoch finds room wherever the cut's states do. Of the
-/// input no more is in memory than a line, and the epoch that it is in. How far it has come is published by the writer of a watch,
-/// where one is given: first once the disk is recovered, and then as `Keeper::attach` says.
+/// When an epoch is closed it is put on the disk, and with it, as one group, those behind it that the input has given already: all or
+/// none of a group is there after any stop. `ack E` of each is written, or `again Q`, and once they have passed their output lines
+/// are written, all before more of the input is waited for. A cut is taken and written at a line `cut`; where `cut_every` epochs
+/// stand after the last one, if that is given; and where the journal is full, so that one more epoch finds room wherever the cut's
+/// states do. A group ends at a cut, at 256 epochs, at 1 MiB of cells, and before an epoch that is refused or repeated. Of the input no
+/// more is in memory than a piece of 64 KiB, a line, the epoch that it is in, and those that were read ahead of a piece. How far it has
+/// come is published by the writer of a watch, where one is given: first once the disk is recovered, and then as `Keeper::attach` says.
 ///
 /// Refusals: a missing closure, before anything else; what the disk refuses as it is recovered; and then the first of what a line,
-/// the reader, the keeper, a worker or the writer refuse, after all that was asked for before it. What was written stays written.
-/// `Memory` also where a thread could not be made.
+/// the reader, the keeper, a worker or the writer refuse, after all that was asked for before it; but want of memory, where epochs are
+/// read ahead, may come before these are put on the disk. What was written stays written. `Memory` also where a thread could not be
+/// made.
 pub fn stream<
     D: Disk + Drop,
     I: Source + Drop,
@@ -102,6 +105,7 @@ pub fn stream<
         Err((refusal, disk)) => return (disk, Err(Fault::from(refusal))),
     };
     let keeper = watched(keeper, watch);
+    each_is_kept(&keeper);
     let (keeper, ended) = obey(
         rt, alloc, keeper, plan, workers, cut_every, reader, writer, calls,
     );

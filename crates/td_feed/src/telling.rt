@@ -4,7 +4,7 @@ ghost use Rattle.td_disk.specs.Disk.{CountsDevice};
 ghost use Rattle.td_standing.specs.declared.error.KeeperError.TheVariants.{Device};
 ghost use Rattle.td_keeper.specs.declared.command.Reply.{Reply as AnyReply};
 ghost use Rattle.td_keeper.specs.Driven.{submitted_in, Obeys, Driven};
-ghost use Rattle.td_feed.specs.Carried.{batch_in, new_to, is_refused, is_resting, Carries, Leaves};
+ghost use Rattle.td_feed.specs.Carried.{batch_in, new_to, is_refused, is_repeated, is_resting, IsRising, Carries, Leaves};
 ghost use Rattle.td_feed.specs.Said.{fault_in, Refuses, SaysBy};
 
 use crate::saying::{request_in, say};
@@ -14,7 +14,7 @@ use td_calls::Law;
 use td_console::{Fault, Sink};
 use td_disk::Disk;
 use td_keeper::laws::{each_is_kept, others_rest};
-use td_keeper::{Command, Keeper, Reply};
+use td_keeper::{Command, GroupError, Keeper, Reply};
 use td_pool::{Crew, Pool};
 use td_standing::laws;
 
@@ -27,6 +27,7 @@ pub(crate) fn tell<D: Disk, L: Law, K: Crew, R: Wait>(
     command: Command,
 ) -> Result<Reply, Fault>
     requires whole { keeper.old.broken ≡ false }
+    requires rising { IsRising keeper.old command }
     ensures obeyed { IfOk result (λ reply. Obeys D.is_lawful D.state D.failures L.answers command reply keeper.old keeper.new) }
     ensures driven { IfOk result (λ reply. Driven D.is_lawful D.state D.failures L.answers (command ∷ []) (reply ∷ []) keeper.old keeper.new) }
     ensures done { IfOk result (λ reply. is_refused reply ≡ false) }
@@ -64,6 +65,7 @@ pub(crate) fn tell_aloud<D: Disk, L: Law, K: Crew, R: Wait, W: Sink>(
     writer: &mut W,
 ) -> Result<(), Fault>
     requires whole { keeper.old.broken ≡ false }
+    requires rising { IsRising keeper.old command }
     ensures obeyed { OnOk result ((reply : AnyReply) × Obeys D.is_lawful D.state D.failures L.answers command reply keeper.old keeper.new × (is_refused reply ≡ false)) }
     ensures size { D.capacity keeper.new.device ≡ D.capacity keeper.old.device }
     ensures lawful { D.is_lawful keeper.old.device ↔ D.is_lawful keeper.new.device }
@@ -82,11 +84,16 @@ pub(crate) fn tell_aloud<D: Disk, L: Law, K: Crew, R: Wait, W: Sink>(
 
 /// A reply that is no refusal; else the fault for that.
 fn unless_refused(reply: Reply) -> Result<Reply, Fault>
+    requires new { is_repeated reply ≡ false }
     ensures ok { IfOk result (λ r. (r ≡ reply) × (is_refused reply ≡ false)) }
     ensures refused { IfErr result (λ f. (is_refused reply ≡ true) × (f ≡ fault_in reply)) }
 {
     match reply {
         Reply::Refused { error, batch: _ } => Err(Fault::from(error)),
+        Reply::RefusedAll { error, group: _ } => match error {
+            GroupError::Keeper(error) => Err(Fault::from(error)),
+            GroupError::Repeated => unreachable!(),
+        },
         _ => Ok(reply),
     }
 }

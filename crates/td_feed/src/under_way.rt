@@ -1,16 +1,18 @@
 //! A feed under way.
-ghost use Rattle.std.specs.Prelude.{◌≡◌, ◌⊎◌, ◌↔◌, ◌+◌, ◌^◌, ◌<◌, ◌≤◌, ℕ, List, Option, [], ◌∷◌, false, IfOk, IfErr, IfSome, IfNone, OnOk, OnErr, string_bytes};
+ghost use Rattle.std.specs.Prelude.{◌≡◌, ◌⊎◌, ◌↔◌, ◌+◌, ◌^◌, ◌<◌, ◌≤◌, ℕ, List, Option, Some, [], ◌∷◌, false, IfOk, IfErr, IfSome, IfNone, OnOk, OnErr, string_bytes};
 ghost use Rattle.std.specs.Io.KnownBytes.{Appends};
 ghost use Rattle.td_disk.specs.Disk.{CountsDevice};
 ghost use Rattle.td_standing.specs.declared.error.KeeperError.TheVariants.{Device, Epochs};
 ghost use Rattle.td_keeper.specs.declared.command.Command.TheVariants.{NextOut};
 ghost use Rattle.td_keeper.specs.declared.command.Reply.TheVariants.{Out};
 ghost use Rattle.td_keeper.specs.Driven.{Driven};
-ghost use Rattle.td_feed.specs.Orders.{submissions};
+ghost use Rattle.td_standing.specs.Standing.{last_request};
+ghost use Rattle.td_feed.specs.Asked.{asked_for, MayFollow};
 ghost use Rattle.td_feed.specs.Fed.{hall_fault};
-ghost use Rattle.td_feed.specs.Carried.{batch_in, new_to, Carries, Leaves};
+ghost use Rattle.td_feed.specs.Carried.{batch_in, new_to, IsRising, Carries, Leaves};
 ghost use Rattle.td_feed.specs.Said.{SaysBy};
 
+use crate::at_once::Asked;
 use crate::order::Order;
 use crate::telling::{tell, tell_aloud};
 use std::alloc::Global;
@@ -19,6 +21,7 @@ use td_calls::Law;
 use td_console::{Fault, Sink, print_epoch, write_answer};
 use td_core::{Hall, HallError};
 use td_disk::Disk;
+use td_journal::Submitted;
 use td_keeper::laws::each_is_kept;
 use td_keeper::{Command, Keeper};
 use td_plan::Plan;
@@ -38,12 +41,25 @@ pub(crate) enum Pace {
     Live(Option<u32>),
 }
 
+impl Pace {
+    /// How many epochs may be submitted at once at this pace: as many as stand on the journal up to the next cut that no order asks
+    /// for, if it is known.
+    pub(crate) fn epochs_at_once<D: Disk, L: Law>(self, keeper: &Keeper<D, L>) -> u64 {
+        match self {
+            Pace::Live(Some(every)) => u64::from(every).saturating_sub(open_epochs(keeper)),
+            Pace::AtEnd | Pace::Live(None) => u64::MAX,
+        }
+    }
+}
+
 /// How much the pool's hall has since its base, and how much the keeper has beyond that, each epoch and each record counted as
-/// one. A release compares all that the hall has, so it waits until as much is new.
+/// one. A release compares all that the hall has, so it waits until as much is new. And how many cells the last cut freed, which may be
+/// open yet.
 #[derive(Drop)]
 pub(crate) struct Feeding {
     held: u64,
     waiting: u64,
+    freed: u64,
 }
 
 /// A hall of so many shards at a keeper's checkpoint, and what it lacks of the keeper's epochs. Refusals: `Memory`; and `Epochs`
@@ -70,45 +86,58 @@ pub(crate) fn open<D: Disk, L: Law>(
         .fold(0u64, |sum, batch| sum.saturating_add(weight(batch)));
     drop(batches);
     let hall = Hall::<L>::open(alloc, plan, states, epoch + 1, workers).map_err(fault_of)?;
-    Ok((hall, Feeding { held: 0, waiting }))
+    let feeding = Feeding {
+        held: 0,
+        waiting,
+        freed: 0,
+    };
+    Ok((hall, feeding))
 }
 
 impl Feeding {
-    /// Does what an order asks for. Refusals: those of the keeper and of the writer.
+    /// Does what is asked for. Refusals: those of the keeper and of the writer.
     fn obey<D: Disk, L: Law, K: Crew, R: Wait, W: Sink>(
         &mut self,
         rt: &R,
         alloc: Global,
         keeper: &mut Keeper<D, L>,
         pool: &Pool<K, L>,
-        order: Order,
+        asked: Asked,
         writer: &mut W,
     ) -> Result<(), Fault>
         requires whole { keeper.old.broken ≡ false }
+        requires rising { MayFollow (last_request keeper.old.standing) (Some asked) }
         ensures size { D.capacity keeper.new.device ≡ D.capacity keeper.old.device }
         ensures lawful { D.is_lawful keeper.old.device ↔ D.is_lawful keeper.new.device }
-        ensures carried { OnOk result (Carries L.answers keeper.old keeper.new (new_to keeper.old (submissions (order ∷ [])))) }
-        ensures left { OnErr result (Leaves D.is_lawful D.state L.answers keeper.old keeper.new (new_to keeper.old (submissions (order ∷ [])))) }
-        ensures said { SaysBy D.is_lawful D.state D.failures L.answers result (W.contents writer.old) (W.contents writer.new) keeper.old keeper.new (new_to keeper.old (submissions (order ∷ []))) }
+        ensures carried { OnOk result (Carries L.answers keeper.old keeper.new (new_to keeper.old (asked_for asked))) }
+        ensures left { OnErr result (Leaves D.is_lawful D.state L.answers keeper.old keeper.new (new_to keeper.old (asked_for asked))) }
+        ensures said { SaysBy D.is_lawful D.state D.failures L.answers result (W.contents writer.old) (W.contents writer.new) keeper.old keeper.new (new_to keeper.old (asked_for asked)) }
         ensures failures { CountsDevice result (Fault.Keeper Device) (D.failures keeper.old.device) (D.failures keeper.new.device) }
     {
-        match order {
-            Order::Submit(batch) => {
-                let weight = weight(&batch);
-                let command = Command::Submit(batch);
+        match asked {
+            Asked::Epochs(group) => {
+                let weight = weight_of_all(group.as_slice());
+                let command = Command::SubmitAll(group);
                 self.submit(rt, alloc, keeper, pool, command, weight, writer)
             }
-            Order::SubmitAs(request, batch) => {
-                let weight = weight(&batch);
-                let command = Command::SubmitAs(request, batch);
-                self.submit(rt, alloc, keeper, pool, command, weight, writer)
-            }
-            Order::Cut => self.cut(rt, alloc, keeper, pool, writer),
+            Asked::One(order) => match order {
+                Order::Submit(batch) => {
+                    let weight = weight(&batch);
+                    let command = Command::Submit(batch);
+                    self.submit(rt, alloc, keeper, pool, command, weight, writer)
+                }
+                Order::SubmitAs(request, batch) => {
+                    let weight = weight(&batch);
+                    let command = Command::SubmitAs(request, batch);
+                    self.submit(rt, alloc, keeper, pool, command, weight, writer)
+                }
+                Order::Cut => self.cut(rt, alloc, keeper, pool, writer),
+            },
         }
     }
 
-    /// Tells the keeper a command that submits a batch of this weight, and writes its line, `ack E` or `again Q`; and releases what
-    /// the hall lacks, where the batch is new and it is time.
+    /// Tells the keeper a command that submits batches of this weight, and writes its lines, `ack E` or `again Q`; and releases what
+    /// the hall lacks, where they are new and it is time.
     fn submit<D: Disk, L: Law, K: Crew, R: Wait, W: Sink>(
         &mut self,
         rt: &R,
@@ -120,6 +149,7 @@ impl Feeding {
         writer: &mut W,
     ) -> Result<(), Fault>
         requires whole { keeper.old.broken ≡ false }
+        requires rising { IsRising keeper.old command }
         ensures size { D.capacity keeper.new.device ≡ D.capacity keeper.old.device }
         ensures lawful { D.is_lawful keeper.old.device ↔ D.is_lawful keeper.new.device }
         ensures carried { OnOk result (Carries L.answers keeper.old keeper.new (new_to keeper.old (batch_in command))) }
@@ -212,30 +242,31 @@ impl Feeding {
         }
     }
 
-    /// Does what an order asks for, and what is due after it at this pace.
+    /// Does what is asked for, and what is due after it at this pace.
     pub(crate) fn obey_at_pace<D: Disk, L: Law, K: Crew, R: Wait, W: Sink>(
         &mut self,
         rt: &R,
         alloc: Global,
         keeper: &mut Keeper<D, L>,
         pool: &Pool<K, L>,
-        order: Order,
+        asked: Asked,
         pace: Pace,
         writer: &mut W,
     ) -> Result<(), Fault>
         requires whole { keeper.old.broken ≡ false }
+        requires rising { MayFollow (last_request keeper.old.standing) (Some asked) }
         ensures size { D.capacity keeper.new.device ≡ D.capacity keeper.old.device }
         ensures lawful { D.is_lawful keeper.old.device ↔ D.is_lawful keeper.new.device }
-        ensures carried { OnOk result (Carries L.answers keeper.old keeper.new (new_to keeper.old (submissions (order ∷ [])))) }
-        ensures left { OnErr result (Leaves D.is_lawful D.state L.answers keeper.old keeper.new (new_to keeper.old (submissions (order ∷ [])))) }
-        ensures said { SaysBy D.is_lawful D.state D.failures L.answers result (W.contents writer.old) (W.contents writer.new) keeper.old keeper.new (new_to keeper.old (submissions (order ∷ []))) }
+        ensures carried { OnOk result (Carries L.answers keeper.old keeper.new (new_to keeper.old (asked_for asked))) }
+        ensures left { OnErr result (Leaves D.is_lawful D.state L.answers keeper.old keeper.new (new_to keeper.old (asked_for asked))) }
+        ensures said { SaysBy D.is_lawful D.state D.failures L.answers result (W.contents writer.old) (W.contents writer.new) keeper.old keeper.new (new_to keeper.old (asked_for asked)) }
         ensures failures { CountsDevice result (Fault.Keeper Device) (D.failures keeper.old.device) (D.failures keeper.new.device) }
     {
-        self.obey(rt, alloc, keeper, pool, order, writer)?;
+        self.obey(rt, alloc, keeper, pool, asked, writer)?;
         self.keep_pace(rt, alloc, keeper, pool, pace, writer)
     }
 
-    /// Does what is due after an order, at this pace: nothing; or settles, and cuts where it is time.
+    /// Does what is due after an order, at this pace: nothing; or settles, and cuts where it is time, and closes the cells that come next.
     fn keep_pace<D: Disk, L: Law, K: Crew, R: Wait, W: Sink>(
         &mut self,
         rt: &R,
@@ -256,16 +287,64 @@ impl Feeding {
         match pace {
             Pace::AtEnd => Ok(()),
             Pace::Live(every) => {
-                if is_cut_due(keeper, every) {
-                    self.cut(rt, alloc, keeper, pool, writer)
-                } else {
-                    self.settle(rt, alloc, keeper, pool, writer)
-                }
+                self.cut_or_settle(rt, alloc, keeper, pool, every, writer)?;
+                self.close_freed(rt, alloc, keeper, pool)
             }
         }
     }
 
-    /// Settles, cuts, writes the cut to the disk, and writes `cut E`.
+    /// Settles, and cuts where it is time.
+    fn cut_or_settle<D: Disk, L: Law, K: Crew, R: Wait, W: Sink>(
+        &mut self,
+        rt: &R,
+        alloc: Global,
+        keeper: &mut Keeper<D, L>,
+        pool: &Pool<K, L>,
+        every: Option<u32>,
+        writer: &mut W,
+    ) -> Result<(), Fault>
+        requires whole { keeper.old.broken ≡ false }
+        ensures size { D.capacity keeper.new.device ≡ D.capacity keeper.old.device }
+        ensures lawful { D.is_lawful keeper.old.device ↔ D.is_lawful keeper.new.device }
+        ensures carried { OnOk result (Carries L.answers keeper.old keeper.new []) }
+        ensures left { OnErr result (Leaves D.is_lawful D.state L.answers keeper.old keeper.new []) }
+        ensures said { SaysBy D.is_lawful D.state D.failures L.answers result (W.contents writer.old) (W.contents writer.new) keeper.old keeper.new [] }
+        ensures failures { CountsDevice result (Fault.Keeper Device) (D.failures keeper.old.device) (D.failures keeper.new.device) }
+    {
+        if is_cut_due(keeper, every) {
+            self.cut(rt, alloc, keeper, pool, writer)
+        } else {
+            self.settle(rt, alloc, keeper, pool, writer)
+        }
+    }
+
+    /// Closes as many cells as the last cut freed, of those that come next, so that a submit finds its cell closed.
+    fn close_freed<D: Disk, L: Law, K: Crew, R: Wait>(
+        &mut self,
+        rt: &R,
+        alloc: Global,
+        keeper: &mut Keeper<D, L>,
+        pool: &Pool<K, L>,
+    ) -> Result<(), Fault>
+        requires whole { keeper.old.broken ≡ false }
+        ensures size { D.capacity keeper.new.device ≡ D.capacity keeper.old.device }
+        ensures lawful { D.is_lawful keeper.old.device ↔ D.is_lawful keeper.new.device }
+        ensures carried { OnOk result (Carries L.answers keeper.old keeper.new []) }
+        ensures left { OnErr result (Leaves D.is_lawful D.state L.answers keeper.old keeper.new []) }
+
+        // Nothing is written, whatever the writer is.
+        ensures said { (held : Option (List ℕ)) → SaysBy D.is_lawful D.state D.failures L.answers result held held keeper.old keeper.new [] }
+        ensures failures { CountsDevice result (Fault.Keeper Device) (D.failures keeper.old.device) (D.failures keeper.new.device) }
+    {
+        if self.freed == 0 {
+            return Ok(());
+        }
+        tell(rt, alloc, keeper, pool, Command::CloseFree(self.freed))?;
+        self.freed = 0;
+        Ok(())
+    }
+
+    /// Settles, cuts, writes the cut to the disk, and writes `cut E`. The cells of the epochs up to it are free from then on.
     fn cut<D: Disk, L: Law, K: Crew, R: Wait, W: Sink>(
         &mut self,
         rt: &R,
@@ -286,6 +365,7 @@ impl Feeding {
         self.settle(rt, alloc, keeper, pool, writer)?;
         tell(rt, alloc, keeper, pool, Command::Cut)?;
         self.held = 0;
+        self.freed = open_epochs(keeper);
         tell_aloud(rt, alloc, keeper, pool, Command::WriteCut, writer)
     }
 }
@@ -296,9 +376,14 @@ fn is_cut_due<D: Disk, L: Law>(keeper: &Keeper<D, L>, every: Option<u32>) -> boo
         return true;
     }
     match every {
-        Some(every) => u64::from(every) <= keeper.last_epoch().saturating_sub(keeper.kept()),
+        Some(every) => u64::from(every) <= open_epochs(keeper),
         None => false,
     }
+}
+
+/// How many epochs stand on the journal.
+fn open_epochs<D: Disk, L: Law>(keeper: &Keeper<D, L>) -> u64 {
+    keeper.last_epoch().saturating_sub(keeper.kept())
 }
 
 /// Writes the output lines of the epochs that were collected, and lets these go.
@@ -360,6 +445,13 @@ fn next_out<D: Disk, L: Law>(keeper: &mut Keeper<D, L>) -> Option<EpochOut>
 /// What an epoch with this batch counts: itself and its records.
 fn weight(batch: &Batch) -> u64 {
     (batch.len() as u64).saturating_add(1)
+}
+
+/// What a group of epochs counts.
+fn weight_of_all(group: &[Submitted]) -> u64 {
+    group
+        .iter()
+        .fold(0u64, |sum, each| sum.saturating_add(weight(&each.batch)))
 }
 
 /// The fault for a hall's refusal.

@@ -9,6 +9,7 @@ ghost use Rattle.td_feed.specs.Carried.{new_to, Carries, Leaves};
 ghost use Rattle.td_feed.specs.Said.{SaysBy};
 
 use crate::asking::Asking;
+use crate::at_once::Room;
 use crate::under_way::{Feeding, Pace};
 use std::alloc::Global;
 use std::sync::Wait;
@@ -163,7 +164,7 @@ fn serve<L: Law, C: Closures<L>, K: Crew, R: Wait>(
     worked
 }
 
-/// Obeys each order in turn, at this pace, and settles. Refusals: `Memory`, before anything else, where a worker was refused a thread;
+/// Does what is asked for in turn, at this pace, and settles. Refusals: `Memory`, before anything else, where a worker was refused a thread;
 /// those of what asks for the orders, of the keeper and of the writer.
 fn obey_each<D: Disk, S: Asking, W: Sink, L: Law, K: Crew, R: Wait>(
     rt: &R,
@@ -189,11 +190,12 @@ fn obey_each<D: Disk, S: Asking, W: Sink, L: Law, K: Crew, R: Wait>(
         return Err(Fault::Memory);
     }
     feeding.begin(rt, alloc, keeper, pool, pace, writer)?;
-    for _order in rt.forever() {
-        let Some(order) = orders.next_order(alloc)? else {
+    for _asked in rt.forever() {
+        let room = Room::of(keeper, pace.epochs_at_once(keeper));
+        let Some(asked) = orders.next_asked(alloc, &room)? else {
             return feeding.settle(rt, alloc, keeper, pool, writer);
         };
-        feeding.obey_at_pace(rt, alloc, keeper, pool, order, pace, writer)?;
+        feeding.obey_at_pace(rt, alloc, keeper, pool, asked, pace, writer)?;
     }
     unreachable!()
 }

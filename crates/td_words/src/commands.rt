@@ -161,8 +161,8 @@ Each fault is explained by 'td help faults'";
 
 const STREAM_MORE: &str = "\
 Reads:  PLAN, DISK and lines, as td feed does
-Writes: DISK, and, as each epoch is closed and before the next line is read, 'ack EPOCH' (or 'again REQUEST') and then its
-        output lines 'EPOCH VERTEX KEY VALUE'; 'cut EPOCH' where a line 'cut' asks for a cut, after each E epochs with
+Writes: DISK, and, of all epochs that are closed and before it waits for more lines, 'ack EPOCH' (or 'again REQUEST') and
+        then output lines 'EPOCH VERTEX KEY VALUE'; 'cut EPOCH' where a line 'cut' asks for a cut, after each E epochs with
         --cut-every E, and in any case before the room for epochs on DISK is full;
         with --progress, to standard error, 'acked EPOCH done EPOCH kept EPOCH': the last epoch on DISK, computed, and cut
 A cut keeps the states on DISK, and frees the room of the epochs up to it

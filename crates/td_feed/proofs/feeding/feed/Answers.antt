@@ -7,7 +7,7 @@ use Rattle.td_plan.specs.Lines.{Line}
 use Rattle.td_gate.specs.CrashSafe.{CrashSafe, Unchanged}
 use Rattle.td_journal.specs.declared.submitted.Submitted.{Submitted}
 use Rattle.td_standing.specs.Stops.{Stands}
-use Rattle.td_standing.specs.Advanced.{states_by}
+use Rattle.td_standing.specs.Advanced.{states_by, HeldWhere}
 use Rattle.td_journal.specs.Numbers.{greatest}
 use Rattle.td_feed.specs.Orders.{orders_of, submitted_by, new_after}
 use Rattle.td_feed.specs.Fed.{EachTellsHistory, EachTellsSome}
@@ -128,8 +128,14 @@ returns-clause-said g c =
       plan_is = c.in-Ok.ensures.plan;
       told = c.in-Ok.ensures.told;
       watch = c.in-Ok.keeper.watch;
+      kept = c.each_is_kept.ensures;
+      lawful = c.in-Ok.ensures.lawful.0;
       ended = c.obey-keeper.result.0;
       left_is = c.into_disk.ensures.disk;
+      lawful_left = λ lawful. subst is_lawful (sym c.into_disk.ensures.disk) (c.obey-keeper.ensures.lawful.0 (c.in-Ok.ensures.lawful.0 lawful));
+      holds =
+          let ended = c.obey-keeper.result.0 in
+          subst (λ (d : g.row.D.Denot). is_lawful d → HeldWhere ended.broken answers ended.plan ended.head ended.side ended.standing (state d)) (sym c.into_disk.ensures.disk) c.into_disk.ensures.held;
       said = said;
     }))
 

@@ -7,9 +7,9 @@ use Rattle.td_plan.specs.Lines.{Line}
 use Rattle.td_gate.specs.CrashSafe.{CrashSafe, Unchanged}
 use Rattle.td_journal.specs.declared.submitted.Submitted.{Submitted}
 use Rattle.td_standing.specs.Stops.{Stands}
-use Rattle.td_standing.specs.Advanced.{states_by}
+use Rattle.td_standing.specs.Advanced.{states_by, HeldWhere}
 use Rattle.td_journal.specs.Numbers.{greatest}
-use Rattle.td_keeper.specs.Keeping.{Keeping}
+use Rattle.td_keeper.specs.Keeping.{Keeping, IsKeeping}
 use Rattle.td_feed.specs.Orders.{submissions, new_after}
 use Rattle.td_feed.specs.Asked.{script_of}
 use Rattle.td_feed.specs.Fed.{EachTellsHistory, EachTellsSome}
@@ -134,8 +134,14 @@ returns-clause-said g c =
       plan_is = c.in-Ok.ensures.plan;
       told = c.in-Ok.ensures.told;
       watch = c.watched-keeper.ensures.aside.0;
+      kept = subst (λ (k : Keeping g.row.D.Denot). IsKeeping k answers) c.watched-keeper.ensures.aside.1 c.each_is_kept.ensures;
+      lawful = c.in-Ok.ensures.lawful.0;
       ended = c.obey-keeper.result.0;
       left_is = c.into_disk.ensures.disk;
+      lawful_left = λ lawful. subst is_lawful (sym c.into_disk.ensures.disk) (c.obey-keeper.ensures.lawful.0 (subst is_lawful (sym c.watched-keeper.ensures.device) (c.in-Ok.ensures.lawful.0 lawful)));
+      holds =
+          let ended = c.obey-keeper.result.0 in
+          subst (λ (d : g.row.D.Denot). is_lawful d → HeldWhere ended.broken answers ended.plan ended.head ended.side ended.standing (state d)) (sym c.into_disk.ensures.disk) c.into_disk.ensures.held;
       said = subst (λ (k : Keeping g.row.D.Denot). SaysBy is_lawful state failures answers c.obey-keeper.result.1 (g.W.Sink.contents c.args.writer.now) (g.W.Sink.contents c.obey-keeper.new.writer) k c.obey-keeper.result.0 (new_to k (submissions (script_of plan input).orders))) c.watched-keeper.ensures.aside.1 said;
     }))
 

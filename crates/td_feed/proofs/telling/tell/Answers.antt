@@ -4,14 +4,13 @@ use Rattle.td_standing.specs.Standing.{last_epoch}
 use Rattle.td_standing.specs.Advanced.{SinceAdvance}
 use Rattle.td_keeper.specs.declared.command.Command.{Command}
 use Rattle.td_keeper.specs.declared.command.Reply.{Reply}
-use Rattle.td_keeper.specs.declared.command.Reply.TheVariants.{Refused}
 use Rattle.td_keeper.specs.Driven.{submitted_in, submitted_by, some_failed, Obeys, Driven}
 use Rattle.td_console.specs.declared.faults.Fault.{Fault}
 use Rattle.td_console.specs.declared.faults.Fault.TheVariants.{Memory}
 use Rattle.td_feed.specs.Carried.{batch_in, new_to, is_refused, Carries, Leaves}
 use Rattle.td_feed.proofs.Carrying.{at_err, unmoved, leaves_none}
 use Rattle.td_feed.specs.Said.{fault_in, Refuses}
-use Rattle.td_feed.proofs.Told.{one_reply, one_driven, one_alone, carry, refused, rest, which, ok_of, err_of}
+use Rattle.td_feed.proofs.Told.{one_reply, one_driven, one_alone, carry, refused_any, rest, not_repeated, ok_of, err_of}
 use Rattle.td_feed.proofs.Counting.{counts_same, counts_told, other_fault}
 use Rattle.td_feed.proofs.telling.tell.Goals as goal
 
@@ -82,12 +81,11 @@ returns-in-Some-clause-left g c =
     let ens = c.in-Ok.ensures in
     err_of c.unless_refused.result reply (Leaves is_lawful state answers old new (new_to old (batch_in command))) (λ f. f ≡ fault_in reply) c.unless_refused.ensures.refused
     (λ is.
-    let w = which reply is in
-    let same : submitted_by c.push_reserved.new.self.items c.in-Ok.replies.items ≡ submitted_in command (Refused w.0 w.1) =
-    ap (λ (l : List Command). submitted_by l c.in-Ok.replies.items) told ∙ ap (λ (l : List Reply). submitted_by (command ∷ []) l) replied ∙ one.1 ∙ ap (λ (r : Reply). submitted_in command r) w.2 in
-    refused is_lawful state failures answers c.advance_stands.ensures.each old new c.requires.whole ens.lawful.1
+    let same : submitted_by c.push_reserved.new.self.items c.in-Ok.replies.items ≡ submitted_in command reply =
+    ap (λ (l : List Command). submitted_by l c.in-Ok.replies.items) told ∙ ap (λ (l : List Reply). submitted_by (command ∷ []) l) replied ∙ one.1 in
+    refused_any is_lawful state failures answers c.advance_stands.ensures.each old new c.requires.whole ens.lawful.1
     (λ lawful i image. g.met.D.Disk.counts_now new.device (state old.device).moment i lawful (ens.further (ens.lawful.1 lawful) c.requires.whole).later image)
-    c.others_rest.ensures command w.0 w.1 (subst (λ (r : Reply). Obeys is_lawful state failures answers command r old new) w.2 one.0)
+    c.others_rest.ensures command reply is one.0 c.requires.rising
     (λ lawful. subst (λ (x : List Submitted). SinceAdvance answers old.plan old.standing x (last_epoch old.standing) (state old.device).moment (state new.device)) same (ens.images lawful c.requires.whole)))
 
 pub returns-in-Some-clause-rests : goal.returns-in-Some-clause-rests
@@ -153,9 +151,7 @@ returns-in-Some-clause-refused g c =
     (subst (λ (l : List Command). Driven is_lawful state failures answers l c.in-Ok.replies.items old new) told c.in-Ok.ensures.driven) in
     let one = one_driven is_lawful state failures answers command reply others old new driven in
     err_of c.unless_refused.result reply (Refuses is_lawful state failures answers command old new) (λ f. f ≡ fault_in reply) c.unless_refused.ensures.refused
-    (λ is.
-    let w = which reply is in
-    inr (w.0, w.1, subst (λ (r : Reply). Driven is_lawful state failures answers (command ∷ []) (r ∷ []) old new) w.2 one))
+    (λ is. inr (reply, is, one))
 
 pub returns-in-Some-clause-failures : goal.returns-in-Some-clause-failures
 returns-in-Some-clause-failures g c =
@@ -188,3 +184,22 @@ returns-in-Err-clause-left g c =
     let same : new ≡ old = c.in-Err.ensures.refused.2 in
     leaves_none g.D.Disk.is_lawful g.D.Disk.state answers old new (new_to old (batch_in c.args.command))
     (unmoved answers old new (ap (λ k. k.plan) same) (ap (λ k. k.standing) same) (ap (λ k. k.broken) same ∙ c.requires.whole))
+
+pub unless_refused-requires : goal.unless_refused-requires
+unless_refused-requires g c =
+    let old = c.args.keeper.now in
+    let new = c.drive.new.self in
+    let is_lawful = g.D.Disk.is_lawful in
+    let state = g.D.Disk.state in
+    let failures = g.D.Disk.failures in
+    let answers = g.L.Law.answers in
+    let command : Command = c.args.command in
+    let reply : Reply = c.in-Some.reply in
+    let others : List Reply = c.pop.new.self.items in
+    let told : c.push_reserved.new.self.items ≡ command ∷ [] = c.push_reserved.ensures.items ∙ ap (λ (l : List Command). l ++ command ∷ []) c.in_ok-commands.ensures.items in
+    let replied : c.in-Ok.replies.items ≡ others ++ reply ∷ [] = c.in-Some.ensures.items in
+    let driven : Driven is_lawful state failures answers (command ∷ []) (others ++ reply ∷ []) old new =
+    subst (λ (l : List Reply). Driven is_lawful state failures answers (command ∷ []) l old new) replied
+    (subst (λ (l : List Command). Driven is_lawful state failures answers l c.in-Ok.replies.items old new) told c.in-Ok.ensures.driven) in
+    let one = one_reply is_lawful state failures answers command reply others old new driven in
+    record { new = not_repeated is_lawful state failures answers command reply old new one.0 c.requires.rising }

@@ -35,7 +35,7 @@ returns-clause-carried g c =
     let state = g.D.Disk.state in
     let failures = g.D.Disk.failures in
     let answers = g.L.Law.answers in
-    let is = submitted_is is_lawful state failures answers c.args.command c.in_ok-reply.reply c.args.keeper.now c.tell.new.keeper c.in_ok-reply.ensures.obeyed c.in_ok-reply.ensures.done in
+    let is = submitted_is is_lawful state failures answers c.args.command c.in_ok-reply.reply c.args.keeper.now c.tell.new.keeper c.in_ok-reply.ensures.obeyed c.in_ok-reply.ensures.done c.requires.rising in
     at_ok c.say.result (subst (λ (x : List Submitted). Carries answers c.args.keeper.now c.tell.new.keeper x) is c.in_ok-reply.ensures.carried)
 
 pub returns-clause-left : goal.returns-clause-left
@@ -44,7 +44,7 @@ returns-clause-left g c =
     let state = g.D.Disk.state in
     let failures = g.D.Disk.failures in
     let answers = g.L.Law.answers in
-    let is = submitted_is is_lawful state failures answers c.args.command c.in_ok-reply.reply c.args.keeper.now c.tell.new.keeper c.in_ok-reply.ensures.obeyed c.in_ok-reply.ensures.done in
+    let is = submitted_is is_lawful state failures answers c.args.command c.in_ok-reply.reply c.args.keeper.now c.tell.new.keeper c.in_ok-reply.ensures.obeyed c.in_ok-reply.ensures.done c.requires.rising in
     at_err c.say.result
     (leaves_all is_lawful state answers c.args.keeper.now c.tell.new.keeper (new_to c.args.keeper.now (batch_in c.args.command))
     (subst (λ (x : List Submitted). Carries answers c.args.keeper.now c.tell.new.keeper x) is c.in_ok-reply.ensures.carried))
@@ -55,7 +55,7 @@ returns-clause-acknowledged g c =
     let state = g.D.Disk.state in
     let failures = g.D.Disk.failures in
     let answers = g.L.Law.answers in
-    let is = submitted_is is_lawful state failures answers c.args.command c.in_ok-reply.reply c.args.keeper.now c.tell.new.keeper c.in_ok-reply.ensures.obeyed c.in_ok-reply.ensures.done in
+    let is = submitted_is is_lawful state failures answers c.args.command c.in_ok-reply.reply c.args.keeper.now c.tell.new.keeper c.in_ok-reply.ensures.obeyed c.in_ok-reply.ensures.done c.requires.rising in
     inr (subst (λ (x : List Submitted). Carries answers c.args.keeper.now c.tell.new.keeper x) is c.in_ok-reply.ensures.carried)
 
 pub returns-clause-said : goal.returns-clause-said
@@ -64,7 +64,7 @@ returns-clause-said g c =
     let state = g.D.Disk.state in
     let failures = g.D.Disk.failures in
     let answers = g.L.Law.answers in
-    let is = submitted_is is_lawful state failures answers c.args.command c.in_ok-reply.reply c.args.keeper.now c.tell.new.keeper c.in_ok-reply.ensures.obeyed c.in_ok-reply.ensures.done in
+    let is = submitted_is is_lawful state failures answers c.args.command c.in_ok-reply.reply c.args.keeper.now c.tell.new.keeper c.in_ok-reply.ensures.obeyed c.in_ok-reply.ensures.done c.requires.rising in
     said_by is_lawful state failures answers c.say.result (g.W.Sink.contents c.args.writer.now) (g.W.Sink.contents c.say.new.writer) c.args.command c.in_ok-reply.reply c.args.keeper.now c.tell.new.keeper
     (new_to c.args.keeper.now (batch_in c.args.command)) (c.say.new.writer ≡ c.args.writer.now) c.in_ok-reply.ensures.driven is
     (subst (λ (n : ℕ). OnOk c.say.result (Appends (g.W.Sink.contents c.args.writer.now) (g.W.Sink.contents c.say.new.writer) (line_of n c.in_ok-reply.reply))) c.request_in-request.ensures c.say.ensures.said) c.say.ensures.unsaid (λ same. ap g.W.Sink.contents same)

@@ -8,7 +8,7 @@ use Rattle.td_console.specs.declared.faults.Fault.{Fault}
 use Rattle.td_feed.specs.Said.{line_of}
 use Rattle.td_feed.proofs.Carrying.{unmoved, carries_after}
 use Rattle.td_feed.proofs.Counting.{other_fault, counts_same}
-use Rattle.td_feed.proofs.Lines.{by_refusal, output_no_device, holding_nothing, holding_more, holding_refused, holding_piece, none_out, all_written, last_written}
+use Rattle.td_feed.proofs.Lines.{by_refusal, output_no_device, holding_nothing, holding_more, holding_piece, none_out, all_written, last_written}
 use Rattle.td_feed.proofs.under_way.write_outs.Goals as goal
 
 -- a list without members

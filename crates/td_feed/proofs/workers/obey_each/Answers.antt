@@ -1,12 +1,12 @@
-use Rattle.std.proofs.Common.{◌≡◌, [], ◌∷◌, ◌∙◌, subst, inr, None}
+use Rattle.std.proofs.Common.{◌≡◌, [], ◌∙◌, refl, subst, inr, None}
 use Rattle.td_console.specs.declared.faults.Fault.{Fault}
 use Rattle.td_feed.specs.Orders.{submissions}
-use Rattle.td_feed.specs.Asked.{Asks}
+use Rattle.td_feed.specs.Asked.{Asks, asked_for}
 use Rattle.td_feed.specs.Carried.{new_to}
-use Rattle.td_feed.proofs.Carrying.{at_err, in_some}
+use Rattle.td_feed.proofs.Carrying.{at_err, in_some, unmoved, leaves_none}
 use Rattle.td_feed.proofs.Counting.{same_count}
 use Rattle.td_feed.proofs.Lines.{says_nothing, some_of_all, by_refusal, handed_on}
-use Rattle.td_feed.proofs.Obeyed.{none_obeyed, one_obeyed, one_refused, left_there, at_end_left, at_end_said, none_left, none_of}
+use Rattle.td_feed.proofs.Obeyed.{none_obeyed, some_obeyed, some_refused, left_there, at_end_left, at_end_said, none_left, none_of}
 use Rattle.td_feed.proofs.workers.obey_each.Goals as goal
 
 pub returns-then-is_refused-clause-said : goal.returns-then-is_refused-clause-said
@@ -25,8 +25,8 @@ returns-in_err-begin-clause-left g c =
     at_err c.from_residual.result
     (in_some (g.S.Asking.script c.args.orders.now) (λ s. none_left g.D.Disk.is_lawful g.D.Disk.state g.D.Disk.failures g.L.Law.answers old c.begin.new.keeper (new_to old (submissions s.orders)) c.requires.whole c.in_err-begin.ensures.left))
 
-pub loop-order-init : goal.loop-order-init
-loop-order-init g c = record {
+pub loop-asked-init : goal.loop-asked-init
+loop-asked-init g c = record {
   obeyed =
       none_obeyed g.D.Disk.is_lawful g.D.Disk.state g.D.Disk.failures g.L.Law.answers (g.S.Asking.script c.args.orders.now) (g.W.Sink.contents c.args.writer.now) (g.W.Sink.contents c.begin.new.writer) c.args.keeper.now
       c.begin.new.keeper c.in_ok-begin.ensures.said c.in_ok-begin.ensures.carried;
@@ -35,62 +35,62 @@ loop-order-init g c = record {
   lawful = c.begin.ensures.lawful;
 }
 
-pub returns-in_err-order-clause-left : goal.returns-in_err-order-clause-left
-returns-in_err-order-clause-left g c =
-    at_err c.from_residual-in_err-order.result
-    (left_there g.D.Disk.is_lawful g.D.Disk.state g.D.Disk.failures g.L.Law.answers (g.S.Asking.script c.args.orders.now) (g.S.Asking.script c.loop-order.orders) (g.S.Asking.script c.loop-order.orders) (g.W.Sink.contents c.args.writer.now)
-    (g.W.Sink.contents c.loop-order.writer) c.args.keeper.now c.loop-order.keeper c.loop-order.invariant.obeyed)
+pub returns-in_err-asked-clause-left : goal.returns-in_err-asked-clause-left
+returns-in_err-asked-clause-left g c =
+    at_err c.from_residual-in_err-asked.result
+    (left_there g.D.Disk.is_lawful g.D.Disk.state g.D.Disk.failures g.L.Law.answers (g.S.Asking.script c.args.orders.now) (g.S.Asking.script c.loop-asked.orders) (g.S.Asking.script c.loop-asked.orders) (g.W.Sink.contents c.args.writer.now)
+    (g.W.Sink.contents c.loop-asked.writer) c.args.keeper.now c.loop-asked.keeper c.loop-asked.invariant.obeyed)
 
-pub returns-in_err-order-clause-said : goal.returns-in_err-order-clause-said
-returns-in_err-order-clause-said g c =
+pub returns-in_err-asked-clause-said : goal.returns-in_err-asked-clause-said
+returns-in_err-asked-clause-said g c =
     let is_lawful = g.D.Disk.is_lawful in
     let state = g.D.Disk.state in
     let failures = g.D.Disk.failures in
     let answers = g.L.Law.answers in
     let u = g.W.Sink.contents c.args.writer.now in
-    let v = g.W.Sink.contents c.loop-order.writer in
+    let v = g.W.Sink.contents c.loop-asked.writer in
     let old = c.args.keeper.now in
-    let there = c.loop-order.keeper in
-    let so = c.loop-order.invariant.obeyed in
+    let there = c.loop-asked.keeper in
+    let so = c.loop-asked.invariant.obeyed in
     in_some (g.S.Asking.script c.args.orders.now)
-    (λ s. by_refusal is_lawful state failures answers c.from_residual-in_err-order.result (λ (f : Fault). f ≡ c.in_err-order.field-0.0) u v old there (new_to old (submissions s.orders)) c.from_residual-in_err-order.ensures.1
+    (λ s. by_refusal is_lawful state failures answers c.from_residual-in_err-asked.result (λ (f : Fault). f ≡ c.in_err-asked.field-0.0) u v old there (new_to old (submissions s.orders)) c.from_residual-in_err-asked.ensures.1
     (λ f is. inr (some_of_all is_lawful state failures answers u v old there (new_to old (submissions so.done)) so.said)))
 
 pub returns-in_default-clause-left : goal.returns-in_default-clause-left
 returns-in_default-clause-left g c =
-    let left = g.S.Asking.script c.loop-order.orders in
-    let next = g.S.Asking.script c.next_order.new.self in
-    let asks : Asks left next None = subst (Asks left next) (none_of c.in_ok-order.field-0 c.in_default.not-Some) c.in_ok-order.ensures.asked in
+    let left = g.S.Asking.script c.loop-asked.orders in
+    let next = g.S.Asking.script c.next_asked.new.self in
+    let asks : Asks left next None = subst (Asks left next) (none_of c.in_ok-asked.field-0 c.in_default.not-Some) c.in_ok-asked.ensures.asked in
     at_err c.settle.result
-    (at_end_left g.D.Disk.is_lawful g.D.Disk.state g.D.Disk.failures g.L.Law.answers (g.S.Asking.script c.args.orders.now) left next (g.W.Sink.contents c.args.writer.now) (g.W.Sink.contents c.loop-order.writer) c.args.keeper.now
-    c.loop-order.keeper c.loop-order.invariant.obeyed c.settle.new.keeper asks c.settle.ensures.carried)
+    (at_end_left g.D.Disk.is_lawful g.D.Disk.state g.D.Disk.failures g.L.Law.answers (g.S.Asking.script c.args.orders.now) left next (g.W.Sink.contents c.args.writer.now) (g.W.Sink.contents c.loop-asked.writer) c.args.keeper.now
+    c.loop-asked.keeper c.loop-asked.invariant.obeyed c.settle.new.keeper asks c.settle.ensures.carried)
 
 pub returns-in_default-clause-said : goal.returns-in_default-clause-said
 returns-in_default-clause-said g c =
-    let left = g.S.Asking.script c.loop-order.orders in
-    let next = g.S.Asking.script c.next_order.new.self in
-    let asks : Asks left next None = subst (Asks left next) (none_of c.in_ok-order.field-0 c.in_default.not-Some) c.in_ok-order.ensures.asked in
-    at_end_said g.D.Disk.is_lawful g.D.Disk.state g.D.Disk.failures g.L.Law.answers (g.S.Asking.script c.args.orders.now) left next (g.W.Sink.contents c.args.writer.now) (g.W.Sink.contents c.loop-order.writer) c.args.keeper.now
-    c.loop-order.keeper c.loop-order.invariant.obeyed c.settle.result (g.W.Sink.contents c.settle.new.writer) c.settle.new.keeper asks c.settle.ensures.said
+    let left = g.S.Asking.script c.loop-asked.orders in
+    let next = g.S.Asking.script c.next_asked.new.self in
+    let asks : Asks left next None = subst (Asks left next) (none_of c.in_ok-asked.field-0 c.in_default.not-Some) c.in_ok-asked.ensures.asked in
+    at_end_said g.D.Disk.is_lawful g.D.Disk.state g.D.Disk.failures g.L.Law.answers (g.S.Asking.script c.args.orders.now) left next (g.W.Sink.contents c.args.writer.now) (g.W.Sink.contents c.loop-asked.writer) c.args.keeper.now
+    c.loop-asked.keeper c.loop-asked.invariant.obeyed c.settle.result (g.W.Sink.contents c.settle.new.writer) c.settle.new.keeper asks c.settle.ensures.said
 
-pub loop-order-preserved : goal.loop-order-preserved
-loop-order-preserved g c = record {
+pub loop-asked-preserved : goal.loop-asked-preserved
+loop-asked-preserved g c = record {
   obeyed =
-      one_obeyed g.D.Disk.is_lawful g.D.Disk.state g.D.Disk.failures g.L.Law.answers (g.S.Asking.script c.args.orders.now) (g.S.Asking.script c.loop-order.orders) (g.S.Asking.script c.next_order.new.self)
-      (g.W.Sink.contents c.args.writer.now) (g.W.Sink.contents c.loop-order.writer) (g.W.Sink.contents c.obey_at_pace.new.writer) c.args.keeper.now c.loop-order.keeper c.obey_at_pace.new.keeper c.in-Some-2.order c.loop-order.invariant.obeyed
-      (subst (Asks (g.S.Asking.script c.loop-order.orders) (g.S.Asking.script c.next_order.new.self)) c.in-Some-2.is c.in_ok-order.ensures.asked)
+      some_obeyed g.D.Disk.is_lawful g.D.Disk.state g.D.Disk.failures g.L.Law.answers (g.S.Asking.script c.args.orders.now) (g.S.Asking.script c.loop-asked.orders) (g.S.Asking.script c.next_asked.new.self)
+      (g.W.Sink.contents c.args.writer.now) (g.W.Sink.contents c.loop-asked.writer) (g.W.Sink.contents c.obey_at_pace.new.writer) c.args.keeper.now c.loop-asked.keeper c.obey_at_pace.new.keeper c.in-Some-2.asked c.loop-asked.invariant.obeyed
+      (subst (Asks (g.S.Asking.script c.loop-asked.orders) (g.S.Asking.script c.next_asked.new.self)) c.in-Some-2.is c.in_ok-asked.ensures.asked)
       c.in_ok-obey_at_pace.ensures.said c.in_ok-obey_at_pace.ensures.carried;
-  count = same_count c.in_ok-obey_at_pace.field-0 _ _ c.in_ok-obey_at_pace.ensures.failures ∙ c.loop-order.invariant.count;
-  size = c.obey_at_pace.ensures.size ∙ c.loop-order.invariant.size;
-  lawful = (λ l. c.obey_at_pace.ensures.lawful.0 (c.loop-order.invariant.lawful.0 l), λ l. c.loop-order.invariant.lawful.1 (c.obey_at_pace.ensures.lawful.1 l));
+  count = same_count c.in_ok-obey_at_pace.field-0 _ _ c.in_ok-obey_at_pace.ensures.failures ∙ c.loop-asked.invariant.count;
+  size = c.obey_at_pace.ensures.size ∙ c.loop-asked.invariant.size;
+  lawful = (λ l. c.obey_at_pace.ensures.lawful.0 (c.loop-asked.invariant.lawful.0 l), λ l. c.loop-asked.invariant.lawful.1 (c.obey_at_pace.ensures.lawful.1 l));
 }
 
 pub returns-in_err-obey_at_pace-clause-left : goal.returns-in_err-obey_at_pace-clause-left
 returns-in_err-obey_at_pace-clause-left g c =
     at_err c.from_residual-in_err-obey_at_pace.result
-    (one_refused g.D.Disk.is_lawful g.D.Disk.state g.D.Disk.failures g.L.Law.answers (g.S.Asking.script c.args.orders.now) (g.S.Asking.script c.loop-order.orders) (g.S.Asking.script c.next_order.new.self)
-    (g.W.Sink.contents c.args.writer.now) (g.W.Sink.contents c.loop-order.writer) (g.W.Sink.contents c.obey_at_pace.new.writer) c.args.keeper.now c.loop-order.keeper c.obey_at_pace.new.keeper c.in-Some-2.order c.loop-order.invariant.obeyed
-    (subst (Asks (g.S.Asking.script c.loop-order.orders) (g.S.Asking.script c.next_order.new.self)) c.in-Some-2.is c.in_ok-order.ensures.asked) c.in_err-obey_at_pace.ensures.left)
+    (some_refused g.D.Disk.is_lawful g.D.Disk.state g.D.Disk.failures g.L.Law.answers (g.S.Asking.script c.args.orders.now) (g.S.Asking.script c.loop-asked.orders) (g.S.Asking.script c.next_asked.new.self)
+    (g.W.Sink.contents c.args.writer.now) (g.W.Sink.contents c.loop-asked.writer) (g.W.Sink.contents c.obey_at_pace.new.writer) c.args.keeper.now c.loop-asked.keeper c.obey_at_pace.new.keeper c.in-Some-2.asked c.loop-asked.invariant.obeyed
+    (subst (Asks (g.S.Asking.script c.loop-asked.orders) (g.S.Asking.script c.next_asked.new.self)) c.in-Some-2.is c.in_ok-asked.ensures.asked) c.in_err-obey_at_pace.ensures.left)
 
 pub returns-in_err-obey_at_pace-clause-said : goal.returns-in_err-obey_at_pace-clause-said
 returns-in_err-obey_at_pace-clause-said g c =
@@ -99,8 +99,16 @@ returns-in_err-obey_at_pace-clause-said g c =
     let failures = g.D.Disk.failures in
     let answers = g.L.Law.answers in
     let old = c.args.keeper.now in
-    let so = c.loop-order.invariant.obeyed in
+    let so = c.loop-asked.invariant.obeyed in
     in_some (g.S.Asking.script c.args.orders.now)
-    (λ s. handed_on is_lawful state failures answers c.from_residual-in_err-obey_at_pace.result c.in_err-obey_at_pace.field-0.0 (g.W.Sink.contents c.args.writer.now) (g.W.Sink.contents c.loop-order.writer)
-    (g.W.Sink.contents c.obey_at_pace.new.writer) old c.loop-order.keeper c.obey_at_pace.new.keeper (new_to old (submissions so.done)) (new_to c.loop-order.keeper (submissions (c.in-Some-2.order ∷ []))) (new_to old (submissions s.orders))
+    (λ s. handed_on is_lawful state failures answers c.from_residual-in_err-obey_at_pace.result c.in_err-obey_at_pace.field-0.0 (g.W.Sink.contents c.args.writer.now) (g.W.Sink.contents c.loop-asked.writer)
+    (g.W.Sink.contents c.obey_at_pace.new.writer) old c.loop-asked.keeper c.obey_at_pace.new.keeper (new_to old (submissions so.done)) (new_to c.loop-asked.keeper (asked_for c.in-Some-2.asked)) (new_to old (submissions s.orders))
     c.from_residual-in_err-obey_at_pace.ensures.1 so.said c.in_err-obey_at_pace.ensures.said)
+
+pub returns-then-is_refused-clause-left : goal.returns-then-is_refused-clause-left
+returns-then-is_refused-clause-left g c =
+    let old = c.args.keeper.now in
+    in_some (g.S.Asking.script c.args.orders.now)
+    (λ s.
+    leaves_none g.D.Disk.is_lawful g.D.Disk.state g.L.Law.answers old old (new_to old (submissions s.orders))
+    (unmoved g.L.Law.answers old old refl refl c.requires.whole))

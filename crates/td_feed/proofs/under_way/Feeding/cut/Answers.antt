@@ -76,3 +76,8 @@ pub returns-clause-failures : goal.returns-clause-failures
 returns-clause-failures g c =
     counts_after c.tell_aloud.result _ _ _ (same_count c.in_ok-tell.field-0 _ _ c.in_ok-tell.ensures.failures ∙ same_count c.in_ok-settle.field-0 _ _ c.in_ok-settle.ensures.failures)
     c.tell_aloud.ensures.failures
+
+pub returns-in_err-settle-clause-left : goal.returns-in_err-settle-clause-left
+returns-in_err-settle-clause-left g c =
+    at_err c.from_residual.result
+    (leaves_none g.D.Disk.is_lawful g.D.Disk.state g.L.Law.answers c.args.keeper.now c.settle.new.keeper [] c.settle.ensures.carried)

@@ -1,0 +1,50 @@
+use Rattle.std.proofs.Common.{◌≡◌, ◌++◌, [], ◌∷◌, List, ap, sym, ◌∙◌, append_assoc, arith}
+use Rattle.std.proofs.lemmas.Grind.{common_steps}
+use Rattle.std.specs.Prelude.{Some, max}
+use Rattle.td_journal.specs.Numbers.{greatest, may_come}
+use Rattle.td_journal.specs.declared.submitted.Submitted.{Submitted}
+use Rattle.td_group.specs.Groups.{may_follow}
+use Rattle.td_feed.specs.declared.order.Order.{Order}
+use Rattle.td_feed.specs.Orders.{submissions}
+use Rattle.td_feed.proofs.Newness.{greatest-append, one_follows}
+use Rattle.td_feed.proofs.Released.{submissions-append}
+use Rattle.td_feed.proofs.asking.take_group.Goals as goal
+
+some_more : (xs : List Submitted) (x : Submitted) → xs ++ x ∷ [] ≡ [] → ⊥
+some_more [] x is = let no = is in cc
+some_more (y ∷ ys) x is = let no = is in cc
+
+pub returns-after-loop-epoch-clause-none : goal.returns-after-loop-epoch-clause-none
+returns-after-loop-epoch-clause-none c = c.loop-epoch.invariant.none
+
+pub returns-then-is_err-clause-none : goal.returns-then-is_err-clause-none
+returns-then-is_err-clause-none c = λ none. c.loop-epoch.invariant.none (sym c.reserve.ensures.items ∙ none)
+
+pub returns-in_default-clause-none : goal.returns-in_default-clause-none
+returns-in_default-clause-none c = λ none.
+    let before = c.loop-epoch.invariant.none (sym c.reserve.ensures.items ∙ none) in
+    let taken = c.take_fitting.ensures.none in
+    let not_some = c.in_default.not-Some in
+    grind (arith, common_steps)
+
+pub loop-epoch-preserved : goal.loop-epoch-preserved
+loop-epoch-preserved c =
+    let so_far = c.loop-epoch.invariant in
+    let first = c.args.room.now.last in
+    let group = c.loop-epoch.group.items in
+    let s = c.in-Some.submitted in
+    let next = c.in-Some.ensures.some in
+    let done = so_far.taken.0 in
+    let pushed : c.push_reserved.new.self.items ≡ group ++ s ∷ [] = c.push_reserved.ensures.items ∙ ap (λ (l : List Submitted). l ++ s ∷ []) c.reserve.ensures.items in
+    let comes = ap (λ n. may_come (Some n) s.request) (sym so_far.last) ∙ next.3 in
+    record {
+      taken = (
+        done ++ next.0 ∷ [],
+        so_far.taken.1 ∙ (ap (λ (l : List Order). done ++ l) next.1 ∙ sym (append_assoc done (next.0 ∷ []) c.take_fitting.new.orders.items)),
+        submissions-append done (next.0 ∷ []) ∙ (ap (λ (l : List Submitted). l ++ submissions (next.0 ∷ [])) so_far.taken.2
+            ∙ (ap (λ (l : List Submitted). group ++ l) next.2 ∙ sym pushed)),
+      );
+      none = λ none. absurd (some_more group s (sym pushed ∙ none));
+      rising = ap (may_follow (Some first)) pushed ∙ one_follows first group s so_far.rising comes;
+      last = c.max-last.ensures ∙ (ap (λ n. max n s.request) so_far.last ∙ (sym (greatest-append first group (s ∷ [])) ∙ sym (ap (greatest first) pushed)));
+    }

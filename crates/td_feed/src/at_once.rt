@@ -1,0 +1,100 @@
+//! What is asked for at once, and how much a keeper takes at once.
+ghost use Rattle.std.specs.Prelude.{◌≡◌, ◌≤◌, ℕ, [], ◌∷◌, Some, true, IfSome, IfNone, IsTrue, length};
+ghost use Rattle.td_journal.specs.Numbers.{may_come};
+ghost use Rattle.td_standing.specs.Standing.{last_request};
+ghost use Rattle.td_feed.specs.declared.order.Order.{Order as AnyOrder};
+ghost use Rattle.td_feed.specs.Orders.{submissions};
+ghost use Rattle.td_feed.specs.Asked.{IsNext};
+
+use crate::order::Order;
+use std::collections::VecDeque;
+use td_calls::Law;
+use td_disk::Disk;
+use td_journal::Submitted;
+use td_keeper::{Group, Keeper};
+use td_stamp::EPOCHS_END;
+
+/// How many epochs a group has at most, and how many bytes their cells take together.
+const EPOCHS: u64 = 256;
+
+const BYTES: u64 = 1 << 20;
+
+/// The bytes of a cell beside its records, its gate too, and those of a record.
+const CELL: u64 = 26;
+
+const RECORD: u64 = 24;
+
+/// The first version of the format that has request numbers.
+const NUMBERED: u32 = 2;
+
+/// What is asked for at once.
+#[derive(Debug, Drop)]
+pub(crate) enum Asked {
+    /// One order.
+    One(Order),
+    /// Epochs that are put on the disk as a group.
+    Epochs(Group),
+}
+
+/// How much a keeper takes at once, after what it has.
+#[derive(Clone, Copy, Debug, Drop)]
+pub(crate) struct Room {
+    /// The greatest request number so far.
+    pub last: u64,
+    is_numbered: bool,
+    pub epochs: u64,
+    records: usize,
+}
+
+impl Room {
+    /// The room that a keeper has, for at most so many epochs.
+    pub(crate) fn of<D: Disk, L: Law>(keeper: &Keeper<D, L>, most: u64) -> Room
+        ensures last { result.last ≡ last_request keeper.now.standing }
+    {
+        let records = u64::from(keeper.records());
+        let numbers = (EPOCHS_END - 1).saturating_sub(keeper.last_epoch());
+        Room {
+            last: keeper.last_request(),
+            is_numbered: keeper.version() >= NUMBERED,
+            epochs: most
+                .min(EPOCHS)
+                .min(BYTES / (CELL + RECORD * records))
+                .min(keeper.free())
+                .min(numbers),
+            records: keeper.records() as usize,
+        }
+    }
+
+    /// Whether an order submits an epoch that finds room, after this greatest request number.
+    fn fits(&self, order: &Order, last: u64) -> bool
+        ensures { IsTrue result → IsNext last order.now }
+    {
+        match order {
+            Order::Submit(batch) => batch.len() <= self.records,
+            Order::SubmitAs(request, batch) => {
+                self.is_numbered && last < *request && batch.len() <= self.records
+            }
+            Order::Cut => false,
+        }
+    }
+}
+
+/// Takes the first order, where it submits an epoch that finds room after this greatest request number.
+pub(crate) fn take_fitting(
+    orders: &mut VecDeque<Order>,
+    room: &Room,
+    last: u64,
+) -> Option<Submitted>
+    ensures some { IfSome result (λ s. (order : AnyOrder) × (orders.old.items ≡ order ∷ orders.new.items)
+        × (submissions (order ∷ []) ≡ s ∷ []) × (may_come (Some last) s.request ≡ true)) }
+    ensures none { IfNone result (orders.new ≡ orders.old) }
+{
+    if !room.fits(orders.front()?, last) {
+        return None;
+    }
+    match orders.pop_front() {
+        Some(Order::Submit(batch)) => Some(Submitted { request: 0, batch }),
+        Some(Order::SubmitAs(request, batch)) => Some(Submitted { request, batch }),
+        Some(Order::Cut) | None => unreachable!(),
+    }
+}
