@@ -85,10 +85,13 @@ impl<D: Disk> ReadAhead<D> {
         ensures time { D.is_lawful self.old.inner → TimePasses (D.state self.old.inner) (D.state self.new.inner) }
     {
         let start = at.saturating_sub(BEHIND);
-        let len = BLOCK.min(self.inner.size() - start);
-        self.block.clear();
-        if self.block.resize(len as usize, 0).is_err() {
-            return;
+        let len = BLOCK.min(self.inner.size() - start) as usize;
+        // (a block of this length is read over as it stands, and not filled with zeros first)
+        if self.block.len() != len {
+            self.block.clear();
+            if self.block.resize(len, 0).is_err() {
+                return;
+            }
         }
         self.start = start;
         if self.inner.read(start, &mut self.block).is_err() {
