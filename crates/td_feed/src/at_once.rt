@@ -20,7 +20,7 @@ const EPOCHS: u64 = 256;
 const BYTES: u64 = 1 << 20;
 
 /// The bytes of a cell beside its records, its gate too, and those of a record.
-const CELL: u64 = 26;
+const CELL: u64 = 25;
 
 const RECORD: u64 = 24;
 

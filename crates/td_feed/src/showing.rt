@@ -95,7 +95,7 @@ fn print_states(text: &mut String, states: &States) -> Result<(), Fault>
     ensures err { IfErr result (λ f. f ≡ Fault.Memory) }
 {
     for (place, state) in states.list() {
-        print_state(text, place.0, place.1, *state)?;
+        print_state(text, place.0, place.1, state)?;
     }
     Ok(())
 }

@@ -27,7 +27,7 @@ fn push_states(payload: &mut Vec<u8>, states: &States) -> Result<(), AllocError>
     ensures fits { OnOk result (Each FitsState states.now) }
 {
     for (place, state) in states.list() {
-        push_state(payload, place.0, place.1, *state)?;
+        push_state(payload, place.0, place.1, state)?;
     }
     Ok(())
 }

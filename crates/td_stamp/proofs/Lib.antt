@@ -5,6 +5,7 @@ pub mod Counts
 pub mod Listed
 pub mod Packing
 pub mod Parts
+pub mod Placed
 pub mod Rising
 pub mod Runs
 pub mod SameMembers

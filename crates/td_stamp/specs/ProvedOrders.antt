@@ -1,15 +1,15 @@
 -- Proofs: the orders of the plain values are total and tell different values apart, and equality of entries is an
 -- equivalence. They stand here and not in proofs/ since the impls of traits take from specs/ alone.
 use Rattle.std.specs.Prelude.{◌≡◌}
-use Rattle.std.proofs.Common.{refl}
+use Rattle.std.proofs.Common.{ℕ, ◌==◌, ◌&&◌, refl, ap, ◌∙◌}
 use Rattle.std.specs.declared.cmp.Ordering.{Ordering}
 use Rattle.std.specs.declared.cmp.Ordering.TheVariants.{Less, Equal, Greater}
-use Rattle.std.specs.Ordering.{ordering_then, nat_cmp, int_cmp}
-use Rattle.std.specs.Cmp.{IsTotalOrder, IsEquivalence, then_total, on_total, on_equiv, and_equiv, nat_cmp_total, nat_eq_equiv}
+use Rattle.std.specs.Ordering.{ordering_then, nat_cmp, int_cmp, is_eq, eq_by_cmp}
+use Rattle.std.specs.Cmp.{IsTotalOrder, IsEquivalence, then_total, on_total, on_equiv, and_equiv, nat_cmp_total, nat_eq_equiv, unsigned_tied}
 use Rattle.std.proofs.lemmas.Cmp.{int_cmp_total, int_eq_equiv}
 use Rattle.std.specs.FinMap.{IsAntisymmetric, nat_cmp-IsAntisymmetric, int_cmp-IsAntisymmetric}
 use Rattle.td_stamp.specs.Orders.{rec_cmp, item_cmp, arrival_cmp, entry_cmp, output_cmp, state_key_cmp}
-use Rattle.td_stamp.specs.States.{same_entry}
+use Rattle.td_stamp.specs.States.{same_entry, same_place}
 
 -- where two orders in turn tie, each does
 pub both_tie : (r s : Ordering) → ordering_then r s ≡ Equal → (r ≡ Equal) × (s ≡ Equal)
@@ -39,6 +39,21 @@ pub rec_apart : IsAntisymmetric rec_cmp
 rec_apart x y e =
     let tied = both_tie (nat_cmp x.key y.key) (int_cmp x.val y.val) e in
     λ i. record { key = nat_cmp-IsAntisymmetric x.key y.key tied.0 i; val = int_cmp-IsAntisymmetric x.val y.val tied.1 i }
+
+pub state_key_apart : IsAntisymmetric state_key_cmp
+state_key_apart x y e =
+    let tied = both_tie (nat_cmp x.0 y.0) (nat_cmp x.1 y.1) e in
+    λ i. (nat_cmp-IsAntisymmetric x.0 y.0 tied.0 i, nat_cmp-IsAntisymmetric x.1 y.1 tied.1 i)
+
+-- a place is tied with itself alone
+then_tied : (r s : Ordering) → is_eq (ordering_then r s) ≡ (is_eq r && is_eq s)
+then_tied Less s = refl
+then_tied Equal s = refl
+then_tied Greater s = refl
+
+pub places_tied : (p q : ℕ × ℕ) → eq_by_cmp state_key_cmp p q ≡ same_place p q
+places_tied p q =
+    then_tied (nat_cmp p.0 q.0) (nat_cmp p.1 q.1) ∙ ap (λ b. b && is_eq (nat_cmp p.1 q.1)) (unsigned_tied p.0 q.0) ∙ ap (λ b. p.0 == q.0 && b) (unsigned_tied p.1 q.1)
 
 pub item_apart : IsAntisymmetric item_cmp
 item_apart x y e =

@@ -46,7 +46,16 @@ impl PartialEq for States {
         ensures gives { result ≡ pointwise same_entry self.now other.now }
         ensures same { IsTrue result ↔ (self.now ≡ other.now) }
     {
-        self.entries() == other.entries()
+        if self.len() != other.len() {
+            return false;
+        }
+        let mut others = other.list();
+        for own in self.list() {
+            if others.next() != Some(own) {
+                return false;
+            }
+        }
+        true
     }
 }
 

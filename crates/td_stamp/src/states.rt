@@ -1,35 +1,44 @@
 //! The states that the folds of a plan keep.
 ghost use Rattle.std.specs.Prelude.{◌≡◌, ◌↔◌, OnOk, OnErr, IfOk, IsTrue, [], length};
+ghost use Rattle.std.specs.Iterator.{at_most, YieldsFirst};
 ghost use Rattle.td_stamp.specs.States.{state_of, with_state, without_state, AreStates};
 
 use crate::error::StampError;
 use crate::values::State;
 use std::alloc::Global;
-use std::collections::BTreeMap;
-use std::collections::btree_map::Iter;
+use std::collections::{BTreeSet, HashMap, btree_set};
 use std::marker::Model;
 
-/// The states that folds keep, by vertex and key.
+/// The states that folds keep, by vertex and key. A state is found by the hash of these, at a cost that does not grow with how many
+/// there are; the vertices and keys stand in order beside, so that the states can be listed in it.
 #[derive(Debug, Drop)]
 pub struct States {
-    entries: BTreeMap<(u8, u64), State>,
+    kept: HashMap<(u8, u64), State>,
+    order: BTreeSet<(u8, u64)>,
 }
 
 impl Model for States {
-    ghost use Rattle.td_stamp.specs.States.{StateList};
+    ghost use Rattle.std.specs.Prelude.{ℕ, ◌≡◌, is_some};
+    ghost use Rattle.std.specs.HashMap.{get};
+    ghost use Rattle.std.specs.BTreeSet.{contains, IsOrdered};
+    ghost use Rattle.td_stamp.specs.Orders.{state_key_cmp};
+    ghost use Rattle.td_stamp.specs.States.{StateList, same_place, listed};
 
     ghost Value = { StateList };
 
-    ghost view = { λ s. s.entries.entries };
+    ghost view = { λ s. listed s.order.keys (get same_place s.kept) };
+
+    ghost invariant = { λ s. IsOrdered state_key_cmp s.order × ((p : ℕ × ℕ) → contains state_key_cmp s.order p ≡ is_some (get same_place s.kept p)) };
 }
 
 impl States {
-    /// No states, in a map that allocates with `alloc`.
+    /// No states, in maps that allocate with `alloc`.
     pub fn new(alloc: Global) -> Self
         ensures { result ≡ [] }
     {
         States {
-            entries: BTreeMap::new(alloc),
+            kept: HashMap::new(alloc),
+            order: BTreeSet::new(alloc),
         }
     }
 
@@ -37,21 +46,21 @@ impl States {
     pub fn len(&self) -> usize
         ensures { result ≡ length self.now }
     {
-        self.entries.len()
+        self.order.len()
     }
 
     /// Whether there is no state.
     pub fn is_empty(&self) -> bool
         ensures { IsTrue result ↔ (self.now ≡ []) }
     {
-        self.entries.is_empty()
+        self.order.is_empty()
     }
 
     /// The state that `vertex` keeps for `key`, if any.
     pub fn get(&self, vertex: u8, key: u64) -> Option<State>
         ensures { result ≡ state_of self.now vertex key }
     {
-        self.entries.get(&(vertex, key)).copied()
+        self.kept.get(&(vertex, key)).copied()
     }
 
     /// Has `vertex` keep `state` for `key`, in place of one that it keeps. Refusal: `Memory`, with the states unchanged.
@@ -59,7 +68,14 @@ impl States {
         ensures ok { OnOk result (self.new ≡ with_state self.old vertex key state) }
         ensures err { OnErr result (self.new ≡ self.old) }
     {
-        self.entries.insert((vertex, key), state)?;
+        let place = (vertex, key);
+        if self.kept.insert(place, state)?.is_some() {
+            return Ok(());
+        }
+        if let Err(refused) = self.order.insert(place) {
+            self.kept.remove(&place);
+            return Err(refused.into());
+        }
         Ok(())
     }
 
@@ -68,29 +84,62 @@ impl States {
         ensures removed { result ≡ state_of self.old vertex key }
         ensures rest { self.new ≡ without_state self.old vertex key }
     {
-        self.entries.remove(&(vertex, key))
-    }
-
-    /// The map itself.
-    pub(crate) fn entries(&self) -> &BTreeMap<(u8, u64), State>
-        ensures { result.now.entries ≡ self.now }
-    {
-        &self.entries
+        let place = (vertex, key);
+        self.order.remove(&place);
+        self.kept.remove(&place)
     }
 
     /// The same states, in memory of their own. Refusal: `Memory`.
     pub fn copy(&self) -> Result<States, StampError>
         ensures { IfOk result (λ states. states ≡ self.now) }
     {
-        let entries = self.entries.clone()?;
-        Ok(States { entries })
+        let kept = self.kept.clone()?;
+        let order = self.order.clone()?;
+        Ok(States { kept, order })
     }
 
     /// The states in the order of (vertex, key), each as ((vertex, key), state). Takes no memory.
-    pub fn list(&self) -> Iter<'_, (u8, u64), State>
+    pub fn list(&self) -> StatesIterator<'_>
         ensures all { result ≡ self.now }
         ensures ordered { AreStates self.now }
     {
-        self.entries.iter()
+        StatesIterator {
+            places: self.order.iter(),
+            kept: &self.kept,
+        }
+    }
+}
+
+/// An iterator over kept states in the order of (vertex, key).
+#[derive(Drop)]
+pub struct StatesIterator<'a> {
+    places: btree_set::Iter<'a, (u8, u64)>,
+    kept: &'a HashMap<(u8, u64), State>,
+}
+
+impl<'a> Model for StatesIterator<'a> {
+    ghost use Rattle.std.specs.HashMap.{get};
+    ghost use Rattle.td_stamp.specs.States.{StateList, same_place, listed};
+
+    ghost Value = { StateList };
+
+    ghost view = { λ s. listed s.places (get same_place s.kept.now) };
+}
+
+impl<'a> Iterator for StatesIterator<'a> {
+    type Item = ((u8, u64), State);
+
+    ghost next_gives = { YieldsFirst (λ s. s) };
+
+    ghost remaining = { λ s. at_most (length s) };
+
+    fn next(&mut self) -> Option<((u8, u64), State)> {
+        let place = *self.places.next()?;
+        let state = self
+            .kept
+            .get(&place)
+            .copied()
+            .unwrap_or(State { a: 0, b: 0 });
+        Some((place, state))
     }
 }

@@ -34,3 +34,12 @@ returns-clause-may_stand g c =
     let w = c.in_ok-submitted.submitted.items in
     let read = c.in_ok-submitted.ensures in
     c.in_ok-before.ensures.may_stand w (subst (λ (i : List ℕ). All (λ x. is_batch i x.batch ≡ true) w) c.deref.ensures.value read.batches) read.few_told read.below
+
+pub returns-clause-told : goal.returns-clause-told
+returns-clause-told g c =
+    let bytes = (g.D.Disk.state c.args.device.now).bytes in
+    let late = (g.D.Disk.state c.read_before.new.device).bytes in
+    let b = c.in_ok-before.before in
+    λ lawful. c.in_ok-before.ensures.told lawful c.in_ok-submitted.submitted.items
+    (same_ring b.inputs.items c.deref.result.now bytes late b.journal b.floor b.checkpoint.epoch c.deref.ensures.value (c.in_ok-before.ensures.read.same lawful)
+    ∙ c.in_ok-submitted.ensures.told (c.in_ok-before.ensures.read.lawful.0 lawful))

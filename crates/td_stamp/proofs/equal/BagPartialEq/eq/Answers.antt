@@ -1,17 +1,7 @@
 use Rattle.std.proofs.Common.{◌≡◌, ◌++◌, ◌∷◌, [], List, refl, ap, sym, ◌∙◌, true, false, length, length-append, append_assoc, append-nil, arith}
-use Rattle.td_stamp.proofs.SameMembers.{told_by, next_is, next_is_not}
+use Rattle.td_stamp.proofs.SameMembers.{members_decide, told_by, next_is, next_is_not, after_same, as_long}
 use Rattle.td_stamp.proofs.Listed.{all_listed, listed_at_item}
 use Rattle.td_stamp.proofs.equal.BagPartialEq.eq.Goals as goal
-
--- what follows the same beginning
-after_same : {X : Type 0} (xs ys zs : List X) → xs ++ ys ≡ xs ++ zs → ys ≡ zs
-after_same [] ys zs e = e
-after_same (x ∷ xs) ys zs e = after_same xs ys zs cc
-
--- lists of one length, one of which begins the other
-as_long : {X : Type 0} (all xs rest : List X) → all ≡ xs ++ rest → length xs ≡ length all → xs ≡ all
-as_long all xs [] e n = sym (e ∙ append-nil xs)
-as_long all xs (y ∷ rest) e n = absurd (omega (arith, ap length e, length-append xs (y ∷ rest), n))
 
 pub loop-mine-preserved : goal.loop-mine-preserved
 loop-mine-preserved g c =
@@ -19,7 +9,7 @@ loop-mine-preserved g c =
     let rest = c.next-in-loop-mine.new.self in
     c.loop-mine.invariant
     ∙ ap (λ l. yielded ++ l)
-    (next_is g.T.Ord.cmp g.met.T.Ord.total g.met.T.Member.told_apart g.T.PartialEq.eq g.met.T.Ord.matches_eq c.next-in-loop-mine.result c.loop-mine.theirs rest c.in-Some.mine
+    (next_is g.T.PartialEq.eq (members_decide g.T.Ord.cmp g.met.T.Ord.total g.met.T.Member.told_apart g.T.PartialEq.eq g.met.T.Ord.matches_eq) c.next-in-loop-mine.result c.loop-mine.theirs rest c.in-Some.mine
     c.next-in-loop-mine.ensures.steps (sym c.ne.ensures ∙ c.if-ne.false))
     ∙ sym (append_assoc yielded (c.in-Some.mine ∷ []) rest)
 
@@ -31,13 +21,13 @@ returns-then-ne-clause-same g c = (
       listed_at_item c.args.self.now c.loop-mine.yielded c.into_iter-mine-iterator.result c.loop-mine.mine-iterator c.next.new.self c.next.result c.in-Some.mine
       (c.into_iter-mine-iterator.ensures.into_iter_gives ∙ c.list-mine-items.ensures.all) c.loop-mine.yielded_by c.in-Some.ensures.steps in
       let there = after_same c.loop-mine.yielded c.loop-mine.theirs (c.in-Some.mine ∷ c.next.new.self) (sym c.loop-mine.invariant ∙ sym e ∙ here) in
-      absurd (next_is_not g.T.Ord.cmp g.met.T.Ord.total g.met.T.Member.told_apart g.T.PartialEq.eq g.met.T.Ord.matches_eq c.next-in-loop-mine.result c.loop-mine.theirs c.next-in-loop-mine.new.self
+      absurd (next_is_not g.T.PartialEq.eq (members_decide g.T.Ord.cmp g.met.T.Ord.total g.met.T.Member.told_apart g.T.PartialEq.eq g.met.T.Ord.matches_eq) c.next-in-loop-mine.result c.loop-mine.theirs c.next-in-loop-mine.new.self
       c.next.new.self c.in-Some.mine c.next-in-loop-mine.ensures.steps (sym c.ne.ensures ∙ c.if-ne.true) there),
 )
 
 pub returns-then-ne-clause-gives : goal.returns-then-ne-clause-gives
 returns-then-ne-clause-gives g c =
-    told_by g.T.Ord.cmp g.met.T.Ord.total g.met.T.Member.told_apart g.T.PartialEq.eq g.met.T.Ord.matches_eq false c.args.self.now c.args.other.now (returns-then-ne-clause-same g c)
+    told_by g.T.PartialEq.eq (members_decide g.T.Ord.cmp g.met.T.Ord.total g.met.T.Member.told_apart g.T.PartialEq.eq g.met.T.Ord.matches_eq) false c.args.self.now c.args.other.now (returns-then-ne-clause-same g c)
 
 pub returns-clause-same : goal.returns-clause-same
 returns-clause-same g c =
@@ -50,4 +40,4 @@ returns-clause-same g c =
 
 pub returns-clause-gives : goal.returns-clause-gives
 returns-clause-gives g c =
-    told_by g.T.Ord.cmp g.met.T.Ord.total g.met.T.Member.told_apart g.T.PartialEq.eq g.met.T.Ord.matches_eq true c.args.self.now c.args.other.now (returns-clause-same g c)
+    told_by g.T.PartialEq.eq (members_decide g.T.Ord.cmp g.met.T.Ord.total g.met.T.Member.told_apart g.T.PartialEq.eq g.met.T.Ord.matches_eq) true c.args.self.now c.args.other.now (returns-clause-same g c)
