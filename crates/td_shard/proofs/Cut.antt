@@ -37,8 +37,8 @@ then_assoc Greater b c = refl
 by_place : (p q : Place) (r s : Rec) → stamped_cmp (at p.vertex p.time r) (at q.vertex q.time s) ≡ ordering_then (place_cmp p q) (rec_cmp r s)
 by_place p q r s = then_assoc (nat_cmp p.vertex q.vertex) (time_cmp p.time q.time) (rec_cmp r s)
 
-place_apart : (p q : Place) → place_cmp p q ≡ Equal → p ≡ q
-place_apart p q e =
+state_key_apart : (p q : Place) → place_cmp p q ≡ Equal → p ≡ q
+state_key_apart p q e =
     let tied = both_tie (nat_cmp p.vertex q.vertex) (time_cmp p.time q.time) e in
     λ i. record { vertex = nat_cmp-IsAntisymmetric p.vertex q.vertex tied.0 i; time = time_apart p.time q.time tied.1 i }
 
@@ -97,7 +97,7 @@ some_by : (p : Place) (s : BTreeSet Rec) (e : Place × BTreeSet Rec) (es : List 
     → Cut p s.keys (e ∷ es) (set_value (is_at (place_cmp p)) (e ∷ es))
 some_by p s e es Less o h f rest = let none : lookup (is_at (place_cmp p)) es ≡ None = not_above p es (above_all p e.0 (keys_of es) o h) in absurd (cc)
 some_by p s e es Equal o h f rest =
-    let here : p ≡ e.0 = place_apart p e.0 o in
+    let here : p ≡ e.0 = state_key_apart p e.0 o in
     let set : e.1 ≡ s = is_some f in
     record {
       front = [];

@@ -1,20 +1,21 @@
--- The first slot, once its message is taken, is let go.
-use Rattle.std.proofs.Common.{◌≡◌, ℕ, ◌+◌, ◌<◌, Bool, true, false, ◌==◌, ◌&&◌, cond, List, [], ◌∷◌, length, get_or, drop, Option, Some, None, refl, sym, ap, ◌∙◌, arith}
+-- The first run, once its records are taken, is let go.
+use Rattle.std.proofs.Common.{◌≡◌, ℕ, ◌+◌, ◌<◌, Bool, true, false, ◌==◌, ◌&&◌, cond, List, [], ◌∷◌, ◌++◌, length, get_or, drop, Option, Some, None, refl, sym, ap, ◌∙◌, arith}
 use Rattle.std.specs.Option.{option_map}
 use Rattle.std.specs.Cmp.{IsEquivalence}
 use Rattle.std.proofs.lemmas.Bool.{eqb-true, eq-eqb}
+use Rattle.td_stamp.specs.declared.values.Rec.{Rec}
+use Rattle.td_machine.specs.Steps.{coming}
 use Rattle.td_shard.specs.declared.lane.Lane.{Lane}
-use Rattle.td_shard.specs.declared.slots.Slot.{Slot}
-use Rattle.td_shard.specs.Slots.{message, messages_of, ahead_of, last_by, first_on, last_on, AreLinked}
+use Rattle.td_shard.specs.Runs.{Part, messages_of, ahead_of, last_by, first_on, last_on, AreLinked}
 use Rattle.td_shard.proofs.Linked.{none_on, first_none}
 
-pub linked-rest : (same : Lane → Lane → Bool) (ss : List Slot) → AreLinked same ss → AreLinked same (drop 1 ss)
+pub linked-rest : (same : Lane → Lane → Bool) (ps : List Part) → AreLinked same ps → AreLinked same (drop 1 ps)
 linked-rest same [] h = h
-linked-rest same (s ∷ ss) h = h.1
+linked-rest same (p ∷ ps) h = h.1
 
-pub messages-rest : (ss : List Slot) (d : Slot) → 0 < length ss → (get_or ss 0 d).is_taken ≡ true → messages_of (drop 1 ss) ≡ messages_of ss
+pub messages-rest : (ps : List Part) (d : Part) → 0 < length ps → (get_or ps 0 d).recs ≡ [] → messages_of (drop 1 ps) ≡ messages_of ps
 messages-rest [] d h e = refl
-messages-rest (s ∷ ss) d h e = ap (λ b. cond b (messages_of ss) (message s ∷ messages_of ss)) (sym e)
+messages-rest (p ∷ ps) d h e = ap (λ (l : List Rec). coming p.lane.vertex p.lane.port p.lane.time l ++ messages_of ps) (sym e)
 
 module _ (same : Lane → Lane → Bool) (laws : IsEquivalence same) where
   none_ahead : (o : Option ℕ) (a : ℕ) → a ≡ ahead_of o → (a == 0) ≡ true → o ≡ None
@@ -26,22 +27,22 @@ module _ (same : Lane → Lane → Bool) (laws : IsEquivalence same) where
   is_apart true false f = refl
   is_apart false c f = refl
 
-  numbers-by : (f : ℕ) (q : Lane) (s : Slot) (ss : List Slot) (o : Option ℕ) (b : Bool) (was now : Option ℕ) → AreLinked same (s ∷ ss) → last_on same q ss ≡ o → same s.lane q ≡ b → was ≡ option_map (λ i. f + i) (last_by (same q s.lane) o) → now ≡ cond ((s.ahead == 0) && same s.lane q) None was → now ≡ option_map (λ i. f + 1 + i) o
-  numbers-by f q s ss (Some i) b was now l e g h n =
+  numbers-by : (f : ℕ) (q : Lane) (s : Part) (ps : List Part) (o : Option ℕ) (b : Bool) (was now : Option ℕ) → AreLinked same (s ∷ ps) → last_on same q ps ≡ o → same s.lane q ≡ b → was ≡ option_map (λ i. f + i) (last_by (same q s.lane) o) → now ≡ cond ((s.ahead == 0) && same s.lane q) None was → now ≡ option_map (λ i. f + 1 + i) o
+  numbers-by f q s ps (Some i) b was now l e g h n =
       n ∙ (ap (λ c. cond c None was) (is_apart (s.ahead == 0) (same s.lane q) (λ none here. none_of none here)) ∙ (h ∙ ap Some (omega arith)))
     where
       none_of : (s.ahead == 0) ≡ true → same s.lane q ≡ true → ⊥
       none_of none here =
-          let last : last_on same q ss ≡ None = none_on same laws s.lane q ss here (none_ahead (first_on same s.lane ss) s.ahead l.0 none) in cc
-  numbers-by f q s ss None true was now l e g h n =
-      let first : first_on same s.lane ss ≡ None = first_none same laws s.lane q ss g e in
+          let last : last_on same q ps ≡ None = none_on same laws s.lane q ps here (none_ahead (first_on same s.lane ps) s.ahead l.0 none) in cc
+  numbers-by f q s ps None true was now l e g h n =
+      let first : first_on same s.lane ps ≡ None = first_none same laws s.lane q ps g e in
       let zero_ahead : (s.ahead == 0) ≡ true = eq-eqb s.ahead 0 (l.0 ∙ ap ahead_of first) in
       n ∙ (ap (λ c. cond (c && same s.lane q) None was) zero_ahead ∙ ap (λ c. cond c None was) g)
-  numbers-by f q s ss None false was now l e g h n =
+  numbers-by f q s ps None false was now l e g h n =
       n ∙ (ap (λ c. cond c None was) (is_apart (s.ahead == 0) (same s.lane q) (λ none here. absurd (cc))) ∙ (h ∙ ap (λ c. option_map (λ i. f + i) (cond c (Some 0) None)) (laws.symm q s.lane ∙ g)))
 
-  -- the numbers of the last slots, when the first slot goes
-  pub numbers : (f : ℕ) (q : Lane) (ss : List Slot) (d : Slot) (was now : Option ℕ) → AreLinked same ss → 0 < length ss → was ≡ option_map (λ i. f + i) (last_on same q ss)
-      → now ≡ cond (((get_or ss 0 d).ahead == 0) && same (get_or ss 0 d).lane q) None was → now ≡ option_map (λ i. f + 1 + i) (last_on same q (drop 1 ss))
+  -- the numbers of the last runs, when the first goes
+  pub numbers : (f : ℕ) (q : Lane) (ps : List Part) (d : Part) (was now : Option ℕ) → AreLinked same ps → 0 < length ps → was ≡ option_map (λ i. f + i) (last_on same q ps)
+      → now ≡ cond (((get_or ps 0 d).ahead == 0) && same (get_or ps 0 d).lane q) None was → now ≡ option_map (λ i. f + 1 + i) (last_on same q (drop 1 ps))
   numbers f q [] d was now l h e n = absurd (omega (arith, h))
-  numbers f q (s ∷ ss) d was now l h e n = numbers-by f q s ss (last_on same q ss) (same s.lane q) was now l refl refl e n
+  numbers f q (s ∷ ps) d was now l h e n = numbers-by f q s ps (last_on same q ps) (same s.lane q) was now l refl refl e n

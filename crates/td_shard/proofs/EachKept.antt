@@ -3,10 +3,13 @@ use Rattle.std.proofs.Common.{◌≡◌, ◌≢◌, ◌↔◌, ℕ, Bool, true, 
 use Rattle.std.specs.Option.{option_map}
 use Rattle.std.specs.Map.{lookup, set_value, remove_entry}
 use Rattle.std.specs.Map.Calls.{RetainsPairs}
-use Rattle.std.specs.BTreeMap.{is_at, insert_entry}
+use Rattle.std.specs.BTreeMap.{is_at}
+use Rattle.std.specs.List.{AllByRecursion}
+use Rattle.std.specs.List.Sorted.{IsPermutation}
+use Rattle.std.proofs.lemmas.List.Elements.{All-from_recursion, recursion_from_All}
+use Rattle.std.proofs.lemmas.List.Sorted.{IsPermutation-map, All-permutation}
 use Rattle.std.specs.declared.cmp.Ordering.{Ordering}
 use Rattle.std.specs.declared.cmp.Ordering.TheVariants.{Less, Equal, Greater}
-use Rattle.std.specs.Ordering.{match_ordering}
 use Rattle.td_stamp.specs.Orders.{state_key_cmp}
 use Rattle.td_stamp.specs.Bag.{bag_insert}
 use Rattle.td_stamp.specs.Rises.{Rises}
@@ -14,7 +17,7 @@ use Rattle.td_shard.specs.declared.version.Version.{Version}
 use Rattle.td_shard.specs.Versions.{VersionList, AreVersions, AreKept, version_cmp}
 use Rattle.td_shard.proofs.LeftOrders.{version_total}
 use Rattle.td_shard.proofs.Rising.{rises-filter, rises-inserted}
-use Rattle.td_shard.proofs.Viewed.{insert-seen, lookup-seen, remove-seen}
+use Rattle.td_shard.proofs.Viewed.{seen, lookup-seen, remove-seen}
 use Rattle.td_shard.proofs.KeptVersions.{told, told-as_before, told-written}
 
 -- they are with one more
@@ -47,14 +50,22 @@ kept-set test (e ∷ es) w n h = by (test e.0) (kept-set test es w n h.1)
     by true r = (n, h.1)
     by false r = (h.0, r)
 
-kept-insert : (k : ℕ × ℕ) (es : VersionList) (w : List Version) → AreVersions w → AreKept es → AreKept (insert_entry state_key_cmp es k w)
-kept-insert k [] w n h = (n, tt)
-kept-insert k (e ∷ es) w n h = by (state_key_cmp k e.0) (kept-insert k es w n h.1)
-  where
-    by : (o : Ordering) → AreKept (insert_entry state_key_cmp es k w) → AreKept (match_ordering o ((k, w) ∷ e ∷ es) ((e.0, w) ∷ es) (e ∷ insert_entry state_key_cmp es k w))
-    by Less r = (n, h)
-    by Equal r = (n, h.1)
-    by Greater r = (h.0, r)
+-- in any order of the places
+HasVersions : (ℕ × ℕ) × List Version → Type 0
+HasVersions e = AreVersions e.1
+
+to_each : (es : VersionList) → AreKept es → AllByRecursion HasVersions es
+unfolding HasVersions
+to_each [] h = tt
+to_each (e ∷ es) h = (h.0, to_each es h.1)
+
+from_each : (es : VersionList) → AllByRecursion HasVersions es → AreKept es
+unfolding HasVersions
+from_each [] h = tt
+from_each (e ∷ es) h = (h.0, from_each es h.1)
+
+kept-moved : (es fs : VersionList) → IsPermutation es fs → AreKept es → AreKept fs
+kept-moved es fs moved h = from_each fs (recursion_from_All HasVersions fs (All-permutation HasVersions es fs moved (All-from_recursion HasVersions es (to_each es h))))
 
 kept-removed : (test : ℕ × ℕ → Bool) (es : VersionList) (w : List Version) → AreKept es → AreKept (remove_entry test (set_value test es w))
 kept-removed test [] w h = tt
@@ -86,14 +97,15 @@ module _ {V : Type 0} (f : V → List Version) (place : ℕ × ℕ) (es es2 : Li
   kept-written y g n = subst AreKept (sym (told-written f place es es2 y g)) (kept-set (is_at (state_key_cmp place)) (told f es) (f y) n had)
 
   -- a place is put in with some
-  pub kept-put : (y : V) → es2 ≡ insert_entry state_key_cmp es place y → AreVersions (f y) → AreKept (told f es2)
-  kept-put y g n = subst AreKept (sym (ap (told f) g ∙ sym (insert-seen f state_key_cmp es place y))) (kept-insert place (told f es) (f y) n had)
+  pub kept-put : (y : V) → IsPermutation ((place, y) ∷ es) es2 → AreVersions (f y) → AreKept (told f es2)
+  kept-put y g n = kept-moved (told f ((place, y) ∷ es)) (told f es2) (IsPermutation-map (seen f) ((place, y) ∷ es) es2 g) (n, had)
 
   -- a place without any is taken out
-  pub kept-out : (y : V) (es3 : List ((ℕ × ℕ) × V)) → es2 ≡ set_value (is_at (state_key_cmp place)) es y → es3 ≡ remove_entry (is_at (state_key_cmp place)) es2 → AreKept (told f es3)
+  pub kept-out : (y : V) (es3 : List ((ℕ × ℕ) × V)) → es2 ≡ set_value (is_at (state_key_cmp place)) es y → IsPermutation (remove_entry (is_at (state_key_cmp place)) es2) es3 → AreKept (told f es3)
   kept-out y es3 g r =
-      subst AreKept (sym (ap (told f) r ∙ (sym (remove-seen f (is_at (state_key_cmp place)) es2) ∙ ap (remove_entry (is_at (state_key_cmp place))) (told-written f place es es2 y g))))
-      (kept-removed (is_at (state_key_cmp place)) (told f es) (f y) had)
+      kept-moved (told f (remove_entry (is_at (state_key_cmp place)) es2)) (told f es3) (IsPermutation-map (seen f) (remove_entry (is_at (state_key_cmp place)) es2) es3 r)
+      (subst AreKept (sym (sym (remove-seen f (is_at (state_key_cmp place)) es2) ∙ ap (remove_entry (is_at (state_key_cmp place))) (told-written f place es es2 y g)))
+      (kept-removed (is_at (state_key_cmp place)) (told f es) (f y) had))
 
 module _ {V F : Type 0} (f : V → List Version) (T : F → (ℕ × ℕ) → V → Bool → V → F → Type 0) (call : F) (p : Version → Bool)
     (calls : (k : ℕ × ℕ) (v : V) (b : Bool) (w : V) (after : F) → T call k v b w after → (f w ≡ filter p (f v)) × ((b ≡ true) ↔ (f w ≢ [])) × (after ≡ call)) where

@@ -12,12 +12,11 @@ use Rattle.std.proofs.lemmas.Cmp.{tied_itself}
 use Rattle.std.specs.FinMap.{IsAntisymmetric}
 use Rattle.td_stamp.specs.declared.values.State.{State}
 use Rattle.td_stamp.specs.Orders.{state_key_cmp}
-use Rattle.td_stamp.specs.ProvedOrders.{state_key_total}
 use Rattle.td_stamp.specs.States.{StateList, state_of, AreStates}
 use Rattle.td_batch.specs.Meaning.{with_kept}
 use Rattle.td_machine.specs.declared.records.StateLeft.{StateLeft}
 use Rattle.td_machine.specs.State.{with_left}
-use Rattle.td_shard.proofs.LeftOrders.{place_apart}
+use Rattle.td_stamp.specs.ProvedOrders.{state_key_total, state_key_apart}
 
 turned_back : {X : Type 0} (cmp : X → X → Ordering) → IsTotalOrder cmp → (x y : X) → cmp x y ≡ Greater → cmp y x ≡ Less
 turned_back cmp total x y e = total.antisymm y x ∙ ap ordering_reverse e
@@ -178,23 +177,23 @@ module _ {K X : Type 0} (cmp : K → K → Ordering) (total : IsTotalOrder cmp) 
 
 -- STATES
 abbrev pub InOrder : StateList → Type 0
-InOrder states = AreInOrder state_key_cmp state_key_total place_apart states
+InOrder states = AreInOrder state_key_cmp state_key_total state_key_apart states
 
 pub kept_keeps : (states : StateList) (v key : ℕ) (s : Option State) → InOrder states → InOrder (with_kept states v key s)
-kept_keeps states v key None h = remove_keeps state_key_cmp state_key_total place_apart (is_at (state_key_cmp (v, key))) states h
-kept_keeps states v key (Some s) h = put_keeps state_key_cmp state_key_total place_apart (v, key) s states h
+kept_keeps states v key None h = remove_keeps state_key_cmp state_key_total state_key_apart (is_at (state_key_cmp (v, key))) states h
+kept_keeps states v key (Some s) h = put_keeps state_key_cmp state_key_total state_key_apart (v, key) s states h
 
 pub left_keeps : (ls : List StateLeft) (states : StateList) → InOrder states → InOrder (with_left states ls)
 left_keeps [] states h = h
 left_keeps (x ∷ ls) states h = left_keeps ls (with_kept states x.vertex x.key x.state) (kept_keeps states x.vertex x.key x.state h)
 
 pub look_kept_same : (states : StateList) (v key : ℕ) (s : Option State) → InOrder states → state_of (with_kept states v key s) v key ≡ s
-look_kept_same states v key None h = look_removed state_key_cmp state_key_total place_apart (v, key) states h
-look_kept_same states v key (Some s) h = look_put_same state_key_cmp state_key_total place_apart (v, key) s states
+look_kept_same states v key None h = look_removed state_key_cmp state_key_total state_key_apart (v, key) states h
+look_kept_same states v key (Some s) h = look_put_same state_key_cmp state_key_total state_key_apart (v, key) s states
 
 pub look_kept_other : (states : StateList) (v key w k : ℕ) (s : Option State) → is_eq (state_key_cmp (v, key) (w, k)) ≡ false → state_of (with_kept states w k s) v key ≡ state_of states v key
-look_kept_other states v key w k None n = look_removed_other state_key_cmp state_key_total place_apart (v, key) (w, k) n states
-look_kept_other states v key w k (Some s) n = look_put_other state_key_cmp state_key_total place_apart (v, key) (w, k) s n states
+look_kept_other states v key w k None n = look_removed_other state_key_cmp state_key_total state_key_apart (v, key) (w, k) n states
+look_kept_other states v key w k (Some s) n = look_put_other state_key_cmp state_key_total state_key_apart (v, key) (w, k) s n states
 
 pub states_in_order : (states : StateList) → AreStates states → InOrder states
 unfolding IsStrictlySortedBy
@@ -203,4 +202,4 @@ states_in_order (e ∷ es) h = (from_map (λ k. state_key_cmp e.0 k ≡ Less) (�
 
 -- STATES WITH THE SAME LOOK-UPS are the same
 pub same_states : (some others : StateList) → InOrder some → InOrder others → ((place : ℕ × ℕ) → state_of some place.0 place.1 ≡ state_of others place.0 place.1) → some ≡ others
-same_states some others h j alike = same_entries state_key_cmp state_key_total place_apart some others h j alike
+same_states some others h j alike = same_entries state_key_cmp state_key_total state_key_apart some others h j alike

@@ -1,14 +1,15 @@
 -- Versions as the map keeps them: what a change of it does to what was left.
 use Rattle.std.proofs.Common.{◌≡◌, ◌≢◌, ◌↔◌, ℕ, zero, suc, ◌+◌, not, Bool, true, false, cond, nat_lt, List, [], ◌∷◌, map, filter, length, position, Some, None, ◌≤◌, arith, refl, ap, sym, ◌∙◌, subst}
 use Rattle.std.specs.Option.{option_map}
-use Rattle.std.specs.List.{remove, position_or_len}
-use Rattle.std.specs.List.Sorted.{IsStrictlySortedBy}
+use Rattle.std.specs.List.{remove, position_or_len, IsDistinct}
+use Rattle.std.specs.List.Sorted.{IsPermutation}
+use Rattle.std.proofs.lemmas.List.Sorted.{IsPermutation-map}
 use Rattle.std.specs.Map.{lookup, set_value, remove_entry, keys_of}
 use Rattle.std.specs.Map.Calls.{RetainsPairs}
-use Rattle.std.specs.BTreeMap.{is_at, insert_entry}
+use Rattle.std.specs.BTreeMap.{is_at}
 use Rattle.std.specs.declared.cmp.Ordering.{Ordering}
 use Rattle.std.specs.declared.cmp.Ordering.TheVariants.{Less, Equal, Greater}
-use Rattle.std.specs.Ordering.{is_eq}
+use Rattle.std.specs.Ordering.{is_eq, eq_by_cmp}
 use Rattle.std.proofs.lemmas.Bool.{ltb-false}
 use Rattle.std.proofs.Math.Numerals.{one-add}
 use Rattle.std.proofs.lemmas.Map.Steps.{set_value_same}
@@ -18,8 +19,8 @@ use Rattle.td_stamp.specs.BagLaws.{BagLaws}
 use Rattle.td_machine.specs.State.{left_cmp}
 use Rattle.td_shard.specs.declared.version.Version.{Version}
 use Rattle.td_shard.specs.Versions.{VersionList, left_of, left_in, version_cmp}
-use Rattle.td_shard.proofs.Viewed.{seen, lookup-seen, set-seen, insert-seen, remove-seen, keys-seen}
-use Rattle.td_shard.proofs.LeftBags.{left_in-more, left_in-first, left_in-filter, left_in-not, left_in-out, left_in-emptied}
+use Rattle.td_shard.proofs.Viewed.{seen, lookup-seen, set-seen, remove-seen, keys-seen}
+use Rattle.td_shard.proofs.LeftBags.{left_in-more, left_in-moved, left_in-filter, left_in-not, left_in-out, left_in-emptied}
 
 -- ONE VERSION TAKEN OUT, by its place
 pub taken_at-place : (v : Version) (vs : List Version) → remove vs (position_or_len (λ k. is_eq (version_cmp v k)) vs) ≡ bag_remove version_cmp v vs
@@ -83,27 +84,29 @@ module _ {V : Type 0} (f : V → List Version) where
       one_more x y e g h = ap left_in (told-written y g ∙ ap (set_value here (told es)) h) ∙ left_in-more laws place v (f x) (told es) (found x e)
 
       -- or its first
-      pub first_one : (y : V) → None ≡ lookup here es → es2 ≡ insert_entry state_key_cmp es place y → f y ≡ v ∷ [] → left_in (told es2) ≡ bag_insert left_cmp (left_of place v) (left_in (told es))
-      first_one y e g h =
-          ap left_in (ap told g ∙ (sym (insert-seen f state_key_cmp es place y) ∙ ap (insert_entry state_key_cmp (told es) place) h)) ∙ left_in-first laws place v (told es) (not_found e)
+      pub first_one : (y : V) → IsPermutation ((place, y) ∷ es) es2 → f y ≡ v ∷ [] → left_in (told es2) ≡ bag_insert left_cmp (left_of place v) (left_in (told es))
+      first_one y g h =
+          left_in-moved laws (told ((place, y) ∷ es)) (told es2) (IsPermutation-map (seen f) ((place, y) ∷ es) es2 g)
+          ∙ ap (λ l. join left_cmp (map (left_of place) l) (left_in (told es))) h
 
       -- a place without versions has none to be taken out
       pub none_out : None ≡ lookup here es → es2 ≡ es → left_in (told es2) ≡ bag_remove left_cmp (left_of place v) (left_in (told es))
       none_out e g = ap (λ l. left_in (told l)) g ∙ sym (left_in-not laws place v (told es) (not_found e))
 
       -- one is taken out
-      pub one_out : (x y : V) → IsStrictlySortedBy state_key_cmp (keys_of es) → Some x ≡ lookup here es → es2 ≡ set_value here es y → f y ≡ bag_remove version_cmp v (f x)
+      pub one_out : (x y : V) → IsDistinct (eq_by_cmp state_key_cmp) (keys_of es) → Some x ≡ lookup here es → es2 ≡ set_value here es y → f y ≡ bag_remove version_cmp v (f x)
           → left_in (told es2) ≡ bag_remove left_cmp (left_of place v) (left_in (told es))
       one_out x y s e g h =
           ap left_in (told-written y g ∙ ap (set_value here (told es)) h)
-          ∙ left_in-out laws place v (f x) (told es) (subst (IsStrictlySortedBy state_key_cmp) (sym (keys-seen f es)) s) (found x e)
+          ∙ left_in-out laws place v (f x) (told es) (subst (IsDistinct (eq_by_cmp state_key_cmp)) (sym (keys-seen f es)) s) (found x e)
 
       -- and the place with the last
-      pub last_out : (x y : V) (es3 : List ((ℕ × ℕ) × V)) → IsStrictlySortedBy state_key_cmp (keys_of es) → Some x ≡ lookup here es → es2 ≡ set_value here es y → f y ≡ bag_remove version_cmp v (f x) → f y ≡ []
-          → es3 ≡ remove_entry here es2 → left_in (told es3) ≡ bag_remove left_cmp (left_of place v) (left_in (told es))
+      pub last_out : (x y : V) (es3 : List ((ℕ × ℕ) × V)) → IsDistinct (eq_by_cmp state_key_cmp) (keys_of es) → Some x ≡ lookup here es → es2 ≡ set_value here es y → f y ≡ bag_remove version_cmp v (f x) → f y ≡ []
+          → IsPermutation (remove_entry here es2) es3 → left_in (told es3) ≡ bag_remove left_cmp (left_of place v) (left_in (told es))
       last_out x y es3 s e g h none r =
           let emptied = told-written y g ∙ ap (set_value here (told es)) none in
-          ap left_in (ap told r ∙ (sym (remove-seen f here es2) ∙ ap (remove_entry here) emptied))
+          left_in-moved laws (told (remove_entry here es2)) (told es3) (IsPermutation-map (seen f) (remove_entry here es2) es3 r)
+          ∙ ap left_in (sym (remove-seen f here es2) ∙ ap (remove_entry here) emptied)
           ∙ (left_in-emptied laws place (told es) ∙ (ap left_in (sym emptied) ∙ one_out x y s e g h))
 
   -- WHAT IS LET GO: each place keeps the versions after an epoch, and stays where there are some

@@ -6,7 +6,7 @@ use Rattle.std.proofs.lemmas.List.{reverse-reverse}
 use Rattle.std.proofs.lemmas.Bool.{eqb-true}
 use Rattle.td_stamp.specs.Time.{Timestamp}
 use Rattle.td_shard.specs.declared.lane.Lane.{Lane}
-use Rattle.td_shard.specs.Slots.{lane_eq}
+use Rattle.td_shard.specs.Runs.{lane_eq}
 use Rattle.td_shard.specs.Messages.{equal_times}
 
 pub time_equiv : IsEquivalence equal_times

@@ -1,21 +1,47 @@
 -- What was left, as the bag of the versions of each place.
-use Rattle.std.proofs.Common.{◌≡◌, ℕ, Bool, true, false, cond, ◌||◌, List, [], ◌∷◌, map, filter, Some, None, refl, ap, sym, ◌∙◌}
-use Rattle.std.specs.List.{AllByRecursion}
+use Rattle.std.proofs.Common.{◌≡◌, ℕ, suc, ◌<◌, Bool, true, false, cond, ◌||◌, List, [], ◌∷◌, ◌++◌, map, filter, length, take, drop, get_or, set, Option, Some, None, refl, ap, sym, ◌∙◌, subst, arith, ⊎_elim}
+use Rattle.std.specs.List.{AllByRecursion, IsDistinct, swap}
 use Rattle.std.specs.Map.{lookup, remove_entry, set_value, keys_of}
-use Rattle.std.specs.BTreeMap.{insert_entry, is_at}
+use Rattle.std.specs.BTreeMap.{is_at}
 use Rattle.std.specs.declared.cmp.Ordering.{Ordering}
 use Rattle.std.specs.declared.cmp.Ordering.TheVariants.{Less, Equal, Greater}
-use Rattle.std.specs.Ordering.{is_eq, match_ordering}
-use Rattle.std.specs.List.Sorted.{IsStrictlySortedBy}
+use Rattle.std.specs.Ordering.{is_eq, eq_by_cmp}
+use Rattle.std.specs.List.Sorted.{IsPermutation}
+use Rattle.std.proofs.lemmas.List.{set_split, get_or-set_same, get_or-set_other, set-get_or, length-set}
+use Rattle.std.proofs.lemmas.List.Edits.{swap_is}
+use Rattle.std.proofs.lemmas.List.Sorted.{IsPermutation-keeps}
+use Rattle.std.proofs.lemmas.Bool.{cases_eq}
 use Rattle.std.proofs.lemmas.Map.Steps.{set_value_same}
 use Rattle.td_stamp.specs.Orders.{state_key_cmp}
+use Rattle.td_stamp.specs.States.{same_place}
 use Rattle.td_stamp.specs.Bag.{bag_insert, bag_remove, join, has, IsBag}
 use Rattle.td_stamp.specs.BagLaws.{BagLaws}
 use Rattle.td_machine.specs.declared.records.StateLeft.{StateLeft}
 use Rattle.td_machine.specs.State.{left_cmp}
 use Rattle.td_shard.specs.declared.version.Version.{Version}
 use Rattle.td_shard.specs.Versions.{VersionList, left_of, left_in, version_cmp, taken_back}
-use Rattle.td_shard.proofs.LeftOrders.{left_apart, place_apart, left_of-cmp, places_tie}
+use Rattle.td_stamp.specs.ProvedOrders.{state_key_apart, places_tied}
+use Rattle.td_shard.proofs.LeftOrders.{left_apart, left_of-cmp, places_tie}
+
+-- no two of the places are the same
+abbrev pub AreApart : VersionList → Type 0
+AreApart es = IsDistinct (eq_by_cmp state_key_cmp) (keys_of es)
+
+-- the test of a place, by its parts and by its order
+pub test_is : (place : ℕ × ℕ) → same_place place ≡ is_at (state_key_cmp place)
+test_is place = λ i q. sym (places_tied place q) i
+
+pub found_by_order : {V : Type 0} (place : ℕ × ℕ) (es : List ((ℕ × ℕ) × V)) (o : Option V) → o ≡ lookup (same_place place) es → o ≡ lookup (is_at (state_key_cmp place)) es
+found_by_order place es o e = e ∙ ap (λ t. lookup t es) (test_is place)
+
+pub set_by_order : {V : Type 0} (place : ℕ × ℕ) (es fs : List ((ℕ × ℕ) × V)) (w : V) → fs ≡ set_value (same_place place) es w → fs ≡ set_value (is_at (state_key_cmp place)) es w
+set_by_order place es fs w e = e ∙ ap (λ t. set_value t es w) (test_is place)
+
+pub removed_by_order : {V : Type 0} (place : ℕ × ℕ) (es fs : List ((ℕ × ℕ) × V)) → IsPermutation (remove_entry (same_place place) es) fs → IsPermutation (remove_entry (is_at (state_key_cmp place)) es) fs
+removed_by_order place es fs h = subst (λ t. IsPermutation (remove_entry t es) fs) (test_is place) h
+
+pub are_apart : {V : Type 0} (es : List ((ℕ × ℕ) × V)) → IsDistinct same_place (keys_of es) → IsDistinct (eq_by_cmp state_key_cmp) (keys_of es)
+are_apart es h = subst (λ t. IsDistinct t (keys_of es)) (λ i p. test_is p i) h
 
 pub tied : (o : Ordering) → is_eq o ≡ true → o ≡ Equal
 tied Less e = cc
@@ -73,23 +99,49 @@ module _ (laws : BagLaws left_cmp) where
       by Less f g rest = ap (join left_cmp (map (left_of e.0) e.1)) (rest g) ∙ laws.swaps (map (left_of e.0) e.1) (left_of place v ∷ []) (left_in es)
       by Greater f g rest = ap (join left_cmp (map (left_of e.0) e.1)) (rest g) ∙ laws.swaps (map (left_of e.0) e.1) (left_of place v ∷ []) (left_in es)
       by Equal f g rest =
-          let here : place ≡ e.0 = place_apart place e.0 f in
+          let here : place ≡ e.0 = state_key_apart place e.0 f in
           let same : e.1 ≡ vs = cc in
           (λ i. join left_cmp (map (left_of (sym here i)) ws) (left_in es))
           ∙ (joined_more place vs v (left_in es) ∙ (λ i. bag_insert left_cmp (left_of place v) (join left_cmp (map (left_of (here i)) (sym same i)) (left_in es))))
 
-  -- and the first of a place
-  pub left_in-first : (place : ℕ × ℕ) (v : Version) (es : VersionList) → lookup (is_at (state_key_cmp place)) es ≡ None
-      → left_in (insert_entry state_key_cmp es place (v ∷ [])) ≡ bag_insert left_cmp (left_of place v) (left_in es)
-  left_in-first place v [] h = refl
-  left_in-first place v (e ∷ es) h = by (state_key_cmp place e.0) h (left_in-first place v es)
-    where
-      by : (o : Ordering) → cond (is_eq o) (Some e.1) (lookup (is_at (state_key_cmp place)) es) ≡ None
-          → (lookup (is_at (state_key_cmp place)) es ≡ None → left_in (insert_entry state_key_cmp es place (v ∷ [])) ≡ bag_insert left_cmp (left_of place v) (left_in es))
-          → left_in (match_ordering o ((place, v ∷ []) ∷ e ∷ es) ((e.0, v ∷ []) ∷ es) (e ∷ insert_entry state_key_cmp es place (v ∷ []))) ≡ bag_insert left_cmp (left_of place v) (left_in (e ∷ es))
-      by Less g rest = refl
-      by Equal g rest = cc
-      by Greater g rest = ap (join left_cmp (map (left_of e.0) e.1)) (rest g) ∙ laws.swaps (map (left_of e.0) e.1) (left_of place v ∷ []) (left_in es)
+  -- IN ANY ORDER of the places the same was left
+  abbrev part : (ℕ × ℕ) × List Version → List StateLeft
+  part e = map (left_of e.0) e.1
+
+  abbrev without : VersionList → ℕ → VersionList
+  without es i = take i es ++ drop (suc i) es
+
+  left_in-split : (es : VersionList) (e : (ℕ × ℕ) × List Version) (fs : VersionList) → left_in (es ++ e ∷ fs) ≡ join left_cmp (part e) (left_in (es ++ fs))
+  left_in-split [] e fs = refl
+  left_in-split (d ∷ es) e fs = ap (join left_cmp (part d)) (left_in-split es e fs) ∙ laws.swaps (part d) (part e) (left_in (es ++ fs))
+
+  left_in-set : (es : VersionList) (i : ℕ) (e : (ℕ × ℕ) × List Version) → i < length es → left_in (set es i e) ≡ join left_cmp (part e) (left_in (without es i))
+  left_in-set es i e lt = ap left_in (set_split es i e lt) ∙ left_in-split (take i es) e (drop (suc i) es)
+
+  left_in-at : (es : VersionList) (i : ℕ) (d : (ℕ × ℕ) × List Version) → i < length es → left_in es ≡ join left_cmp (part (get_or es i d)) (left_in (without es i))
+  left_in-at es i d lt = ap left_in (sym (set-get_or es i d)) ∙ left_in-set es i (get_or es i d) lt
+
+  join-cancel : (xs ys zs : List StateLeft) → join left_cmp xs ys ≡ join left_cmp xs zs → ys ≡ zs
+  join-cancel [] ys zs e = e
+  join-cancel (x ∷ xs) ys zs e = join-cancel xs ys zs (sym (laws.removes x (join left_cmp xs ys)) ∙ ap (bag_remove left_cmp x) e ∙ laws.removes x (join left_cmp xs zs))
+
+  left_in-exchange : (es : VersionList) (i j : ℕ) → i < length es → j < length es → left_in (swap es i j) ≡ left_in es
+  left_in-exchange [] i j p q = absurd (omega (arith))
+  left_in-exchange (e ∷ rest) i j p q =
+      let es : VersionList = e ∷ rest in
+      let y : (ℕ × ℕ) × List Version = get_or es i e in
+      let z : (ℕ × ℕ) × List Version = get_or es j e in
+      let w : VersionList = set es i z in
+      let long : length w ≡ length es = length-set es i z in
+      let q' : j < length w = omega (arith, long) in
+      let there : get_or w j e ≡ z = ⊎_elim (λ n. ap (λ m. get_or w m e) n ∙ get_or-set_same es i z e p) (λ n. get_or-set_other es i j z e n) (cases_eq j i) in
+      let kept : left_in (without w j) ≡ left_in (without es i) =
+      join-cancel (part z) (left_in (without w j)) (left_in (without es i))
+      (ap (λ u. join left_cmp (part u) (left_in (without w j))) (sym there) ∙ sym (left_in-at w j e q') ∙ left_in-set es i z p) in
+      ap left_in (sym (swap_is es i j e p q)) ∙ left_in-set w j y q' ∙ ap (join left_cmp (part y)) kept ∙ sym (left_in-at es i e p)
+
+  pub left_in-moved : (es fs : VersionList) → IsPermutation es fs → left_in fs ≡ left_in es
+  left_in-moved es fs = IsPermutation-keeps es (λ l. left_in l ≡ left_in es) refl (λ l i j p q h. left_in-exchange l i j p q ∙ h) fs
 
   -- WHAT IS LET GO: those that pass a test of what was left
   pub left_in-filter : (p : StateLeft → Bool) (e : (ℕ × ℕ) × List Version) (es : VersionList)
@@ -130,7 +182,7 @@ module _ (laws : BagLaws left_cmp) where
       by Less f g r = ap (join left_cmp (map (left_of e.0) e.1)) (r g) ∙ laws.swaps (map (left_of e.0) e.1) (left_of place v ∷ []) (left_in (set_value (is_at (state_key_cmp place)) es ws))
       by Greater f g r = ap (join left_cmp (map (left_of e.0) e.1)) (r g) ∙ laws.swaps (map (left_of e.0) e.1) (left_of place v ∷ []) (left_in (set_value (is_at (state_key_cmp place)) es ws))
       by Equal f g r =
-          let here : place ≡ e.0 = place_apart place e.0 f in
+          let here : place ≡ e.0 = state_key_apart place e.0 f in
           let same : e.1 ≡ vs = cc in
           (λ i. join left_cmp (map (left_of (sym here i)) (same i)) (left_in es))
           ∙ (taken_part place v vs (left_in es) t ∙ (λ i. bag_insert left_cmp (left_of place v) (join left_cmp (map (left_of (here i)) ws) (left_in es))))
@@ -189,20 +241,20 @@ module _ (laws : BagLaws left_cmp) where
   pub left_in-not : (place : ℕ × ℕ) (v : Version) (es : VersionList) → lookup (is_at (state_key_cmp place)) es ≡ None → bag_remove left_cmp (left_of place v) (left_in es) ≡ left_in es
   left_in-not place v es h = remove_not (left_of place v) (left_in es) (has_not-none place v es h)
 
--- places in order: no later one is the first again
-pub none_again : (place : ℕ × ℕ) (e : (ℕ × ℕ) × List Version) (es : VersionList) → IsStrictlySortedBy state_key_cmp (keys_of (e ∷ es)) → place ≡ e.0 → lookup (is_at (state_key_cmp place)) es ≡ None
-unfolding IsStrictlySortedBy
+-- places that differ: no later one is the first again
+pub none_again : (place : ℕ × ℕ) (e : (ℕ × ℕ) × List Version) (es : VersionList) → AreApart (e ∷ es) → place ≡ e.0 → lookup (is_at (state_key_cmp place)) es ≡ None
+unfolding IsDistinct
 none_again place e es h here = none es h.0
   where
-    none : (ds : VersionList) → AllByRecursion (λ k. state_key_cmp e.0 k ≡ Less) (keys_of ds) → lookup (is_at (state_key_cmp place)) ds ≡ None
+    none : (ds : VersionList) → AllByRecursion (λ k. eq_by_cmp state_key_cmp e.0 k ≡ false) (keys_of ds) → lookup (is_at (state_key_cmp place)) ds ≡ None
     none [] g = refl
-    none (d ∷ ds) g = ap (λ b. cond b (Some d.1) (lookup (is_at (state_key_cmp place)) ds)) (ap is_eq (ap (λ p. state_key_cmp p d.0) here ∙ g.0)) ∙ none ds g.1
+    none (d ∷ ds) g = ap (λ b. cond b (Some d.1) (lookup (is_at (state_key_cmp place)) ds)) (ap is_eq (ap (λ p. state_key_cmp p d.0) here) ∙ g.0) ∙ none ds g.1
 
 module _ (laws : BagLaws left_cmp) where
   -- one that its place does not have
-  not_there : (place : ℕ × ℕ) (v : Version) (vs : List Version) (es : VersionList) → IsStrictlySortedBy state_key_cmp (keys_of es) → lookup (is_at (state_key_cmp place)) es ≡ Some vs → has version_cmp v vs ≡ false
+  not_there : (place : ℕ × ℕ) (v : Version) (vs : List Version) (es : VersionList) → AreApart es → lookup (is_at (state_key_cmp place)) es ≡ Some vs → has version_cmp v vs ≡ false
       → has left_cmp (left_of place v) (left_in es) ≡ false
-  unfolding IsStrictlySortedBy
+  unfolding IsDistinct
   not_there place v vs [] s h t = refl
   not_there place v vs (e ∷ es) s h t = by (state_key_cmp place e.0) refl h (λ g. not_there place v vs es s.1 g t)
     where
@@ -211,7 +263,7 @@ module _ (laws : BagLaws left_cmp) where
       by Less f g r = has-join laws (left_of place v) (map (left_of e.0) e.1) (left_in es) ∙ (λ i. has_not-part laws place e.0 v e.1 (ap is_eq f) i || r g i)
       by Greater f g r = has-join laws (left_of place v) (map (left_of e.0) e.1) (left_in es) ∙ (λ i. has_not-part laws place e.0 v e.1 (ap is_eq f) i || r g i)
       by Equal f g r =
-          let here : place ≡ e.0 = place_apart place e.0 f in
+          let here : place ≡ e.0 = state_key_apart place e.0 f in
           let same : e.1 ≡ vs = cc in
           has-join laws (left_of place v) (map (left_of e.0) e.1) (left_in es)
           ∙ (λ i. has left_cmp (left_of place v) (map (left_of (sym here i)) (same i)) || has_not-none laws place v es (none_again place e es s here) i)
@@ -227,7 +279,7 @@ module _ (laws : BagLaws left_cmp) where
       by Equal g r = cc
 
   -- ONE TAKEN OUT of a place that has some
-  pub left_in-out : (place : ℕ × ℕ) (v : Version) (vs : List Version) (es : VersionList) → IsStrictlySortedBy state_key_cmp (keys_of es) → lookup (is_at (state_key_cmp place)) es ≡ Some vs
+  pub left_in-out : (place : ℕ × ℕ) (v : Version) (vs : List Version) (es : VersionList) → AreApart es → lookup (is_at (state_key_cmp place)) es ≡ Some vs
       → left_in (set_value (is_at (state_key_cmp place)) es (bag_remove version_cmp v vs)) ≡ bag_remove left_cmp (left_of place v) (left_in es)
   left_in-out place v vs es s h = by (has version_cmp v vs) refl
     where

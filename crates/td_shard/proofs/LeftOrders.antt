@@ -39,9 +39,6 @@ left_apart x y e =
     let a = both_tie _ _ e in let b = both_tie _ _ a.1 in let c = both_tie _ _ b.1 in
     λ i. record { epoch = nat_cmp-IsAntisymmetric x.epoch y.epoch a.0 i; vertex = nat_cmp-IsAntisymmetric x.vertex y.vertex b.0 i; key = nat_cmp-IsAntisymmetric x.key y.key c.0 i; state = states_apart x.state y.state c.1 i }
 
-pub place_apart : IsAntisymmetric state_key_cmp
-place_apart x y e = let t = both_tie (nat_cmp x.0 y.0) (nat_cmp x.1 y.1) e in λ i. (nat_cmp-IsAntisymmetric x.0 y.0 t.0 i, nat_cmp-IsAntisymmetric x.1 y.1 t.1 i)
-
 -- the versions of one place stand as they were left
 pub left_of-cmp : (place : ℕ × ℕ) (x y : Version) → left_cmp (left_of place x) (left_of place y) ≡ version_cmp x y
 left_of-cmp place x y =

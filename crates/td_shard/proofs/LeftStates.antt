@@ -1,8 +1,8 @@
 -- The state of a key after what was left: that of the last version up to the epoch.
 use Rattle.std.proofs.Common.{◌≡◌, ℕ, Bool, true, false, cond, List, [], ◌∷◌, map, filter, fold, nat_le, Option, Some, None, refl, ap, sym, ◌∙◌}
 use Rattle.std.specs.Option.{option_map}
-use Rattle.std.specs.List.Sorted.{IsStrictlySortedBy}
-use Rattle.std.specs.Map.{lookup, keys_of}
+use Rattle.std.specs.List.{IsDistinct}
+use Rattle.std.specs.Map.{lookup}
 use Rattle.std.specs.BTreeMap.{is_at}
 use Rattle.std.specs.declared.cmp.Ordering.{Ordering}
 use Rattle.std.specs.declared.cmp.Ordering.TheVariants.{Less, Equal, Greater}
@@ -19,8 +19,9 @@ use Rattle.td_machine.specs.declared.records.StateLeft.{StateLeft}
 use Rattle.td_machine.specs.State.{left_cmp, with_left}
 use Rattle.td_shard.specs.declared.version.Version.{Version}
 use Rattle.td_shard.specs.Versions.{VersionList, left_of, left_in, version_cmp, later, latest, up_to, with_version, with_latest}
-use Rattle.td_shard.proofs.LeftOrders.{left_total, place_apart, left_of-cmp}
-use Rattle.td_shard.proofs.LeftBags.{left_in-bag, left_in-filter, join-bag, none_again}
+use Rattle.td_stamp.specs.ProvedOrders.{state_key_apart}
+use Rattle.td_shard.proofs.LeftOrders.{left_total, left_of-cmp}
+use Rattle.td_shard.proofs.LeftBags.{AreApart, left_in-bag, left_in-filter, join-bag, none_again}
 use Rattle.td_shard.proofs.KeptStates.{InOrder, kept_keeps, left_keeps, look_kept_same, look_kept_other, states_in_order, same_states}
 
 -- whether something was left at a place
@@ -40,7 +41,7 @@ look_kept place x states h = by (state_key_cmp place (x.vertex, x.key)) refl
     by Less e = look_kept_other states place.0 place.1 x.vertex x.key x.state (ap is_eq e)
     by Greater e = look_kept_other states place.0 place.1 x.vertex x.key x.state (ap is_eq e)
     by Equal e =
-        let p : place ≡ (x.vertex, x.key) = place_apart place (x.vertex, x.key) e in
+        let p : place ≡ (x.vertex, x.key) = state_key_apart place (x.vertex, x.key) e in
         (λ i. state_of (with_kept states x.vertex x.key x.state) (p i).0 (p i).1) ∙ look_kept_same states x.vertex x.key x.state h
 
 -- A LOOK-UP after what was left is told by what was left there
@@ -156,9 +157,9 @@ module _ (laws : BagLaws left_cmp) where
   here-no place other [] h = refl
   here-no place other (v ∷ vs) h = λ i. cond (h i) (left_of other v ∷ here-no place other vs h i) (here-no place other vs h i)
 
-  left_there : (epoch : ℕ) (place : ℕ × ℕ) (es : VersionList) → IsStrictlySortedBy state_key_cmp (keys_of es)
+  left_there : (epoch : ℕ) (place : ℕ × ℕ) (es : VersionList) → AreApart es
       → filter (is_here place) (filter (λ k. nat_le k.epoch epoch) (left_in es)) ≡ bag_of left_cmp (placed epoch place (lookup (is_at (state_key_cmp place)) es))
-  unfolding IsStrictlySortedBy
+  unfolding IsDistinct
   left_there epoch place [] s = refl
   left_there epoch place (e ∷ es) s =
       let own = map (left_of e.0) (up_to epoch e.1) in
@@ -173,7 +174,7 @@ module _ (laws : BagLaws left_cmp) where
       by Less f r = λ i. join left_cmp (here-no place e.0 (up_to epoch e.1) (ap is_eq f) i) (r i)
       by Greater f r = λ i. join left_cmp (here-no place e.0 (up_to epoch e.1) (ap is_eq f) i) (r i)
       by Equal f r =
-          let here : place ≡ e.0 = place_apart place e.0 f in
+          let here : place ≡ e.0 = state_key_apart place e.0 f in
           (λ i. join left_cmp (here-yes place e.0 (up_to epoch e.1) (ap is_eq f) i) ((r ∙ ap (λ o. bag_of left_cmp (placed epoch place o)) (none_again place e es s here)) i))
           ∙ (λ i. join left_cmp (map (left_of (sym here i)) (up_to epoch e.1)) [])
 
@@ -188,7 +189,7 @@ module _ (laws : BagLaws left_cmp) where
       by (Some v) = refl
 
   -- THE STATE OF A KEY after an epoch
-  pub state_there : (epoch : ℕ) (place : ℕ × ℕ) (es : VersionList) (states : StateList) → IsStrictlySortedBy state_key_cmp (keys_of es) → AreStates states
+  pub state_there : (epoch : ℕ) (place : ℕ × ℕ) (es : VersionList) (states : StateList) → AreApart es → AreStates states
       → state_of (with_left states (filter (λ k. nat_le k.epoch epoch) (left_in es))) place.0 place.1
       ≡ version_or (latest_at epoch (lookup (is_at (state_key_cmp place)) es)) (state_of states place.0 place.1)
   state_there epoch place es states s h =
@@ -213,9 +214,9 @@ module _ (laws : BagLaws left_cmp) where
       by false = refl
   look_version place other (Some v) states h = look_kept place (left_of other v) states h
 
-  look_latest : (epoch : ℕ) (place : ℕ × ℕ) (es : VersionList) (states : StateList) → IsStrictlySortedBy state_key_cmp (keys_of es) → InOrder states
+  look_latest : (epoch : ℕ) (place : ℕ × ℕ) (es : VersionList) (states : StateList) → AreApart es → InOrder states
       → state_of (with_latest epoch states es) place.0 place.1 ≡ version_or (latest_at epoch (lookup (is_at (state_key_cmp place)) es)) (state_of states place.0 place.1)
-  unfolding IsStrictlySortedBy
+  unfolding IsDistinct
   look_latest epoch place [] states s h = refl
   look_latest epoch place (e ∷ es) states s h =
       look_latest epoch place es (with_version states e.0 (latest (up_to epoch e.1))) s.1 (version_keeps states e.0 (latest (up_to epoch e.1)) h)
@@ -226,9 +227,9 @@ module _ (laws : BagLaws left_cmp) where
           ≡ version_or (latest_at epoch (cond (is_eq o) (Some e.1) (lookup (is_at (state_key_cmp place)) es))) (state_of states place.0 place.1)
       by Less f = refl
       by Greater f = refl
-      by Equal f = ap (λ o. version_or (latest_at epoch o) (version_or (latest (up_to epoch e.1)) (state_of states place.0 place.1))) (none_again place e es s (place_apart place e.0 f))
+      by Equal f = ap (λ o. version_or (latest_at epoch o) (version_or (latest (up_to epoch e.1)) (state_of states place.0 place.1))) (none_again place e es s (state_key_apart place e.0 f))
 
-  pub all_states : (epoch : ℕ) (es : VersionList) (states : StateList) → IsStrictlySortedBy state_key_cmp (keys_of es) → AreStates states
+  pub all_states : (epoch : ℕ) (es : VersionList) (states : StateList) → AreApart es → AreStates states
       → with_latest epoch states es ≡ with_left states (filter (λ k. nat_le k.epoch epoch) (left_in es))
   all_states epoch es states s h =
       same_states (with_latest epoch states es) (with_left states (filter (λ k. nat_le k.epoch epoch) (left_in es)))

@@ -3,6 +3,11 @@ pub mod Linked
 pub mod TakenUp
 pub mod Dropped
 pub mod Tasks
+pub mod OneRun
+pub mod Extended
+pub mod InOneList
+pub mod Ordered
+pub mod Placed
 pub mod Viewed
 pub mod LeftOrders
 pub mod LeftBags

@@ -1,19 +1,24 @@
--- Slots that are linked, and one more at the end.
-use Rattle.std.proofs.Common.{◌≡◌, ℕ, zero, suc, ◌+◌, ◌<◌, ◌≤◌, Bool, true, false, cond, List, [], ◌∷◌, ◌++◌, length, get_or, set, Option, Some, None, refl, sym, ap, ◌∙◌, subst, arith}
+-- Runs that are linked, and one more at the end.
+use Rattle.std.proofs.Common.{◌≡◌, ℕ, zero, suc, ◌+◌, ◌<◌, Bool, true, false, cond, List, [], ◌∷◌, ◌++◌, length, Option, Some, None, refl, sym, ap, ◌∙◌, subst, arith, append_assoc, append-nil}
 use Rattle.std.specs.Option.{option_map}
 use Rattle.std.specs.Cmp.{IsEquivalence}
 use Rattle.td_shard.specs.declared.lane.Lane.{Lane}
-use Rattle.td_shard.specs.declared.slots.Slot.{Slot}
-use Rattle.td_shard.specs.Slots.{message, messages_of, ahead_of, last_by, FrontWaits, first_on, last_on, AreLinked}
+use Rattle.td_machine.specs.declared.records.Message.{Message}
+use Rattle.td_machine.specs.Steps.{coming}
+use Rattle.td_shard.specs.Runs.{Part, messages_of, changed_at, linked_to, ahead_of, last_by, FrontWaits, first_on, last_on, AreLinked}
 
--- the slots with that at a place linked to one that comes behind the last
-abbrev pub to_end : ℕ → List Slot → List Slot
+-- the messages of a run
+abbrev pub its : Part → List Message
+its p = coming p.lane.vertex p.lane.port p.lane.time p.recs
+
+-- the runs with that at a place linked to one that comes behind the last
+abbrev pub to_end : ℕ → List Part → List Part
 to_end i [] = []
 to_end zero (s ∷ ss) = record s { ahead = suc (length ss) } ∷ ss
 to_end (suc i) (s ∷ ss) = s ∷ to_end i ss
 
--- the slots with one more at the end, to which the last of its lane is linked
-abbrev pub appended : Option ℕ → List Slot → Slot → List Slot
+-- the runs with one more at the end, to which the last of its lane is linked
+abbrev pub appended : Option ℕ → List Part → Part → List Part
 appended None ss x = ss ++ x ∷ []
 appended (Some i) ss x = to_end i ss ++ x ∷ []
 
@@ -21,46 +26,42 @@ abbrev or_then : Option ℕ → Option ℕ → Option ℕ
 or_then None b = b
 or_then (Some i) b = Some i
 
-pub messages-to_end : (i : ℕ) (ss : List Slot) → messages_of (to_end i ss) ≡ messages_of ss
+pub messages-to_end : (i : ℕ) (ss : List Part) → messages_of (to_end i ss) ≡ messages_of ss
 messages-to_end i [] = refl
 messages-to_end zero (s ∷ ss) = refl
-messages-to_end (suc i) (s ∷ ss) = ap (λ ms. cond s.is_taken ms (message s ∷ ms)) (messages-to_end i ss)
+messages-to_end (suc i) (s ∷ ss) = ap (λ ms. its s ++ ms) (messages-to_end i ss)
 
-pub length-to_end : (i : ℕ) (ss : List Slot) → length (to_end i ss) ≡ length ss
+pub length-to_end : (i : ℕ) (ss : List Part) → length (to_end i ss) ≡ length ss
 length-to_end i [] = refl
 length-to_end zero (s ∷ ss) = refl
 length-to_end (suc i) (s ∷ ss) = ap suc (length-to_end i ss)
 
-pub front-to_end : (i : ℕ) (ss : List Slot) → FrontWaits ss → FrontWaits (to_end i ss)
+pub front-to_end : (i : ℕ) (ss : List Part) → FrontWaits ss → FrontWaits (to_end i ss)
 front-to_end i [] h = h
 front-to_end zero (s ∷ ss) h = h
 front-to_end (suc i) (s ∷ ss) h = h
 
--- a write at a place, as the code makes it
-pub set-to_end : (i n : ℕ) (ss : List Slot) (s d : Slot) → i < length ss → n + i ≡ length ss → s ≡ get_or ss i d → set ss i (record s { ahead = n }) ≡ to_end i ss
-set-to_end i n [] s d h e f = absurd (omega (arith, h))
-set-to_end zero n (t ∷ ss) s d h e f = let e2 : n ≡ suc (length ss) = omega (arith, e) in cc
-set-to_end (suc i) n (t ∷ ss) s d h e f = ap (λ l. t ∷ l) (set-to_end i n ss s d (omega (arith, h)) (omega (arith, e)) f)
+-- as the code links it
+pub linked-to_end : (i n : ℕ) (ss : List Part) → i < length ss → n + i ≡ length ss → changed_at (linked_to n) i ss ≡ to_end i ss
+linked-to_end i n [] h e = absurd (omega (arith, h))
+linked-to_end zero n (s ∷ ss) h e = let e2 : n ≡ suc (length ss) = omega (arith, e) in ap (λ a. record s { ahead = a } ∷ ss) e2
+linked-to_end (suc i) n (s ∷ ss) h e = ap (λ l. s ∷ l) (linked-to_end i n ss (omega (arith, h)) (omega (arith, e)))
 
-pub messages-append : (ss : List Slot) (x : Slot) → x.is_taken ≡ false → messages_of (ss ++ x ∷ []) ≡ messages_of ss ++ message x ∷ []
-messages-append [] x h = rw h refl
-messages-append (s ∷ ss) x h = rw (messages-append ss x h) (by_taken s.is_taken)
-  where
-    by_taken : (b : Bool) → cond b (messages_of ss ++ message x ∷ []) (message s ∷ (messages_of ss ++ message x ∷ [])) ≡ cond b (messages_of ss) (message s ∷ messages_of ss) ++ message x ∷ []
-    by_taken true = refl
-    by_taken false = refl
+pub messages-append : (ss : List Part) (x : Part) → messages_of (ss ++ x ∷ []) ≡ messages_of ss ++ its x
+messages-append [] x = append-nil (its x)
+messages-append (s ∷ ss) x = ap (λ ms. its s ++ ms) (messages-append ss x) ∙ sym (append_assoc (its s) (messages_of ss) (its x))
 
-pub front-append : (ss : List Slot) (x : Slot) → x.is_taken ≡ false → FrontWaits ss → FrontWaits (ss ++ x ∷ [])
+front-append : (ss : List Part) (x : Part) → 0 < length x.recs → FrontWaits ss → FrontWaits (ss ++ x ∷ [])
 front-append [] x h f = h
 front-append (s ∷ ss) x h f = f
 
 module _ (same : Lane → Lane → Bool) where
-  pub first-to_end : (j : Lane) (i : ℕ) (ss : List Slot) → first_on same j (to_end i ss) ≡ first_on same j ss
+  pub first-to_end : (j : Lane) (i : ℕ) (ss : List Part) → first_on same j (to_end i ss) ≡ first_on same j ss
   first-to_end j i [] = refl
   first-to_end j zero (s ∷ ss) = refl
   first-to_end j (suc i) (s ∷ ss) = ap (λ o. cond (same j s.lane) (Some 0) (option_map suc o)) (first-to_end j i ss)
 
-  pub last-to_end : (j : Lane) (i : ℕ) (ss : List Slot) → last_on same j (to_end i ss) ≡ last_on same j ss
+  pub last-to_end : (j : Lane) (i : ℕ) (ss : List Part) → last_on same j (to_end i ss) ≡ last_on same j ss
   last-to_end j i [] = refl
   last-to_end j zero (s ∷ ss) = refl
   last-to_end j (suc i) (s ∷ ss) = ap (last_by (same j s.lane)) (last-to_end j i ss)
@@ -71,7 +72,7 @@ module _ (same : Lane → Lane → Bool) where
   first-step true false None n = refl
   first-step false false None n = refl
 
-  pub first-append : (j : Lane) (ss : List Slot) (x : Slot) → first_on same j (ss ++ x ∷ []) ≡ or_then (first_on same j ss) (cond (same j x.lane) (Some (length ss)) None)
+  pub first-append : (j : Lane) (ss : List Part) (x : Part) → first_on same j (ss ++ x ∷ []) ≡ or_then (first_on same j ss) (cond (same j x.lane) (Some (length ss)) None)
   first-append j [] x = refl
   first-append j (s ∷ ss) x = ap (λ o. cond (same j s.lane) (Some 0) (option_map suc o)) (first-append j ss x) ∙ first-step (same j x.lane) (same j s.lane) (first_on same j ss) (length ss)
 
@@ -79,7 +80,7 @@ module _ (same : Lane → Lane → Bool) where
   last-step true h o n = refl
   last-step false h o n = refl
 
-  pub last-append : (q : Lane) (ss : List Slot) (x : Slot) → last_on same q (ss ++ x ∷ []) ≡ cond (same q x.lane) (Some (length ss)) (last_on same q ss)
+  pub last-append : (q : Lane) (ss : List Part) (x : Part) → last_on same q (ss ++ x ∷ []) ≡ cond (same q x.lane) (Some (length ss)) (last_on same q ss)
   last-append q [] x = refl
   last-append q (s ∷ ss) x = ap (last_by (same q s.lane)) (last-append q ss x) ∙ last-step (same q x.lane) (same q s.lane) (last_on same q ss) (length ss)
 
@@ -92,8 +93,8 @@ module _ (same : Lane → Lane → Bool) where
     last_by-none : (b : Bool) (o : Option ℕ) → b ≡ false → o ≡ None → last_by b o ≡ None
     last_by-none b o e f = rw (e, f) refl
 
-    -- where no slot is the first of a lane, none is the last
-    pub none_on : (j k : Lane) (ss : List Slot) → same j k ≡ true → first_on same j ss ≡ None → last_on same k ss ≡ None
+    -- where no run is the first of a lane, none is the last
+    pub none_on : (j k : Lane) (ss : List Part) → same j k ≡ true → first_on same j ss ≡ None → last_on same k ss ≡ None
     none_on j k [] h e = refl
     none_on j k (s ∷ ss) h e =
         let w = none-by (same j s.lane) (first_on same j ss) e in
@@ -108,19 +109,19 @@ module _ (same : Lane → Lane → Bool) where
     first-none b o e f = rw (e, f) refl
 
     -- and where none is the last, none is the first
-    pub first_none : (j k : Lane) (ss : List Slot) → same j k ≡ true → last_on same k ss ≡ None → first_on same j ss ≡ None
+    pub first_none : (j k : Lane) (ss : List Part) → same j k ≡ true → last_on same k ss ≡ None → first_on same j ss ≡ None
     first_none j k [] h e = refl
     first_none j k (s ∷ ss) h e =
         let w = some-by (same k s.lane) (last_on same k ss) e in
         first-none (same j s.lane) (first_on same j ss) (laws.congr j k s.lane h ∙ w.0) (first_none j k ss h w.1)
 
-    -- the first of a lane stays where the last of the slot's own lane is known
-    stays : (s x : Slot) (b : Bool) (o p : Option ℕ) (n i : ℕ) → p ≡ Some i → (o ≡ None → b ≡ true → p ≡ None) → s.ahead ≡ ahead_of o → s.ahead ≡ ahead_of (or_then o (cond b (Some n) None))
+    -- the first of a lane stays where the last of the run's own lane is known
+    stays : (s x : Part) (b : Bool) (o p : Option ℕ) (n i : ℕ) → p ≡ Some i → (o ≡ None → b ≡ true → p ≡ None) → s.ahead ≡ ahead_of o → s.ahead ≡ ahead_of (or_then o (cond b (Some n) None))
     stays s x b (Some j) p n i e h f = f
     stays s x false None p n i e h f = f
     stays s x true None p n i e h f = absurd (let none : p ≡ None = h refl refl in cc)
 
-    linked_step : (k : Lane) (x s : Slot) (ss : List Slot) (b : Bool) (o : Option ℕ) → same k s.lane ≡ b → last_on same k ss ≡ o → same k x.lane ≡ true → s.ahead ≡ ahead_of (first_on same s.lane ss) → AreLinked same (appended o ss x) → AreLinked same (appended (last_by b o) (s ∷ ss) x)
+    linked_step : (k : Lane) (x s : Part) (ss : List Part) (b : Bool) (o : Option ℕ) → same k s.lane ≡ b → last_on same k ss ≡ o → same k x.lane ≡ true → s.ahead ≡ ahead_of (first_on same s.lane ss) → AreLinked same (appended o ss x) → AreLinked same (appended (last_by b o) (s ∷ ss) x)
     linked_step k x s ss b (Some i) eb eo h f rest = (
       subst (λ w. s.ahead ≡ ahead_of w) (sym (first-append s.lane (to_end i ss) x))
           (subst (λ w. s.ahead ≡ ahead_of (or_then w (cond (same s.lane x.lane) (Some (length (to_end i ss))) None))) (sym (first-to_end s.lane i ss))
@@ -150,8 +151,8 @@ module _ (same : Lane → Lane → Bool) where
         apart : same s.lane x.lane ≡ false
         apart = laws.symm s.lane x.lane ∙ (sym (laws.congr k x.lane s.lane h) ∙ eb)
 
-    -- linked slots stay linked with one more at the end
-    pub linked_appended : (k : Lane) (x : Slot) (ss : List Slot) → same k x.lane ≡ true → x.ahead ≡ 0 → AreLinked same ss → AreLinked same (appended (last_on same k ss) ss x)
+    -- linked runs stay linked with one more at the end
+    pub linked_appended : (k : Lane) (x : Part) (ss : List Part) → same k x.lane ≡ true → x.ahead ≡ 0 → AreLinked same ss → AreLinked same (appended (last_on same k ss) ss x)
     linked_appended k x [] h z l = (z, tt)
     linked_appended k x (s ∷ ss) h z l = linked_step k x s ss (same k s.lane) (last_on same k ss) refl refl h l.0 (linked_appended k x ss h z l.1)
 
@@ -166,28 +167,19 @@ module _ (same : Lane → Lane → Bool) where
       zero_is e = cc
   last_by-below false None n i f e = absurd (cc)
 
-  -- the last of a lane stands within the slots
-  pub last-below : (k : Lane) (ss : List Slot) (i : ℕ) → last_on same k ss ≡ Some i → i < length ss
+  -- the last of a lane stands within the runs
+  pub last-below : (k : Lane) (ss : List Part) (i : ℕ) → last_on same k ss ≡ Some i → i < length ss
   last-below k [] i e = absurd (cc)
   last-below k (s ∷ ss) i e = last_by-below (same k s.lane) (last_on same k ss) (length ss) i (last-below k ss) e
 
-  pub last-appended : (q : Lane) (o : Option ℕ) (ss : List Slot) (x : Slot) → last_on same q (appended o ss x) ≡ cond (same q x.lane) (Some (length ss)) (last_on same q ss)
+  pub last-appended : (q : Lane) (o : Option ℕ) (ss : List Part) (x : Part) → last_on same q (appended o ss x) ≡ cond (same q x.lane) (Some (length ss)) (last_on same q ss)
   last-appended q None ss x = last-append q ss x
   last-appended q (Some i) ss x = last-append q (to_end i ss) x ∙ (ap (λ n. cond (same q x.lane) (Some n) (last_on same q (to_end i ss))) (length-to_end i ss) ∙ ap (cond (same q x.lane) (Some (length ss))) (last-to_end q i ss))
 
-pub messages-appended : (o : Option ℕ) (ss : List Slot) (x : Slot) → x.is_taken ≡ false → messages_of (appended o ss x) ≡ messages_of ss ++ message x ∷ []
-messages-appended None ss x h = messages-append ss x h
-messages-appended (Some i) ss x h = messages-append (to_end i ss) x h ∙ ap (λ ms. ms ++ message x ∷ []) (messages-to_end i ss)
+pub messages-appended : (o : Option ℕ) (ss : List Part) (x : Part) → messages_of (appended o ss x) ≡ messages_of ss ++ its x
+messages-appended None ss x = messages-append ss x
+messages-appended (Some i) ss x = messages-append (to_end i ss) x ∙ ap (λ ms. ms ++ its x) (messages-to_end i ss)
 
-pub front-appended : (o : Option ℕ) (ss : List Slot) (x : Slot) → x.is_taken ≡ false → FrontWaits ss → FrontWaits (appended o ss x)
+pub front-appended : (o : Option ℕ) (ss : List Part) (x : Part) → 0 < length x.recs → FrontWaits ss → FrontWaits (appended o ss x)
 front-appended None ss x h f = front-append ss x h f
 front-appended (Some i) ss x h f = front-append (to_end i ss) x h (front-to_end i ss f)
-
--- there are no more messages than slots
-pub length-messages : (ss : List Slot) → length (messages_of ss) ≤ length ss
-length-messages [] = omega arith
-length-messages (s ∷ ss) = by_taken s.is_taken (length-messages ss)
-  where
-    by_taken : (b : Bool) → length (messages_of ss) ≤ length ss → length (cond b (messages_of ss) (message s ∷ messages_of ss)) ≤ suc (length ss)
-    by_taken true h = omega arith
-    by_taken false h = omega arith

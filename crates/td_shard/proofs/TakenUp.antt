@@ -1,93 +1,111 @@
--- Slots of a lane whose messages are taken.
-use Rattle.std.proofs.Common.{◌≡◌, ℕ, zero, suc, ◌+◌, ◌-◌, ◌<◌, Bool, true, false, not, ◌&&◌, cond, List, [], ◌∷◌, ◌++◌, map, filter, length, get_or, set, take, drop, Option, Some, None, refl, sym, ap, ◌∙◌, subst, arith, append_assoc, ◌⊎◌, inl, inr, length-drop, length-append}
-use Rattle.std.proofs.lemmas.List.{get_or-drop, take-append-drop, drop-drop, take_more, drop_more}
-use Rattle.td_shard.proofs.Linked.{messages-append}
+-- Runs of a lane whose records are taken.
+use Rattle.std.proofs.Common.{◌≡◌, ℕ, zero, suc, ◌+◌, ◌-◌, ◌<◌, ◌≤◌, Bool, true, false, cond, List, [], ◌∷◌, ◌++◌, length, get_or, take, drop, Option, Some, None, refl, sym, ap, ◌∙◌, subst, arith, append_assoc, ◌⊎◌, inl, inr, length-take, length-drop, length-append}
+use Rattle.std.proofs.lemmas.List.{get_or-drop, take-append-drop, drop-drop, take_more, drop_more, length-map}
 use Rattle.std.proofs.Math.Seq.{take-add}
 use Rattle.std.specs.Option.{option_map, IsSome}
 use Rattle.std.specs.Cmp.{IsEquivalence}
 use Rattle.td_stamp.specs.declared.values.Rec.{Rec}
 use Rattle.td_shard.specs.declared.lane.Lane.{Lane}
-use Rattle.td_shard.specs.declared.slots.Slot.{Slot}
-use Rattle.td_machine.specs.declared.records.Message.{Message}
-use Rattle.td_shard.specs.Slots.{message, messages_of, ahead_of, last_by, taken, taken_at, waiting_rec, first_on, last_on, AreLinked, waits_on, taken_on, recs_on}
+use Rattle.td_shard.specs.Runs.{Part, messages_of, changed_at, without_front, ahead_of, last_by, first_on, last_on, AreLinked, taken_on, lane_recs}
+use Rattle.td_shard.proofs.Linked.{its, messages-append}
 
--- how many of a lane are to be taken yet, after a slot of it
-abbrev pub yet : Bool → ℕ → ℕ
-yet was n = cond was (suc n) n
+-- any run
+pub nothing : Part
+nothing = record { lane = record { vertex = 0; port = 0; time = record { epoch = 0; turns = [] } }; ahead = 0; recs = [] }
 
-pub taken-again : (s : Slot) → s.is_taken ≡ true → taken s ≡ s
-taken-again s e = λ i. record { lane = s.lane; rec = s.rec; ahead = s.ahead; is_taken = sym e i }
+-- LISTS
+module _ {X : Type 0} where
+  -- the first n of two lists
+  pub take-append : (n : ℕ) (xs ys : List X) → take n (xs ++ ys) ≡ take n xs ++ take (n - length xs) ys
+  take-append zero xs ys = let none : zero - length xs ≡ zero = omega arith in ap (λ i. take i ys) (sym none)
+  take-append (suc n) [] ys = let all : suc n - zero ≡ suc n = omega arith in ap (λ i. take i ys) (sym all)
+  take-append (suc n) (x ∷ xs) ys =
+      let fewer : suc n - suc (length xs) ≡ n - length xs = omega arith in
+      ap (λ l. x ∷ l) (take-append n xs ys ∙ ap (λ i. take n xs ++ take i ys) (sym fewer))
 
--- a write at a place, as the code makes it
-pub set-taken_at : (i : ℕ) (ss : List Slot) (s d : Slot) → i < length ss → s ≡ get_or ss i d → set ss i (taken s) ≡ taken_at i ss
-set-taken_at i [] s d h f = absurd (omega (arith, h))
-set-taken_at zero (t ∷ ss) s d h f = ap (λ x. taken x ∷ ss) f
-set-taken_at (suc i) (t ∷ ss) s d h f = ap (λ l. t ∷ l) (set-taken_at i ss s d (omega (arith, h)) f)
+  -- how many of a task of 64 are still to come
+  pub still : (m : ℕ) (xs : List X) → m ≤ 64 → 64 - (m + length (take (64 - m) xs)) ≡ 64 - m - length xs
+  still m xs h = omega (arith, h, length-take (64 - m) xs)
 
-pub length-taken_at : (i : ℕ) (ss : List Slot) → length (taken_at i ss) ≡ length ss
-length-taken_at i [] = refl
-length-taken_at zero (s ∷ ss) = refl
-length-taken_at (suc i) (s ∷ ss) = ap suc (length-taken_at i ss)
+  pub full : (m : ℕ) (xs : List X) → m ≤ 64 → m + length (take (64 - m) xs) ≤ 64
+  full m xs h = omega (arith, h, length-take (64 - m) xs)
 
-pub one_waits : (s : Slot) → s.is_taken ≡ false → length (waiting_rec s) ≡ 1
-one_waits s e = ap (λ b. length (cond b [] (s.rec ∷ []))) e
+pub length-its : (p : Part) → length (its p) ≡ length p.recs
+length-its p = length-map p.recs _
 
--- with a slot taken the messages are fewer by that of the slot
-pub one_less : (i : ℕ) (ss : List Slot) (d : Slot) → i < length ss → length (messages_of (taken_at i ss)) + length (waiting_rec (get_or ss i d)) ≡ length (messages_of ss)
-one_less i [] d h = absurd (omega (arith, h))
-one_less zero (s ∷ ss) d h = by_taken s.is_taken
-  where
-    by_taken : (b : Bool) → length (messages_of ss) + length (cond b [] (s.rec ∷ [])) ≡ length (cond b (messages_of ss) (message s ∷ messages_of ss))
-    by_taken true = omega arith
-    by_taken false = omega arith
-one_less (suc i) (s ∷ ss) d h = by_taken s.is_taken (one_less i ss d (omega (arith, h)))
-  where
-    by_taken : (b : Bool) → length (messages_of (taken_at i ss)) + length (waiting_rec (get_or ss i d)) ≡ length (messages_of ss)
-        → length (cond b (messages_of (taken_at i ss)) (message s ∷ messages_of (taken_at i ss))) + length (waiting_rec (get_or ss i d)) ≡ length (cond b (messages_of ss) (message s ∷ messages_of ss))
-    by_taken true e = e
-    by_taken false e = omega (arith, e)
+-- A RUN THAT IS CHANGED
+module _ (f : Part → Part) where
+  pub length-changed_at : (i : ℕ) (ps : List Part) → length (changed_at f i ps) ≡ length ps
+  length-changed_at i [] = refl
+  length-changed_at zero (p ∷ ps) = refl
+  length-changed_at (suc i) (p ∷ ps) = ap suc (length-changed_at i ps)
 
--- other slots stay, and that slot but for its mark
-pub taken_at-here : (i : ℕ) (ss : List Slot) (d : Slot) → i < length ss → get_or (taken_at i ss) i d ≡ taken (get_or ss i d)
-taken_at-here i [] d h = absurd (omega (arith, h))
-taken_at-here zero (s ∷ ss) d h = refl
-taken_at-here (suc i) (s ∷ ss) d h = taken_at-here i ss d (omega (arith, h))
+  pub changed_at-here : (i : ℕ) (ps : List Part) (d : Part) → i < length ps → get_or (changed_at f i ps) i d ≡ f (get_or ps i d)
+  changed_at-here i [] d h = absurd (omega (arith, h))
+  changed_at-here zero (p ∷ ps) d h = refl
+  changed_at-here (suc i) (p ∷ ps) d h = changed_at-here i ps d (omega (arith, h))
 
-pub taken_at-apart : (i j : ℕ) (ss : List Slot) (d : Slot) → (j ≡ i → ⊥) → get_or (taken_at i ss) j d ≡ get_or ss j d
-taken_at-apart i j [] d h = refl
-taken_at-apart zero zero (s ∷ ss) d h = absurd (h refl)
-taken_at-apart zero (suc j) (s ∷ ss) d h = refl
-taken_at-apart (suc i) zero (s ∷ ss) d h = refl
-taken_at-apart (suc i) (suc j) (s ∷ ss) d h = taken_at-apart i j ss d (λ e. h (ap suc e))
+  pub changed_at-apart : (i j : ℕ) (ps : List Part) (d : Part) → (j ≡ i → ⊥) → get_or (changed_at f i ps) j d ≡ get_or ps j d
+  changed_at-apart i j [] d h = refl
+  changed_at-apart zero zero (p ∷ ps) d h = absurd (h refl)
+  changed_at-apart zero (suc j) (p ∷ ps) d h = refl
+  changed_at-apart (suc i) zero (p ∷ ps) d h = refl
+  changed_at-apart (suc i) (suc j) (p ∷ ps) d h = changed_at-apart i j ps d (λ e. h (ap suc e))
 
-pub taken_at-ahead : (i j : ℕ) (ss : List Slot) (d : Slot) → (get_or (taken_at i ss) j d).ahead ≡ (get_or ss j d).ahead
-taken_at-ahead i j [] d = refl
-taken_at-ahead zero zero (s ∷ ss) d = refl
-taken_at-ahead zero (suc j) (s ∷ ss) d = refl
-taken_at-ahead (suc i) zero (s ∷ ss) d = refl
-taken_at-ahead (suc i) (suc j) (s ∷ ss) d = taken_at-ahead i j ss d
+  pub drop-changed_at : (i : ℕ) (ps : List Part) → drop (suc i) (changed_at f i ps) ≡ drop (suc i) ps
+  drop-changed_at i [] = refl
+  drop-changed_at zero (p ∷ ps) = refl
+  drop-changed_at (suc i) (p ∷ ps) = drop-changed_at i ps
 
+  module _ (aheads : (p : Part) → (f p).ahead ≡ p.ahead) where
+    pub changed_at-ahead : (i j : ℕ) (ps : List Part) (d : Part) → (get_or (changed_at f i ps) j d).ahead ≡ (get_or ps j d).ahead
+    changed_at-ahead i j [] d = refl
+    changed_at-ahead zero zero (p ∷ ps) d = aheads p
+    changed_at-ahead zero (suc j) (p ∷ ps) d = refl
+    changed_at-ahead (suc i) zero (p ∷ ps) d = refl
+    changed_at-ahead (suc i) (suc j) (p ∷ ps) d = changed_at-ahead i j ps d
+
+  module _ (lanes : (p : Part) → (f p).lane ≡ p.lane) where
+    pub changed_at-lane : (i j : ℕ) (ps : List Part) (d : Part) → (get_or (changed_at f i ps) j d).lane ≡ (get_or ps j d).lane
+    changed_at-lane i j [] d = refl
+    changed_at-lane zero zero (p ∷ ps) d = lanes p
+    changed_at-lane zero (suc j) (p ∷ ps) d = refl
+    changed_at-lane (suc i) zero (p ∷ ps) d = refl
+    changed_at-lane (suc i) (suc j) (p ∷ ps) d = changed_at-lane i j ps d
+
+    module _ (same : Lane → Lane → Bool) where
+      pub first-changed_at : (j : Lane) (i : ℕ) (ps : List Part) → first_on same j (changed_at f i ps) ≡ first_on same j ps
+      first-changed_at j i [] = refl
+      first-changed_at j zero (p ∷ ps) = ap (λ l. cond (same j l) (Some 0) (option_map suc (first_on same j ps))) (lanes p)
+      first-changed_at j (suc i) (p ∷ ps) = ap (λ o. cond (same j p.lane) (Some 0) (option_map suc o)) (first-changed_at j i ps)
+
+      pub last-changed_at : (j : Lane) (i : ℕ) (ps : List Part) → last_on same j (changed_at f i ps) ≡ last_on same j ps
+      last-changed_at j i [] = refl
+      last-changed_at j zero (p ∷ ps) = ap (λ l. last_by (same j l) (last_on same j ps)) (lanes p)
+      last-changed_at j (suc i) (p ∷ ps) = ap (last_by (same j p.lane)) (last-changed_at j i ps)
+
+      module _ (aheads : (p : Part) → (f p).ahead ≡ p.ahead) where
+        pub linked-changed_at : (i : ℕ) (ps : List Part) → AreLinked same ps → AreLinked same (changed_at f i ps)
+        linked-changed_at i [] h = h
+        linked-changed_at zero (p ∷ ps) h = (aheads p ∙ (h.0 ∙ ap (λ l. ahead_of (first_on same l ps)) (sym (lanes p))), h.1)
+        linked-changed_at (suc i) (p ∷ ps) h = (h.0 ∙ ap ahead_of (sym (first-changed_at p.lane i ps)), linked-changed_at i ps h.1)
+
+-- with records of a run taken the messages are fewer by these
+pub less : (n i : ℕ) (ps : List Part) (d : Part) → i < length ps → length (messages_of (changed_at (without_front n) i ps)) + length (take n (get_or ps i d).recs) ≡ length (messages_of ps)
+less n i [] d h = absurd (omega (arith, h))
+less n zero (p ∷ ps) d h =
+    omega (arith, length-append (its p) (messages_of ps), length-append (its (without_front n p)) (messages_of ps), length-its p, length-its (without_front n p), length-take n p.recs, length-drop n p.recs)
+less n (suc i) (p ∷ ps) d h =
+    let rest = less n i ps d (omega (arith, h)) in
+    omega (arith, rest, length-append (its p) (messages_of ps), length-append (its p) (messages_of (changed_at (without_front n) i ps)))
+
+-- LANES
 module _ (same : Lane → Lane → Bool) where
-  pub first-taken_at : (j : Lane) (i : ℕ) (ss : List Slot) → first_on same j (taken_at i ss) ≡ first_on same j ss
-  first-taken_at j i [] = refl
-  first-taken_at j zero (s ∷ ss) = refl
-  first-taken_at j (suc i) (s ∷ ss) = ap (λ o. cond (same j s.lane) (Some 0) (option_map suc o)) (first-taken_at j i ss)
-
-  pub last-taken_at : (j : Lane) (i : ℕ) (ss : List Slot) → last_on same j (taken_at i ss) ≡ last_on same j ss
-  last-taken_at j i [] = refl
-  last-taken_at j zero (s ∷ ss) = refl
-  last-taken_at j (suc i) (s ∷ ss) = ap (last_by (same j s.lane)) (last-taken_at j i ss)
-
-  pub linked-taken_at : (i : ℕ) (ss : List Slot) → AreLinked same ss → AreLinked same (taken_at i ss)
-  linked-taken_at i [] h = h
-  linked-taken_at zero (s ∷ ss) h = h
-  linked-taken_at (suc i) (s ∷ ss) h = (h.0 ∙ ap ahead_of (sym (first-taken_at s.lane i ss)), linked-taken_at i ss h.1)
-
-  -- a slot knows the next of its lane
-  pub linked-at : (i : ℕ) (ss : List Slot) (s d : Slot) → i < length ss → s ≡ get_or ss i d → AreLinked same ss → s.ahead ≡ ahead_of (first_on same s.lane (drop (suc i) ss))
+  -- a run knows the next of its lane
+  linked-at : (i : ℕ) (ps : List Part) (s d : Part) → i < length ps → s ≡ get_or ps i d → AreLinked same ps → s.ahead ≡ ahead_of (first_on same s.lane (drop (suc i) ps))
   linked-at i [] s d h e l = absurd (omega (arith, h))
-  linked-at zero (t ∷ ss) s d h e l = subst (λ (x : Slot). x.ahead ≡ ahead_of (first_on same x.lane ss)) (sym e) l.0
-  linked-at (suc i) (t ∷ ss) s d h e l = linked-at i ss s d (omega (arith, h)) e l.1
+  linked-at zero (t ∷ ps) s d h e l = subst (λ (x : Part). x.ahead ≡ ahead_of (first_on same x.lane ps)) (sym e) l.0
+  linked-at (suc i) (t ∷ ps) s d h e l = linked-at i ps s d (omega (arith, h)) e l.1
 
   is_first : (b : Bool) (o : Option ℕ) → cond b (Some 0) (option_map suc o) ≡ Some zero → b ≡ true
   is_first true o e = refl
@@ -105,120 +123,92 @@ module _ (same : Lane → Lane → Bool) where
   is_none false (Some i) e = absurd (cc)
 
   module _ (k : Lane) where
-    pub first-below : (ss : List Slot) (i : ℕ) → first_on same k ss ≡ Some i → i < length ss
+    pub first-below : (ps : List Part) (i : ℕ) → first_on same k ps ≡ Some i → i < length ps
     first-below [] i e = absurd (cc)
-    first-below (s ∷ ss) zero e = omega arith
-    first-below (s ∷ ss) (suc i) e = let h = first-below ss i (is_later (same k s.lane) (first_on same k ss) i e).1 in omega (arith, h)
+    first-below (p ∷ ps) zero e = omega arith
+    first-below (p ∷ ps) (suc i) e = let h = first-below ps i (is_later (same k p.lane) (first_on same k ps) i e).1 in omega (arith, h)
 
-    pub first-same : (ss : List Slot) (i : ℕ) (d : Slot) → first_on same k ss ≡ Some i → same k (get_or ss i d).lane ≡ true
+    pub first-same : (ps : List Part) (i : ℕ) (d : Part) → first_on same k ps ≡ Some i → same k (get_or ps i d).lane ≡ true
     first-same [] i d e = absurd (cc)
-    first-same (s ∷ ss) zero d e = is_first (same k s.lane) (first_on same k ss) e
-    first-same (s ∷ ss) (suc i) d e = first-same ss i d (is_later (same k s.lane) (first_on same k ss) i e).1
+    first-same (p ∷ ps) zero d e = is_first (same k p.lane) (first_on same k ps) e
+    first-same (p ∷ ps) (suc i) d e = first-same ps i d (is_later (same k p.lane) (first_on same k ps) i e).1
 
-    elsewhere : (b c : Bool) → c ≡ false → not b && c ≡ false
-    elsewhere true c e = refl
-    elsewhere false c e = e
+    passed_by : (n : ℕ) (p : Part) (ps : List Part) → same k p.lane ≡ false → taken_on same k n (p ∷ ps) ≡ p ∷ taken_on same k n ps
+    passed_by n p ps e = ap (λ b. cond b (without_front n p ∷ taken_on same k (n - length p.recs) ps) (p ∷ taken_on same k n ps)) e
 
-    passed_by : (n : ℕ) (s : Slot) (ss : List Slot) → same k s.lane ≡ false → taken_on same k n (s ∷ ss) ≡ s ∷ taken_on same k n ss
-    passed_by zero s ss e = refl
-    passed_by (suc n) s ss e = ap (λ b. cond b (taken s ∷ taken_on same k n ss) (s ∷ taken_on same k (suc n) ss)) (elsewhere s.is_taken (same k s.lane) e)
+    no_record : (p : Part) (ps : List Part) → same k p.lane ≡ false → lane_recs same k (p ∷ ps) ≡ lane_recs same k ps
+    no_record p ps e = ap (λ b. cond b (p.recs ++ lane_recs same k ps) (lane_recs same k ps)) e
 
-    no_record : (n : ℕ) (s : Slot) (ss : List Slot) → same k s.lane ≡ false → recs_on same k n (s ∷ ss) ≡ recs_on same k n ss
-    no_record n s ss e = ap (λ b. take n (map (λ t. t.rec) (cond b (s ∷ filter (waits_on same k) ss) (filter (waits_on same k) ss)))) (elsewhere s.is_taken (same k s.lane) e)
-
-    -- slots before the first of a lane are passed by
-    pub skip : (n : ℕ) (ss : List Slot) (i : ℕ) → first_on same k ss ≡ Some i → taken_on same k n ss ≡ take i ss ++ taken_on same k n (drop i ss)
+    -- runs before the first of a lane are passed by
+    pub skip : (n : ℕ) (ps : List Part) (i : ℕ) → first_on same k ps ≡ Some i → taken_on same k n ps ≡ take i ps ++ taken_on same k n (drop i ps)
     skip n [] i e = absurd (cc)
-    skip n (s ∷ ss) zero e = refl
-    skip n (s ∷ ss) (suc i) e =
-        let w = is_later (same k s.lane) (first_on same k ss) i e in
-        passed_by n s ss w.0 ∙ ap (λ l. s ∷ l) (skip n ss i w.1)
+    skip n (p ∷ ps) zero e = refl
+    skip n (p ∷ ps) (suc i) e =
+        let w = is_later (same k p.lane) (first_on same k ps) i e in
+        passed_by n p ps w.0 ∙ ap (λ l. p ∷ l) (skip n ps i w.1)
 
-    pub skip-recs : (n : ℕ) (ss : List Slot) (i : ℕ) → first_on same k ss ≡ Some i → recs_on same k n ss ≡ recs_on same k n (drop i ss)
-    skip-recs n [] i e = absurd (cc)
-    skip-recs n (s ∷ ss) zero e = refl
-    skip-recs n (s ∷ ss) (suc i) e =
-        let w = is_later (same k s.lane) (first_on same k ss) i e in
-        no_record n s ss w.0 ∙ skip-recs n ss i w.1
+    pub skip-recs : (ps : List Part) (i : ℕ) → first_on same k ps ≡ Some i → lane_recs same k ps ≡ lane_recs same k (drop i ps)
+    skip-recs [] i e = absurd (cc)
+    skip-recs (p ∷ ps) zero e = refl
+    skip-recs (p ∷ ps) (suc i) e =
+        let w = is_later (same k p.lane) (first_on same k ps) i e in
+        no_record p ps w.0 ∙ skip-recs ps i w.1
 
-    pub skip_all : (n : ℕ) (ss : List Slot) → first_on same k ss ≡ None → taken_on same k n ss ≡ ss
-    skip_all zero [] e = refl
-    skip_all (suc n) [] e = refl
-    skip_all n (s ∷ ss) e =
-        let w = is_none (same k s.lane) (first_on same k ss) e in
-        passed_by n s ss w.0 ∙ ap (λ l. s ∷ l) (skip_all n ss w.1)
+    skip_all : (n : ℕ) (ps : List Part) → first_on same k ps ≡ None → taken_on same k n ps ≡ ps
+    skip_all n [] e = refl
+    skip_all n (p ∷ ps) e =
+        let w = is_none (same k p.lane) (first_on same k ps) e in
+        passed_by n p ps w.0 ∙ ap (λ l. p ∷ l) (skip_all n ps w.1)
 
-    take-none : (n : ℕ) → take n (map (λ (t : Slot). t.rec) []) ≡ []
-    take-none zero = refl
-    take-none (suc n) = refl
+    pub skip_all-recs : (ps : List Part) → first_on same k ps ≡ None → lane_recs same k ps ≡ []
+    skip_all-recs [] e = refl
+    skip_all-recs (p ∷ ps) e =
+        let w = is_none (same k p.lane) (first_on same k ps) e in
+        no_record p ps w.0 ∙ skip_all-recs ps w.1
 
-    pub skip_all-recs : (n : ℕ) (ss : List Slot) → first_on same k ss ≡ None → recs_on same k n ss ≡ []
-    skip_all-recs n [] e = take-none n
-    skip_all-recs n (s ∷ ss) e =
-        let w = is_none (same k s.lane) (first_on same k ss) e in
-        no_record n s ss w.0 ∙ skip_all-recs n ss w.1
+    none_taken-by : (p : Part) (ps : List Part) (b : Bool) → taken_on same k 0 ps ≡ ps → cond b (without_front 0 p ∷ taken_on same k (0 - length p.recs) ps) (p ∷ taken_on same k 0 ps) ≡ p ∷ ps
+    none_taken-by p ps true e = let none : 0 - length p.recs ≡ 0 = omega arith in ap (λ n. p ∷ taken_on same k n ps) none ∙ ap (λ l. p ∷ l) e
+    none_taken-by p ps false e = ap (λ l. p ∷ l) e
 
-    here-by : (n : ℕ) (s : Slot) (ss : List Slot) (b c : Bool) → s.is_taken ≡ b → c ≡ true → cond (not b && c) (taken s ∷ taken_on same k n ss) (s ∷ taken_on same k (suc n) ss) ≡ taken s ∷ taken_on same k (yet b n) ss
-    here-by n s ss true c e f = ap (λ t. t ∷ taken_on same k (suc n) ss) (sym (taken-again s e))
-    here-by n s ss false true e f = refl
-    here-by n s ss false false e f = absurd (cc)
+    none_taken : (ps : List Part) → taken_on same k 0 ps ≡ ps
+    none_taken [] = refl
+    none_taken (p ∷ ps) = none_taken-by p ps (same k p.lane) (none_taken ps)
 
-    -- one slot of the lane
-    here : (n : ℕ) (s : Slot) (ss : List Slot) → same k s.lane ≡ true → taken_on same k (suc n) (s ∷ ss) ≡ taken s ∷ taken_on same k (yet s.is_taken n) ss
-    here n s ss e = here-by n s ss s.is_taken (same k s.lane) refl e
-
-    here_rec-by : (n : ℕ) (s : Slot) (ss : List Slot) (b c : Bool) → c ≡ true → take (suc n) (map (λ t. t.rec) (cond (not b && c) (s ∷ filter (waits_on same k) ss) (filter (waits_on same k) ss))) ≡ cond b [] (s.rec ∷ []) ++ recs_on same k (yet b n) ss
-    here_rec-by n s ss true c f = refl
-    here_rec-by n s ss false true f = refl
-    here_rec-by n s ss false false f = absurd (cc)
-
-    here_rec : (n : ℕ) (s : Slot) (ss : List Slot) → same k s.lane ≡ true → recs_on same k (suc n) (s ∷ ss) ≡ waiting_rec s ++ recs_on same k (yet s.is_taken n) ss
-    here_rec n s ss e = here_rec-by n s ss s.is_taken (same k s.lane) e
-
-    -- a slot of the lane is visited: what is taken in the end stays the same
-    pub visit : (n i : ℕ) (ss : List Slot) (s d : Slot) → i < length ss → s ≡ get_or ss i d → same k s.lane ≡ true → take i ss ++ taken_on same k (suc n) (drop i ss) ≡ take (suc i) (taken_at i ss) ++ taken_on same k (yet s.is_taken n) (drop (suc i) (taken_at i ss))
+    -- a run of the lane is visited: what is taken in the end stays the same
+    pub visit : (n i : ℕ) (ps : List Part) (s d : Part) → i < length ps → s ≡ get_or ps i d → same k s.lane ≡ true
+        → take i ps ++ taken_on same k n (drop i ps) ≡ take (suc i) (changed_at (without_front n) i ps) ++ taken_on same k (n - length s.recs) (drop (suc i) (changed_at (without_front n) i ps))
     visit n i [] s d h e f = absurd (omega (arith, h))
-    visit n zero (t ∷ ss) s d h e f = subst (λ (x : Slot). taken_on same k (suc n) (x ∷ ss) ≡ taken x ∷ taken_on same k (yet s.is_taken n) ss) e (here n s ss f)
-    visit n (suc i) (t ∷ ss) s d h e f = ap (λ l. t ∷ l) (visit n i ss s d (omega (arith, h)) e f)
+    visit n zero (t ∷ ps) s d h e f = subst (λ (x : Part). taken_on same k n (x ∷ ps) ≡ without_front n x ∷ taken_on same k (n - length s.recs) ps) e (ap (λ b. cond b (without_front n s ∷ taken_on same k (n - length s.recs) ps) (s ∷ taken_on same k n ps)) f)
+    visit n (suc i) (t ∷ ps) s d h e f = ap (λ l. t ∷ l) (visit n i ps s d (omega (arith, h)) e f)
 
-    pub visit-recs : (n i : ℕ) (ss : List Slot) (s d : Slot) → i < length ss → s ≡ get_or ss i d → same k s.lane ≡ true → recs_on same k (suc n) (drop i ss) ≡ waiting_rec s ++ recs_on same k (yet s.is_taken n) (drop (suc i) (taken_at i ss))
-    visit-recs n i [] s d h e f = absurd (omega (arith, h))
-    visit-recs n zero (t ∷ ss) s d h e f = subst (λ (x : Slot). recs_on same k (suc n) (x ∷ ss) ≡ waiting_rec s ++ recs_on same k (yet s.is_taken n) ss) e (here_rec n s ss f)
-    visit-recs n (suc i) (t ∷ ss) s d h e f = visit-recs n i ss s d (omega (arith, h)) e f
-
-pub drop-taken_at : (i : ℕ) (ss : List Slot) → drop (suc i) (taken_at i ss) ≡ drop (suc i) ss
-drop-taken_at i [] = refl
-drop-taken_at zero (s ∷ ss) = refl
-drop-taken_at (suc i) (s ∷ ss) = drop-taken_at i ss
-
--- how many are to be taken yet, by how many are there
-pub still : (b : Bool) (n m m2 : ℕ) (r : Rec) → suc n + m ≡ 64 → m2 ≡ m + length (cond b [] (r ∷ [])) → 64 - m2 ≡ yet b n
-still true n m m2 r h e = omega arith
-still false n m m2 r h e = omega arith
+    pub visit-recs : (i : ℕ) (ps : List Part) (s d : Part) → i < length ps → s ≡ get_or ps i d → same k s.lane ≡ true → lane_recs same k (drop i ps) ≡ s.recs ++ lane_recs same k (drop (suc i) ps)
+    visit-recs i [] s d h e f = absurd (omega (arith, h))
+    visit-recs zero (t ∷ ps) s d h e f = subst (λ (x : Part). lane_recs same k (x ∷ ps) ≡ s.recs ++ lane_recs same k ps) e (ap (λ b. cond b (s.recs ++ lane_recs same k ps) (lane_recs same k ps)) f)
+    visit-recs (suc i) (t ∷ ps) s d h e f = visit-recs i ps s d (omega (arith, h)) e f
 
 module _ (same : Lane → Lane → Bool) (laws : IsEquivalence same) where
-  pub first-congr : (j k : Lane) (ss : List Slot) → same j k ≡ true → first_on same j ss ≡ first_on same k ss
+  first-congr : (j k : Lane) (ps : List Part) → same j k ≡ true → first_on same j ps ≡ first_on same k ps
   first-congr j k [] h = refl
-  first-congr j k (s ∷ ss) h = rw (laws.congr j k s.lane h, first-congr j k ss h) refl
+  first-congr j k (p ∷ ps) h = rw (laws.congr j k p.lane h, first-congr j k ps h) refl
 
-  -- the next slot of a lane, from one of its slots
-  pub record Moved (k : Lane) (ss : List Slot) (p at : ℕ) : Type 0 where
-    pub within : at < length ss
-    pub on : (d : Slot) → same k (get_or ss at d).lane ≡ true
-    pub slots : (n : ℕ) → take (suc p) ss ++ taken_on same k n (drop (suc p) ss) ≡ take at ss ++ taken_on same k n (drop at ss)
-    pub recs : (n : ℕ) → recs_on same k n (drop (suc p) ss) ≡ recs_on same k n (drop at ss)
+  -- the next run of a lane, from one of its runs
+  pub record Moved (k : Lane) (ps : List Part) (p at : ℕ) : Type 0 where
+    pub within : at < length ps
+    pub on : (d : Part) → same k (get_or ps at d).lane ≡ true
+    pub parts : (n : ℕ) → take (suc p) ps ++ taken_on same k n (drop (suc p) ps) ≡ take at ps ++ taken_on same k n (drop at ps)
+    pub recs : lane_recs same k (drop (suc p) ps) ≡ lane_recs same k (drop at ps)
 
-  moved-by : (k : Lane) (ss : List Slot) (p at i : ℕ) → first_on same k (drop (suc p) ss) ≡ Some i → at ≡ suc p + i → Moved k ss p at
-  moved-by k ss p at i e h =
-      let below = first-below same k (drop (suc p) ss) i e in
-      let dropped : drop i (drop (suc p) ss) ≡ drop at ss = drop-drop i (suc p) ss ∙ ap (λ n. drop n ss) (sym h) in record {
-        within = omega (arith, below, length-drop (suc p) ss);
-        on = λ d. ap (λ (s : Slot). same k s.lane) (ap (λ n. get_or ss n d) h ∙ sym (get_or-drop (suc p) ss i d)) ∙ first-same same k (drop (suc p) ss) i d e;
-        slots = λ n. ap (λ l. take (suc p) ss ++ l) (skip same k n (drop (suc p) ss) i e)
-            ∙ (sym (append_assoc (take (suc p) ss) (take i (drop (suc p) ss)) (taken_on same k n (drop i (drop (suc p) ss))))
-            ∙ (ap (λ l. l ++ taken_on same k n (drop i (drop (suc p) ss))) (sym (take-add (suc p) i ss) ∙ ap (λ m. take m ss) (sym h))
-            ∙ ap (λ l. take at ss ++ taken_on same k n l) dropped));
-        recs = λ n. skip-recs same k n (drop (suc p) ss) i e ∙ ap (recs_on same k n) dropped;
+  moved-by : (k : Lane) (ps : List Part) (p at i : ℕ) → first_on same k (drop (suc p) ps) ≡ Some i → at ≡ suc p + i → Moved k ps p at
+  moved-by k ps p at i e h =
+      let below = first-below same k (drop (suc p) ps) i e in
+      let dropped : drop i (drop (suc p) ps) ≡ drop at ps = drop-drop i (suc p) ps ∙ ap (λ n. drop n ps) (sym h) in record {
+        within = omega (arith, below, length-drop (suc p) ps);
+        on = λ d. ap (λ (s : Part). same k s.lane) (ap (λ n. get_or ps n d) h ∙ sym (get_or-drop (suc p) ps i d)) ∙ first-same same k (drop (suc p) ps) i d e;
+        parts = λ n. ap (λ l. take (suc p) ps ++ l) (skip same k n (drop (suc p) ps) i e)
+            ∙ (sym (append_assoc (take (suc p) ps) (take i (drop (suc p) ps)) (taken_on same k n (drop i (drop (suc p) ps))))
+            ∙ (ap (λ l. l ++ taken_on same k n (drop i (drop (suc p) ps))) (sym (take-add (suc p) i ps) ∙ ap (λ m. take m ps) (sym h))
+            ∙ ap (λ l. take at ps ++ taken_on same k n l) dropped));
+        recs = skip-recs same k (drop (suc p) ps) i e ∙ ap (lane_recs same k) dropped;
       }
 
   some_ahead : (o : Option ℕ) (a : ℕ) → a ≡ ahead_of o → 0 < a → (i : ℕ) × (o ≡ Some i) × (a ≡ suc i)
@@ -229,75 +219,73 @@ module _ (same : Lane → Lane → Bool) (laws : IsEquivalence same) where
   none_ahead None a e h = refl
   none_ahead (Some i) a e h = absurd (omega (arith, e, h))
 
-  pub moved : (k : Lane) (ss : List Slot) (p a : ℕ) → a ≡ ahead_of (first_on same k (drop (suc p) ss)) → 0 < a → Moved k ss p (p + a)
-  moved k ss p a e h = let w = some_ahead (first_on same k (drop (suc p) ss)) a e h in moved-by k ss p (p + a) w.0 w.1 (omega (arith, w.2))
+  pub moved : (k : Lane) (ps : List Part) (p a : ℕ) → a ≡ ahead_of (first_on same k (drop (suc p) ps)) → 0 < a → Moved k ps p (p + a)
+  moved k ps p a e h = let w = some_ahead (first_on same k (drop (suc p) ps)) a e h in moved-by k ps p (p + a) w.0 w.1 (omega (arith, w.2))
 
   -- the end of a lane, or of the task
-  pub ended : (k : Lane) (ss : List Slot) (p a n : ℕ) → a ≡ ahead_of (first_on same k (drop (suc p) ss)) → (a ≡ 0) ⊎ (n ≡ 0) → (take (suc p) ss ++ taken_on same k n (drop (suc p) ss) ≡ ss) × (recs_on same k n (drop (suc p) ss) ≡ [])
-  ended k ss p a n e (inl h) =
-      let none = none_ahead (first_on same k (drop (suc p) ss)) a e h in
-      (ap (λ l. take (suc p) ss ++ l) (skip_all same k n (drop (suc p) ss) none) ∙ take-append-drop (suc p) ss, skip_all-recs same k n (drop (suc p) ss) none)
-  ended k ss p a n e (inr h) =
-      (ap (λ m. take (suc p) ss ++ taken_on same k m (drop (suc p) ss)) h ∙ take-append-drop (suc p) ss, ap (λ m. recs_on same k m (drop (suc p) ss)) h)
+  pub ended : (k : Lane) (ps : List Part) (p a n : ℕ) → a ≡ ahead_of (first_on same k (drop (suc p) ps)) → (a ≡ 0) ⊎ (n ≡ 0) → (take (suc p) ps ++ taken_on same k n (drop (suc p) ps) ≡ ps) × (take n (lane_recs same k (drop (suc p) ps)) ≡ [])
+  ended k ps p a n e (inl h) =
+      let none = none_ahead (first_on same k (drop (suc p) ps)) a e h in
+      (ap (λ l. take (suc p) ps ++ l) (skip_all same k n (drop (suc p) ps) none) ∙ take-append-drop (suc p) ps, ap (take n) (skip_all-recs same k (drop (suc p) ps) none) ∙ take-none n)
+    where
+      take-none : (n : ℕ) → ◌≡◌ {A = List Rec} (take n []) []
+      take-none zero = refl
+      take-none (suc n) = refl
+  ended k ps p a n e (inr h) = (
+    ap (λ m. take (suc p) ps ++ taken_on same k m (drop (suc p) ps)) h ∙ (ap (λ l. take (suc p) ps ++ l) (none_taken same k (drop (suc p) ps)) ∙ take-append-drop (suc p) ps),
+    ap (λ m. take m (lane_recs same k (drop (suc p) ps))) h,
+  )
 
-  -- after a slot of the lane was visited, it is known how far ahead the next is
-  pub next_ahead : (k : Lane) (ss : List Slot) (at : ℕ) (s d : Slot) → at < length ss → s ≡ get_or ss at d → same k s.lane ≡ true → AreLinked same ss → s.ahead ≡ ahead_of (first_on same k (drop (suc at) (taken_at at ss)))
-  next_ahead k ss at s d h e f l =
-      linked-at same at ss s d h e l ∙ ap ahead_of (first-congr s.lane k (drop (suc at) ss) (laws.symm s.lane k ∙ f) ∙ ap (first_on same k) (sym (drop-taken_at at ss)))
+  -- after a run of the lane was visited, it is known how far ahead the next is
+  pub next_ahead : (f : Part → Part) (k : Lane) (ps : List Part) (at : ℕ) (s d : Part) → at < length ps → s ≡ get_or ps at d → same k s.lane ≡ true → AreLinked same ps → s.ahead ≡ ahead_of (first_on same k (drop (suc at) (changed_at f at ps)))
+  next_ahead f k ps at s d h e g l =
+      linked-at same at ps s d h e l ∙ ap ahead_of (first-congr s.lane k (drop (suc at) ps) (laws.symm s.lane k ∙ g) ∙ ap (first_on same k) (sym (drop-changed_at f at ps)))
 
-messages-append-taken : (ss : List Slot) (x : Slot) → x.is_taken ≡ true → messages_of (ss ++ x ∷ []) ≡ messages_of ss
-messages-append-taken [] x h = rw h refl
-messages-append-taken (s ∷ ss) x h = ap (λ ms. cond s.is_taken ms (message s ∷ ms)) (messages-append-taken ss x h)
-
+-- THE RUN OF A PICKED MESSAGE
 -- how many messages wait before a place, and before the next
-pub before_next : (ss : List Slot) (p : ℕ) (s d : Slot) (b : Bool) → p < length ss → s ≡ get_or ss p d → s.is_taken ≡ b → length (messages_of (take (p + 1) ss)) ≡ length (messages_of (take p ss)) + cond b 0 1
-before_next ss p s d true h e f =
-    let x : get_or ss p d ≡ s = sym e in
-    ap (λ l. length (messages_of l)) (take_more ss p d h) ∙ (ap length (messages-append-taken (take p ss) (get_or ss p d) (ap (λ (t : Slot). t.is_taken) x ∙ f)) ∙ omega arith)
-before_next ss p s d false h e f =
-    let x : get_or ss p d ≡ s = sym e in
-    ap (λ l. length (messages_of l)) (take_more ss p d h) ∙ (ap length (messages-append (take p ss) (get_or ss p d) (ap (λ (t : Slot). t.is_taken) x ∙ f)) ∙ length-append (messages_of (take p ss)) (message (get_or ss p d) ∷ []))
+pub before_next : (ps : List Part) (p : ℕ) (d : Part) → p < length ps → length (messages_of (take (p + 1) ps)) ≡ length (messages_of (take p ps)) + length (get_or ps p d).recs
+before_next ps p d h =
+    let s = get_or ps p d in
+    ap (λ l. length (messages_of l)) (take_more ps p d h) ∙ (ap length (messages-append (take p ps) s) ∙ omega (arith, length-append (messages_of (take p ps)) (its s), length-its s))
 
-fewer : (b : Bool) (m : Message) (xs ys : List Message) → length (cond b xs (m ∷ xs)) < length (cond b ys (m ∷ ys)) → length xs < length ys
-fewer true m xs ys h = h
-fewer false m xs ys h = omega (arith, h)
-
--- a place with more messages behind it is within the slots
-pub place-below : (p : ℕ) (ss : List Slot) → length (messages_of (take p ss)) < length (messages_of ss) → p < length ss
+-- a place with more messages behind it is within the runs
+pub place-below : (p : ℕ) (ps : List Part) → length (messages_of (take p ps)) < length (messages_of ps) → p < length ps
 place-below zero [] h = h
 place-below (suc p) [] h = absurd (omega (arith, h))
-place-below zero (s ∷ ss) h = omega arith
-place-below (suc p) (s ∷ ss) h = let g = place-below p ss (fewer s.is_taken (message s) (messages_of (take p ss)) (messages_of ss) h) in omega (arith, g)
+place-below zero (s ∷ ps) h = omega arith
+place-below (suc p) (s ∷ ps) h =
+    let g = place-below p ps (omega (arith, h, length-append (its s) (messages_of (take p ps)), length-append (its s) (messages_of ps))) in
+    omega (arith, g)
 
 module _ (same : Lane → Lane → Bool) (k : Lane) where
   -- the first of a lane is not here, but further on
-  pub not_here : (ss : List Slot) (p : ℕ) (s d : Slot) → p < length ss → s ≡ get_or ss p d → same k s.lane ≡ false → option_map (λ i. p + i) (first_on same k (drop p ss)) ≡ option_map (λ i. p + 1 + i) (first_on same k (drop (p + 1) ss))
-  not_here ss p s d h e f =
-      ap (λ l. option_map (λ i. p + i) (first_on same k l)) (drop_more ss p d h)
-      ∙ (ap (λ b. option_map (λ i. p + i) (cond b (Some 0) (option_map suc (first_on same k (drop (p + 1) ss))))) (ap (λ (t : Slot). same k t.lane) (sym e) ∙ f)
-      ∙ shifted (first_on same k (drop (p + 1) ss)))
+  pub not_here : (ps : List Part) (p : ℕ) (s d : Part) → p < length ps → s ≡ get_or ps p d → same k s.lane ≡ false → option_map (λ i. p + i) (first_on same k (drop p ps)) ≡ option_map (λ i. p + 1 + i) (first_on same k (drop (p + 1) ps))
+  not_here ps p s d h e f =
+      ap (λ l. option_map (λ i. p + i) (first_on same k l)) (drop_more ps p d h)
+      ∙ (ap (λ b. option_map (λ i. p + i) (cond b (Some 0) (option_map suc (first_on same k (drop (p + 1) ps))))) (ap (λ (t : Part). same k t.lane) (sym e) ∙ f)
+      ∙ shifted (first_on same k (drop (p + 1) ps)))
     where
       shifted : (o : Option ℕ) → option_map (λ i. p + i) (option_map suc o) ≡ option_map (λ i. p + 1 + i) o
       shifted None = refl
       shifted (Some i) = ap Some (omega arith)
 
   -- the first of a lane is here
-  pub is_here : (ss : List Slot) (p : ℕ) (s d : Slot) → p < length ss → s ≡ get_or ss p d → same k s.lane ≡ true → option_map (λ i. p + i) (first_on same k (drop p ss)) ≡ Some p
-  is_here ss p s d h e f =
-      ap (λ l. option_map (λ i. p + i) (first_on same k l)) (drop_more ss p d h)
-      ∙ (ap (λ b. option_map (λ i. p + i) (cond b (Some 0) (option_map suc (first_on same k (drop (p + 1) ss))))) (ap (λ (t : Slot). same k t.lane) (sym e) ∙ f)
+  pub is_here : (ps : List Part) (p : ℕ) (s d : Part) → p < length ps → s ≡ get_or ps p d → same k s.lane ≡ true → option_map (λ i. p + i) (first_on same k (drop p ps)) ≡ Some p
+  is_here ps p s d h e f =
+      ap (λ l. option_map (λ i. p + i) (first_on same k l)) (drop_more ps p d h)
+      ∙ (ap (λ b. option_map (λ i. p + i) (cond b (Some 0) (option_map suc (first_on same k (drop (p + 1) ps))))) (ap (λ (t : Part). same k t.lane) (sym e) ∙ f)
       ∙ ap Some (omega arith))
 
-  not_past-drop : (p : ℕ) (ss : List Slot) (n : ℕ) → first_on same k (drop p ss) ≡ Some n → p < length ss
+  not_past-drop : (p : ℕ) (ps : List Part) (n : ℕ) → first_on same k (drop p ps) ≡ Some n → p < length ps
   not_past-drop zero [] n e = absurd (cc)
   not_past-drop (suc p) [] n e = absurd (cc)
-  not_past-drop zero (s ∷ ss) n e = omega arith
-  not_past-drop (suc p) (s ∷ ss) n e = let h = not_past-drop p ss n e in omega (arith, h)
+  not_past-drop zero (s ∷ ps) n e = omega arith
+  not_past-drop (suc p) (s ∷ ps) n e = let h = not_past-drop p ps n e in omega (arith, h)
 
-  not_past-by : (p : ℕ) (ss : List Slot) (o : Option ℕ) → first_on same k (drop p ss) ≡ o → IsSome (option_map (λ i. p + i) o) → p < length ss
-  not_past-by p ss None e h = absurd (cc)
-  not_past-by p ss (Some n) e h = not_past-drop p ss n e
+  not_past-by : (p : ℕ) (ps : List Part) (o : Option ℕ) → first_on same k (drop p ps) ≡ o → IsSome (option_map (λ i. p + i) o) → p < length ps
+  not_past-by p ps None e h = absurd (cc)
+  not_past-by p ps (Some n) e h = not_past-drop p ps n e
 
-  -- where the first is still to come, the place is within the slots
-  pub not_past : (p : ℕ) (ss : List Slot) → IsSome (first_on same k ss) → first_on same k ss ≡ option_map (λ i. p + i) (first_on same k (drop p ss)) → p < length ss
-  not_past p ss h e = not_past-by p ss (first_on same k (drop p ss)) refl (subst IsSome e h)
+  -- where the first is still to come, the place is within the runs
+  pub not_past : (p : ℕ) (ps : List Part) → IsSome (first_on same k ps) → first_on same k ps ≡ option_map (λ i. p + i) (first_on same k (drop p ps)) → p < length ps
+  not_past p ps h e = not_past-by p ps (first_on same k (drop p ps)) refl (subst IsSome e h)

@@ -1,5 +1,6 @@
 pub mod Messages
-pub mod Slots
+pub mod Runs
+pub mod KeptRuns
 pub mod Kept
 pub mod Asked
 pub mod Seen

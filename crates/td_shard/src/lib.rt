@@ -1,15 +1,17 @@
 //! A shard of a hall: what waits there for the vertices of a plan, and what they keep.
 #![tactic(auto)]
 
+mod append;
 mod error;
 mod lane;
 pub mod laws;
 mod mailbox;
 mod noted;
 mod place;
+mod rows;
+mod runs;
 mod seen;
 mod shard;
-mod slots;
 mod take;
 mod version;
 mod versions;

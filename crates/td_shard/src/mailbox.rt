@@ -4,14 +4,15 @@ ghost use Rattle.std.specs.Option.{option_map};
 ghost use Rattle.std.specs.HashMap.{get};
 ghost use Rattle.td_shard.specs.Messages.{task_at, left_at};
 ghost use Rattle.td_machine.specs.Steps.{coming};
-ghost use Rattle.td_shard.specs.Slots.{lane_eq};
+ghost use Rattle.td_shard.specs.Runs.{lane_eq};
 
+use crate::append::{append, extend};
 use crate::error::ShardError;
 use crate::lane::Lane;
-use crate::slots::{Slot, append};
-use crate::take::{let_go, mark_task, read_task};
+use crate::runs::Runs;
+use crate::take::{let_go, read_task, take_task};
 use std::alloc::Global;
-use std::collections::{HashMap, VecDeque};
+use std::collections::HashMap;
 use std::marker::Model;
 use td_machine::TASK_SIZE;
 use td_stamp::{Rec, Time};
@@ -27,19 +28,17 @@ pub struct Taken {
 
 /// The messages of a shard that wait to be taken, in the order in which they were posted (Naiad, section 2.3).
 ///
-/// They stand in one list of slots. Each slot knows how far ahead the next of its lane stands, and a hash map the last of each
-/// lane: a run of messages is posted by two look-ups, whatever its length, and a task's records are found without one.
+/// They stand in runs: one run has what was posted on one edge and of one time, with nothing else between. Its edge and time are
+/// kept once, and of each message only the record, in one list for all runs. A run knows how far ahead the next of its edge and
+/// time stands, and a hash map knows the last of each: messages are posted by two look-ups at most, however many, and by none
+/// where they go on with the last run; a task's records are found without one.
 #[derive(Drop)]
 pub struct Mailbox {
-    slots: VecDeque<Slot>,
-    // The number of the last slot of each lane. Slots are numbered in the order posted.
+    runs: Runs,
+    // The number of the last run of each lane. Runs are numbered in the order posted.
     lasts: HashMap<Lane, usize>,
-    // The number of the first slot.
-    first: usize,
     // How many messages wait.
     len: usize,
-    runs: usize,
-    room: usize,
     alloc: Global,
 }
 
@@ -48,10 +47,10 @@ impl Model for Mailbox {
 
     ghost Value = { Mailboxed };
 
-    ghost use Rattle.td_shard.specs.Slots.{messages_of};
+    ghost use Rattle.td_shard.specs.Runs.{messages_of};
     ghost use Rattle.td_shard.specs.Kept.{IsMailbox};
 
-    ghost view = { λ m. record { runs = m.runs; room = m.room; messages = messages_of m.slots.items } };
+    ghost view = { λ m. record { runs = m.runs.runs; room = m.runs.room; messages = messages_of m.runs.parts } };
 
     ghost invariant = { IsMailbox };
 }
@@ -62,12 +61,9 @@ impl Mailbox {
         ensures { result ≡ record { runs = 0; room = 0; messages = [] } }
     {
         Mailbox {
-            slots: VecDeque::new(alloc),
+            runs: Runs::new(alloc),
             lasts: HashMap::new(alloc),
-            first: 0,
             len: 0,
-            runs: 0,
-            room: 0,
             alloc,
         }
     }
@@ -85,19 +81,11 @@ impl Mailbox {
         ensures ok { OnOk result (self.new ≡ record self.old { runs = max self.old.runs runs; room = max self.old.room room }) }
         ensures err { OnErr result (self.new ≡ self.old) }
     {
-        let runs = runs.max(self.runs);
-        let room = room.max(self.room);
-        let Some(slots) = self.slots.len().checked_add(room) else {
+        let Some(_messages) = self.len.checked_add(room) else {
             return Err(ShardError::Memory);
         };
-        let Some(_end) = self.first.checked_add(slots) else {
-            return Err(ShardError::Memory);
-        };
-        self.slots.reserve(room)?;
         self.lasts.reserve(runs)?;
-        self.runs = runs;
-        self.room = room;
-        Ok(())
+        self.runs.reserve(runs, room)
     }
 
     /// Posts these records to a port of a vertex, at a time. Takes no memory: room was made by `reserve`.
@@ -109,7 +97,7 @@ impl Mailbox {
         ensures room { self.new.room ≡ self.old.room - length recs.now }
     {
         if recs.is_empty() {
-            self.runs -= 1;
+            self.runs.give_up_run();
         } else {
             let time = time.copy();
             self.post_run(Lane { vertex, port, time }, recs);
@@ -124,7 +112,7 @@ impl Mailbox {
         ensures { IfOk result (λ t. coming t.vertex t.port t.time t.recs.items ≡ task_at pick self.now.messages) }
     {
         let mut recs = Vec::with_capacity(self.alloc, TASK_SIZE)?;
-        let Lane { vertex, port, time } = read_task(&self.slots, pick, &mut recs);
+        let Lane { vertex, port, time } = read_task(&self.runs, pick, &mut recs);
         Ok(Taken {
             vertex,
             port,
@@ -138,8 +126,9 @@ impl Mailbox {
         requires { pick < length self.old.messages }
         ensures { self.new ≡ record self.old { messages = left_at pick self.old.messages } }
     {
-        self.len -= mark_task(&mut self.slots, pick);
-        self.first = let_go(&mut self.slots, &mut self.lasts, self.first);
+        self.len -= take_task(&mut self.runs, pick);
+        let_go(&mut self.runs, &mut self.lasts);
+        self.runs.trim();
     }
 
     /// Posts these records, of which there is one at least.
@@ -151,17 +140,32 @@ impl Mailbox {
         ensures runs { self.new.runs ≡ self.old.runs - 1 }
         ensures room { self.new.room ≡ self.old.room - length recs.now }
     {
-        let last = last_place(&self.lasts, self.first, &lane);
-        append(&mut self.slots, &lane, last, recs);
-        let number = self.first + (self.slots.len() - 1);
-        let _ = self.lasts.insert(lane, number);
+        if extend(&mut self.runs, &lane, recs) {
+            self.len += recs.len();
+        } else {
+            self.post_apart(lane, recs);
+        }
+    }
+
+    /// Posts these records, of which there is one at least, as a run of their own.
+    fn post_apart(&mut self, lane: Lane, recs: &[Rec])
+        requires some { 0 < length recs.now }
+        requires runs { 0 < self.old.runs }
+        requires room { length recs.now ≤ self.old.room }
+        ensures messages { self.new.messages ≡ self.old.messages ++ coming lane.vertex lane.port lane.time recs.now }
+        ensures runs { self.new.runs ≡ self.old.runs - 1 }
+        ensures room { self.new.room ≡ self.old.room - length recs.now }
+    {
+        let first = self.runs.first();
+        let last = last_place(&self.lasts, first, &lane);
+        let number = first + self.runs.len();
+        let _ = self.lasts.insert(lane.copy(), number);
+        append(&mut self.runs, lane, last, recs);
         self.len += recs.len();
-        self.room -= recs.len();
-        self.runs -= 1;
     }
 }
 
-/// The place of the last slot of a lane, if any, by its number, where `first` is that of the first slot.
+/// The place of the last run of a lane, if any, by its number, where `first` is that of the first run.
 fn last_place(lasts: &HashMap<Lane, usize>, first: usize, lane: &Lane) -> Option<usize>
     requires { (number : ℕ) → get lane_eq lasts.now lane.now ≡ Some number → first ≤ number }
     ensures { option_map (λ place. first + place) result ≡ get lane_eq lasts.now lane.now }

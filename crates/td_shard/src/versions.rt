@@ -10,25 +10,25 @@ ghost use Rattle.td_shard.specs.Versions.{taken_back};
 use crate::error::ShardError;
 use crate::version::{Version, keep_after, latest, put_in, take_out};
 use std::alloc::Global;
-use std::collections::BTreeMap;
+use std::collections::HashMap;
 use std::marker::Model;
 use td_machine::StateLeft;
 use td_stamp::{State, States};
 
 /// What folds left for their keys, above a base. Contracts see it as the core machine has it: in the order of epochs.
 ///
-/// It is kept by vertex and key, each with its versions in the order of epochs: a look-up finds the last of them up to its epoch
-/// by halving.
+/// It is kept by the hash of vertex and key, each with its versions in the order of epochs: a look-up finds the last of them up to
+/// its epoch by halving.
 #[derive(Drop)]
 pub struct Versions {
-    versions: BTreeMap<(u8, u64), Vec<Version>>,
+    versions: HashMap<(u8, u64), Vec<Version>>,
     alloc: Global,
 }
 
 impl Model for Versions {
     ghost use Rattle.std.specs.Prelude.{List, map};
-    ghost use Rattle.std.specs.BTreeMap.{IsOrdered};
-    ghost use Rattle.td_stamp.specs.Orders.{state_key_cmp};
+    ghost use Rattle.std.specs.HashMap.{IsUnique};
+    ghost use Rattle.td_stamp.specs.States.{same_place};
     ghost use Rattle.td_machine.specs.declared.records.StateLeft.{StateLeft};
     ghost use Rattle.td_shard.specs.Versions.{left_in, AreKept};
 
@@ -36,7 +36,7 @@ impl Model for Versions {
 
     ghost view = { λ v. left_in (map (λ e. (e.0, e.1.items)) v.versions.entries) };
 
-    ghost invariant = { λ v. IsOrdered state_key_cmp v.versions × AreKept (map (λ e. (e.0, e.1.items)) v.versions.entries) };
+    ghost invariant = { λ v. IsUnique same_place v.versions × AreKept (map (λ e. (e.0, e.1.items)) v.versions.entries) };
 }
 
 impl Versions {
@@ -45,13 +45,13 @@ impl Versions {
         ensures { result ≡ [] }
     {
         Versions {
-            versions: BTreeMap::new(alloc),
+            versions: HashMap::new(alloc),
             alloc,
         }
     }
 
-    /// The state of a key after an epoch: what was left last up to it, or else that of the base. Costs O(log n) with n keys, the
-    /// base's too, and O(log v) with v versions of this one. Takes no memory.
+    /// The state of a key after an epoch: what was left last up to it, or else that of the base. Costs O(log v) with v versions of
+    /// this key, where its hash is met by few others. Takes no memory.
     pub fn state_at(&self, epoch: u64, vertex: u8, key: u64, base: &States) -> Option<State>
         ensures { result ≡ state_of (with_left base.now (filter (λ k. nat_le k.epoch epoch) self.now)) vertex key }
     {
@@ -67,8 +67,8 @@ impl Versions {
         }
     }
 
-    /// Keeps what folds left. Each costs O(log n) with n keys, O(log v) with v versions of its own, and a move of those of later
-    /// epochs: of none, where a key's epochs come in order. Refusal: `Memory`, with nothing changed.
+    /// Keeps what folds left. Each costs O(log v) with v versions of its own key, and a move of those of later epochs: of none, where a
+    /// key's epochs come in order. Refusal: `Memory`, with nothing changed.
     pub fn leave(&mut self, left: &[StateLeft]) -> Result<(), ShardError>
         ensures ok { OnOk result (self.new ≡ join left_cmp left.now self.old) }
         ensures err { OnErr result (self.new ≡ self.old) }
@@ -84,7 +84,7 @@ impl Versions {
     }
 
     /// The states after an epoch, made of those of the base, with one change for each key. Each key costs O(log v) with its v
-    /// versions, and O(log n) with n states. Refusal: `Memory`.
+    /// versions, and a key that comes or goes O(log n) with n states. Refusal: `Memory`.
     pub fn states_at(&self, epoch: u64, base: States) -> Result<States, ShardError>
         ensures { IfOk result (λ states. states ≡ with_left base (filter (λ k. nat_le k.epoch epoch) self.now)) }
     {

@@ -1,29 +1,24 @@
-use Rattle.std.proofs.Common.{arith, ◌+◌, [], pos, false, sym, ap, ◌∙◌, subst}
+use Rattle.std.proofs.Common.{arith, ◌+◌, sym, ap, ◌∙◌, subst}
 use Rattle.std.specs.Option.{option_map}
-use Rattle.td_shard.specs.declared.slots.Slot.{Slot}
-use Rattle.td_shard.specs.Slots.{lane_eq, last_on, AreLinked, messages_of}
+use Rattle.td_shard.specs.Runs.{Parts, lane_eq, last_on, AreLinked, messages_of}
 use Rattle.td_shard.proofs.Lanes.{lane_equiv}
 use Rattle.td_shard.proofs.Dropped.{linked-rest, messages-rest, numbers}
+use Rattle.td_shard.proofs.TakenUp.{nothing}
 use Rattle.td_shard.proofs.take.let_go.Goals as goal
 
--- any slot
-nothing : Slot
-nothing = record { lane = record { vertex = 0; port = 0; time = record { epoch = 0; turns = [] } }; rec = record { key = 0; val = pos 0 }; ahead = 0; is_taken = false }
-
-pub loop-slots-preserved : goal.loop-slots-preserved
-loop-slots-preserved c =
-    let was = c.loop-slots.invariant in
+pub loop-runs-preserved : goal.loop-runs-preserved
+loop-runs-preserved c =
+    let was = c.loop-runs.invariant in
     let now = c.drop_front.ensures in
-    let ss = c.loop-slots.slots.items in
-    let some = c.front_is_taken.ensures.some c.loop-slots-test.true in
-    let taken = c.front_is_taken.ensures.taken c.loop-slots-test.true in
+    let ps = c.loop-runs.runs.parts in
+    let some = c.front_is_taken.ensures.some c.loop-runs-test.true in
+    let taken = c.front_is_taken.ensures.taken c.loop-runs-test.true in
     record {
-      linked = subst (AreLinked lane_eq) (sym now.slots) (linked-rest lane_eq ss was.linked);
-      lasts = λ q. numbers lane_eq lane_equiv c.loop-slots.number q ss nothing _ _ was.linked (omega (arith, some, c.loop-slots.slots.ok)) (was.lasts q) (now.lasts nothing some q)
-          ∙ ap (λ l. option_map (λ i. c.loop-slots.number + 1 + i) (last_on lane_eq q l)) (sym now.slots);
-      messages = ap messages_of now.slots ∙ (messages-rest ss nothing (omega (arith, some, c.loop-slots.slots.ok)) (taken nothing) ∙ was.messages);
-      number = omega (arith, was.number, now.len, some);
-      fewer = omega (arith, was.fewer, now.len);
-      capacity = now.capacity ∙ was.capacity;
+      linked = subst (AreLinked lane_eq) (sym (ap (λ (v : Parts). v.parts) now.runs)) (linked-rest lane_eq ps was.linked);
+      lasts = λ q. numbers lane_eq lane_equiv c.loop-runs.runs.first q ps nothing _ _ was.linked some (was.lasts q) (now.lasts nothing q)
+          ∙ ap (λ (v : Parts). option_map (λ i. v.first + i) (last_on lane_eq q v.parts)) (sym now.runs);
+      messages = ap (λ (v : Parts). messages_of v.parts) now.runs ∙ (messages-rest ps nothing some (taken nothing) ∙ was.messages);
+      runs = ap (λ (v : Parts). v.runs) now.runs ∙ was.runs;
+      room = ap (λ (v : Parts). v.room) now.runs ∙ was.room;
       spare = omega (arith, was.spare, now.spare);
     }

@@ -1,27 +1,19 @@
-use Rattle.std.proofs.Common.{arith, ◌≡◌, ◌+◌, ◌≤◌, ◌⊎◌, inl, inr, ℕ, Bool, true, false}
-use Rattle.td_shard.proofs.TakenUp.{before_next, place-below}
+use Rattle.std.proofs.Common.{arith, ◌<◌, length}
+use Rattle.td_shard.proofs.TakenUp.{nothing, before_next, place-below}
 use Rattle.td_shard.proofs.take.place_of.Goals as goal
-use Rattle.td_shard.proofs.take.place_of.Goals.{then-waits-2, else-waits-2}
 
--- a slot that waits is passed only before the pick
-lower : (b : Bool) (before pick : ℕ) → before ≤ pick → ((b ≡ false) × (before ≡ pick → ⊥)) ⊎ (b ≡ true) → b ≡ false → before + 1 ≤ pick
-lower b before pick h (inl w) e = let apart : before ≡ pick → ⊥ = w.1 in omega (arith, apart)
-lower b before pick h (inr w) e = absurd (cc)
+pub overflow_sub-offset : goal.overflow_sub-offset
+overflow_sub-offset c = let d = nothing in omega (arith, c.waiting.ensures.count d, c.waiting-offset.ensures.count d, c.loop-offset-test.true)
 
-pub loop-pick-preserved : goal.loop-pick-preserved
-loop-pick-preserved c =
-    let ss = c.args.slots.now.items in
-    let p = c.loop-pick.place in
-    let s = c.index.result.now in
-    let was = c.loop-pick.invariant in
-    let within = place-below p ss (omega (arith, was.counted, was.low, c.requires)) in
-    elim c.if-waits-2.branch [
-      | then-waits-2 w ↦ record {
-        counted = omega (arith, was.counted, w.before-is, before_next ss p s s false within c.index.ensures w.if-waits-2.true);
-        low = let h = lower s.is_taken c.loop-pick.before c.args.pick was.low c.else-waits.either w.if-waits-2.true in omega (arith, h, w.before-is);
-      }
-      | else-waits-2 w ↦ record {
-        counted = omega (arith, was.counted, w.before-is, before_next ss p s s true within c.index.ensures w.if-waits-2.false);
-        low = omega (arith, was.low, w.before-is);
-      }
-    ]
+pub overflow_add-place : goal.overflow_add-place
+overflow_add-place c =
+    let within = place-below c.loop-offset.place c.args.runs.now.parts (omega (arith, c.loop-offset.invariant, c.requires)) in
+    omega (arith, within, c.waiting.ensures.fits)
+
+pub loop-offset-preserved : goal.loop-offset-preserved
+loop-offset-preserved c =
+    let d = nothing in
+    let ps = c.args.runs.now.parts in
+    let place = c.loop-offset.place in
+    let within : place < length ps = place-below place ps (omega (arith, c.loop-offset.invariant, c.requires)) in
+    omega (arith, c.loop-offset.invariant, before_next ps place d within, c.waiting.ensures.count d, c.waiting-offset.ensures.count d, c.loop-offset-test.true)

@@ -1,13 +1,9 @@
-use Rattle.std.proofs.Common.{◌≡◌, ◌-◌, ◌≤◌, length, take}
-use Rattle.std.specs.VecDeque.{deque_len}
-use Rattle.td_shard.specs.Slots.{messages_of}
+use Rattle.std.proofs.Common.{◌≡◌, ◌+◌, ◌-◌, length, take}
+use Rattle.td_shard.specs.Runs.{messages_of}
 use Rattle.td_shard.proofs.take.place_of.Given as goal
 
-abbrev pub invariant-loop-pick : goal.invariant-loop-pick
-invariant-loop-pick l = record {
-  counted : l.before ≡ length (messages_of (take l.place l.slots.items));
-  low : l.before ≤ l.pick;
-}
+abbrev pub invariant-loop-offset : goal.invariant-loop-offset
+invariant-loop-offset l = length (messages_of (take l.place l.runs.parts)) + l.offset ≡ l.pick
 
-abbrev pub decreases-loop-pick : goal.decreases-loop-pick
-decreases-loop-pick l = deque_len l.slots - l.place
+abbrev pub decreases-loop-offset : goal.decreases-loop-offset
+decreases-loop-offset l = length l.runs.parts - l.place

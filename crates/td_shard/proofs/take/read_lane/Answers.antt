@@ -1,107 +1,104 @@
-use Rattle.std.proofs.Common.{arith, ◌≡◌, ◌+◌, ◌-◌, ◌<◌, ◌≤◌, ◌++◌, ◌∷◌, [], inl, ℕ, suc, cond, false, true, length, drop, get_or, vec_len, Bool, List, pos, refl, sym, ap, ◌∙◌, append_assoc, length-append, append-nil}
+use Rattle.std.proofs.Common.{arith, ◌≡◌, ◌+◌, ◌-◌, ◌<◌, ◌≤◌, ◌++◌, inl, ℕ, suc, true, length, take, drop, get_or, vec_len, List, refl, sym, ap, ◌∙◌, append_assoc, length-append, append-nil}
 use Rattle.td_stamp.specs.declared.values.Rec.{Rec}
 use Rattle.td_shard.specs.declared.lane.Lane.{Lane}
-use Rattle.td_shard.specs.declared.slots.Slot.{Slot}
-use Rattle.td_shard.specs.Slots.{lane_eq, first_on, ahead_of, AreLinked, taken_at, waiting_rec, recs_on}
+use Rattle.td_shard.specs.Runs.{Part, lane_eq, first_on, ahead_of, AreLinked, changed_at, without_at, lane_recs}
 use Rattle.td_shard.proofs.Lanes.{lane_equiv}
-use Rattle.td_shard.proofs.TakenUp.{linked-taken_at, length-taken_at, first-taken_at, taken_at-ahead, drop-taken_at, yet, still, skip-recs, first-below, first-same, visit-recs, next_ahead, Moved, moved, ended}
+use Rattle.td_shard.proofs.TakenUp.{nothing, length-changed_at, first-changed_at, linked-changed_at, changed_at-ahead, drop-changed_at, take-append, still, full, skip-recs, first-below, first-same, visit-recs, next_ahead, moved, ended}
 use Rattle.td_shard.proofs.take.read_lane.Goals as goal
 
--- the records after a slot of the lane was visited
-record Visited (k : Lane) (ss : List Slot) (rs : List Rec) (at : ℕ) (rs2 : List Rec) (a : ℕ) : Type 0 where
-  recs : rs ++ recs_on lane_eq k (64 - length rs) (drop at ss) ≡ rs2 ++ recs_on lane_eq k (64 - length rs2) (drop (suc at) ss)
-  ahead : a ≡ ahead_of (first_on lane_eq k (drop (suc at) ss))
-  full : length rs2 ≤ 64
+-- the records after a run of the lane was visited
+record Visited (k : Lane) (qs : List Part) (rs : List Rec) (at : ℕ) (rs2 : List Rec) (a : ℕ) : Type 0 where
+  recs : rs ++ take (64 - length rs) (lane_recs lane_eq k (drop at qs)) ≡ rs2 ++ take (64 - length rs2) (lane_recs lane_eq k (drop (suc at) qs))
+  ahead : a ≡ ahead_of (first_on lane_eq k (drop (suc at) qs))
+  few : length rs2 ≤ 64
 
-full-by : (b : Bool) (m m2 : ℕ) (r : Rec) → m < 64 → m2 ≡ m + length (cond b [] (r ∷ [])) → m2 ≤ 64
-full-by true m m2 r h e = omega arith
-full-by false m m2 r h e = omega arith
-
-visited : (k : Lane) (ss : List Slot) (rs : List Rec) (at n : ℕ) (rs2 : List Rec) (a : ℕ) (s d : Slot) → at < length ss → lane_eq k s.lane ≡ true → suc n + length rs ≡ 64 → AreLinked lane_eq ss → s ≡ get_or ss at d → rs2 ≡ rs ++ waiting_rec s → a ≡ s.ahead → Visited k ss rs at rs2 a
-visited k ss rs at n rs2 a s d h f m l e recs ahead =
-    let longer : length rs2 ≡ length rs + length (waiting_rec s) = ap length recs ∙ length-append rs (waiting_rec s) in
-    let count : 64 - length rs ≡ suc n = omega (arith, m) in
-    let left : 64 - length rs2 ≡ yet s.is_taken n = still s.is_taken n (length rs) (length rs2) s.rec m longer in
+visited : (k : Lane) (qs : List Part) (rs : List Rec) (at : ℕ) (rs2 : List Rec) (a : ℕ) (d : Part) → at < length qs → lane_eq k (get_or qs at d).lane ≡ true → length rs ≤ 64 → AreLinked lane_eq qs
+    → rs2 ≡ rs ++ take (64 - length rs) (get_or qs at d).recs → a ≡ (get_or qs at d).ahead → Visited k qs rs at rs2 a
+visited k qs rs at rs2 a d h on low l is ahead =
+    let s = get_or qs at d in
+    let n = 64 - length rs in
+    let rest = lane_recs lane_eq k (drop (suc at) qs) in
+    let long : length rs2 ≡ length rs + length (take n s.recs) = ap length is ∙ length-append rs (take n s.recs) in
+    let left : 64 - length rs2 ≡ n - length s.recs = ap (λ i. 64 - i) long ∙ still (length rs) s.recs low in
     record {
-      recs = ap (λ i. rs ++ recs_on lane_eq k i (drop at ss)) count ∙ (ap (λ l. rs ++ l) (visit-recs lane_eq k n at ss s d h e f)
-          ∙ (sym (append_assoc rs (waiting_rec s) (recs_on lane_eq k (yet s.is_taken n) (drop (suc at) (taken_at at ss))))
-          ∙ (ap (λ l. l ++ recs_on lane_eq k (yet s.is_taken n) (drop (suc at) (taken_at at ss))) (sym recs)
-          ∙ (ap (λ i. rs2 ++ recs_on lane_eq k i (drop (suc at) (taken_at at ss))) (sym left)
-          ∙ ap (λ t. rs2 ++ recs_on lane_eq k (64 - length rs2) t) (drop-taken_at at ss)))));
-      ahead = ahead ∙ (next_ahead lane_eq lane_equiv k ss at s d h e f l ∙ ap (λ t. ahead_of (first_on lane_eq k t)) (drop-taken_at at ss));
-      full = full-by s.is_taken (length rs) (length rs2) s.rec (omega (arith, m)) longer;
+      recs = ap (λ t. rs ++ take n t) (visit-recs lane_eq k at qs s d h refl on)
+          ∙ (ap (λ t. rs ++ t) (take-append n s.recs rest)
+          ∙ (sym (append_assoc rs (take n s.recs) (take (n - length s.recs) rest))
+          ∙ (ap (λ t. t ++ take (n - length s.recs) rest) (sym is)
+          ∙ ap (λ i. rs2 ++ take i rest) (sym left))));
+      ahead = ahead ∙ (next_ahead lane_eq lane_equiv (λ p. p) k qs at s d h refl on l ∙ ap (λ t. ahead_of (first_on lane_eq k t)) (drop-changed_at (λ p. p) at qs));
+      few = omega (arith, long, full (length rs) s.recs low);
     }
 
--- any slot
-nothing : Lane → Slot
-nothing k = record { lane = k; rec = record { key = 0; val = pos 0 }; ahead = 0; is_taken = false }
-
-pub read-ahead-requires-clause-within : goal.read-ahead-requires-clause-within
-read-ahead-requires-clause-within c = let h = first-below lane_eq c.args.lane.now c.args.slots.now.items c.args.first c.requires.first in omega (arith, h, c.args.slots.now.ok)
+pub read_run-ahead-requires-clause-within : goal.read_run-ahead-requires-clause-within
+read_run-ahead-requires-clause-within c = first-below lane_eq c.args.lane.now c.args.runs.now.parts c.args.first c.requires.first
 
 pub loop-ahead-init : goal.loop-ahead-init
 loop-ahead-init c =
-    let all = c.args.slots.now.items in
-    let ss = taken_at c.args.picked all in
+    let ps = c.args.runs.now.parts in
+    let f = without_at c.args.offset in
+    let qs = changed_at f c.args.picked ps in
     let k = c.args.lane.now in
-    let d = nothing k in
     let old = c.args.recs.now in
-    let now = c.read-ahead.new.recs in
-    let first : first_on lane_eq k ss ≡ _ = first-taken_at lane_eq k c.args.picked all ∙ c.requires.first in
-    let v = visited k ss old.items c.args.first (63 - length old.items) now.items c.read-ahead.result (get_or ss c.args.first d) d
-    (first-below lane_eq k ss c.args.first first) (first-same lane_eq k ss c.args.first d first) (omega (arith, c.requires.some, old.ok)) (linked-taken_at lane_eq c.args.picked all c.requires.linked) refl
-    (c.read-ahead.ensures.recs d) (c.read-ahead.ensures.ahead d ∙ sym (taken_at-ahead c.args.picked c.args.first all d)) in
+    let call = c.read_run-ahead in
+    let now = call.new.recs in
+    let first : first_on lane_eq k qs ≡ _ = first-changed_at f (λ p. refl) lane_eq k c.args.picked ps ∙ c.requires.first in
+    let below = first-below lane_eq k qs c.args.first first in
+    let v = visited k qs old.items c.args.first now.items call.result nothing below (first-same lane_eq k qs c.args.first nothing first) (omega (arith, c.requires.some, old.ok)) (linked-changed_at f (λ p. refl) lane_eq (λ p. refl) c.args.picked ps c.requires.linked)
+    (call.ensures.recs nothing ∙ ap (λ n. old.items ++ take (64 - n) (get_or qs c.args.first nothing).recs) old.ok.0) (call.ensures.ahead nothing ∙ sym (changed_at-ahead f (λ p. refl) c.args.picked c.args.first ps nothing)) in
     record {
-      recs = ap (λ n. now.items ++ recs_on lane_eq k (64 - n) (drop (suc c.args.first) ss)) now.ok.0
-          ∙ (sym v.recs ∙ (ap (λ l. old.items ++ l) (sym (skip-recs lane_eq k (64 - length old.items) ss c.args.first first)) ∙ ap (λ n. old.items ++ recs_on lane_eq k (64 - n) ss) (sym old.ok.0)));
+      recs = ap (λ n. now.items ++ take (64 - n) (lane_recs lane_eq k (drop (suc c.args.first) qs))) now.ok.0
+          ∙ (sym v.recs ∙ (ap (λ t. old.items ++ take (64 - length old.items) t) (sym (skip-recs lane_eq k qs c.args.first first)) ∙ ap (λ n. old.items ++ take (64 - n) (lane_recs lane_eq k qs)) (sym old.ok.0)));
       ahead = v.ahead;
-      within = let h = first-below lane_eq k all c.args.first c.requires.first in omega (arith, h, c.args.slots.now.ok);
-      full = omega (arith, v.full, now.ok);
-      room = c.read-ahead.ensures.capacity ∙ c.requires.room;
+      within = first-below lane_eq k ps c.args.first c.requires.first;
+      fits = call.ensures.fits;
+      full = omega (arith, v.few, now.ok);
+      room = call.ensures.capacity ∙ c.requires.room;
     }
-
--- the next slot of the lane
-next : (k : Lane) (ss : List Slot) (place ahead : ℕ) → ahead ≡ ahead_of (first_on lane_eq k (drop (suc place) ss)) → 0 < ahead → Moved lane_eq lane_equiv k ss place (place + ahead)
-next k ss place ahead e h = moved lane_eq lane_equiv k ss place ahead e h
 
 pub overflow_add-place : goal.overflow_add-place
 overflow_add-place c =
-    let ss = c.args.slots.now.items in
-    let m = next c.args.lane.now (taken_at c.args.picked ss) c.loop-ahead.place c.loop-ahead.ahead c.loop-ahead.invariant.ahead c.loop-ahead-test.true in
-    omega (arith, m.within, length-taken_at c.args.picked ss, c.args.slots.now.ok, c.args.slots.now.small)
+    let ps = c.args.runs.now.parts in
+    let f = without_at c.args.offset in
+    let m = moved lane_eq lane_equiv c.args.lane.now (changed_at f c.args.picked ps) c.loop-ahead.place c.loop-ahead.ahead c.loop-ahead.invariant.ahead c.loop-ahead-test.true in
+    omega (arith, m.within, length-changed_at f c.args.picked ps, c.loop-ahead.invariant.fits)
 
-pub read-ahead-requires-in-loop-ahead-clause-within : goal.read-ahead-requires-in-loop-ahead-clause-within
-read-ahead-requires-in-loop-ahead-clause-within c =
-    let ss = c.args.slots.now.items in
-    let m = next c.args.lane.now (taken_at c.args.picked ss) c.loop-ahead.place c.loop-ahead.ahead c.loop-ahead.invariant.ahead c.loop-ahead-test.true in
-    omega (arith, m.within, length-taken_at c.args.picked ss, c.args.slots.now.ok)
+pub read_run-ahead-requires-in-loop-ahead-clause-within : goal.read_run-ahead-requires-in-loop-ahead-clause-within
+read_run-ahead-requires-in-loop-ahead-clause-within c =
+    let ps = c.args.runs.now.parts in
+    let f = without_at c.args.offset in
+    let m = moved lane_eq lane_equiv c.args.lane.now (changed_at f c.args.picked ps) c.loop-ahead.place c.loop-ahead.ahead c.loop-ahead.invariant.ahead c.loop-ahead-test.true in
+    omega (arith, m.within, length-changed_at f c.args.picked ps)
 
 pub loop-ahead-preserved : goal.loop-ahead-preserved
 loop-ahead-preserved c =
     let was = c.loop-ahead.invariant in
-    let all = c.args.slots.now.items in
-    let ss = taken_at c.args.picked all in
+    let ps = c.args.runs.now.parts in
+    let f = without_at c.args.offset in
+    let qs = changed_at f c.args.picked ps in
     let k = c.args.lane.now in
-    let d = nothing k in
     let at = c.loop-ahead.place + c.loop-ahead.ahead in
-    let m = next k ss c.loop-ahead.place c.loop-ahead.ahead was.ahead c.loop-ahead-test.true in
-    let call = c.read-ahead-in-loop-ahead in
+    let m = moved lane_eq lane_equiv k qs c.loop-ahead.place c.loop-ahead.ahead was.ahead c.loop-ahead-test.true in
+    let call = c.read_run-ahead-in-loop-ahead in
     let now = call.new.recs in
     let old = c.loop-ahead.recs in
-    let v = visited k ss old.items at (63 - length old.items) now.items call.result (get_or ss at d) d
-    m.within (m.on d) (omega (arith, c.if-len-lt-TASK_SIZE.true, c.len.ensures, old.ok)) (linked-taken_at lane_eq c.args.picked all c.requires.linked) refl (call.ensures.recs d) (call.ensures.ahead d ∙ sym (taken_at-ahead c.args.picked at all d)) in
+    let v = visited k qs old.items at now.items call.result nothing m.within (m.on nothing) (omega (arith, was.full, old.ok)) (linked-changed_at f (λ p. refl) lane_eq (λ p. refl) c.args.picked ps c.requires.linked)
+    (call.ensures.recs nothing ∙ ap (λ n. old.items ++ take (64 - n) (get_or qs at nothing).recs) old.ok.0) (call.ensures.ahead nothing ∙ sym (changed_at-ahead f (λ p. refl) c.args.picked at ps nothing)) in
     record {
-      recs = ap (λ n. now.items ++ recs_on lane_eq k (64 - n) (drop (suc at) ss)) now.ok.0
-          ∙ (sym v.recs ∙ (ap (λ l. old.items ++ l) (sym (m.recs (64 - length old.items))) ∙ (ap (λ n. old.items ++ recs_on lane_eq k (64 - n) (drop (suc c.loop-ahead.place) ss)) (sym old.ok.0) ∙ was.recs)));
+      recs = ap (λ n. now.items ++ take (64 - n) (lane_recs lane_eq k (drop (suc at) qs))) now.ok.0
+          ∙ (sym v.recs ∙ (ap (λ t. old.items ++ take (64 - length old.items) t) (sym m.recs) ∙ (ap (λ n. old.items ++ take (64 - n) (lane_recs lane_eq k (drop (suc c.loop-ahead.place) qs))) (sym old.ok.0) ∙ was.recs)));
       ahead = v.ahead;
-      within = omega (arith, m.within, length-taken_at c.args.picked all, c.args.slots.now.ok);
-      full = omega (arith, v.full, now.ok);
+      within = omega (arith, m.within, length-changed_at f c.args.picked ps);
+      fits = was.fits;
+      full = omega (arith, v.few, now.ok);
       room = call.ensures.capacity ∙ was.room;
     }
 
 pub returns-after-loop-ahead : goal.returns-after-loop-ahead
 returns-after-loop-ahead c =
     let was = c.loop-ahead.invariant in
+    let qs = changed_at (without_at c.args.offset) c.args.picked c.args.runs.now.parts in
+    let now = c.loop-ahead.recs in
     record {
-      recs = sym (ap (λ l. c.loop-ahead.recs.items ++ l) (ended lane_eq lane_equiv c.args.lane.now (taken_at c.args.picked c.args.slots.now.items) c.loop-ahead.place c.loop-ahead.ahead (64 - vec_len c.loop-ahead.recs) was.ahead (inl (omega arith))).1 ∙ append-nil c.loop-ahead.recs.items) ∙ was.recs;
+      recs = sym (append-nil now.items) ∙ (ap (λ l. now.items ++ l) (sym (ended lane_eq lane_equiv c.args.lane.now qs c.loop-ahead.place c.loop-ahead.ahead (64 - vec_len now) was.ahead (inl (omega (arith, c.loop-ahead-test.false)))).1) ∙ was.recs);
     }

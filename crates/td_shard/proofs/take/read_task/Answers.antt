@@ -1,31 +1,51 @@
-use Rattle.std.proofs.Common.{arith, ◌≡◌, ◌-◌, ◌<◌, ◌++◌, ◌∷◌, [], length, get_or, vec_len, List, refl, sym, ap, ◌∙◌}
+use Rattle.std.proofs.Common.{arith, ◌≡◌, ◌-◌, ◌<◌, ◌++◌, ◌∷◌, [], length, get_or, take, vec_len, List, refl, sym, ap, ◌∙◌}
 use Rattle.td_stamp.specs.declared.values.Rec.{Rec}
-use Rattle.td_shard.specs.declared.slots.Slot.{Slot}
-use Rattle.td_shard.specs.Slots.{lane_eq, taken_at, taken_on, recs_on}
+use Rattle.td_machine.specs.Steps.{coming}
+use Rattle.td_shard.specs.declared.lane.Lane.{Lane}
+use Rattle.td_shard.specs.Runs.{lane_eq, changed_at, without_at, lane_recs}
 use Rattle.td_shard.proofs.Lanes.{lane_equiv}
-use Rattle.td_shard.proofs.Tasks.{IsTask, is_task, has_first}
+use Rattle.td_shard.proofs.OneRun.{one_read}
+use Rattle.td_shard.proofs.Tasks.{one, task_of, has_first}
+use Rattle.td_shard.proofs.TakenUp.{nothing}
 use Rattle.td_shard.proofs.take.read_task.Goals as goal
+
+pub overflow_add-offset : goal.overflow_add-offset
+overflow_add-offset c = omega (arith, c.place_of-picked.ensures.fits)
 
 pub first_place-first-requires : goal.first_place-first-requires
 first_place-first-requires c =
-    let ss = c.args.slots.now.items in
-    let s = c.index-slot.result.now in
-    has_first lane_eq s.lane ss c.place_of-picked.result s (omega (arith, c.place_of-picked.ensures.within, c.args.slots.now.ok))
-    (ap (λ (t : Slot). lane_eq s.lane t.lane) (sym c.index-slot.ensures) ∙ lane_equiv.refl s.lane)
+    let k = c.lane-lane.result.now in
+    has_first lane_eq k c.args.runs.now.parts c.place_of-picked.result.0 nothing c.place_of-picked.ensures.within (ap (lane_eq k) (sym (c.lane-lane.ensures.lane nothing)) ∙ lane_equiv.refl k)
+
+pub read_lane-requires-clause-some : goal.read_lane-requires-clause-some
+read_lane-requires-clause-some c =
+    let s = get_or c.args.runs.now.parts c.place_of-picked.result.0 nothing in
+    let o = c.place_of-picked.result.1 in
+    let old = c.args.recs.now in
+    let now = c.read.new.recs in
+    let its = one s.recs o (c.place_of-picked.ensures.waits nothing) in
+    let single = one_read old.items now.items s.recs o (vec_len old) its.0 c.requires.none old.ok.0 its.1 (c.read.ensures.recs nothing) in
+    omega (arith, ap length single, now.ok.0)
 
 pub returns : goal.returns
 returns c =
-    let ss = c.args.slots.now.items in
-    let p = c.place_of-picked.result in
-    let s = c.index-slot.result.now in
-    let k = c.copy.result in
-    let within : p < length ss = omega (arith, c.place_of-picked.ensures.within, c.args.slots.now.ok) in
-    let one : c.push_reserved.new.self.items ≡ s.rec ∷ [] = c.push_reserved.ensures.items ∙ ap (λ l. l ++ s.rec ∷ []) c.requires.none in
-    let many : vec_len c.push_reserved.new.self ≡ 1 = c.push_reserved.new.self.ok.0 ∙ ap length one in
-    let recs : c.read_lane.new.recs.items ≡ (get_or ss p s).rec ∷ recs_on lane_eq k 63 (taken_at p ss) =
-    c.read_lane.ensures.recs ∙ (ap (λ l. l ++ recs_on lane_eq s.lane (64 - vec_len c.push_reserved.new.self) (taken_at p ss)) one
-    ∙ (ap (λ n. s.rec ∷ recs_on lane_eq s.lane (64 - n) (taken_at p ss)) many ∙ (ap (λ j. s.rec ∷ recs_on lane_eq j 63 (taken_at p ss)) (sym c.copy.ensures) ∙ ap (λ (t : Slot). t.rec ∷ recs_on lane_eq k 63 (taken_at p ss)) c.index-slot.ensures))) in
+    let ps = c.args.runs.now.parts in
+    let p = c.place_of-picked.result.0 in
+    let o = c.place_of-picked.result.1 in
+    let s = get_or ps p nothing in
+    let qs = changed_at (without_at o) p ps in
+    let old = c.args.recs.now in
+    let now = c.read.new.recs in
+    let within : o < length s.recs = c.place_of-picked.ensures.waits nothing in
+    let its = one s.recs o within in
+    let single : now.items ≡ its.0 ∷ [] = one_read old.items now.items s.recs o (vec_len old) its.0 c.requires.none old.ok.0 its.1 (c.read.ensures.recs nothing) in
+    let many : vec_len now ≡ 1 = now.ok.0 ∙ ap length single in
+    let recs : c.read_lane.new.recs.items ≡ its.0 ∷ take 63 (lane_recs lane_eq s.lane qs) =
+    c.read_lane.ensures.recs ∙ (ap (λ (l : List Rec). l ++ take (64 - vec_len now) (lane_recs lane_eq c.lane-lane.result.now qs)) single
+    ∙ (ap (λ n. its.0 ∷ take (64 - n) (lane_recs lane_eq c.lane-lane.result.now qs)) many ∙ ap (λ (k : Lane). its.0 ∷ take 63 (lane_recs lane_eq k qs)) (c.lane-lane.ensures.lane nothing))) in
+    let lane : c.copy.result ≡ s.lane = c.copy.ensures ∙ c.lane-lane.ensures.lane nothing in
     record {
-      task = (is_task ss p c.args.pick (get_or ss p s) s k c.read_lane.new.recs.items (taken_on lane_eq k 63 (taken_at p ss)) within refl (c.place_of-picked.ensures.waits s) c.place_of-picked.ensures.before c.requires.linked
-          (c.copy.ensures ∙ ap (λ (t : Slot). t.lane) c.index-slot.ensures) recs refl).task;
+      task = ap (λ (k : Lane). coming k.vertex k.port k.time c.read_lane.new.recs.items) lane
+          ∙ (ap (coming s.lane.vertex s.lane.port s.lane.time) recs
+          ∙ (task_of ps p o c.args.pick s nothing its.0 c.place_of-picked.ensures.within refl its.1 within c.place_of-picked.ensures.before c.requires.linked).task);
     }

@@ -1,18 +1,34 @@
-use Rattle.std.proofs.Common.{arith, ◌+◌, length, sym, ap, ◌∙◌, subst}
-use Rattle.std.specs.Option.{option_map}
-use Rattle.td_shard.specs.Slots.{lane_eq, last_on, messages_of, AreLinked, FrontWaits}
+use Rattle.std.proofs.Common.{arith, Result, Ok, Err, sym, ◌∙◌, subst}
+use Rattle.std.specs.Result.{OnOk, OnErr}
+use Rattle.td_shard.specs.Runs.{Parts}
+use Rattle.td_shard.specs.Kept.{IsMailbox}
 use Rattle.td_shard.proofs.mailbox.Mailbox.reserve.Goals as goal
+
+-- what holds whether there was memory or not
+either : {T E P Q G : Type 0} (r : Result T E) → OnOk r P → OnErr r Q → (P → G) → (Q → G) → G
+either (Ok x) p q f g = f p
+either (Err e) p q f g = g q
 
 pub invariant_of-self-2 : goal.invariant_of-self-2
 invariant_of-self-2 c =
     let was = c.self.invariant in
-    let deque = c.in_ok-reserve.ensures in
-    let map = c.in_ok-reserve-2.ensures in record {
-      linked = subst (AreLinked lane_eq) (sym deque.items) was.linked;
-      lasts = λ q. map.entries.2 q ∙ (was.lasts q ∙ ap (λ ss. option_map (λ i. c.self.inside.first + i) (last_on lane_eq q ss)) (sym deque.items));
-      front = subst FrontWaits (sym deque.items) was.front;
-      len = was.len ∙ ap (λ ss. length (messages_of ss)) (sym deque.items);
-      slots_room = deque.ok;
-      lasts_room = map.ok;
-      numbers = omega (arith, deque.len, c.len.ensures);
-    }
+    let m = c.self.inside in
+    let map = c.in_ok-reserve.ensures in
+    let kept = λ (v : Parts). IsMailbox (record { runs = v; lasts = c.reserve.new.self; len = m.len; alloc = m.alloc }) in
+    either c.reserve-2.result c.reserve-2.ensures.ok c.reserve-2.ensures.err
+    (λ e. subst kept (sym e) (record {
+      linked = was.linked;
+      lasts = λ q. map.entries.2 q ∙ was.lasts q;
+      front = was.front;
+      len = was.len;
+      lasts_room = omega (arith, was.lasts_room, map.spare, map.ok);
+      counted = omega (arith, was.len, was.counted);
+    }))
+    (λ e. subst kept (sym e) (record {
+      linked = was.linked;
+      lasts = λ q. map.entries.2 q ∙ was.lasts q;
+      front = was.front;
+      len = was.len;
+      lasts_room = omega (arith, was.lasts_room, map.spare);
+      counted = was.counted;
+    }))

@@ -1,10 +1,12 @@
 use Rattle.std.proofs.Common.{◌∙◌, refl, ap, sym, map, subst, filter, nat_le}
-use Rattle.std.specs.List.Sorted.{IsStrictlySortedBy}
+use Rattle.std.specs.List.{IsDistinct}
+use Rattle.std.specs.Ordering.{eq_by_cmp}
 use Rattle.td_stamp.specs.Orders.{state_key_cmp}
 use Rattle.td_stamp.specs.Rises.{Rises}
 use Rattle.td_machine.specs.State.{with_left}
 use Rattle.td_shard.specs.Versions.{AreKept, version_cmp, with_latest, with_version, latest, up_to}
 use Rattle.td_shard.proofs.Viewed.{seen, keys-seen}
+use Rattle.td_shard.proofs.LeftBags.{are_apart}
 use Rattle.td_shard.proofs.LeftStates.{all_states}
 use Rattle.td_shard.proofs.versions.Versions.states_at.Goals as goal
 
@@ -46,5 +48,5 @@ returns c =
     let whole = c.into_iter-vertex-iterator.ensures.into_iter_gives ∙ c.iter-vertex-items.ensures.rest in
     ap (λ l. with_latest e c.loop-vertex.states (map (λ d. (d.0, d.1.items)) l)) (sym c.in-None.ensures.steps.0)
     ∙ (c.loop-vertex.invariant.0 ∙ (ap (λ l. with_latest e c.args.base (map (λ d. (d.0, d.1.items)) l)) whole
-    ∙ (all_states c.version_laws.ensures e (map (seen (λ v. v.items)) es) c.args.base (subst (IsStrictlySortedBy state_key_cmp) (sym (keys-seen (λ v. v.items) es)) c.self.invariant.0) c.list-in_order.ensures.ordered
+    ∙ (all_states c.version_laws.ensures e (map (seen (λ v. v.items)) es) c.args.base (subst (IsDistinct (eq_by_cmp state_key_cmp)) (sym (keys-seen (λ v. v.items) es)) (are_apart es c.self.invariant.0)) c.list-in_order.ensures.ordered
     ∙ ap (λ l. with_left c.args.base (filter (λ k. nat_le k.epoch e) l)) c.self.view_is)))

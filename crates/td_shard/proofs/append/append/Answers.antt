@@ -1,0 +1,45 @@
+use Rattle.std.proofs.Common.{arith, ◌≡◌, ◌+◌, ◌-◌, ◌<◌, ◌++◌, ◌∷◌, [], ℕ, cond, Some, length, List, refl, sym, ap, ◌∙◌, subst}
+use Rattle.td_shard.specs.declared.lane.Lane.{Lane}
+use Rattle.td_shard.specs.Runs.{Part, Parts, lane_eq, last_on, AreLinked, messages_of}
+use Rattle.td_shard.proofs.Lanes.{lane_equiv}
+use Rattle.td_shard.proofs.Linked.{appended, linked-to_end, linked_appended, last-appended, messages-appended, last-below}
+use Rattle.td_shard.proofs.append.append.Goals as goal
+use Rattle.td_shard.proofs.append.append.Goals.{in-Some, in_default}
+
+below : (at : ℕ) (k : Lane) (ps : List Part) → Some at ≡ last_on lane_eq k ps → at < length ps
+below at k ps e = last-below lane_eq k ps at (sym e)
+
+pub overflow_sub-ahead : goal.overflow_sub-ahead
+overflow_sub-ahead c = let h = below c.in-Some.at c.args.lane c.args.runs.now.parts (sym c.in-Some.is ∙ c.requires.last) in omega (arith, h, c.len.ensures)
+
+pub link-requires : goal.link-requires
+link-requires c = below c.in-Some.at c.args.lane c.args.runs.now.parts (sym c.in-Some.is ∙ c.requires.last)
+
+-- the runs are the old ones with one more at the end, linked
+parts-are : (c : goal.After-push) → c.push.new.self.parts ≡ appended (last_on lane_eq c.args.lane c.args.runs.now.parts) c.args.runs.now.parts (record { lane = c.args.lane; ahead = 0; recs = c.args.recs.now })
+parts-are c =
+    let old = c.args.runs.now.parts in
+    let x : Part = record { lane = c.args.lane; ahead = 0; recs = c.args.recs.now } in
+    ap (λ (v : Parts). v.parts) c.push.ensures ∙ elim c.match-last.branch [
+      | in-Some w ↦
+          let at = w.in-Some.at in
+          let h = below at c.args.lane old (sym w.in-Some.is ∙ c.requires.last) in
+          let fits : w.len.result - at + at ≡ length old = omega (arith, h, w.len.ensures) in
+          ap (λ (v : Parts). v.parts ++ x ∷ []) (w.runs-is ∙ w.link.ensures)
+          ∙ (ap (λ l. l ++ x ∷ []) (linked-to_end at (w.len.result - at) old h fits)
+          ∙ ap (λ o. appended o old x) (sym w.in-Some.is ∙ c.requires.last))
+      | in_default w ↦ ap (λ (v : Parts). v.parts ++ x ∷ []) w.runs-is ∙ ap (λ o. appended o old x) (sym w.in_default.is ∙ c.requires.last)
+    ]
+
+pub returns-clause-linked : goal.returns-clause-linked
+returns-clause-linked c = subst (AreLinked lane_eq) (sym (parts-are c)) (linked_appended lane_eq lane_equiv c.args.lane _ c.args.runs.now.parts (lane_equiv.refl c.args.lane) refl c.requires.linked)
+
+pub returns-clause-lasts : goal.returns-clause-lasts
+returns-clause-lasts c = λ q.
+    let old = c.args.runs.now.parts in
+    ap (last_on lane_eq q) (parts-are c)
+    ∙ (last-appended lane_eq q (last_on lane_eq c.args.lane old) old (record { lane = c.args.lane; ahead = 0; recs = c.args.recs.now })
+    ∙ ap (λ b. cond b (Some (length old)) (last_on lane_eq q old)) (lane_equiv.symm q c.args.lane))
+
+pub returns-clause-messages : goal.returns-clause-messages
+returns-clause-messages c = ap messages_of (parts-are c) ∙ messages-appended (last_on lane_eq c.args.lane c.args.runs.now.parts) c.args.runs.now.parts (record { lane = c.args.lane; ahead = 0; recs = c.args.recs.now })

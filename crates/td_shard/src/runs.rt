@@ -1,0 +1,275 @@
+//! The runs of messages of a mailbox.
+ghost use Rattle.std.specs.Prelude.{◌≡◌, ◌+◌, ◌-◌, ◌^◌, ◌<◌, ◌≤◌, ◌++◌, [], ℕ, length, take, drop, max, vec_len, vec_capacity};
+ghost use Rattle.std.specs.Prelude.{OnOk, OnErr, IsTrue, false};
+ghost use Rattle.std.specs.List.{HoldsAt};
+ghost use Rattle.std.specs.VecDeque.{deque_len, deque_capacity};
+ghost use Rattle.td_shard.specs.Runs.{InOrder, changed_at, extended, linked_to, pushed, with_first, without_front};
+
+use crate::error::ShardError;
+use crate::lane::Lane;
+use crate::rows::{move_down, pop_rows, push_rows, read_rows};
+use std::alloc::Global;
+use std::collections::VecDeque;
+use std::marker::Model;
+use td_machine::TASK_SIZE;
+use td_stamp::Rec;
+
+/// Records that were posted together on one lane. Records are numbered in the order posted.
+#[derive(Debug, Drop)]
+pub(crate) struct Run {
+    pub lane: Lane,
+    /// The number of the first that waits, and the one past the last.
+    pub at: usize,
+    pub end: usize,
+    /// How many runs ahead the next of its lane stands; 0 where there is none.
+    pub ahead: usize,
+}
+
+/// Runs of messages in the order posted. The records of all stand in one list.
+#[derive(Drop)]
+pub(crate) struct Runs {
+    runs: VecDeque<Run>,
+    recs: VecDeque<Rec>,
+    // The number of the first run, and of the first record.
+    first: usize,
+    start: usize,
+    // How many more runs and records may be posted.
+    runs_room: usize,
+    room: usize,
+}
+
+impl Model for Runs {
+    ghost use Rattle.std.specs.Prelude.{map};
+    ghost use Rattle.td_shard.specs.Runs.{Parts, part};
+    ghost use Rattle.td_shard.specs.KeptRuns.{IsRuns};
+
+    ghost Value = { Parts };
+
+    ghost view = { λ m. record { first = m.first; parts = map (part m.start m.recs.items) m.runs.items; runs = m.runs_room; room = m.room } };
+
+    ghost invariant = { IsRuns };
+}
+
+impl Runs {
+    /// No runs, and no room.
+    pub fn new(alloc: Global) -> Runs
+        ensures { result ≡ record { first = 0; parts = []; runs = 0; room = 0 } }
+    {
+        Runs {
+            runs: VecDeque::new(alloc),
+            recs: VecDeque::new(alloc),
+            first: 0,
+            start: 0,
+            runs_room: 0,
+            room: 0,
+        }
+    }
+
+    /// How many runs there are.
+    pub fn len(&self) -> usize
+        ensures { result ≡ length self.now.parts }
+    {
+        self.runs.len()
+    }
+
+    /// The number of the first run.
+    pub fn first(&self) -> usize
+        ensures number { result ≡ self.now.first }
+        ensures fits { self.now.first + length self.now.parts < 2 ^ 64 }
+    {
+        let _runs = self.runs.len();
+        self.first
+    }
+
+    /// The lane of the run at a place.
+    pub fn lane(&self, place: usize) -> &Lane
+        requires { place < length self.now.parts }
+        ensures lane { HoldsAt (λ p. result.now ≡ p.lane) self.now.parts place }
+        ensures fits { length self.now.parts < 2 ^ 64 }
+    {
+        &self.runs[place].lane
+    }
+
+    /// How many runs ahead the next of its lane stands; 0 where there is none.
+    pub fn ahead(&self, place: usize) -> usize
+        requires { place < length self.now.parts }
+        ensures { HoldsAt (λ p. result ≡ p.ahead) self.now.parts place }
+    {
+        self.runs[place].ahead
+    }
+
+    /// How many records of the run at a place wait.
+    pub fn waiting(&self, place: usize) -> usize
+        requires { place < length self.now.parts }
+        ensures count { HoldsAt (λ p. result ≡ length p.recs) self.now.parts place }
+        ensures fits { length self.now.parts < 2 ^ 64 }
+    {
+        let run = &self.runs[place];
+        run.end - run.at
+    }
+
+    /// Reads the records of the run at a place from one that waits to another, until the task is full.
+    pub fn read(&self, place: usize, from: usize, to: usize, recs: &mut Vec<Rec>)
+        requires place { place < length self.now.parts }
+        requires range { from ≤ to }
+        requires within { HoldsAt (λ p. to ≤ length p.recs) self.now.parts place }
+        requires few { vec_len recs.old ≤ 64 }
+        requires room { vec_capacity recs.old ≡ 64 }
+        ensures recs { HoldsAt (λ p. recs.new.items ≡ recs.old.items ++ take (64 - vec_len recs.old) (take (to - from) (drop from p.recs))) self.now.parts place }
+        ensures capacity { vec_capacity recs.new ≡ vec_capacity recs.old }
+    {
+        let begin = self.runs[place].at - self.start + from;
+        let many = (to - from).min(TASK_SIZE - recs.len());
+        read_rows(&self.recs, begin, begin + many, recs);
+    }
+
+    /// Lets the run at a place know how far ahead the next of its lane stands.
+    pub fn link(&mut self, place: usize, ahead: usize)
+        requires { place < length self.old.parts }
+        ensures { self.new ≡ record self.old { parts = changed_at (linked_to ahead) place self.old.parts } }
+    {
+        let run = &mut self.runs[place];
+        run.ahead = ahead;
+    }
+
+    /// Takes the first records of the run at a place.
+    pub fn advance(&mut self, place: usize, count: usize)
+        requires place { place < length self.old.parts }
+        requires count { HoldsAt (λ p. count ≤ length p.recs) self.old.parts place }
+        ensures { self.new ≡ record self.old { parts = changed_at (without_front count) place self.old.parts } }
+    {
+        let run = &mut self.runs[place];
+        run.at += count;
+    }
+
+    /// Moves a record of the run at a place before its others.
+    pub fn bring_to_front(&mut self, place: usize, offset: usize)
+        requires place { place < length self.old.parts }
+        requires offset { HoldsAt (λ p. offset < length p.recs) self.old.parts place }
+        ensures { self.new ≡ record self.old { parts = changed_at (with_first offset) place self.old.parts } }
+    {
+        let to = self.runs[place].at - self.start;
+        move_down(&mut self.recs, to, offset);
+    }
+
+    /// Puts one more run at the end. Takes no memory.
+    pub fn push(&mut self, lane: Lane, recs: &[Rec])
+        requires runs { 0 < self.old.runs }
+        requires room { length recs.now ≤ self.old.room }
+        ensures { self.new ≡ pushed lane recs.now self.old }
+    {
+        let at = self.start + self.recs.len();
+        let end = at + recs.len();
+        push_rows(&mut self.recs, recs);
+        self.runs.push_back_reserved(Run {
+            lane,
+            at,
+            end,
+            ahead: 0,
+        });
+        self.runs_room -= 1;
+        self.room -= recs.len();
+    }
+
+    /// Puts records behind those of the last run, where it is on this lane. Answers whether it did. Takes no memory.
+    pub fn extend_last(&mut self, lane: &Lane, recs: &[Rec]) -> bool
+        requires runs { 0 < self.old.runs }
+        requires room { length recs.now ≤ self.old.room }
+        ensures unchanged { result ≡ false → self.new ≡ self.old }
+        ensures some { IsTrue result → 0 < length self.old.parts }
+        ensures lane { IsTrue result → HoldsAt (λ p. p.lane ≡ lane.now) self.old.parts (length self.old.parts - 1) }
+        ensures extended { IsTrue result → self.new ≡ extended recs.now self.old }
+    {
+        let end = self.start + self.recs.len();
+        if !ends_on(&self.runs, lane, end) {
+            return false;
+        }
+        let last = self.runs.len() - 1;
+        let run = &mut self.runs[last];
+        run.end = end + recs.len();
+        push_rows(&mut self.recs, recs);
+        self.runs_room -= 1;
+        self.room -= recs.len();
+        true
+    }
+
+    /// One run fewer may be posted.
+    pub fn give_up_run(&mut self)
+        requires { 0 < self.old.runs }
+        ensures { self.new ≡ record self.old { runs = self.old.runs - 1 } }
+    {
+        self.runs_room -= 1;
+    }
+
+    /// Lets go of the first run. Its place among the records stays until `trim`.
+    pub fn pop(&mut self)
+        requires { 0 < length self.old.parts }
+        ensures { self.new ≡ record self.old { first = self.old.first + 1; parts = drop 1 self.old.parts } }
+    {
+        let _ = self.runs.pop_front();
+        self.first += 1;
+    }
+
+    /// Lets go of the records before the first that waits in the first run.
+    pub fn trim(&mut self)
+        ensures { self.new ≡ self.old }
+    {
+        let count = taken_rows(&self.runs, self.start, self.recs.len());
+        pop_rows(&mut self.recs, count);
+        self.start += count;
+    }
+
+    /// Makes room for `room` more records, in `runs` runs. Refusal: `Memory`, with the runs unchanged.
+    pub fn reserve(&mut self, runs: usize, room: usize) -> Result<(), ShardError>
+        ensures ok { OnOk result (self.new ≡ record self.old { runs = max self.old.runs runs; room = max self.old.room room }) }
+        ensures err { OnErr result (self.new ≡ self.old) }
+    {
+        let runs = runs.max(self.runs_room);
+        let room = room.max(self.room);
+        if !can_number(self.first, self.runs.len(), runs) {
+            return Err(ShardError::Memory);
+        }
+        if !can_number(self.start, self.recs.len(), room) {
+            return Err(ShardError::Memory);
+        }
+        self.runs.reserve(runs)?;
+        self.recs.reserve(room)?;
+        self.runs_room = runs;
+        self.room = room;
+        Ok(())
+    }
+}
+
+/// How many records there are before the first that waits in the first run: all `len` of them, where there is no run.
+fn taken_rows(runs: &VecDeque<Run>, start: usize, len: usize) -> usize
+    requires { InOrder start runs.now.items (start + len) }
+    ensures within { result ≤ len }
+    ensures ordered { InOrder (start + result) runs.now.items (start + len) }
+{
+    match runs.front() {
+        Some(run) => run.at - start,
+        None => len,
+    }
+}
+
+/// Whether the last run is on this lane, and its records end at this number.
+fn ends_on(runs: &VecDeque<Run>, lane: &Lane, end: usize) -> bool
+    ensures some { IsTrue result → 0 < deque_len runs.now }
+    ensures lane { IsTrue result → HoldsAt (λ r. r.lane ≡ lane.now) runs.now.items (deque_len runs.now - 1) }
+    ensures end { IsTrue result → HoldsAt (λ r. r.end ≡ end) runs.now.items (deque_len runs.now - 1) }
+{
+    match runs.back() {
+        Some(run) => run.end == end && run.lane == *lane,
+        None => false,
+    }
+}
+
+/// Whether numbers fit, from `first` on, for `len` things and `room` more.
+fn can_number(first: usize, len: usize, room: usize) -> bool
+    ensures { IsTrue result → first + (len + room) < 2 ^ 64 }
+{
+    match len.checked_add(room) {
+        Some(many) => first.checked_add(many).is_some(),
+        None => false,
+    }
+}
