@@ -9,9 +9,7 @@ ghost use Rattle.td_plan.specs.Tree.{tree_of};
 ghost use Rattle.td_calls.specs.Fits.{first_lack};
 ghost use Rattle.td_batch.specs.Meaning.{run, numbered, epoch_result};
 ghost use Rattle.td_batch.specs.Steps.Emitted.{input_of};
-ghost use Rattle.td_batch.specs.Steps.Epoch.{IsOuter};
 ghost use Rattle.td_batch.specs.Steps.Sent.{with_change};
-ghost use Rattle.td_batch.specs.Steps.Tree.{nodes_of};
 
 use crate::emission::Given;
 use crate::epoch::bring;
@@ -19,9 +17,73 @@ use crate::error::BatchError;
 use crate::sent::Change;
 use crate::tree::Tree;
 use std::alloc::Global;
+use std::marker::Model;
 use td_calls::{Closures, Law};
 use td_plan::Plan;
 use td_stamp::{Bag, Batch, EpochOut, Output, States};
+
+/// A plan made ready for its epochs: what stands in which of its loops is found once, and not at each epoch. Contracts see the
+/// plan.
+#[derive(Drop)]
+pub struct Evaluator<'a> {
+    // (what contracts see)
+    plan: &'a Plan,
+    tree: Tree,
+    alloc: Global,
+}
+
+impl<'a> Model for Evaluator<'a> {
+    ghost use Rattle.std.specs.Prelude.{List};
+    ghost use Rattle.td_plan.specs.Lines.{Line};
+    ghost use Rattle.td_batch.specs.Steps.Epoch.{IsReady};
+    ghost use Rattle.td_batch.specs.Steps.Tree.{nodes_of};
+
+    ghost Value = { List Line };
+
+    ghost view = { λ e. e.plan.now };
+
+    ghost invariant = { λ e. IsReady e.plan.now (nodes_of e.tree) };
+}
+
+impl<'a> Evaluator<'a> {
+    /// Makes a plan ready. It takes O(n) time and memory in its lines. Refusal: `Memory`.
+    pub fn of(alloc: Global, plan: &'a Plan) -> Result<Evaluator<'a>, BatchError>
+        ensures { IfOk result (λ evaluator. evaluator ≡ plan.now) }
+    {
+        let tree = Tree::of(alloc, plan)?;
+        Ok(Evaluator { plan, tree, alloc })
+    }
+
+    /// One epoch of the batch meaning, numbered `epoch`: its output, and the states after it in place of those before. They
+    /// are changed in place, key by key of the folds at which records arrive. Refusal: `Memory`, after which some keys may
+    /// have their new state and some their old one, so that the states are of no use.
+    pub fn epoch<L: Law, C: Closures<L>>(
+        &self,
+        calls: &C,
+        states: &mut States,
+        epoch: u64,
+        batch: &Batch,
+    ) -> Result<EpochOut, BatchError>
+        requires fits { first_lack (C.has_map calls.now) (C.has_group calls.now) (C.has_fold calls.now) (vertices self.now) ≡ None }
+        requires accepted { IsTrue (list_all (λ e. is_input_of self.now e.input) batch.now) }
+        requires number { (1 ≤ epoch) × (epoch < 2 ^ 63) }
+        ensures number { IfOk result (λ out. out.epoch ≡ epoch) }
+        ensures out { IfOk result (λ out. out.recs ≡ (epoch_result (input_of L.answers states.old batch.now) (tree_of self.now)).outs) }
+        ensures states { OnOk result (states.new ≡ (epoch_result (input_of L.answers states.old batch.now) (tree_of self.now)).states) }
+    {
+        let brought = bring::<L, C>(
+            self.alloc,
+            &Given {
+                calls,
+                states,
+                batch,
+            },
+            &self.tree,
+        )?;
+        keep_all(states, brought.changes.as_slice())?;
+        Ok(output_of(self.alloc, epoch, brought.outputs))
+    }
+}
 
 /// The states and outputs to which a plan comes from these states by these batches, one an epoch, numbered from `first`
 /// on: the batch meaning. An epoch without records has its output too. It takes O(n log n) time in the records that pass
@@ -41,11 +103,12 @@ pub fn evaluate<L: Law, C: Closures<L>>(
     ensures states { IfOk result (λ r. r.0 ≡ (run L.answers (tree_of plan.now) states.now batches.now).states) }
     ensures outs { IfOk result (λ r. r.1.items ≡ numbered first (run L.answers (tree_of plan.now) states.now batches.now).outs) }
 {
+    let evaluator = Evaluator::of(alloc, plan)?;
     let mut states = states.copy()?;
     let mut outs = Vec::new(alloc);
     for batch in batches {
         let epoch = number_after(first, outs.as_slice());
-        outs.push(evaluate_epoch::<L, C>(alloc, plan, calls, &mut states, epoch, batch)?)?;
+        outs.push(evaluator.epoch::<L, C>(calls, &mut states, epoch, batch)?)?;
     }
     Ok((states, outs))
 }
@@ -56,38 +119,6 @@ fn number_after(first: u64, outs: &[EpochOut]) -> u64
     ensures { result ≡ first + length outs.now }
 {
     first + outs.len() as u64
-}
-
-/// One epoch of the batch meaning, numbered `epoch`: its output, and the states after it in place of those before. They
-/// are changed in place, key by key of the folds at which records arrive. Refusal: `Memory`, after which some keys may
-/// have their new state and some their old one, so that the states are of no use.
-pub fn evaluate_epoch<L: Law, C: Closures<L>>(
-    alloc: Global,
-    plan: &Plan,
-    calls: &C,
-    states: &mut States,
-    epoch: u64,
-    batch: &Batch,
-) -> Result<EpochOut, BatchError>
-    requires fits { first_lack (C.has_map calls.now) (C.has_group calls.now) (C.has_fold calls.now) (vertices plan.now) ≡ None }
-    requires accepted { IsTrue (list_all (λ e. is_input_of plan.now e.input) batch.now) }
-    requires number { (1 ≤ epoch) × (epoch < 2 ^ 63) }
-    ensures number { IfOk result (λ out. out.epoch ≡ epoch) }
-    ensures out { IfOk result (λ out. out.recs ≡ (epoch_result (input_of L.answers states.old batch.now) (tree_of plan.now)).outs) }
-    ensures states { OnOk result (states.new ≡ (epoch_result (input_of L.answers states.old batch.now) (tree_of plan.now)).states) }
-{
-    let tree = Tree::of(alloc, plan)?;
-    let brought = bring::<L, C>(
-        alloc,
-        &Given {
-            calls,
-            states,
-            batch,
-        },
-        &tree,
-    )?;
-    keep_all(states, brought.changes.as_slice())?;
-    Ok(output_of(alloc, epoch, brought.outputs))
 }
 
 /// The output of an epoch: what it put out, in order.

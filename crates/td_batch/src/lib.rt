@@ -15,4 +15,4 @@ mod sent;
 mod tree;
 
 pub use error::BatchError;
-pub use evaluator::{evaluate, evaluate_epoch};
+pub use evaluator::{Evaluator, evaluate};

@@ -10,7 +10,7 @@ ghost use Rattle.td_console.specs.Answer.{lines_of_run, output_line};
 use crate::faults::Fault;
 use itoa::Buffer;
 use std::alloc::Global;
-use td_batch::{evaluate_epoch, laws};
+use td_batch::{Evaluator, laws};
 use td_calls::{Closures, Law};
 use td_plan::Plan;
 use td_stamp::{Batch, EpochOut, Output, States};
@@ -30,11 +30,12 @@ pub(crate) fn run_text<L: Law, C: Closures<L>>(
     ensures err { IfErr result (λ f. f ≡ Fault.Memory) }
 {
     laws::run_joins::<L>();
+    let evaluator = Evaluator::of(alloc, plan)?;
     let mut states = States::new(alloc);
     let mut text = String::new(alloc);
     let mut epoch = 1;
     for batch in batches {
-        let out = evaluate_epoch::<L, C>(alloc, plan, calls, &mut states, epoch, &batch)?;
+        let out = evaluator.epoch::<L, C>(calls, &mut states, epoch, &batch)?;
         print_epoch(&mut text, &out)?;
         epoch += 1;
     }

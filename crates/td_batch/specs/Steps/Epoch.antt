@@ -1,10 +1,11 @@
 -- What the evaluator knows of the tree that it walks.
 use Rattle.std.specs.Prelude.{List, ◌≡◌, ℕ, ◌+◌, ◌<◌, ◌≤◌, Bool, None}
 use Rattle.std.specs.List.{AllByRecursion}
-use Rattle.td_plan.specs.Lines.{Vertex}
-use Rattle.td_plan.specs.Tree.{Nodes, size}
+use Rattle.td_plan.specs.Lines.{Line, Vertex}
+use Rattle.td_plan.specs.Blocks.{vertices}
+use Rattle.td_plan.specs.Tree.{Nodes, size, tree_of}
 use Rattle.td_plan.specs.Tree.Nodes.{done, node, block}
-use Rattle.td_calls.specs.Fits.{lacking_code}
+use Rattle.td_calls.specs.Fits.{first_lack, lacking_code}
 use Rattle.td_batch.specs.Quiet.{IsLoopBody}
 
 module _ (maps groups folds : ℕ → Bool) where
@@ -23,6 +24,10 @@ module _ (maps groups folds : ℕ → Bool) where
   IsOuter n done = Unit {0}
   IsOuter n (node v rest) = IsAt n v × AllByRecursion (λ s. s < n) v.sources × IsOuter (n + 1) rest
   IsOuter n (block bound body rest) = (1 ≤ bound) × ((outer : List ℕ) × IsLoopBody outer n body) × IsInner n body × IsOuter (n + size body) rest
+
+-- a tree is that of a plan, and its vertices are in their places with any closures that fit the plan
+abbrev pub IsReady : List Line → Nodes → Type 0
+IsReady plan nodes = (nodes ≡ tree_of plan) × ((maps groups folds : ℕ → Bool) → first_lack maps groups folds (vertices plan) ≡ None → IsOuter maps groups folds 0 nodes)
 
 -- how much a tree has: each loop counts more than its body
 abbrev pub weight : Nodes → ℕ

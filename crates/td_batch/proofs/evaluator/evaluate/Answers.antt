@@ -14,13 +14,14 @@ loop-batch-preserved g c =
     let batch : List Entry = c.batch-item.result in
     let i = c.loop-batch.batch-index in
     let kept = c.loop-batch.states in
-    let out = c.in_ok-evaluate_epoch.field-0 in
+    let out = c.in_ok-epoch.field-0 in
     let recs : List Output = out.recs in
     let at : c.number_after-epoch.result ≡ c.args.first + i = c.number_after-epoch.ensures ∙ ap (λ (n : ℕ). c.args.first + n) (ap length c.as_slice.ensures.value ∙ c.loop-batch.invariant.count_is) in
-    let made = c.in_ok-evaluate_epoch.ensures in
+    let made = c.in_ok-epoch.ensures in
+    let plan : c.in_ok-evaluator.evaluator ≡ c.args.plan.now = c.in_ok-evaluator.ensures in
     let more =
-    one_more answers nodes c.args.first c.args.states.now c.args.batches.now i batch kept c.evaluate_epoch.new.states c.loop-batch.outs.items recs c.loop-batch-test.true c.loop-batch.invariant.kept c.loop-batch.invariant.so_far
-    (made.states ∙ ap (λ b. (epoch_result (input_of answers kept b) nodes).states) c.batch-item.is) (made.out ∙ ap (λ b. (epoch_result (input_of answers kept b) nodes).outs) c.batch-item.is) in
+    one_more answers nodes c.args.first c.args.states.now c.args.batches.now i batch kept c.epoch.new.states c.loop-batch.outs.items recs c.loop-batch-test.true c.loop-batch.invariant.kept c.loop-batch.invariant.so_far
+    (made.states ∙ (λ j. (epoch_result (input_of answers kept (c.batch-item.is j)) (tree_of (plan j))).states)) (made.out ∙ (λ j. (epoch_result (input_of answers kept (c.batch-item.is j)) (tree_of (plan j))).outs)) in
     record {
       count_is = ap length c.in_ok-push.ensures.items ∙ length-append c.loop-batch.outs.items (record { epoch = out.epoch; recs = recs } ∷ []) ∙ ap (λ n. n + 1) c.loop-batch.invariant.count_is;
       kept = more.0;

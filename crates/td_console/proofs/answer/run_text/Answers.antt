@@ -20,11 +20,12 @@ loop-batch-preserved g c =
     let last : List Output = (epoch_result (from before.states) nodes).outs in
     let so_far = c.loop-batch.invariant in
     let made = c.in_ok-out.ensures in
+    let plan : c.in_ok-evaluator.evaluator ≡ c.args.plan.now = c.in_ok-evaluator.ensures in
     let recs : List Output = c.in_ok-out.out.recs in
-    let outs : recs ≡ last = made.out ∙ ap (λ s. (epoch_result (from s) nodes).outs) so_far.kept in
+    let outs : recs ≡ last = made.out ∙ (λ i. (epoch_result (from (so_far.kept i)) (tree_of (plan i))).outs) in
     record {
       epoch_is = omega (arith, so_far.epoch_is, length-append yielded (batch ∷ []));
-      kept = made.states ∙ ap (λ s. (epoch_result (from s) nodes).states) so_far.kept ∙ sym (c.run_joins.ensures.states nodes [] yielded (batch ∷ []));
+      kept = made.states ∙ (λ i. (epoch_result (from (so_far.kept i)) (tree_of (plan i))).states) ∙ sym (c.run_joins.ensures.states nodes [] yielded (batch ∷ []));
       printed =
           c.in_ok-print_epoch.ensures.ok ∙ (λ i. so_far.printed i ++ flat_map (output_line (made.number i)) (outs i))
           ∙ sym (lines-push answers nodes [] yielded last c.loop-batch.epoch so_far.epoch_is)
