@@ -1,6 +1,7 @@
 -- How what a feed's calls leave of a keeper comes together.
 use Rattle.std.proofs.Common.{◌≡◌, ◌⊎◌, ⊎_elim, inl, inr, ℕ, ◌+◌, ◌-◌, ◌≤◌, Bool, false, List, [], ◌∷◌, ◌++◌, length, take, drop, refl, sym, ap, ◌∙◌, subst, arith}
 use Rattle.std.specs.Prelude.{Option, Some, None, IfSome, Result, Ok, Err, OnOk, OnErr}
+use Rattle.std.specs.Option.{option_map}
 use Rattle.std.proofs.lemmas.List.{append-nil, append_assoc, length-append, take_at, take-append-le, take_all, take-map, take-append-drop, length-drop}
 use Rattle.std.proofs.Math.Seq.{take-append-add}
 use Rattle.td_stamp.specs.declared.values.Entry.{Entry}
@@ -74,6 +75,11 @@ ended_err P Q (Err e) result f p q = at_err result q
 pub in_some : {A : Type 0} {P : A → Type 0} (o : Option A) → ((a : A) → P a) → IfSome o P
 in_some (Some a) f = f a
 in_some None f = tt
+
+-- what is known of what a thing is made to is known of it
+pub of_made : {A B : Type 0} (f : A → B) (P : B → Type 0) (o : Option A) (made : Option B) → made ≡ option_map f o → IfSome made P → IfSome o (λ a. P (f a))
+of_made f P None made is p = tt
+of_made f P (Some a) made is p = subst (λ m. IfSome m P) is p
 
 -- two answers
 abbrev ok_of : Standing → Result Standing KeeperError

@@ -1,11 +1,12 @@
-use Rattle.std.proofs.Common.{List, [], refl, inr, sym, ap, ◌∙◌, subst, Ok, Err}
-use Rattle.std.specs.Prelude.{Result}
+use Rattle.std.proofs.Common.{◌≡◌, List, [], refl, inr, sym, ap, ◌∙◌, subst, Ok, Err}
+use Rattle.std.specs.Prelude.{Result, IfErr, IsErr}
 use Rattle.std.proofs.lemmas.Option.{IfSome_then}
+use Rattle.std.proofs.lemmas.Result.{on_ok_weaker, on_err_weaker}
 use Rattle.td_console.specs.declared.faults.Fault.{Fault}
 use Rattle.td_feed.specs.declared.order.Order.{Order}
 use Rattle.td_feed.specs.Said.{SaysBy}
 use Rattle.td_feed.specs.Orders.{orders_of, submitted_by}
-use Rattle.td_feed.specs.Carried.{new_to}
+use Rattle.td_feed.specs.Carried.{new_to, Carries, Leaves}
 use Rattle.td_feed.proofs.Carrying.{in_some, unmoved, leaves_none}
 use Rattle.td_feed.proofs.Counting.{as_err, counts_same, fault_of}
 use Rattle.td_feed.proofs.Lines.{says_nothing, some_of_all}
@@ -43,3 +44,26 @@ returns-in-Ok-clause-said g c =
     (λ input is.
     subst (λ (r : Result (List Order) Fault). SaysBy is_lawful state failures answers c.obey_by_workers.result.1 (g.W.Sink.contents c.args.writer.now) (g.W.Sink.contents c.obey_by_workers.new.writer) c.args.keeper c.obey_by_workers.result.0 (new_to c.args.keeper (submitted_by r)))
     (sym (is ∙ ap as_read (sym c.from-in-Ok.ensures.0))) c.obey_by_workers.ensures.said)
+
+pub returns-in-Ok-clause-fault : goal.returns-in-Ok-clause-fault
+returns-in-Ok-clause-fault g c =
+    IfSome_then (g.I.Source.remaining c.args.reader.now) c.in-Ok.ensures.orders
+    (λ input is. subst (λ (r : Result (List Order) Fault). IfErr r (λ _. IsErr c.obey_by_workers.result.1 × (c.obey_by_workers.new.writer ≡ c.args.writer.now))) (sym is) tt)
+
+pub returns-in-Ok-clause-fed : goal.returns-in-Ok-clause-fed
+returns-in-Ok-clause-fed g c =
+    let answers = g.L.Law.answers in
+    let ended = c.obey_by_workers.result in
+    on_ok_weaker ended.1
+    (λ carries. IfSome_then (g.I.Source.remaining c.args.reader.now) c.in-Ok.ensures.orders
+    (λ input is. subst (λ (r : Result (List Order) Fault). Carries answers c.args.keeper ended.0 (new_to c.args.keeper (submitted_by r))) (sym (is ∙ ap as_read (sym c.from-in-Ok.ensures.0))) carries))
+    c.obey_by_workers.ensures.fed
+
+pub returns-in-Ok-clause-left : goal.returns-in-Ok-clause-left
+returns-in-Ok-clause-left g c =
+    let answers = g.L.Law.answers in
+    let ended = c.obey_by_workers.result in
+    on_err_weaker ended.1
+    (λ leaves. IfSome_then (g.I.Source.remaining c.args.reader.now) c.in-Ok.ensures.orders
+    (λ input is. subst (λ (r : Result (List Order) Fault). Leaves g.D.Disk.is_lawful g.D.Disk.state answers c.args.keeper ended.0 (new_to c.args.keeper (submitted_by r))) (sym (is ∙ ap as_read (sym c.from-in-Ok.ensures.0))) leaves))
+    c.obey_by_workers.ensures.left

@@ -153,3 +153,12 @@ returns-clause-device g c is =
 pub returns-clause-stays : goal.returns-clause-stays
 returns-clause-stays g c =
     ⊎_elim inl (λ same. inr (ap g.D.Disk.failures c.into_disk.ensures.disk ∙ same ∙ ap g.D.Disk.failures c.watched-keeper.ensures.device ∙ c.in-Ok.ensures.stays)) c.obey-keeper.ensures.failures.stays
+
+pub returns-clause-lawful : goal.returns-clause-lawful
+returns-clause-lawful g c =
+    let is_lawful = g.D.Disk.is_lawful in
+    let same = c.watched-keeper.ensures.device in
+    let left = c.into_disk.ensures.disk in (
+      λ lawful. subst is_lawful (sym left) (c.obey-keeper.ensures.lawful.0 (subst is_lawful (sym same) (c.in-Ok.ensures.lawful.0 lawful))),
+      λ lawful. c.in-Ok.ensures.lawful.1 (subst is_lawful same (c.obey-keeper.ensures.lawful.1 (subst is_lawful left lawful))),
+    )
