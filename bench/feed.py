@@ -81,7 +81,7 @@ def time_feed(folder, size, cells):
 
 def group_of(size):
     """How many epochs of so many records a group has."""
-    return max(1, min(GROUP, BYTES // (26 + 24 * size)))
+    return max(1, min(GROUP, BYTES // (25 + 24 * size)))
 
 
 def time_limit(folder, limit, epochs, size, cells, group):
@@ -192,4 +192,5 @@ def main():
             compare_recovery(folder, limit)
 
 
-main()
+if __name__ == "__main__":
+    main()
