@@ -155,14 +155,16 @@ def compare_recovery(folder, limit):
             out.write("".join(f"0 {key} {value}\n" for key, value in batch) + ".\n")
     with open(folder / "input") as given:
         run(TD, "feed", disk, plan, stdin=given, stdout=subprocess.DEVNULL)
-    plain = min(float(subprocess.run([limit, disk, *"12345", "plain"], check=True, capture_output=True, text=True).stdout)
-                for _ in range(5))
-    shown = [run(TD, "show", disk, plan, stdout=subprocess.DEVNULL) for _ in range(5)]
-    fed = [run(TD, "feed", disk, plan, stdin=subprocess.DEVNULL, stdout=subprocess.DEVNULL) for _ in range(2)]
+    plain, shown = [], []
+    for _ in range(21):
+        plain.append(float(subprocess.run([limit, disk, *"12345", "plain"], check=True, capture_output=True, text=True).stdout))
+        shown.append(run(TD, "show", disk, plan, stdout=subprocess.DEVNULL))
+    plain = statistics.median(plain)
+    fed = [run(TD, "feed", disk, plan, stdin=subprocess.DEVNULL, stdout=subprocess.DEVNULL) for _ in range(3)]
     held = records * cells * 24
     print(f"a full journal of {cells:,} cells of {records} records, {disk.stat().st_size:,} bytes: a plain read {plain * 1000:.1f} ms")
     for name, runs in (("show", shown), ("feed of no input", fed)):
-        seconds, memory = min(each[0] for each in runs), max(each[1] for each in runs)
+        seconds, memory = statistics.median(each[0] for each in runs), max(each[1] for each in runs)
         print(f"  td {name}: {seconds * 1000:.1f} ms, {seconds / plain:.1f} times; {memory / 1e6:.0f} MB, {memory / held:.1f} times the records")
 
 

@@ -1,12 +1,13 @@
 #!/usr/bin/env python3
 """Processor time and memory of `td batch` and `td run`, beside a program that is tuned for the one job (bench/tuned.rs).
 
-    bench/speed.py          needs rustc and a `td` that `rt run` built
-    bench/speed.py TD..     with these programs, each as `td`
+    bench/speed.py [--rounds N] [TD..]      needs rustc and a `td` that `rt run` built, or these programs, each as `td`
 
-All read the same text in turn, and their outputs must be equal. The median of five runs counts: of the processor time, with the
-system's, and of the most that was resident at once."""
+All read the same text in turn, and their outputs must be equal. The median of the rounds counts, five by default: of the processor time,
+with the system's, and of the most that was resident at once. Then plans are compared with each other: twice as many records with as many,
+and COUNT beside 20 maps that nobody reads with COUNT alone; the two of each in turn as well."""
 
+import argparse
 import pathlib
 import statistics
 import subprocess
@@ -23,14 +24,15 @@ CASES = [
 ]
 
 
-# Plans without a tuned program: a name, the words of td, a plan, and records, keys, epochs and values.
-MORE = [
-    ("COUNT, 1,000,000 records", ["batch"], COUNT, (1_000_000, 100_000, 1), {}),
-    ("the same and 20 maps that nobody reads", ["batch"], UNREAD, (1_000_000, 100_000, 1), {}),
-    ("COUNT, 2,000,000 records", ["batch"], COUNT, (2_000_000, 100_000, 1), {}),
-    ("TOTAL, 2,000,000 records, 2,000 epochs", ["batch"], TOTAL, (2_000_000, 100_000, 2000), {}),
-    ("RING, 100,000 records of 4 keys", ["batch"], RING, (100_000, 4, 1), {"values": (0, 1_000_000)}),
-    ("RING, 200,000 records of 4 keys", ["batch"], RING, (200_000, 4, 1), {"values": (0, 1_000_000)}),
+# Plans beside each other: of both a name, a plan, and records, keys, epochs and values.
+MILLION = ("COUNT, 1,000,000 records", COUNT, (1_000_000, 100_000, 1), {})
+VALUES = {"values": (0, 1_000_000)}
+PAIRS = [
+    (MILLION, ("the same and 20 maps that nobody reads", UNREAD, (1_000_000, 100_000, 1), {})),
+    (MILLION, ("COUNT, 2,000,000 records", COUNT, (2_000_000, 100_000, 1), {})),
+    (("TOTAL, 1,000,000 records, 1,000 epochs", TOTAL, (1_000_000, 100_000, 1000), {}),
+     ("TOTAL, 2,000,000 records, 2,000 epochs", TOTAL, (2_000_000, 100_000, 2000), {})),
+    (("RING, 100,000 records of 4 keys", RING, (100_000, 4, 1), VALUES), ("RING, 200,000 records of 4 keys", RING, (200_000, 4, 1), VALUES)),
 ]
 
 
@@ -43,20 +45,42 @@ def run(command, text, output):
     return float(user) + float(system), int(kilobytes) / 1024
 
 
-def measure(name, programs, text, place):
-    """The medians of five runs of each program, in turn."""
-    met = {who: [] for who in programs}
-    for _ in range(5):
+def medians_of(met):
+    """Of each the median of its seconds, and that of its megabytes."""
+    return {who: tuple(statistics.median(column) for column in zip(*runs)) for who, runs in met.items()}
+
+
+def measure(name, programs, text, place, rounds):
+    """The medians of each program, run in turn on one text."""
+    met, output = {who: [] for who in programs}, None
+    for _ in range(rounds):
         for who, command in programs.items():
             met[who].append(run(command, text, place / "out"))
-            output = (place / "out").read_bytes()
-            if output != met.setdefault("output", output):
+            said = (place / "out").read_bytes()
+            if output not in (None, said):
                 sys.exit(f"{name}: {who} writes something else")
-    return {who: tuple(statistics.median(column) for column in zip(*met[who])) for who in programs}
+            output = said
+    return medians_of(met)
+
+
+def compare(td, pair, place, rounds):
+    """The medians of `td batch` on two texts, in turn."""
+    met = {}
+    for number, (name, plan, sizes, more) in enumerate(pair):
+        (place / f"text{number}").write_text(plan + "--\n" + "".join(records(*sizes, 1, **more)))
+        met[name] = []
+    for _ in range(rounds):
+        for number, runs in enumerate(met.values()):
+            runs.append(run([td, "batch"], place / f"text{number}", place / "out"))
+    return medians_of(met)
 
 
 def main():
-    tds = [pathlib.Path(word).resolve() for word in sys.argv[1:]] or [TD]
+    words = argparse.ArgumentParser(description=__doc__, formatter_class=argparse.RawDescriptionHelpFormatter)
+    words.add_argument("--rounds", type=int, default=5)
+    words.add_argument("tds", nargs="*", metavar="TD", type=pathlib.Path)
+    given = words.parse_args()
+    tds = [td.resolve() for td in given.tds] or [TD]
     with tempfile.TemporaryDirectory() as folder:
         place = pathlib.Path(folder)
         subprocess.run(["rustc", "--edition", "2021", "-O", "-o", place / "tuned", ROOT / "bench/tuned.rs"], check=True)
@@ -68,16 +92,15 @@ def main():
             for td in tds:
                 of = f" of {td}" if len(tds) > 1 else ""
                 programs |= {f"`td batch`{of}": [td, "batch"], f"`td run`{of}": [td, "run"], f"`td run` with 4 shards{of}": [td, "run", "--workers", "4"]}
-            medians = measure(name, programs, text, place)
+            medians = measure(name, programs, text, place, given.rounds)
             base = medians["tuned"]
             for who, (seconds, megabytes) in medians.items():
-                print(f"| {name} | {who} | {seconds:.2f} | {seconds / base[0]:.1f} | {megabytes:.0f} | {megabytes / base[1]:.1f} |")
-        print("\n| Plan | Program | s | MB |\n|---|---|---|---|")
-        for name, words, plan, sizes, more in MORE:
-            text = place / "text"
-            text.write_text(plan + "--\n" + "".join(records(*sizes, 1, **more)))
-            for who, (seconds, megabytes) in measure(name, {str(td): [td, *words] for td in tds}, text, place).items():
-                print(f"| {name} | {who} | {seconds:.2f} | {megabytes:.0f} |")
+                print(f"| {name} | {who} | {seconds:.2f} | {seconds / base[0]:.1f} | {megabytes:.0f} | {megabytes / base[1]:.1f} |", flush=True)
+        print("\n| Plan | Program | s | MB | Plan | s | times | MB | times |\n|---|---|---|---|---|---|---|---|---|")
+        for td in tds:
+            for pair in PAIRS:
+                (first, one), (second, other) = compare(td, pair, place, given.rounds).items()
+                print(f"| {first} | {td.name} | {one[0]:.2f} | {one[1]:.0f} | {second} | {other[0]:.2f} | {other[0] / one[0]:.1f} | {other[1]:.0f} | {other[1] / one[1]:.1f} |", flush=True)
 
 
 if __name__ == "__main__":
