@@ -44,6 +44,13 @@ impl<D: Disk> ReadAhead<D> {
         }
     }
 
+    /// The disk that is read a block at a time.
+    pub fn inner(&self) -> &D
+        ensures { result.now ≡ inner_of self.now }
+    {
+        &self.inner
+    }
+
     // Where so many bytes from the offset `at` on begin in the block, if it has them.
     fn place_of(&self, at: u64, len: usize) -> Option<usize>
         ensures { IfSome result (λ first. (self.now.start + first ≡ at) × (first + len ≤ length self.now.block.items)) }

@@ -1,14 +1,13 @@
 // A file as a disk. It claims no law.
-ghost use Rattle.std.specs.Prelude.{◌≡◌, ◌-◌, ◌^◌, ◌<◌, ◌≤◌, ◌↔◌, [], ℕ, IfOk, IsErr, IsTrue, false};
+ghost use Rattle.std.specs.Prelude.{◌≡◌, ◌-◌, ◌^◌, ◌<◌, ◌≤◌, ◌↔◌, [], ℕ, IfOk, IsErr, IsOk, IsTrue, false};
 ghost use Rattle.std.specs.Fs.{metadata_len};
 ghost use Rattle.td_disk.specs.Disk.{Rises};
 
-use crate::{Disk, Fault, MakeError};
+use crate::{Disk, Fault, FileCall, FileFailure, MakeError};
 use std::fs::{File, Metadata, OpenOptions};
-use std::io;
 use std::os::unix::fs::FileExt;
-use std::path::Path;
 use std::rt::Files;
+use std::{fs, io};
 
 /// A file as a disk, locked so that no other `FileDisk` has it at the same time. It is lawful where
 /// the operating system, the device below it and whoever else writes the file make it so, which no
@@ -20,36 +19,44 @@ pub struct FileDisk {
     size: u64,
     failures: u64,
     has_failed_sync: bool,
+    last_failure: Option<FileFailure>,
 }
 
-/// Opens a file as it stands to be read and written, and locks it.
+/// Opens a file as it stands to be read and written, and locks it. A folder, a device or a pipe is no file here: a sync of one
+/// fails, or says nothing.
 fn open_locked<R: Files<File = File>>(
     rt: &R,
     path: &str,
     options: &OpenOptions,
 ) -> Result<File, MakeError> {
     let file = options.open(rt, path)?;
+    if !file.metadata()?.is_file() {
+        return Err(MakeError::File);
+    }
     file.try_lock().map_err(io::Error::from)?;
     Ok(file)
 }
 
-/// Syncs the folder of a path: until then a crash may leave it without the file's name.
-fn sync_folder<R: Files<File = File>>(rt: &R, path: &str) -> Result<(), MakeError> {
-    let folder = match Path::new(path).parent() {
-        Some(folder) if !folder.as_os_str().is_empty() => folder,
-        _ => Path::new("."),
-    };
-    File::open(rt, folder)?.sync_all()?;
-    Ok(())
+/// The folder in which the file of a path stands, behind all links of the path.
+fn folder_of<R: Files<File = File> + AllocGlobal>(rt: &R, path: &str) -> Result<File, MakeError> {
+    let file = fs::canonicalize(rt, path)?;
+    match file.parent() {
+        Some(folder) => Ok(File::open(rt, folder)?),
+        None => Err(MakeError::File),
+    }
 }
 
 impl FileDisk {
-    ghost use Rattle.td_disk.specs.FileDisk.{has_failed_sync};
+    ghost use Rattle.td_disk.specs.FileDisk.{has_failed_sync, last_failure, MayCall, IsOf};
 
     /// Makes the file with `size` bytes, all of them 0, and writes one that stands there anew. The
-    /// file and the folder of its path are synced. It refuses `File` where the file cannot be made,
-    /// sized or synced, or another has locked it (then it is left as it stands), and `Memory`.
-    pub fn create<R: Files<File = File>>(
+    /// file is synced, and so is the folder in which it stands, behind links too: until then a crash may leave
+    /// it without the file's name. The folder is opened before a file that stands there is cut.
+    ///
+    /// It refuses `File` where the file cannot be made, sized or synced, or its folder cannot be
+    /// opened, or it is no file but a folder, a device or a pipe, or another has locked it (in the last three it is
+    /// left as it stands), and `Memory`.
+    pub fn create<R: Files<File = File> + AllocGlobal>(
         rt: &R,
         path: &str,
         size: u64,
@@ -62,16 +69,17 @@ impl FileDisk {
         let mut options = OpenOptions::new();
         options.read(true).write(true).create(true);
         let file = open_locked(rt, path, &options)?;
+        let folder = folder_of(rt, path)?;
         file.set_len(0)?;
         file.set_len(size)?;
         file.sync_all()?;
-        sync_folder(rt, path)?;
+        folder.sync_all()?;
         Ok(FileDisk::new(file, size))
     }
 
     /// Opens a file that stands there, for the size that it has now. It refuses `File` where the
-    /// file cannot be opened to be read and written, or measured, or another has locked it, and
-    /// `Memory`.
+    /// file cannot be opened to be read and written, or measured, or it is no file but a folder, a device or a
+    /// pipe, or another has locked it, and `Memory`.
     pub fn open<R: Files<File = File>>(rt: &R, path: &str) -> Result<FileDisk, MakeError>
         ensures failures { IfOk result (λ d. ⟦<FileDisk as Disk>⟧.failures d ≡ 0) }
         ensures no_failed_sync { IfOk result (λ d. has_failed_sync d ≡ false) }
@@ -103,12 +111,21 @@ impl FileDisk {
             size,
             failures: 0,
             has_failed_sync: false,
+            last_failure: None,
         }
+    }
+
+    /// The last call of the file that failed, and how; none where none has. A call that is refused since a sync failed before it
+    /// is no call of the file.
+    pub fn last_failure(&self) -> Option<FileFailure>
+        ensures { result ≡ last_failure self.now }
+    {
+        self.last_failure
     }
 
     // Whether the file may still be called.
     fn may_call(&self) -> bool
-        ensures { IsTrue result ↔ ((self.now.has_failed_sync ≡ false) × (self.now.failures < 2 ^ 64 - 1)) }
+        ensures { IsTrue result ↔ MayCall self.now }
     {
         !self.has_failed_sync && self.failures < u64::MAX
     }
@@ -120,14 +137,33 @@ impl FileDisk {
         ensures bound { self.new.failures < 2 ^ 64 }
         ensures size { self.new.size ≡ self.old.size }
         ensures has_failed_sync { self.new.has_failed_sync ≡ self.old.has_failed_sync }
+        ensures last_failure { self.new.last_failure ≡ self.old.last_failure }
     {
         self.failures = self.failures.saturating_add(1);
         Fault::Device
+    }
+
+    // Whether a call of the file was done. One that failed is kept, with its cause.
+    fn is_done(&mut self, call: FileCall, answer: io::Result<()>) -> bool
+        ensures done { IsTrue result ↔ IsOk answer }
+        ensures failures { self.new.failures ≡ self.old.failures }
+        ensures size { self.new.size ≡ self.old.size }
+        ensures has_failed_sync { self.new.has_failed_sync ≡ self.old.has_failed_sync }
+        ensures told { IsErr answer → IsOf call self.new.last_failure }
+    {
+        match answer {
+            Ok(()) => true,
+            Err(error) => {
+                self.last_failure = Some(FileFailure::of(call, &error));
+                false
+            }
+        }
     }
 }
 
 impl Disk for FileDisk {
     ghost use Rattle.td_disk.specs.FileDisk.{FileCalls, FileSyncs};
+    ghost use Rattle.td_disk.specs.declared.file_failure.FileCall.TheVariants.{Read, Write};
 
     ghost capacity = { λ f. f.size };
 
@@ -137,9 +173,9 @@ impl Disk for FileDisk {
 
     ghost state = { λ _. record { bytes = []; images = λ _. ⊥; since = λ _ _. ⊥; moment = 0 } };
 
-    ghost read_gives = { λ f _ _ result g. FileCalls result f g };
+    ghost read_gives = { λ f _ _ result g. FileCalls Read result f g };
 
-    ghost write_gives = { λ f _ _ result g. FileCalls result f g };
+    ghost write_gives = { λ f _ _ result g. FileCalls Write result f g };
 
     ghost sync_gives = { λ f result g. FileSyncs result f g };
 
@@ -156,22 +192,31 @@ impl Disk for FileDisk {
     }
 
     fn read(&mut self, at: u64, bytes: &mut [u8]) -> Result<(), Fault> {
-        if self.may_call() && self.file.read_exact_at(bytes, at).is_ok() {
-            return Ok(());
+        if self.may_call() {
+            let answer = self.file.read_exact_at(bytes, at);
+            if self.is_done(FileCall::Read, answer) {
+                return Ok(());
+            }
         }
         Err(self.count_failure())
     }
 
     fn write(&mut self, at: u64, bytes: &[u8]) -> Result<(), Fault> {
-        if self.may_call() && self.file.write_all_at(bytes, at).is_ok() {
-            return Ok(());
+        if self.may_call() {
+            let answer = self.file.write_all_at(bytes, at);
+            if self.is_done(FileCall::Write, answer) {
+                return Ok(());
+            }
         }
         Err(self.count_failure())
     }
 
     fn sync(&mut self) -> Result<(), Fault> {
-        if self.may_call() && self.file.sync_all().is_ok() {
-            return Ok(());
+        if self.may_call() {
+            let answer = self.file.sync_all();
+            if self.is_done(FileCall::Sync, answer) {
+                return Ok(());
+            }
         }
         self.has_failed_sync = true;
         Err(self.count_failure())

@@ -2,7 +2,7 @@
 use std::fs::{self, OpenOptions};
 use std::test::Fail;
 use std::{env, process};
-use td_disk::{Disk, Fault, FileDisk, MakeError};
+use td_disk::{Disk, Fault, FileCall, FileDisk, MakeError};
 
 /// The calls of the sequence, by number from 1, on a disk of four bytes.
 fn make_call<D: Disk>(disk: &mut D, number: u64) -> Result<(), Fault> {
@@ -49,6 +49,14 @@ fn refusals(rt: &HostRuntime, path: &str) -> (u8, u8) {
     (opened, created)
 }
 
+/// What is told of the last call of a file that failed.
+fn cause_told(rt: &HostRuntime, disk: &FileDisk) -> Result<String, Fail> {
+    match disk.last_failure() {
+        Some(failure) => Ok(failure.to_string(rt.alloc())?),
+        None => Ok(String::new(rt.alloc())),
+    }
+}
+
 #[test]
 fn a_file_is_made_locked_opened_and_cut_short(rt: HostRuntime) -> Result<(), Fail> {
     let path = file_path(&rt, "again")?;
@@ -67,12 +75,17 @@ fn a_file_is_made_locked_opened_and_cut_short(rt: HostRuntime) -> Result<(), Fai
     options.write(true);
     options.open(&rt, path.as_str())?.set_len(3)?;
     assert_eq!(rt; bytes_read(&mut opened), Err(Fault::Device));
+    assert_eq!(rt;
+        cause_told(&rt, &opened)?.as_str(),
+        "read: the file has become shorter"
+    );
     assert_eq!(rt; opened.size(), 4);
     fs::remove_file(&rt, path.as_str())?;
 
     let missing = file_path(&rt, "missing/file")?;
     assert_eq!(rt; refusals(&rt, missing.as_str()), (1, 1));
     assert_eq!(rt; refusals(&rt, "/"), (1, 1));
+    assert_eq!(rt; refusals(&rt, "/dev/null"), (1, 1));
     Ok(())
 }
 
@@ -89,12 +102,17 @@ fn a_long_write_into_a_file(rt: HostRuntime) -> Result<(), Fail> {
     Ok(())
 }
 
-// The system syncs no such file. Reads and writes of no bytes would succeed, had no sync failed.
+// The system syncs no file of /proc. Reads and writes of no bytes would succeed, had no sync failed.
 #[test]
 fn a_sync_that_failed_is_final(rt: HostRuntime) -> Result<(), Fail> {
-    let mut disk = FileDisk::open(&rt, "/dev/null")?;
+    let mut disk = FileDisk::open(&rt, "/proc/self/comm")?;
     disk.write(0, &[])?;
+    assert!(rt; disk.last_failure().is_none());
     assert_eq!(rt; disk.sync(), Err(Fault::Device));
+    assert!(rt;
+        disk.last_failure()
+            .is_some_and(|it| it.call == FileCall::Sync)
+    );
     assert_eq!(rt; disk.read(0, &mut []), Err(Fault::Device));
     assert_eq!(rt; disk.write(0, &[]), Err(Fault::Device));
     Ok(())
