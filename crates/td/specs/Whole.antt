@@ -29,5 +29,5 @@ abbrev pub IsLawfulEngine : Engine → Type 0
 IsLawfulEngine Batch = Unit {0}
 IsLawfulEngine (Run workers) = (1 ≤ workers) × (workers ≤ 16)
 IsLawfulEngine (Feed disk plan workers) = (1 ≤ workers) × (workers ≤ 16)
-IsLawfulEngine (Stream disk path plan workers cut_every told) = (1 ≤ workers) × (workers ≤ 16)
+IsLawfulEngine (Stream disk path plan workers limits told) = (1 ≤ workers) × (workers ≤ 16)
 IsLawfulEngine (Sim workers picks) = (1 ≤ workers) × (workers ≤ 16) × (0 < length picks.items)

@@ -2,9 +2,11 @@
 
 use crate::file_cause::{make_empty, why_not_opened, why_not_read};
 use crate::refusal::Refusal;
+use crate::streams;
+use crate::streams::AwaitedWriter;
 use std::fs::File;
-use std::io;
 use std::rt::Files;
+use std::{fs, io};
 use td_calls::Stock;
 use td_console::{Fault, StdReader, StdWriter};
 use td_copy::copy;
@@ -37,7 +39,7 @@ pub(crate) fn show_disk<R: Files<File = File> + Print + AllocGlobal>(
     plan: &str,
 ) -> Result<(), Fault> {
     let (mut disk, plan) = open_disk(rt, disk, plan)?;
-    let mut writer = StdWriter(io::writer(rt));
+    let mut writer = StdWriter(AwaitedWriter(io::writer(rt), 1));
     show(rt.alloc(), &mut disk, &plan, &mut writer)
 }
 
@@ -48,10 +50,13 @@ pub(crate) fn dump_disk<R: Files<File = File> + Print + AllocGlobal>(
     plan: &str,
 ) -> Result<(), Refusal> {
     let (mut disk, plan) = open_disk_or_tell(rt, path, plan)?;
-    let mut writer = StdWriter(io::writer(rt));
+    let mut writer = StdWriter(AwaitedWriter(io::writer(rt), 1));
     match dump(rt.alloc(), &mut disk, &plan, &mut writer) {
         Ok(()) => Ok(()),
-        Err(fault) => Err(Refusal::Plain(fault).on_disk(rt.alloc(), path)),
+        Err(fault) => {
+            let failure = disk.inner().last_failure();
+            Err(Refusal::Plain(fault).on_disk(rt.alloc(), path, failure))
+        }
     }
 }
 
@@ -62,11 +67,12 @@ pub(crate) fn upgrade_disk<R: Files<File = File> + Print + AllocGlobal>(
     plan: &str,
 ) -> Result<(), Fault> {
     let (disk, plan) = open_disk(rt, disk, plan)?;
-    let mut writer = StdWriter(io::writer(rt));
+    let mut writer = StdWriter(AwaitedWriter(io::writer(rt), 1));
     upgrade::<_, Stock, _>(rt.alloc(), disk, &plan, &mut writer).1
 }
 
-/// Makes a disk of this shape in a file at `new`, where there is none, and puts on it what the disk in the file at `disk` tells.
+/// Makes a disk of this shape in a file at `new`, where there is none, and puts on it what the disk in the file at `disk` tells; up to
+/// the epoch `until`, if it is given. Where that fails, the file at `new` goes away again.
 pub(crate) fn copy_disk<R: Files<File = File> + AllocGlobal>(
     rt: &R,
     path: &str,
@@ -75,17 +81,26 @@ pub(crate) fn copy_disk<R: Files<File = File> + AllocGlobal>(
     m: u32,
     n: u32,
     k: u32,
+    until: Option<u64>,
 ) -> Result<(), Refusal> {
     let alloc = rt.alloc();
     let held = hold_streams(rt)?;
     let plan = plan_or_tell(rt, plan)?;
     let shape = shape_or_tell(rt, m, n, k)?;
     let mut disk = ReadAhead::new(alloc, disk_or_tell(rt, path)?);
-    let copied = copy(alloc, &mut disk, &plan, shape, || make_disk(rt, new, shape));
+    let make = || make_disk(rt, new, shape);
+    let copied = copy(alloc, &mut disk, &plan, shape, until, make);
     drop(held);
     match copied {
         Ok(_new) => Ok(()),
-        Err(refusal) => Err(refusal.on_disk(alloc, path)),
+        Err(Refusal::New(fault)) => {
+            let _ = fs::remove_file(rt, new);
+            Err(Refusal::Plain(fault).on_disk(alloc, new, None))
+        }
+        Err(refusal) => {
+            let failure = disk.inner().last_failure();
+            Err(refusal.on_disk(alloc, path, failure))
+        }
     }
 }
 
@@ -100,10 +115,13 @@ fn make_disk<R: Files<File = File> + AllocGlobal>(
     }
     match FileDisk::create(rt, path, shape.bytes()) {
         Ok(disk) => Ok(disk),
-        Err(error) => match Fault::from(error) {
-            Fault::File => Err(file_refusal(rt, path, "cannot be made")?),
-            fault => Err(Refusal::Plain(fault)),
-        },
+        Err(error) => {
+            let _ = fs::remove_file(rt, path);
+            match Fault::from(error) {
+                Fault::File => Err(file_refusal(rt, path, "cannot be made")?),
+                fault => Err(Refusal::Plain(fault)),
+            }
+        }
     }
 }
 
@@ -191,21 +209,26 @@ fn plan_at<R: Files<File = File> + AllocGlobal>(rt: &R, path: &str) -> Result<Pl
     read_plan(rt.alloc(), &mut StdReader(file))
 }
 
-/// Takes the numbers of the standard streams that are closed for as long as the answer is held. A file that is opened gets
-/// the lowest number that is free: a disk that got that of standard output would be written over by the lines of the answer.
-fn hold_streams<R: Files<File = File>>(rt: &R) -> Result<[File; 3], Fault> {
-    Ok([
-        open_to_read(rt, "/")?,
-        open_to_read(rt, "/")?,
-        open_to_read(rt, "/")?,
-    ])
+/// Takes the numbers of the standard streams for as long as the answer is held, where one of them is closed.
+fn hold_streams<R: Files<File = File>>(rt: &R) -> Result<Option<[File; 3]>, Fault> {
+    match streams::hold_streams(rt) {
+        Ok(held) => Ok(held),
+        Err(error) => Err(fault_of(&error)),
+    }
 }
 
 /// The file at `path`, to be read. Refusals: `File`, `Memory`.
 pub(crate) fn open_to_read<R: Files<File = File>>(rt: &R, path: &str) -> Result<File, Fault> {
     match File::open(rt, path) {
         Ok(file) => Ok(file),
-        Err(error) if error.kind() == io::ErrorKind::OutOfMemory => Err(Fault::Memory),
-        Err(_) => Err(Fault::File),
+        Err(error) => Err(fault_of(&error)),
+    }
+}
+
+/// The fault for a file that cannot be opened.
+fn fault_of(error: &io::Error) -> Fault {
+    match error.kind() {
+        io::ErrorKind::OutOfMemory => Fault::Memory,
+        _ => Fault::File,
     }
 }

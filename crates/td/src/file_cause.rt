@@ -1,6 +1,6 @@
 //! Why a file cannot be had, as a second look at it finds.
 
-use std::fs::{File, OpenOptions};
+use std::fs::{File, OpenOptions, TryLockError};
 use std::io::ErrorKind;
 use std::rt::Files;
 
@@ -20,11 +20,21 @@ pub(crate) fn why_not_opened<R: Files<File = File>>(rt: &R, path: &str) -> &'sta
     let mut options = OpenOptions::new();
     options.read(true).write(true);
     match options.open(rt, path) {
+        Ok(file) if !is_regular(&file) => "no file",
         Ok(file) => match file.try_lock() {
             Ok(()) => "cannot be opened",
-            Err(_) => "locked by another process",
+            Err(TryLockError::WouldBlock) => "locked by another process",
+            Err(TryLockError::Error(_)) => "cannot be locked",
         },
         Err(error) => open_cause(error.kind()),
+    }
+}
+
+/// Whether a file is none but a file: no folder, no device, no pipe.
+fn is_regular(file: &File) -> bool {
+    match file.metadata() {
+        Ok(found) => found.is_file(),
+        Err(_) => false,
     }
 }
 

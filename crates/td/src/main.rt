@@ -13,17 +13,19 @@ mod plan;
 mod progress;
 mod refusal;
 mod store;
+mod streams;
 
 use crate::catalogue::{fold_of, group_of, map_of};
 use crate::disk::{
     copy_disk, dump_disk, format_disk, open_disk, open_disk_or_tell, show_disk, upgrade_disk,
 };
-use crate::engine::Engine;
+use crate::engine::{Engine, Limits};
 use crate::faults::FAULTS;
 use crate::plan::print_plan;
 use crate::progress::stream_told;
 use crate::refusal::Refusal;
 use crate::store::{store_fold, store_group, store_map};
+use crate::streams::{AwaitedReader, AwaitedWriter};
 use std::fs::File;
 use std::process::ExitCode;
 use std::rt::{Env, Files, Stderr};
@@ -37,8 +39,8 @@ use td_feed::feed;
 use td_stamp::{Item, Rec, State};
 use td_words::{Job, WordsError, words};
 
-/// The program's name and version, and the kit by which it is proved.
-const VERSION: &str = "td 0.1 (rattle-kit-13f, proved)\n";
+/// The program's name and version, and the logic of the kit that it is written for. Whether a program was proved is not its own to say.
+const VERSION: &str = "td 0.1 (logic dac8208d650f15bf)\n";
 
 fn main(rt: HostRuntime) -> ExitCode {
     let given = match given_words(&rt) {
@@ -46,9 +48,20 @@ fn main(rt: HostRuntime) -> ExitCode {
         Err(error) => return refused(&rt, error),
     };
     match words(rt.alloc(), &given) {
-        Ok(job) => ended(&rt, done(&rt, rt.stderr(), job)),
+        Ok(job) => {
+            let tells_who = tells_who(&job);
+            ended(&rt, tells_who, done(&rt, rt.stderr(), job))
+        }
         Err(error) => refused(&rt, error),
     }
+}
+
+/// Whether the exit status of what is asked for tells who is to do something about a fault; else it is 1 for each.
+fn tells_who(job: &Job<'_>) -> bool {
+    matches!(
+        job,
+        Job::Stream { .. } | Job::Dump { .. } | Job::Copy { .. } | Job::Plan { .. }
+    )
 }
 
 /// Does what is asked for. How far a stream has come is told to `stderr`, if that is asked for.
@@ -86,14 +99,13 @@ fn done<R: Files<File = File> + Input + Print + AllocGlobal + Threads + Wait + S
             plan,
             workers,
             cut_every,
+            most,
             progress,
         } => {
             let (disk, plan) = open_disk_or_tell(rt, path, plan)?;
             let told = progress.then_some(stderr);
-            run_engine(
-                rt,
-                Engine::Stream(disk, path, plan, workers, cut_every, told),
-            )
+            let limits = Limits { cut_every, most };
+            run_engine(rt, Engine::Stream(disk, path, plan, workers, limits, told))
         }
         Job::Show { disk, plan } => Ok(show_disk(rt, disk, plan)?),
         Job::Dump { disk, plan } => dump_disk(rt, disk, plan),
@@ -105,7 +117,8 @@ fn done<R: Files<File = File> + Input + Print + AllocGlobal + Threads + Wait + S
             m,
             n,
             k,
-        } => copy_disk(rt, disk, plan, new, m, n, k),
+            until,
+        } => copy_disk(rt, disk, plan, new, m, n, k, until),
         Job::Plan { plan, dot } => print_plan(rt, plan, dot),
         Job::Help(text) => print_text(rt, text.as_str()),
         Job::Version => print_text(rt, VERSION),
@@ -141,15 +154,27 @@ fn refused<R: Eprint + AllocGlobal>(rt: &R, error: WordsError) -> ExitCode {
             let _ = rt.eprint("td: words\n");
             ExitCode::from(2)
         }
-        WordsError::Memory => told(rt, Refusal::Plain(Fault::Memory)),
+        WordsError::Memory => {
+            tell(rt, &Refusal::Plain(Fault::Memory));
+            ExitCode::FAILURE
+        }
     }
 }
 
-/// How an engine ended.
-fn ended<R: Eprint + AllocGlobal>(rt: &R, answer: Result<(), Refusal>) -> ExitCode {
-    match answer {
-        Ok(()) => ExitCode::SUCCESS,
-        Err(refusal) => told(rt, refusal),
+/// How what was asked for ended. Its status tells who is to do something about a fault, or is 1.
+fn ended<R: Eprint + AllocGlobal>(
+    rt: &R,
+    tells_who: bool,
+    answer: Result<(), Refusal>,
+) -> ExitCode {
+    let Err(refusal) = answer else {
+        return ExitCode::SUCCESS;
+    };
+    tell(rt, &refusal);
+    if tells_who {
+        ExitCode::from(refusal.status())
+    } else {
+        ExitCode::FAILURE
     }
 }
 
@@ -195,8 +220,8 @@ fn answer<R: Input + Print + AllocGlobal + Threads + Wait + Sync>(
     requires groups { HasEach (λ c. c.code) calls.now.stock.groups group_codes }
     requires folds { HasEach (λ c. c.code) calls.now.stock.folds fold_codes }
 {
-    let mut reader = StdReader(rt.reader());
-    let mut writer = StdWriter(io::writer(rt));
+    let mut reader = StdReader(AwaitedReader(rt.reader(), 0));
+    let mut writer = StdWriter(AwaitedWriter(io::writer(rt), 1));
     match engine {
         Engine::Batch => Ok(batch::<_, _, Catalogue, CatalogueCalls>(
             rt.alloc(),
@@ -232,13 +257,13 @@ fn answer<R: Input + Print + AllocGlobal + Threads + Wait + Sync>(
             );
             Ok(fed?)
         }
-        Engine::Stream(disk, path, plan, workers, cut_every, told) => stream_told(
+        Engine::Stream(disk, path, plan, workers, limits, told) => stream_told(
             rt,
             disk,
             path,
             &plan,
             workers,
-            cut_every,
+            limits,
             reader,
             &mut writer,
             told,
@@ -248,10 +273,9 @@ fn answer<R: Input + Print + AllocGlobal + Threads + Wait + Sync>(
 }
 
 /// Prints a refusal on standard error.
-fn told<R: Eprint + AllocGlobal>(rt: &R, refusal: Refusal) -> ExitCode {
+fn tell<R: Eprint + AllocGlobal>(rt: &R, refusal: &Refusal) {
     let _ = match refusal.line(rt.alloc()) {
         Ok(line) => rt.eprint(line.as_str()),
         Err(_) => rt.eprint("td: memory\n"),
     };
-    ExitCode::FAILURE
 }

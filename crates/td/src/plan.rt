@@ -3,6 +3,7 @@
 use crate::disk::{file_refusal, open_to_read};
 use crate::file_cause::why_not_read;
 use crate::refusal::Refusal;
+use crate::streams::AwaitedWriter;
 use std::alloc::Global;
 use std::fs::File;
 use std::io;
@@ -11,7 +12,7 @@ use td_console::{Fault, StdReader, StdWriter, ascii_text, first_line, read_all, 
 use td_feed::read_plan;
 use td_picture::{drawn, listed};
 use td_plan::text::next_word;
-use td_plan::{Plan, PlanError};
+use td_plan::{Block, Plan, PlanError};
 
 /// How many bytes of a line with a fault are told at most.
 const TOLD: usize = 80;
@@ -30,11 +31,38 @@ pub(crate) fn print_plan<R: Files<File = File> + Print + AllocGlobal>(
     } else {
         listed(alloc, &plan)
     };
-    let Ok(told) = told else {
+    let Ok(mut told) = told else {
         return Err(Refusal::Plain(Fault::Memory));
     };
-    let mut writer = StdWriter(io::writer(rt));
+    if !dot {
+        push_turns(alloc, &mut told, &plan)?;
+    }
+    let mut writer = StdWriter(AwaitedWriter(io::writer(rt), 1));
     Ok(write_answer(&mut writer, told.as_str())?)
+}
+
+/// Appends how many turns an epoch may take, as a line that td passes over where it reads a plan: nothing for a plan without loops.
+fn push_turns(alloc: Global, told: &mut String, plan: &Plan) -> Result<(), Refusal> {
+    let Ok(blocks) = plan.blocks() else {
+        return Err(Refusal::Plain(Fault::Memory));
+    };
+    let Some(turns) = blocks.iter().map(|it| turns_of(&blocks, it)).max() else {
+        return Ok(());
+    };
+    let line = format!(in alloc; "# at most {turns} turns an epoch\n")?;
+    told.push_str(line.as_str())?;
+    Ok(())
+}
+
+/// How many turns of a block there may be in an epoch: the product of its bound and of those of the blocks around it.
+fn turns_of(blocks: &[Block], inner: &Block) -> u64 {
+    let mut turns: u64 = 1;
+    for block in blocks {
+        if block.first <= inner.first && inner.end <= block.end {
+            turns = turns.saturating_mul(u64::from(block.bound));
+        }
+    }
+    turns
 }
 
 /// All bytes of the file at `path`, or why they cannot be had.

@@ -1,7 +1,9 @@
 //! A stream, and beside it, where that is asked for, a thread that tells how far it has come.
 ghost use Rattle.std.specs.Prelude.{◌≡◌, ◌≤◌, [], ◌∷◌, IfOk, IfSome};
 
+use crate::engine::Limits;
 use crate::refusal::Refusal;
+use crate::streams::is_ready;
 use std::io::IsTerminal;
 use std::rt::Stderr;
 use std::sync::Wait;
@@ -14,6 +16,7 @@ use td_console::{Fault, Sink, Source};
 use td_disk::{FileDisk, ReadAhead};
 use td_feed::stream;
 use td_plan::Plan;
+use td_standing::KeeperError;
 use td_watch::{Reader, Watch, Writer};
 
 /// Whether a stream has ended, for the thread that follows it.
@@ -53,7 +56,7 @@ pub(crate) fn stream_told<I: Source + Drop, W: Sink, R: Threads + Wait + AllocGl
     path: &str,
     plan: &Plan,
     workers: u8,
-    cut_every: Option<u32>,
+    limits: Limits,
     reader: I,
     writer: &mut W,
     told: Option<Stderr>,
@@ -78,7 +81,8 @@ pub(crate) fn stream_told<I: Source + Drop, W: Sink, R: Threads + Wait + AllocGl
                 disk,
                 plan,
                 workers,
-                cut_every,
+                limits.cut_every,
+                limits.most,
                 reader,
                 writer,
                 watch,
@@ -87,11 +91,17 @@ pub(crate) fn stream_told<I: Source + Drop, W: Sink, R: Threads + Wait + AllocGl
             ending.tell();
             match ended {
                 Ok(()) => Ok(()),
-                Err(fault) => Err(
-                    Refusal::Plain(fault)
-                        .on_disk(rt.alloc(), path)
-                        .for_room(rt.alloc(), &mut disk, plan),
-                ),
+                Err(Fault::Keeper(KeeperError::NotPassed(epoch))) if limits.most.is_some() => {
+                    Err(Refusal::TooMuchWork(epoch))
+                }
+                Err(fault) => {
+                    let failure = disk.inner().last_failure();
+                    Err(
+                        Refusal::Plain(fault)
+                            .on_disk(rt.alloc(), path, failure)
+                            .for_room(rt.alloc(), &mut disk, plan),
+                    )
+                }
             }
         },
     )
@@ -128,7 +138,7 @@ fn followed<'s, E, R: Threads + Wait + AllocGlobal + Sync>(
 }
 
 /// Writes how far a watch has come: each second in which a word rose; and at the end, if one rose since, or nothing was written. A write
-/// that fails is passed over.
+/// that fails is passed over, and so is one that would wait for somebody to read.
 fn follow<R: Wait>(rt: &R, stderr: Stderr, mut reader: Reader, ending: &Ending) {
     let is_terminal = stderr.is_terminal();
     let mut written: Option<[u64; 3]> = None;
@@ -140,7 +150,7 @@ fn follow<R: Wait>(rt: &R, stderr: Stderr, mut reader: Reader, ending: &Ending) 
             Some(before) => words != before,
             None => is_last || words != [0; 3],
         };
-        if is_new {
+        if is_new && is_ready(2) {
             write_words(stderr, is_terminal, words);
             written = Some(words);
         }
@@ -148,7 +158,7 @@ fn follow<R: Wait>(rt: &R, stderr: Stderr, mut reader: Reader, ending: &Ending) 
             break;
         }
     }
-    if is_terminal {
+    if is_terminal && is_ready(2) {
         let _ = stderr.eprint("\n");
     }
 }

@@ -1,10 +1,10 @@
-//! What is told of a command that failed. The commands that td had from the first tell the fault alone; `stream`, `dump` and `copy` tell
-//! its place and its cause too, where these are known.
+//! What is told of a command that failed. The commands that td had from the first tell the fault alone, with one status; `stream`, `dump`
+//! and `copy` tell its place and its cause too, where these are known, and these and `plan` have a status for each who is to do something.
 
 use std::alloc::{AllocError, AllocFailed, Global};
 use td_console::Fault;
 use td_copy::CopyError;
-use td_disk::Disk;
+use td_disk::{Disk, FileFailure};
 use td_plan::Plan;
 use td_standing::{KeeperError, recover_device};
 
@@ -15,8 +15,12 @@ pub(crate) enum Refusal {
     Plain(Fault),
     /// The fault, and after it its place and its cause.
     At(Fault, String),
-    /// What a copy has no room for, which its text says.
+    /// What a copy has no room for, or that there is no such epoch, which its text says.
     Copy(CopyError),
+    /// The fault of the new disk of a copy.
+    New(Fault),
+    /// The epochs under way take more work than a stream may do, of which this one is the first.
+    TooMuchWork(u64),
 }
 
 impl From<Fault> for Refusal {
@@ -41,7 +45,8 @@ impl From<CopyError> for Refusal {
     fn from(error: CopyError) -> Refusal {
         match error {
             CopyError::Keeper(error) => Refusal::Plain(Fault::from(error)),
-            CopyError::Shape => Refusal::Plain(Fault::Shape),
+            CopyError::New(error) => Refusal::New(Fault::from(error)),
+            CopyError::Shape => Refusal::New(Fault::Shape),
             _ => Refusal::Copy(error),
         }
     }
@@ -56,12 +61,36 @@ impl Refusal {
         }
     }
 
-    /// The line that is told.
+    /// The line that is told, in which a control character, as a path may have, is a question mark.
     pub(crate) fn line(&self, alloc: Global) -> Result<String, AllocError> {
+        let text = self.text(alloc)?;
+        let mut line = String::new(alloc);
+        for each in text.chars() {
+            line.push(if each.is_control() { '?' } else { each })?;
+        }
+        line.push('\n')?;
+        Ok(line)
+    }
+
+    /// What is told.
+    fn text(&self, alloc: Global) -> Result<String, AllocError> {
         match self {
-            Refusal::Plain(fault) => format!(in alloc; "td: {fault}\n"),
-            Refusal::At(fault, cause) => format!(in alloc; "td: {fault}: {cause}\n"),
-            Refusal::Copy(error) => format!(in alloc; "td: {error}\n"),
+            Refusal::Plain(fault) | Refusal::New(fault) => format!(in alloc; "td: {fault}"),
+            Refusal::At(fault, cause) => format!(in alloc; "td: {fault}: {cause}"),
+            Refusal::Copy(error) => format!(in alloc; "td: {error}"),
+            Refusal::TooMuchWork(epoch) => format!(in alloc; "td: too much work: epoch {epoch}"),
+        }
+    }
+
+    /// The exit status of a command that tells who is to do something: 3 the device failed, 4 an operator is wanted, 5 a line of the
+    /// input or of the plan, 6 a standard stream, 7 a file, 8 too much work; 1 for all else.
+    pub(crate) fn status(&self) -> u8 {
+        match self {
+            Refusal::Plain(fault) | Refusal::New(fault) | Refusal::At(fault, _) => status_of(
+                *fault,
+            ),
+            Refusal::Copy(_) => OPERATOR,
+            Refusal::TooMuchWork(_) => TOO_MUCH_WORK,
         }
     }
 
@@ -73,13 +102,28 @@ impl Refusal {
         }
     }
 
-    /// The same with the path of the disk's file, where the disk is at fault.
-    pub(crate) fn on_disk(self, alloc: Global, path: &str) -> Refusal {
-        match self {
-            Refusal::Plain(Fault::Keeper(error)) if is_of_disk(error) => {
-                Refusal::at(alloc, Fault::Keeper(error), path)
+    /// The same with the path of the disk's file, where the disk is at fault; and where the device is, with the call of the file that
+    /// failed and how, if that is known.
+    pub(crate) fn on_disk(
+        self,
+        alloc: Global,
+        path: &str,
+        failure: Option<FileFailure>,
+    ) -> Refusal {
+        let Refusal::Plain(Fault::Keeper(error)) = self else {
+            return self;
+        };
+        if !is_of_disk(error) {
+            return Refusal::Plain(Fault::Keeper(error));
+        }
+        match failure {
+            Some(failure) if error == KeeperError::Device => {
+                match format!(in alloc; "{path}: {failure}") {
+                    Ok(place) => Refusal::At(Fault::Keeper(error), place),
+                    Err(_) => Refusal::Plain(Fault::Keeper(error)),
+                }
             }
-            refusal => refusal,
+            _ => Refusal::at(alloc, Fault::Keeper(error), path),
         }
     }
 
@@ -92,6 +136,53 @@ impl Refusal {
             Some(room) => Refusal::At(Fault::Keeper(error), room),
             None => Refusal::Plain(Fault::Keeper(error)),
         }
+    }
+}
+
+/// The exit statuses of a fault, by who is to do something.
+const ELSE: u8 = 1;
+
+const DEVICE: u8 = 3;
+
+const OPERATOR: u8 = 4;
+
+const LINE: u8 = 5;
+
+const STREAM: u8 = 6;
+
+const FILE: u8 = 7;
+
+const TOO_MUCH_WORK: u8 = 8;
+
+/// The exit status of a fault.
+fn status_of(fault: Fault) -> u8 {
+    match fault {
+        Fault::Keeper(error) => status_of_keeper(error),
+        Fault::Shape => OPERATOR,
+        Fault::Plan(_) | Fault::NoCall(..) | Fault::Line(..) | Fault::Picks => LINE,
+        Fault::Input | Fault::Output => STREAM,
+        Fault::File => FILE,
+        Fault::Memory | Fault::Spent => ELSE,
+    }
+}
+
+/// The exit status of a keeper's refusal.
+fn status_of_keeper(error: KeeperError) -> u8 {
+    match error {
+        KeeperError::Device | KeeperError::Broken => DEVICE,
+        KeeperError::TooManyRecords | KeeperError::NoSuchInput => LINE,
+        KeeperError::NotFormatted
+        | KeeperError::WrongPlan
+        | KeeperError::Damaged(_)
+        | KeeperError::Full
+        | KeeperError::TooManyKeys
+        | KeeperError::Epochs
+        | KeeperError::OldVersion
+        | KeeperError::LastGeneration => OPERATOR,
+        KeeperError::Foreign
+        | KeeperError::NotPassed(_)
+        | KeeperError::CutWaiting
+        | KeeperError::Memory => ELSE,
     }
 }
 

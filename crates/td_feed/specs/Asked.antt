@@ -5,7 +5,8 @@ use Rattle.td_plan.specs.Lines.{Line as PlanLine}
 use Rattle.td_plan.specs.Text.{text_lines}
 use Rattle.td_console.specs.declared.faults.LineFault.{LineFault}
 use Rattle.td_console.specs.declared.faults.Fault.{Fault}
-use Rattle.td_console.specs.declared.faults.Fault.TheVariants.{Input, Line, Memory}
+use Rattle.td_console.specs.declared.faults.Fault.TheVariants.{Input, Line, Memory, Keeper}
+use Rattle.td_standing.specs.declared.error.KeeperError.TheVariants.{TooManyRecords}
 use Rattle.td_journal.specs.declared.submitted.Submitted.{Submitted}
 use Rattle.td_group.specs.Groups.{may_follow}
 use Rattle.td_journal.specs.Numbers.{may_come}
@@ -117,9 +118,10 @@ abbrev pub IsOfLine : Fault → Type 0
 IsOfLine (Line n fault) = Unit {0}
 IsOfLine _ = ⊥
 
--- a fault of a reader or of its lines, or for want of memory
+-- a fault of a reader, of its lines or of the epoch that they begin, or for want of memory
 abbrev pub is_of_reader : Fault → Bool
 is_of_reader Input = true
 is_of_reader (Line n fault) = true
+is_of_reader (Keeper TooManyRecords) = true
 is_of_reader Memory = true
 is_of_reader _ = false

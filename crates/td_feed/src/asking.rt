@@ -8,7 +8,7 @@ ghost use Rattle.td_feed.specs.Asked.{unread, Script, script_left, script_of, sc
 
 use crate::at_once::{Asked, Room, take_fitting};
 use crate::line_reader::Lines;
-use crate::order::{Order, Orders, is_between, no_orders, with_line};
+use crate::order::{Order, Orders, has_too_many, is_between, no_orders, with_line};
 use std::alloc::Global;
 use std::collections::VecDeque;
 use std::mem;
@@ -16,6 +16,7 @@ use td_console::{Fault, LineFault, Source};
 use td_journal::Submitted;
 use td_keeper::Group;
 use td_plan::Plan;
+use td_standing::KeeperError;
 
 /// How many lines one order may take.
 const LINES: u64 = 1 << 32;
@@ -26,7 +27,7 @@ pub(crate) trait Asking {
     ghost script: { Self → Option Script };
 
     /// The next order, or a group of epochs that are at hand and find this room; None at the end. Refusals: those of a reader; the first
-    /// fault of the lines; `Memory`.
+    /// fault of the lines; `TooManyRecords` of an epoch that is open; `Memory`.
     fn next_asked(&mut self, alloc: Global, room: &Room) -> Result<Option<Asked>, Fault>
         ensures asked { IfOk result (Asks (script self.old) (script self.new)) }
         ensures rising { IfOk result (MayFollow room.now.last) }
@@ -109,7 +110,7 @@ impl<'a, I: Source> Streamed<'a, I> {
 
     /// Whether an order stands ahead. Where none does, it waits for the next one; false at the end. Refusals: the fault after those
     /// that stood ahead; those of a reader; a line's fault; `Memory`.
-    fn is_any_ahead(&mut self, alloc: Global) -> Result<bool, Fault>
+    fn is_any_ahead(&mut self, alloc: Global, room: &Room) -> Result<bool, Fault>
         ensures some { IfOk result (λ any. any ≡ true → (0 < length self.new.ahead.items)
             × SameScript (script_ahead (unread (I.remaining self.old.lines.reader) self.old.lines.unread) self.old.plan.now self.old.number self.old.read self.old.ahead.items self.old.stopped)
             (script_ahead (unread (I.remaining self.new.lines.reader) self.new.lines.unread) self.new.plan.now self.new.number self.new.read self.new.ahead.items self.new.stopped)) }
@@ -124,26 +125,30 @@ impl<'a, I: Source> Streamed<'a, I> {
         if let Some((number, fault)) = self.stopped {
             return Err(Fault::Line(number, fault));
         }
-        let Some(order) = self.next_order(alloc)? else {
+        let Some(order) = self.next_order(alloc, room)? else {
             return Ok(false);
         };
         self.ahead.push_back(order)?;
         Ok(true)
     }
 
-    /// Waits for the lines of the next order, which it reads. None at the end. Refusals: those of a reader; a line's fault; `Memory`.
-    fn next_order(&mut self, alloc: Global) -> Result<Option<Order>, Fault>
+    /// Waits for the lines of the next order, which it reads. None at the end. Refusals: those of a reader; a line's fault; `Memory`;
+    /// and `TooManyRecords`, once the epoch that is open has more records than a cell holds.
+    fn next_order(&mut self, alloc: Global, room: &Room) -> Result<Option<Order>, Fault>
         ensures order { IfOk result (λ order. Asks (script_left (unread (I.remaining self.old.lines.reader) self.old.lines.unread) self.old.plan.now self.old.number self.old.read)
             (script_left (unread (I.remaining self.new.lines.reader) self.new.lines.unread) self.new.plan.now self.new.number self.new.read) (option_map One order)) }
         ensures same { (self.new.plan.now ≡ self.old.plan.now) × (self.new.ahead ≡ self.old.ahead) × (self.new.stopped ≡ self.old.stopped) }
         ensures err { IfErr result (λ f. is_of_reader f ≡ true) }
     {
         for _line in 0..LINES {
-            let Some(line) = self.lines.next_line(alloc)? else {
+            let Some(line) = self.lines.next_line(alloc, self.number)? else {
                 return self.ended();
             };
             if let Some(order) = self.with_line(alloc, line.as_slice())? {
                 return Ok(Some(order));
+            }
+            if has_too_many(&self.read, room) {
+                return Err(Fault::Keeper(KeeperError::TooManyRecords));
             }
         }
         Err(Fault::Input)
@@ -224,7 +229,7 @@ impl<'a, I: Source> Asking for Streamed<'a, I> {
     ghost script = { λ s. script_ahead (unread (I.remaining s.lines.reader) s.lines.unread) s.plan.now s.number s.read s.ahead.items s.stopped };
 
     fn next_asked(&mut self, alloc: Global, room: &Room) -> Result<Option<Asked>, Fault> {
-        if !self.is_any_ahead(alloc)? {
+        if !self.is_any_ahead(alloc, room)? {
             return Ok(None);
         }
         self.read_ahead(alloc, room.epochs)?;

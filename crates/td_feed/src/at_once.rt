@@ -36,6 +36,16 @@ pub(crate) enum Asked {
     Epochs(Group),
 }
 
+impl Asked {
+    /// How many epochs it submits, or 1.
+    pub(crate) fn epochs(&self) -> u64 {
+        match self {
+            Asked::One(_) => 1,
+            Asked::Epochs(group) => group.as_slice().len() as u64,
+        }
+    }
+}
+
 /// How much a keeper takes at once, after what it has.
 #[derive(Clone, Copy, Debug, Drop)]
 pub(crate) struct Room {
@@ -43,7 +53,8 @@ pub(crate) struct Room {
     pub last: u64,
     is_numbered: bool,
     pub epochs: u64,
-    records: usize,
+    /// How many records an epoch may have.
+    pub records: usize,
 }
 
 impl Room {
@@ -63,6 +74,12 @@ impl Room {
                 .min(numbers),
             records: keeper.records() as usize,
         }
+    }
+
+    /// Whether an epoch with this request number, 0 for none, would be put on the disk next: it is no repetition, and the disk has
+    /// request numbers if it has one.
+    pub(crate) fn takes_number(&self, request: u64) -> bool {
+        request == 0 || self.is_numbered && self.last < request
     }
 
     /// Whether an order submits an epoch that finds room, after this greatest request number.

@@ -3,6 +3,7 @@
 //! stood for before and each epoch of the input that is new to it, once; and what `show` and `dump` write is what the disk tells.
 #![tactic(auto)]
 
+mod allowance;
 mod asking;
 mod at_once;
 mod dumping;

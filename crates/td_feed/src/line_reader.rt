@@ -1,15 +1,18 @@
 //! The lines of a reader, as they come.
-ghost use Rattle.std.specs.Prelude.{◌≡◌, ◌⊎◌, ◌++◌, ◌∷◌, ◌==◌, List, ℕ, [], Some, true, false, All, IfOk, IfErr, IfSome, IfNone, option_map};
+ghost use Rattle.std.specs.Prelude.{◌≡◌, ◌⊎◌, ◌<◌, ◌++◌, ◌∷◌, ◌==◌, List, ℕ, [], Some, true, false, All, OnOk, IfOk, IfErr, IfSome, IfNone, length, option_map};
 ghost use Rattle.std.specs.Io.KnownBytes.{Consumes, IsAtEnd};
-ghost use Rattle.td_feed.specs.Asked.{TakesLine, unread};
+ghost use Rattle.td_feed.specs.Asked.{TakesLine, unread, is_of_reader};
 
 use std::alloc::Global;
 use std::io::ErrorKind;
 use std::marker::Model;
-use td_console::{Fault, Source};
+use td_console::{Fault, LineFault, Source};
 
 /// How many bytes are read at a time, at most.
 const PIECE: usize = 65_536;
+
+/// How many bytes a line may have. A line that says anything has fewer than a hundred.
+const LINE: usize = 4_096;
 
 /// How many reads one line may take.
 const READS: u64 = 1 << 32;
@@ -55,7 +58,8 @@ impl Unread {
         }
     }
 
-    /// The next line, where it stands whole in these bytes, without its line feed, which is passed over too. Refusal: `Memory`.
+    /// The next line, where it stands whole in these bytes and is no longer than a line may be, without its line feed, which is passed
+    /// over too. Refusal: `Memory`.
     fn whole_line(&mut self, alloc: Global) -> Result<Option<Vec<u8>>, Fault>
         ensures some { IfOk result (λ line. IfSome line (λ l. All (λ b. (b == 10) ≡ false) l.items × (self.old ≡ l.items ++ 10 ∷ self.new))) }
         ensures none { IfOk result (λ line. IfNone line (self.new ≡ self.old)) }
@@ -65,6 +69,9 @@ impl Unread {
         let Some(end) = unread.iter().position(|b| *b == b'\n') else {
             return Ok(None);
         };
+        if LINE < end {
+            return Ok(None);
+        }
         let line = Vec::from_slice(alloc, &unread[..end])?;
         self.start += end + 1;
         Ok(Some(line))
@@ -88,6 +95,8 @@ impl Unread {
 pub(crate) struct Lines<I: Source> {
     reader: I,
     unread: Unread,
+    // What a read fills: room for a piece, once there was a read.
+    piece: Vec<u8>,
 }
 
 impl<I: Source> Lines<I> {
@@ -101,18 +110,23 @@ impl<I: Source> Lines<I> {
                 bytes: Vec::new(alloc),
                 start: 0,
             },
+            piece: Vec::new(alloc),
         }
     }
 
-    /// The next line, without its line feed; None at the end. It waits for no more of the input than the line. Refusals: `Input`,
-    /// `Memory`.
-    pub(crate) fn next_line(&mut self, alloc: Global) -> Result<Option<Vec<u8>>, Fault>
+    /// The next line, without its line feed, of which this is the number; None at the end. It waits for no more of the input than the
+    /// line. Refusals: `Input`, `Memory`; and `Syntax` of this line, where it is longer than a line may be, once so much of it was read.
+    pub(crate) fn next_line(&mut self, alloc: Global, number: u64) -> Result<Option<Vec<u8>>, Fault>
         ensures line { IfOk result (λ line. TakesLine (unread (I.remaining self.old.reader) self.old.unread) (unread (I.remaining self.new.reader) self.new.unread) (option_map (λ l. l.items) line)) }
-        ensures err { IfErr result (λ f. (f ≡ Fault.Input) ⊎ (f ≡ Fault.Memory)) }
+        ensures err { IfErr result (λ f. is_of_reader f ≡ true) }
     {
         let mut line = Vec::new(alloc);
         for _read in 0..READS {
-            if self.unread.cut(&mut line)? {
+            let is_whole = self.unread.cut(&mut line)?;
+            if LINE < line.len() {
+                return Err(Fault::Line(number, LineFault::Syntax));
+            }
+            if is_whole {
                 return Ok(Some(line));
             }
             if self.is_at_end()? {
@@ -122,8 +136,8 @@ impl<I: Source> Lines<I> {
         Err(Fault::Input)
     }
 
-    /// The next line, where the input has given all of it already; else None, with nothing changed. It waits for nothing. Refusal:
-    /// `Memory`.
+    /// The next line, where the input has given all of it already and it is no longer than a line may be; else None, with nothing
+    /// changed. It waits for nothing. Refusal: `Memory`.
     pub(crate) fn given_line(&mut self, alloc: Global) -> Result<Option<Vec<u8>>, Fault>
         ensures line { IfOk result (λ line. IfSome line (λ l.
             TakesLine (unread (I.remaining self.old.reader) self.old.unread) (unread (I.remaining self.new.reader) self.new.unread) (Some l.items))) }
@@ -140,14 +154,25 @@ impl<I: Source> Lines<I> {
         ensures ended { IfOk result (λ ended. ended ≡ true → IsAtEnd (I.remaining self.new.reader) × (self.new.unread ≡ [])) }
         ensures err { IfErr result (λ f. (f ≡ Fault.Input) ⊎ (f ≡ Fault.Memory)) }
     {
-        let mut piece = [0u8; PIECE];
-        match self.reader.read_piece(&mut piece) {
+        make_room(&mut self.piece)?;
+        match self.reader.read_piece(&mut self.piece) {
             Ok(count) => {
-                self.unread.take_in(&piece[..count])?;
+                self.unread.take_in(&self.piece[..count])?;
                 Ok(count == 0)
             }
             Err(error) if error.kind() == ErrorKind::Interrupted => Ok(false),
             Err(_) => Err(Fault::Input),
         }
     }
+}
+
+/// Room for a piece, where there is none yet. Refusal: `Memory`.
+fn make_room(piece: &mut Vec<u8>) -> Result<(), Fault>
+    ensures some { OnOk result (0 < length piece.new.items) }
+    ensures err { IfErr result (λ f. f ≡ Fault.Memory) }
+{
+    if piece.is_empty() {
+        piece.resize(PIECE, 0)?;
+    }
+    Ok(())
 }

@@ -5,6 +5,7 @@ ghost use Rattle.td_plan.specs.Text.{text_lines, words};
 ghost use Rattle.td_feed.specs.Orders.{is_cut, request_of, positive, feed_line_of, is_between, order_for, with_cut, with_request, with_line};
 ghost use Rattle.td_feed.specs.Orders.{no_orders, orders_of, is_of_input, IsAccepted, IsFirstLine, Gives};
 
+use crate::at_once::Room;
 use std::alloc::Global;
 use std::marker::Model;
 use td_console::{
@@ -131,6 +132,11 @@ pub(crate) fn is_between(read: &Orders) -> bool
     ensures { result ≡ is_between read.now }
 {
     read.request == 0 && read.current.is_empty()
+}
+
+/// Whether the epoch that is open has more records than fit, where it would be put on the disk if it were closed.
+pub(crate) fn has_too_many(read: &Orders, room: &Room) -> bool {
+    room.takes_number(read.request) && room.records < read.current.len()
 }
 
 /// With a request number for the epoch that begins. Refusal: `Syntax` where it has begun.

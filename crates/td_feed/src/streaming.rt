@@ -37,8 +37,13 @@ use td_watch::Writer;
 /// are written, all before more of the input is waited for. A cut is taken and written at a line `cut`; where `cut_every` epochs
 /// stand after the last one, if that is given; and where the journal is full, so that one more epoch finds room wherever the cut's
 /// states do. A group ends at a cut, at 256 epochs, at 1 MiB of cells, and before an epoch that is refused or repeated. Of the input no
-/// more is in memory than a piece of 64 KiB, a line, the epoch that it is in, and those that were read ahead of a piece. How far it has
+/// more is in memory than a piece of 64 KiB, a line, the epoch that it is in, and those that were read ahead of a piece: a line has at
+/// most 4,096 bytes, and an epoch is refused once it has more records than a cell of the disk holds. How far it has
 /// come is published by the writer of a watch, where one is given: first once the disk is recovered, and then as `Keeper::attach` says.
+///
+/// Where `most` is given, it ends with `NotPassed` of the first epoch that has not passed, once the epochs that were released together
+/// have taken more than so many tasks each: a task has up to 64 records of one edge and time, or is a notification. What stands on the
+/// disk stays there.
 ///
 /// Refusals: a missing closure, before anything else; what the disk refuses as it is recovered; and then the first of what a line,
 /// the reader, the keeper, a worker or the writer refuse, after all that was asked for before it; but want of memory, where epochs are
@@ -58,6 +63,7 @@ pub fn stream<
     plan: &Plan,
     workers: u8,
     cut_every: Option<u32>,
+    most: Option<u64>,
     reader: I,
     writer: &mut W,
     watch: Option<Writer>,
@@ -107,7 +113,7 @@ pub fn stream<
     let keeper = watched(keeper, watch);
     each_is_kept(&keeper);
     let (keeper, ended) = obey(
-        rt, alloc, keeper, plan, workers, cut_every, reader, writer, calls,
+        rt, alloc, keeper, plan, workers, cut_every, most, reader, writer, calls,
     );
     (keeper.into_disk(), ended)
 }
@@ -145,6 +151,7 @@ fn obey<
     plan: &Plan,
     workers: u8,
     cut_every: Option<u32>,
+    most: Option<u64>,
     reader: I,
     writer: &mut W,
     calls: &C,
@@ -167,7 +174,10 @@ fn obey<
         Ok((hall, feeding)) => {
             let blank = Blank::new(u64::from(hall.workers()));
             let orders = Streamed::new(alloc, plan, reader);
-            let pace = Pace::Live(cut_every);
+            let pace = Pace::Live {
+                every: cut_every,
+                most,
+            };
             obey_by_workers::<_, _, _, _, _, Brand, _>(
                 rt, alloc, keeper, hall, blank, feeding, orders, pace, writer, calls,
             )

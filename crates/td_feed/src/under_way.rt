@@ -37,8 +37,12 @@ const PIECE: usize = 65_536;
 pub(crate) enum Pace {
     /// Outputs at a cut and at the end.
     AtEnd,
-    /// Outputs after each order; and a cut where so many epochs stand on the journal, if a number is given, and where it is full.
-    Live(Option<u32>),
+    /// Outputs after each order; and a cut where `every` epochs stand on the journal, if a number is given, and where it is full. An
+    /// epoch may take `most` tasks, if a number is given.
+    Live {
+        every: Option<u32>,
+        most: Option<u64>,
+    },
 }
 
 impl Pace {
@@ -46,8 +50,22 @@ impl Pace {
     /// for, if it is known.
     pub(crate) fn epochs_at_once<D: Disk, L: Law>(self, keeper: &Keeper<D, L>) -> u64 {
         match self {
-            Pace::Live(Some(every)) => u64::from(every).saturating_sub(open_epochs(keeper)),
-            Pace::AtEnd | Pace::Live(None) => u64::MAX,
+            Pace::Live {
+                every: Some(every),
+                ..
+            } => u64::from(every).saturating_sub(open_epochs(keeper)),
+            Pace::AtEnd | Pace::Live { every: None, .. } => u64::MAX,
+        }
+    }
+
+    /// How many tasks an epoch may take.
+    pub(crate) fn tasks_of_an_epoch(self) -> u64 {
+        match self {
+            Pace::Live {
+                most: Some(most),
+                ..
+            } => most,
+            Pace::AtEnd | Pace::Live { most: None, .. } => u64::MAX,
         }
     }
 }
@@ -238,7 +256,7 @@ impl Feeding {
     {
         match pace {
             Pace::AtEnd => self.release(rt, alloc, keeper, pool),
-            Pace::Live(_) => self.keep_pace(rt, alloc, keeper, pool, pace, writer),
+            Pace::Live { .. } => self.keep_pace(rt, alloc, keeper, pool, pace, writer),
         }
     }
 
@@ -286,7 +304,7 @@ impl Feeding {
     {
         match pace {
             Pace::AtEnd => Ok(()),
-            Pace::Live(every) => {
+            Pace::Live { every, .. } => {
                 self.cut_or_settle(rt, alloc, keeper, pool, every, writer)?;
                 self.close_freed(rt, alloc, keeper, pool)
             }
@@ -382,7 +400,7 @@ fn is_cut_due<D: Disk, L: Law>(keeper: &Keeper<D, L>, every: Option<u32>) -> boo
 }
 
 /// How many epochs stand on the journal.
-fn open_epochs<D: Disk, L: Law>(keeper: &Keeper<D, L>) -> u64 {
+pub(crate) fn open_epochs<D: Disk, L: Law>(keeper: &Keeper<D, L>) -> u64 {
     keeper.last_epoch().saturating_sub(keeper.kept())
 }
 

@@ -8,9 +8,10 @@ ghost use Rattle.td_feed.specs.Fed.{pool_fault};
 ghost use Rattle.td_feed.specs.Carried.{new_to, Carries, Leaves};
 ghost use Rattle.td_feed.specs.Said.{SaysBy};
 
+use crate::allowance::Allowance;
 use crate::asking::Asking;
 use crate::at_once::Room;
-use crate::under_way::{Feeding, Pace};
+use crate::under_way::{Feeding, Pace, open_epochs};
 use std::alloc::Global;
 use std::sync::Wait;
 use std::sync::ledger::Blank;
@@ -21,7 +22,7 @@ use td_console::{Fault, Sink};
 use td_core::{Hall, HallError};
 use td_disk::Disk;
 use td_keeper::Keeper;
-use td_pool::{Crew, OpenGate, Pool, PoolError, Seat};
+use td_pool::{Crew, Pool, PoolError, Seat};
 use td_standing::KeeperError;
 
 /// Obeys orders by a hall on which workers work, at this pace, and settles. Refusals: those of what asks for the orders, of the keeper and of the writer; that of a worker,
@@ -96,6 +97,8 @@ fn beside<
     ensures said { IfSome (S.script orders) (λ script. SaysBy D.is_lawful D.state D.failures L.answers result.1 (W.contents writer.old) (W.contents writer.new) keeper result.0 (new_to keeper (submissions script.orders))) }
     ensures failures { CountsDevice result.1 (Fault.Keeper Device) (D.failures keeper.device) (D.failures result.0.device) }
 {
+    let allowance = Allowance::new(pool, pace.tasks_of_an_epoch());
+    let allowance = &allowance;
     let (ended, _writer) = thread::scope(
         thread::scope_env(),
         rt,
@@ -119,7 +122,7 @@ fn beside<
                     is_refused = true;
                     break;
                 }
-                match scope.spawn(move || serve(rt, alloc, pool, seat, calls)) {
+                match scope.spawn(move || serve(rt, alloc, pool, seat, calls, allowance)) {
                     Ok(worker) => workers.push_reserved(worker),
                     Err(_) => {
                         is_refused = true;
@@ -132,6 +135,7 @@ fn beside<
                 alloc,
                 &mut keeper,
                 pool,
+                allowance,
                 is_refused,
                 feeding,
                 &mut orders,
@@ -149,15 +153,16 @@ fn beside<
     ended
 }
 
-/// Works from a seat until the pool is stopped. Where the work ends by a refusal, it stops the pool.
+/// Works from a seat until the pool is stopped, as it is at the first task beyond the allowance. Where the work ends by a refusal, it stops the pool.
 fn serve<L: Law, C: Closures<L>, K: Crew, R: Wait>(
     rt: &R,
     alloc: Global,
     pool: &Pool<K, L>,
     mut seat: Seat<K, L>,
     calls: &C,
+    allowance: &Allowance<'_, K, L>,
 ) -> Result<(), PoolError> {
-    let worked = pool.work(rt, alloc, &mut seat, calls, &OpenGate);
+    let worked = pool.work(rt, alloc, &mut seat, calls, allowance);
     if worked.is_err() {
         pool.stop(rt);
     }
@@ -171,6 +176,7 @@ fn obey_each<D: Disk, S: Asking, W: Sink, L: Law, K: Crew, R: Wait>(
     alloc: Global,
     keeper: &mut Keeper<D, L>,
     pool: &Pool<K, L>,
+    allowance: &Allowance<'_, K, L>,
     is_refused: bool,
     mut feeding: Feeding,
     orders: &mut S,
@@ -189,12 +195,14 @@ fn obey_each<D: Disk, S: Asking, W: Sink, L: Law, K: Crew, R: Wait>(
     if is_refused {
         return Err(Fault::Memory);
     }
+    allowance.allow(open_epochs(keeper));
     feeding.begin(rt, alloc, keeper, pool, pace, writer)?;
     for _asked in rt.forever() {
         let room = Room::of(keeper, pace.epochs_at_once(keeper));
         let Some(asked) = orders.next_asked(alloc, &room)? else {
             return feeding.settle(rt, alloc, keeper, pool, writer);
         };
+        allowance.allow(asked.epochs());
         feeding.obey_at_pace(rt, alloc, keeper, pool, asked, pace, writer)?;
     }
     unreachable!()
