@@ -11,7 +11,7 @@ use Rattle.clap.proofs.WalkLemmas.{one_text-rows}
 use Rattle.clap.specs.Faults.{fault_of}
 use Rattle.clap.specs.Kinds.{IsAmong}
 use Rattle.td_words.specs.declared.job.Job.{Job}
-use Rattle.td_words.specs.declared.job.Job.TheVariants.{Batch, Run, Sim, Format, Feed, Show, Dump, Upgrade, Copy, Stream, Plan, Help, Version, Faults}
+use Rattle.td_words.specs.declared.job.Job.TheVariants.{Batch, Run, Sim, Format, Feed, Show, Dump, Upgrade, Stream, Plan, Help, Version, Faults}
 use Rattle.td_words.specs.declared.job.WordsError.{WordsError}
 use Rattle.td_words.specs.declared.job.WordsError.TheVariants.{Words, Memory}
 use Rattle.td_words.specs.Jobs.{IsHelp, IsOf}
@@ -94,10 +94,6 @@ pub only_upgrade : (rows : List Row) (job : Job) → IsOf (codes "upgrade") rows
 only_upgrade rows (Upgrade disk plan) h = (disk, plan, h.1)
 only_upgrade rows _ h = let other = ap (bytes_eq (codes "upgrade")) h.0 in cc
 
-pub only_copy : (rows : List Row) (job : Job) → IsOf (codes "copy") rows job → (disk : Bor Text) × (plan : Bor Text) × (new : Bor Text) × (m : ℕ) × (n : ℕ) × (k : ℕ) × HasValues rows (Copy disk plan new m n k)
-only_copy rows (Copy disk plan new m n k) h = (disk, plan, new, m, n, k, h.1)
-only_copy rows _ h = let other = ap (bytes_eq (codes "copy")) h.0 in cc
-
 pub only_plan : (rows : List Row) (job : Job) → IsOf (codes "plan") rows job → (plan : Bor Text) × (dot : Bool) × HasValues rows (Plan plan dot)
 only_plan rows (Plan plan dot) h = (plan, dot, h.1)
 only_plan rows _ h = let other = ap (bytes_eq (codes "plan")) h.0 in cc
@@ -117,7 +113,7 @@ pub has_workers : (met : Option (Text × List Row)) (job : Job) → IsNamed met 
 has_workers met (Run w) n = (n.2.4, n.2.5)
 has_workers met (Sim w picks) n = (n.2.0.4, n.2.0.5)
 has_workers met (Feed disk plan w) n = (n.2.2.4, n.2.2.5)
-has_workers met (Stream disk plan w cut_every progress) n = (n.2.2.4, n.2.2.5)
+has_workers met (Stream disk plan w cut_every most progress) n = (n.2.2.4, n.2.2.5)
 has_workers met _ n = tt
 
 -- help is asked for, where the parse failed with help
@@ -183,10 +179,10 @@ OneDigit radix text number = IsNumeral radix (without_leading_plus text) × (num
 pub one : OneDigit 10 (codes "1") 1
 one = ((omega arith, (lit< tt, tt)), refl)
 
-two : OneDigit 10 (codes "2") 2
+pub two : OneDigit 10 (codes "2") 2
 two = ((omega arith, (lit< tt, tt)), refl)
 
-three : OneDigit 10 (codes "3") 3
+pub three : OneDigit 10 (codes "3") 3
 three = ((omega arith, (lit< tt, tt)), refl)
 
 pub four : OneDigit 10 (codes "4") 4

@@ -1,6 +1,9 @@
 pub mod Asked
 pub mod BatchWords
+pub mod CopyAsked
+pub mod CopyWords
 pub mod DiskWords
 pub mod Leaves
+pub mod Options
 pub mod StreamAsked
 pub mod StreamWords

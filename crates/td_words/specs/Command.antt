@@ -36,13 +36,21 @@ word_rule id = record (new_rule id) { value_names = 1; required = true }
 abbrev pub number_rule : Text → Rule
 number_rule id = record (word_rule id) { parser = Some (parser.Unsigned 0 4294967295) }
 
--- `--cut-every E`, a number of 1 to 65536, which may be left out
+-- an option with a number between these, which may be left out
+abbrev pub option_rule : Text → ℕ → ℕ → Rule
+option_rule id least most = record (new_rule id) { long = Some id; value_names = 1; parser = Some (parser.Unsigned least most) }
+
+-- `--cut-every E`, a number of 1 to 65536
 abbrev pub cut_every_rule : Rule
-cut_every_rule = record (new_rule (codes "cut-every")) {
-  long = Some (codes "cut-every");
-  value_names = 1;
-  parser = Some (parser.Unsigned 1 65536);
-}
+cut_every_rule = option_rule (codes "cut-every") 1 65536
+
+-- `--until E`, a number of 0 to 2^63 - 1
+abbrev pub until_rule : Rule
+until_rule = option_rule (codes "until") 0 9223372036854775807
+
+-- `--most R`, a number of 1 to 2^63 - 1
+abbrev pub most_rule : Rule
+most_rule = option_rule (codes "most") 1 9223372036854775807
 
 -- a flag, as `--progress`
 abbrev pub flag_rule : Text → Rule
@@ -80,10 +88,10 @@ abbrev pub upgrade_app : App
 upgrade_app = with_files (new_app (codes "upgrade"))
 
 abbrev pub copy_app : App
-copy_app = with_shape (with_rule (with_files (new_app (codes "copy"))) (word_rule (codes "new")))
+copy_app = with_rule (with_shape (with_rule (with_files (new_app (codes "copy"))) (word_rule (codes "new")))) until_rule
 
 abbrev pub stream_app : App
-stream_app = with_rule (with_rule (with_rule (with_files (new_app (codes "stream"))) workers_rule) cut_every_rule) (flag_rule (codes "progress"))
+stream_app = with_rule (with_rule (with_rule (with_rule (with_files (new_app (codes "stream"))) workers_rule) cut_every_rule) most_rule) (flag_rule (codes "progress"))
 
 abbrev pub plan_app : App
 plan_app = with_rule (with_rule (new_app (codes "plan")) (word_rule (codes "plan"))) (flag_rule (codes "dot"))
@@ -117,11 +125,17 @@ format_words = codes "td" ∷ codes "format" ∷ codes "d" ∷ codes "p" ∷ cod
 abbrev pub feed_words : List (List ℕ)
 feed_words = codes "td" ∷ codes "feed" ∷ codes "d" ∷ codes "p" ∷ []
 
+abbrev pub until_words : List (List ℕ)
+until_words = codes "td" ∷ codes "copy" ∷ codes "d" ∷ codes "p" ∷ codes "e" ∷ codes "4" ∷ codes "2" ∷ codes "3" ∷ codes "--until" ∷ codes "4" ∷ []
+
 abbrev pub stream_words : List (List ℕ)
 stream_words = codes "td" ∷ codes "stream" ∷ codes "d" ∷ codes "p" ∷ []
 
 abbrev pub cutting_words : List (List ℕ)
 cutting_words = codes "td" ∷ codes "stream" ∷ codes "d" ∷ codes "p" ∷ codes "--cut-every" ∷ codes "4" ∷ []
+
+abbrev pub most_words : List (List ℕ)
+most_words = codes "td" ∷ codes "stream" ∷ codes "d" ∷ codes "p" ∷ codes "--most" ∷ codes "4" ∷ []
 
 abbrev pub telling_words : List (List ℕ)
 telling_words = codes "td" ∷ codes "stream" ∷ codes "d" ∷ codes "p" ∷ codes "--progress" ∷ []
@@ -135,10 +149,22 @@ IsNumber id least most rows number = (text : List ℕ) × (one_of id rows ≡ So
 abbrev pub IsWorkers : List Row → ℕ → Type 0
 IsWorkers = IsNumber (codes "workers") 1 16
 
+-- the number of an option, or none where it is left out
+abbrev pub IsOption : Text → ℕ → ℕ → List Row → Option ℕ → Type 0
+IsOption id least most rows (Some number) = IsNumber id least most rows number
+IsOption id least most rows None = one_of id rows ≡ None
+
 -- the number of epochs after which there is a cut, 1 to 65536, or none
 abbrev pub IsCutEvery : List Row → Option ℕ → Type 0
-IsCutEvery rows (Some every) = IsNumber (codes "cut-every") 1 65536 rows every
-IsCutEvery rows None = one_of (codes "cut-every") rows ≡ None
+IsCutEvery = IsOption (codes "cut-every") 1 65536
+
+-- the last epoch that is copied, 0 to 2^63 - 1, or none
+abbrev pub IsUntil : List Row → Option ℕ → Type 0
+IsUntil = IsOption (codes "until") 0 9223372036854775807
+
+-- the number of deliveries that an epoch may take, 1 to 2^63 - 1, or none
+abbrev pub IsMost : List Row → Option ℕ → Type 0
+IsMost = IsOption (codes "most") 1 9223372036854775807
 
 -- whether a flag is given, which clap has as a text
 abbrev pub flag_text : Bool → Text
@@ -158,8 +184,8 @@ name_of (Feed disk plan workers) = codes "feed"
 name_of (Show disk plan) = codes "show"
 name_of (Dump disk plan) = codes "dump"
 name_of (Upgrade disk plan) = codes "upgrade"
-name_of (Copy disk plan new m n k) = codes "copy"
-name_of (Stream disk plan workers cut_every progress) = codes "stream"
+name_of (Copy disk plan new m n k until) = codes "copy"
+name_of (Stream disk plan workers cut_every most progress) = codes "stream"
 name_of (Plan plan dot) = codes "plan"
 name_of (Help text) = codes "help"
 name_of Version = codes "version"
@@ -175,11 +201,12 @@ HasValues rows (Feed disk plan workers) = (first_of (codes "disk") rows ≡ Some
 HasValues rows (Show disk plan) = (first_of (codes "disk") rows ≡ Some disk.now) × (first_of (codes "plan") rows ≡ Some plan.now)
 HasValues rows (Dump disk plan) = (first_of (codes "disk") rows ≡ Some disk.now) × (first_of (codes "plan") rows ≡ Some plan.now)
 HasValues rows (Upgrade disk plan) = (first_of (codes "disk") rows ≡ Some disk.now) × (first_of (codes "plan") rows ≡ Some plan.now)
-HasValues rows (Copy disk plan new m n k) = (first_of (codes "disk") rows ≡ Some disk.now) × (first_of (codes "plan") rows ≡ Some plan.now)
+HasValues rows (Copy disk plan new m n k until) = (first_of (codes "disk") rows ≡ Some disk.now) × (first_of (codes "plan") rows ≡ Some plan.now)
     × (first_of (codes "new") rows ≡ Some new.now)
     × IsNumber (codes "m") 0 4294967295 rows m × IsNumber (codes "n") 0 4294967295 rows n × IsNumber (codes "k") 0 4294967295 rows k
-HasValues rows (Stream disk plan workers cut_every progress) = (first_of (codes "disk") rows ≡ Some disk.now) × (first_of (codes "plan") rows ≡ Some plan.now)
-    × IsWorkers rows workers × IsCutEvery rows cut_every × IsFlag (codes "progress") rows progress
+    × IsUntil rows until
+HasValues rows (Stream disk plan workers cut_every most progress) = (first_of (codes "disk") rows ≡ Some disk.now) × (first_of (codes "plan") rows ≡ Some plan.now)
+    × IsWorkers rows workers × IsCutEvery rows cut_every × IsMost rows most × IsFlag (codes "progress") rows progress
 HasValues rows (Plan plan dot) = (first_of (codes "plan") rows ≡ Some plan.now) × IsFlag (codes "dot") rows dot
 HasValues rows (Help text) = ⊥
 HasValues rows Version = ⊥
@@ -201,7 +228,7 @@ abbrev pub HasWorkers : Job → Type 0
 HasWorkers (Run workers) = (1 ≤ workers) × (workers ≤ 16)
 HasWorkers (Sim workers picks) = (1 ≤ workers) × (workers ≤ 16)
 HasWorkers (Feed disk plan workers) = (1 ≤ workers) × (workers ≤ 16)
-HasWorkers (Stream disk plan workers cut_every progress) = (1 ≤ workers) × (workers ≤ 16)
+HasWorkers (Stream disk plan workers cut_every most progress) = (1 ≤ workers) × (workers ≤ 16)
 HasWorkers _ = Unit {0}
 
 -- the words ask for no job, nor for help alone
@@ -212,7 +239,7 @@ IsNotTaken words = ((job : Job) → IsNamed (subcommand_of td words) job → fau
 abbrev pub IsRefused : List (List ℕ) → Type 0
 IsRefused words = IsNotTaken words × (asks_version words ≡ false) × (asks_faults words ≡ false)
 
--- a formatting with these values, a feed, and one as its lines come
+-- a formatting with these values, a feed, a copy, and a feed as its lines come
 abbrev pub IsFormat : Text → Text → ℕ → ℕ → ℕ → Job → Type 0
 IsFormat a b x y z (Format disk plan m n k) = (disk.now ≡ a) × (plan.now ≡ b) × (m ≡ x) × (n ≡ y) × (k ≡ z)
 IsFormat a b x y z _ = ⊥
@@ -221,6 +248,10 @@ abbrev pub IsFeed : Text → Text → ℕ → Job → Type 0
 IsFeed a b w (Feed disk plan workers) = (disk.now ≡ a) × (plan.now ≡ b) × (workers ≡ w)
 IsFeed a b w _ = ⊥
 
-abbrev pub IsStream : Text → Text → ℕ → Option ℕ → Bool → Job → Type 0
-IsStream a b w e t (Stream disk plan workers cut_every progress) = (disk.now ≡ a) × (plan.now ≡ b) × (workers ≡ w) × (cut_every ≡ e) × (progress ≡ t)
-IsStream a b w e t _ = ⊥
+abbrev pub IsCopy : Text → Text → Text → ℕ → ℕ → ℕ → Option ℕ → Job → Type 0
+IsCopy a b c x y z e (Copy disk plan new m n k until) = (disk.now ≡ a) × (plan.now ≡ b) × (new.now ≡ c) × (m ≡ x) × (n ≡ y) × (k ≡ z) × (until ≡ e)
+IsCopy a b c x y z e _ = ⊥
+
+abbrev pub IsStream : Text → Text → ℕ → Option ℕ → Option ℕ → Bool → Job → Type 0
+IsStream a b w e r t (Stream disk plan workers cut_every most progress) = (disk.now ≡ a) × (plan.now ≡ b) × (workers ≡ w) × (cut_every ≡ e) × (most ≡ r) × (progress ≡ t)
+IsStream a b w e r t _ = ⊥

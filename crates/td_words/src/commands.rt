@@ -2,8 +2,8 @@
 ghost use Rattle.std.specs.Prelude.{◌≡◌, false, IfOk, IsOkAnd};
 ghost use Rattle.clap.specs.Words.{app_of, new_app, rule_of, with_rule, with_subcommand};
 ghost use Rattle.td_words.specs.Command.{alone, td, batch_app, run_app, sim_app, format_app, feed_app, show_app, dump_app, upgrade_app, copy_app};
-ghost use Rattle.td_words.specs.Command.{workers_rule, picks_rule, word_rule, number_rule};
-ghost use Rattle.td_words.specs.Command.{stream_app, plan_app, cut_every_rule, flag_rule};
+ghost use Rattle.td_words.specs.Command.{workers_rule, picks_rule, word_rule, number_rule, option_rule, flag_rule};
+ghost use Rattle.td_words.specs.Command.{stream_app, plan_app};
 ghost use Rattle.td_words.specs.Jobs.{has_globals};
 
 use clap::builder::ValueParser;
@@ -64,6 +64,10 @@ const STATES: &str = "How many states a cut may keep, 1 to 1048576";
 
 const CUT_EVERY: &str = "Cut after each E epochs, 1 to 65536";
 
+const UNTIL: &str = "Copy what DISK has up to epoch E";
+
+const MOST: &str = "Stop where an epoch takes more than R deliveries";
+
 const PLAN_OR_INPUT: &str =
     "A file with the lines of a plan, or with an input of td batch, of which the plan is taken";
 
@@ -71,9 +75,13 @@ const DOT: &str = "Write a picture, in the language of Graphviz";
 
 const PROGRESS: &str = "Write how far it has come to standard error, each second";
 
+/// The greatest epoch, and the greatest count of deliveries.
+pub(crate) const GREATEST: u64 = 9_223_372_036_854_775_807;
+
 /// What help says at its end.
 const TD_MORE: &str = "\
-Output goes to standard output, faults to standard error. Exit status: 0, 1 after a fault, 2 for words that do not parse.
+Output goes to standard output, faults to standard error
+Exit status: 0; 2 for words that do not parse; after a fault 1, or of dump, copy, stream and plan what their help tells
 'td help COMMAND' tells what a command reads and writes, 'td help faults' what each fault means, 'td --version' the version";
 
 const BATCH_MORE: &str = "\
@@ -136,7 +144,8 @@ Writes: a line '# kept EPOCH told EPOCH last REQUEST, epochs COUNT of N, states 
 Common faults:
         'file: PATH: CAUSE': a file that cannot be read, and why, as 'locked by another process'
         'another plan: DISK': DISK was formatted for another plan than PLAN
-Exit status: 0, or 1 after a fault, which is told on standard error
+Exit status: 0; 3 the device failed; 4 an operator is wanted; 5 a line of the input; 6 standard input or output;
+        7 a file; 1 any other fault
 Each fault is explained by 'td help faults'";
 
 const UPGRADE_MORE: &str = "\
@@ -151,12 +160,14 @@ Each fault is explained by 'td help faults'";
 const COPY_MORE: &str = "\
 Reads:  PLAN and DISK
 Writes: NEW, of 8308 + 64 K + N (25 + 24 M) bytes, with the states that the last cut kept, the epochs after it, and their request
-        numbers; DISK stays as it is
+        numbers; with --until E, the epochs up to E alone; DISK stays as it is
 Common faults:
         'file: NEW: is there': NEW is a file that is there, which td copy never writes over
         'shape: K is 0, not 1 to 1048576': M, N or K is 0, or too large
         'too many keys', 'journal full', 'too many records': NEW has too little room for what DISK has
-Exit status: 0, or 1 after a fault, which is told on standard error
+        'no such epoch: 9, kept 3, told 7': E is below the last cut of DISK, or above its last epoch
+Exit status: 0; 3 the device failed; 4 an operator is wanted; 5 a line of the input; 6 standard input or output;
+        7 a file; 1 any other fault
 Each fault is explained by 'td help faults'";
 
 const STREAM_MORE: &str = "\
@@ -171,7 +182,10 @@ Common faults:
         'too many keys: K is 3': at a cut there are more than K states; copy DISK to one with a larger K
         'file: DISK: locked by another process': another td has DISK open
         'another plan: DISK': DISK was formatted for another plan than PLAN
-Exit status: 0, or 1 after a fault, which is told on standard error
+        'too much work: epoch 5': with --most R, an epoch takes more than R deliveries, each of up to 64 records or of one
+        notification; see 'td copy --until'
+Exit status: 0; 3 the device failed; 4 an operator is wanted; 5 a line of the input; 6 standard input or output;
+        7 a file; 8 too much work; 1 any other fault
 Each fault is explained by 'td help faults'";
 
 const PLAN_MORE: &str = "\
@@ -183,7 +197,8 @@ Common faults:
         'plan line 3: number: PLAN: 7 map 1 0': the fault, the file, and the line itself
         'file: PLAN: no such file': a file that cannot be read, and why
         '# no closure of the catalogue' is no fault here: batch, run, sim, feed and stream refuse such a plan
-Exit status: 0, or 1 after a fault, which is told on standard error
+Exit status: 0; 3 the device failed; 4 an operator is wanted; 5 a line of the input; 6 standard input or output;
+        7 a file; 1 any other fault
 Each fault is explained by 'td help faults'";
 
 /// `td` with its subcommands.
@@ -307,7 +322,8 @@ fn copy_leaf<'a>(alloc: Global) -> Result<Command<'a>, AllocError>
     let leaf = with_arg(leaf, word_arg(alloc, "new", "NEW", COPIED_DISK))?;
     let leaf = with_arg(leaf, number_arg(alloc, "m", "M", RECORDS))?;
     let leaf = with_arg(leaf, number_arg(alloc, "n", "N", CELLS))?;
-    with_arg(leaf, number_arg(alloc, "k", "K", STATES))
+    let leaf = with_arg(leaf, number_arg(alloc, "k", "K", STATES))?;
+    with_arg(leaf, option_arg(alloc, "until", "E", 0, GREATEST, UNTIL))
 }
 
 /// `stream`.
@@ -319,7 +335,11 @@ fn stream_leaf<'a>(alloc: Global) -> Result<Command<'a>, AllocError>
     let leaf = with_arg(leaf, word_arg(alloc, "disk", "DISK", DISK))?;
     let leaf = with_arg(leaf, word_arg(alloc, "plan", "PLAN", PLAN))?;
     let leaf = with_arg(leaf, workers_arg(alloc))?;
-    let leaf = with_arg(leaf, cut_every_arg(alloc))?;
+    let leaf = with_arg(
+        leaf,
+        option_arg(alloc, "cut-every", "E", 1, 65_536, CUT_EVERY),
+    )?;
+    let leaf = with_arg(leaf, option_arg(alloc, "most", "R", 1, GREATEST, MOST))?;
     with_arg(leaf, flag_arg(alloc, "progress", PROGRESS))
 }
 
@@ -413,16 +433,23 @@ fn number_arg<'a>(alloc: Global, id: &'a str, name: &'a str, help: &'a str) -> A
         .help(help)
 }
 
-/// `--cut-every E`, which may be left out.
-fn cut_every_arg<'a>(alloc: Global) -> Arg<'a>
-    ensures rule { rule_of result ≡ cut_every_rule }
+/// An option with a number of `least` to `most`, which may be left out, as `--cut-every E`.
+fn option_arg<'a>(
+    alloc: Global,
+    id: &'a str,
+    name: &'a str,
+    least: u64,
+    most: u64,
+    help: &'a str,
+) -> Arg<'a>
+    ensures rule { rule_of result ≡ option_rule id.entry.now least most }
     ensures local { result.global ≡ false }
 {
-    Arg::new(alloc, "cut-every")
-        .long("cut-every")
-        .value_name("E")
-        .value_parser(ValueParser::unsigned(1, 65_536))
-        .help(CUT_EVERY)
+    Arg::new(alloc, id)
+        .long(id)
+        .value_name(name)
+        .value_parser(ValueParser::unsigned(least, most))
+        .help(help)
 }
 
 /// A flag, as `--progress`.

@@ -40,7 +40,7 @@ pub enum Job<'a> {
         plan: &'a str,
     },
     /// To make the file `new` and put on it what the disk `disk` tells, with `m` records a cell, `n` cells and `k` states a slot;
-    /// these are not compared with their limits yet.
+    /// these are not compared with their limits yet. Of the epochs those up to `until` alone, if there is such a number.
     Copy {
         disk: &'a str,
         plan: &'a str,
@@ -48,14 +48,17 @@ pub enum Job<'a> {
         m: u32,
         n: u32,
         k: u32,
+        until: Option<u64>,
     },
     /// To feed the epochs of standard input to the disk `disk` as they come, by a hall of so many shards, with a cut after each
-    /// `cut_every` epochs, if there is such a number; and to tell how far it has come, if `progress`.
+    /// `cut_every` epochs, if there is such a number; to stop where an epoch takes more than `most` deliveries, if there is such
+    /// a number; and to tell how far it has come, if `progress`.
     Stream {
         disk: &'a str,
         plan: &'a str,
         workers: u8,
         cut_every: Option<u32>,
+        most: Option<u64>,
         progress: bool,
     },
     /// To write the lines of the plan in the file `plan` with what its closures are in words, or a picture of it, if `dot`.

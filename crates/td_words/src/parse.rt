@@ -4,11 +4,11 @@ ghost use Rattle.std.specs.Prelude.{Option, Ok, Err, Some, None, codes};
 ghost use Rattle.clap.specs.Words.{found_of, first_of, kind_of, rows_of, subcommand_rows_of};
 ghost use Rattle.td_words.specs.declared.job.Job.{Job as AnyJob};
 ghost use Rattle.td_words.specs.Command.{batch_words, run_words, format_words, feed_words, IsAsked, IsNamed, IsNumber};
-ghost use Rattle.td_words.specs.Command.{IsWorkers, HasWorkers, IsRefused, IsNotTaken, IsFormat, IsFeed, asks_version, asks_faults};
-ghost use Rattle.td_words.specs.Command.{stream_words, cutting_words, telling_words, IsCutEvery, IsFlag, IsStream};
+ghost use Rattle.td_words.specs.Command.{IsWorkers, HasWorkers, IsRefused, IsNotTaken, IsFormat, IsFeed, IsCopy, asks_version, asks_faults};
+ghost use Rattle.td_words.specs.Command.{until_words, stream_words, cutting_words, most_words, telling_words, IsOption, IsCutEvery, IsFlag, IsStream};
 ghost use Rattle.td_words.specs.Jobs.{IsHelp, IsOf, IsTextAsked};
 
-use crate::commands::command;
+use crate::commands::{GREATEST, command};
 use crate::job::{Job, WordsError};
 use clap::error::ErrorKind;
 use clap::{ArgMatches, Error};
@@ -16,10 +16,10 @@ use std::alloc::Global;
 
 /// What these words ask for, of which the first is the program's name. The subcommands are `batch`, `run [--workers W]`,
 /// `sim [--workers W] [--picks LIST]`, `format DISK PLAN M N K`, `feed [--workers W] DISK PLAN`, `show DISK PLAN`,
-/// `dump DISK PLAN`, `upgrade DISK PLAN`, `copy DISK PLAN NEW M N K`, `stream [--workers W] [--cut-every E] [--progress] DISK
-/// PLAN` and `plan [--dot] PLAN`, where W is 1 to 16, and 1 where it is not given, LIST is `0` where it is not given, M, N and K are numbers
-/// of 32 bits, and E is 1 to 65536, and none where it is not given. `--version` or `-V` alone asks for the version, `help faults` for the
-/// text on faults.
+/// `dump DISK PLAN`, `upgrade DISK PLAN`, `copy [--until E] DISK PLAN NEW M N K`, `stream [--workers W] [--cut-every E] [--most R]
+/// [--progress] DISK PLAN` and `plan [--dot] PLAN`. W is 1 to 16, and 1 where it is not given; LIST is `0` where it is not given; M, N and K
+/// are numbers of 32 bits. E of `--cut-every` is 1 to 65536, E of `--until` 0 to 2^63 - 1, and R 1 to 2^63 - 1; each is none where it is not
+/// given. `--version` or `-V` alone asks for the version, `help faults` for the text on faults.
 /// Refusals: `Words` where these are none of them and clap refuses the words, and `Memory`.
 pub fn words<'a>(alloc: Global, given: &'a [String]) -> Result<Job<'a>, WordsError>
     ensures ok { IfOk result (IsAsked (map string_bytes given.entry.now)) }
@@ -29,9 +29,11 @@ pub fn words<'a>(alloc: Global, given: &'a [String]) -> Result<Job<'a>, WordsErr
     ensures run { map string_bytes given.entry.now ≡ run_words → (result ≡ Ok (Job.Run 1)) ⊎ (result ≡ Err WordsError.Memory) }
     ensures format { map string_bytes given.entry.now ≡ format_words → IfOk result (IsFormat (codes "d") (codes "p") 4 2 3) × IfErr result (λ e. e ≡ WordsError.Memory) }
     ensures feed { map string_bytes given.entry.now ≡ feed_words → IfOk result (IsFeed (codes "d") (codes "p") 1) × IfErr result (λ e. e ≡ WordsError.Memory) }
-    ensures stream { map string_bytes given.entry.now ≡ stream_words → IfOk result (IsStream (codes "d") (codes "p") 1 None false) × IfErr result (λ e. e ≡ WordsError.Memory) }
-    ensures cutting { map string_bytes given.entry.now ≡ cutting_words → IfOk result (IsStream (codes "d") (codes "p") 1 (Some 4) false) × IfErr result (λ e. e ≡ WordsError.Memory) }
-    ensures telling { map string_bytes given.entry.now ≡ telling_words → IfOk result (IsStream (codes "d") (codes "p") 1 None true) × IfErr result (λ e. e ≡ WordsError.Memory) }
+    ensures until { map string_bytes given.entry.now ≡ until_words → IfOk result (IsCopy (codes "d") (codes "p") (codes "e") 4 2 3 (Some 4)) × IfErr result (λ e. e ≡ WordsError.Memory) }
+    ensures stream { map string_bytes given.entry.now ≡ stream_words → IfOk result (IsStream (codes "d") (codes "p") 1 None None false) × IfErr result (λ e. e ≡ WordsError.Memory) }
+    ensures cutting { map string_bytes given.entry.now ≡ cutting_words → IfOk result (IsStream (codes "d") (codes "p") 1 (Some 4) None false) × IfErr result (λ e. e ≡ WordsError.Memory) }
+    ensures most { map string_bytes given.entry.now ≡ most_words → IfOk result (IsStream (codes "d") (codes "p") 1 None (Some 4) false) × IfErr result (λ e. e ≡ WordsError.Memory) }
+    ensures telling { map string_bytes given.entry.now ≡ telling_words → IfOk result (IsStream (codes "d") (codes "p") 1 None None true) × IfErr result (λ e. e ≡ WordsError.Memory) }
     ensures version { asks_version (map string_bytes given.entry.now) ≡ true → result ≡ Ok Job.Version }
     ensures faults { asks_faults (map string_bytes given.entry.now) ≡ true → result ≡ Ok Job.Faults }
 {
@@ -84,9 +86,11 @@ fn parsed<'a>(alloc: Global, given: &'a [String]) -> Result<Job<'a>, WordsError>
     ensures run { map string_bytes given.entry.now ≡ run_words → (result ≡ Ok (Job.Run 1)) ⊎ (result ≡ Err WordsError.Memory) }
     ensures format { map string_bytes given.entry.now ≡ format_words → IfOk result (IsFormat (codes "d") (codes "p") 4 2 3) × IfErr result (λ e. e ≡ WordsError.Memory) }
     ensures feed { map string_bytes given.entry.now ≡ feed_words → IfOk result (IsFeed (codes "d") (codes "p") 1) × IfErr result (λ e. e ≡ WordsError.Memory) }
-    ensures stream { map string_bytes given.entry.now ≡ stream_words → IfOk result (IsStream (codes "d") (codes "p") 1 None false) × IfErr result (λ e. e ≡ WordsError.Memory) }
-    ensures cutting { map string_bytes given.entry.now ≡ cutting_words → IfOk result (IsStream (codes "d") (codes "p") 1 (Some 4) false) × IfErr result (λ e. e ≡ WordsError.Memory) }
-    ensures telling { map string_bytes given.entry.now ≡ telling_words → IfOk result (IsStream (codes "d") (codes "p") 1 None true) × IfErr result (λ e. e ≡ WordsError.Memory) }
+    ensures until { map string_bytes given.entry.now ≡ until_words → IfOk result (IsCopy (codes "d") (codes "p") (codes "e") 4 2 3 (Some 4)) × IfErr result (λ e. e ≡ WordsError.Memory) }
+    ensures stream { map string_bytes given.entry.now ≡ stream_words → IfOk result (IsStream (codes "d") (codes "p") 1 None None false) × IfErr result (λ e. e ≡ WordsError.Memory) }
+    ensures cutting { map string_bytes given.entry.now ≡ cutting_words → IfOk result (IsStream (codes "d") (codes "p") 1 (Some 4) None false) × IfErr result (λ e. e ≡ WordsError.Memory) }
+    ensures most { map string_bytes given.entry.now ≡ most_words → IfOk result (IsStream (codes "d") (codes "p") 1 None (Some 4) false) × IfErr result (λ e. e ≡ WordsError.Memory) }
+    ensures telling { map string_bytes given.entry.now ≡ telling_words → IfOk result (IsStream (codes "d") (codes "p") 1 None None true) × IfErr result (λ e. e ≡ WordsError.Memory) }
 {
     let Ok(command) = command(alloc) else {
         return Err(WordsError::Memory);
@@ -225,6 +229,7 @@ fn copy_job<'a>(matches: &ArgMatches<'a>) -> Option<Job<'a>>
     let m = number_of(matches, "m")?;
     let n = number_of(matches, "n")?;
     let k = number_of(matches, "k")?;
+    let until = option_of(matches, "until", 0, GREATEST)?;
     Some(Job::Copy {
         disk,
         plan,
@@ -232,6 +237,7 @@ fn copy_job<'a>(matches: &ArgMatches<'a>) -> Option<Job<'a>>
         m,
         n,
         k,
+        until,
     })
 }
 
@@ -244,12 +250,14 @@ fn stream_job<'a>(matches: &ArgMatches<'a>) -> Option<Job<'a>>
     let plan = word_of(matches, "plan")?;
     let workers = workers_of(matches)?;
     let cut_every = cut_every_of(matches)?;
+    let most = option_of(matches, "most", 1, GREATEST)?;
     let progress = flag_of(matches, "progress")?;
     Some(Job::Stream {
         disk,
         plan,
         workers,
         cut_every,
+        most,
         progress,
     })
 }
@@ -305,6 +313,18 @@ fn cut_every_of(matches: &ArgMatches<'_>) -> Option<Option<u32>>
     }
 }
 
+/// The number of an option, where matches have it. Clap has refused any that is not `least` to `most`.
+fn option_of(matches: &ArgMatches<'_>, id: &str, least: u64, most: u64) -> Option<Option<u64>>
+    ensures some { IfSome result (IsOption id.now least most (rows_of (found_of matches.now))) }
+    ensures none { IfNone result ((number : Option ℕ) → IsOption id.now least most (rows_of (found_of matches.now)) number → ⊥) }
+{
+    match matches.try_get_one::<u64>(id) {
+        Ok(None) => Some(None),
+        Ok(Some(number)) if lies_within(number, least, most) => Some(Some(number)),
+        _ => None,
+    }
+}
+
 /// Whether a flag is given. Clap writes a value for one that is not, too.
 fn flag_of(matches: &ArgMatches<'_>, id: &str) -> Option<bool>
     ensures some { IfSome result (IsFlag id.now (rows_of (found_of matches.now))) }
@@ -318,6 +338,13 @@ fn is_cut_distance(epochs: u32) -> bool
     ensures { IsTrue result ↔ ((1 ≤ epochs) × (epochs ≤ 65536)) }
 {
     1 <= epochs && epochs <= 65_536
+}
+
+/// Whether a number is one of `least` to `most`.
+fn lies_within(number: u64, least: u64, most: u64) -> bool
+    ensures { IsTrue result ↔ ((least ≤ number) × (number ≤ most)) }
+{
+    least <= number && number <= most
 }
 
 /// Whether a hall may have so many shards.

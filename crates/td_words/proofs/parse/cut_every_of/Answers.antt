@@ -1,8 +1,8 @@
-use Rattle.std.proofs.Common.{◌≡◌, ◌≤◌, ℕ, List, Result, Ok, Some, ap, ◌∙◌, subst}
+use Rattle.std.proofs.Common.{◌≡◌, ◌≤◌, ℕ, List, Result, Ok, Some, ap, ◌∙◌, subst, arith, codes}
 use Rattle.std.specs.Str.Parse.{ParsesUnsigned, ExplainsUnsignedError, HasUnsignedDigitsIfOk}
 use Rattle.std.specs.declared.num.ParseIntError.{ParseIntError}
 use Rattle.clap.specs.Words.{found_of}
-use Rattle.td_words.proofs.StreamAsked.{every_read, none_read, not_every}
+use Rattle.td_words.proofs.Options.{option_read, none_read, no_option}
 use Rattle.td_words.proofs.parse.cut_every_of.Goals as goal
 
 -- how a `u32` is read
@@ -11,16 +11,16 @@ Reads bs r = ParsesUnsigned 32 10 bs r × ExplainsUnsignedError 10 bs r × HasUn
 
 pub returns-in-Ok-None-clause-some : goal.returns-in-Ok-None-clause-some
 returns-in-Ok-None-clause-some c =
-    none_read Reads (λ t x h. h.0) (found_of c.args.matches.now) c.try_get_one.result c.try_get_one.ensures.none c.try_get_one.ensures.value (c.in-Ok-None.is ∙ ap Ok c.in-Ok-None.field-0-is)
+    none_read 32 Reads (λ t x h. h.0) (found_of c.args.matches.now) (codes "cut-every") c.try_get_one.result c.try_get_one.ensures.none c.try_get_one.ensures.value 1 65536 (c.in-Ok-None.is ∙ ap Ok c.in-Ok-None.field-0-is)
 
 pub returns-in-Ok-Some-clause-some : goal.returns-in-Ok-Some-clause-some
 returns-in-Ok-Some-clause-some c =
-    every_read Reads (λ t x h. h.0) (found_of c.args.matches.now) c.try_get_one.result c.try_get_one.ensures.none c.try_get_one.ensures.value c.in-Ok-Some.every (c.in-Ok-Some.is ∙ ap Ok c.in-Ok-Some.field-0-is) (c.is_cut_distance.ensures.0 c.if-is_cut_distance.true)
+    option_read 32 Reads (λ t x h. h.0) (found_of c.args.matches.now) (codes "cut-every") c.try_get_one.result c.try_get_one.ensures.none c.try_get_one.ensures.value 1 65536 c.in-Ok-Some.every (c.in-Ok-Some.is ∙ ap Ok c.in-Ok-Some.field-0-is) (c.is_cut_distance.ensures.0 c.if-is_cut_distance.true)
 
 pub returns-in_default-clause-none : goal.returns-in_default-clause-none
 returns-in_default-clause-none c =
     let was : c.try_get_one.result ≡ Ok (Some c.in-Ok-Some.every) = c.in-Ok-Some.is ∙ ap Ok c.in-Ok-Some.field-0-is in
-    not_every Reads (λ t x h. h.0) (found_of c.args.matches.now) c.try_get_one.result c.try_get_one.ensures.none c.try_get_one.ensures.value (λ e. cc)
+    no_option 32 Reads (λ t x h. h.0) (found_of c.args.matches.now) (codes "cut-every") c.try_get_one.result c.try_get_one.ensures.none c.try_get_one.ensures.value 1 65536 (omega arith) (λ e. cc)
     (λ n is low high.
     let same : n ≡ c.in-Ok-Some.every = cc in
     let yes = c.is_cut_distance.ensures.1 (subst (λ m. 1 ≤ m) same low, subst (λ m. m ≤ 65536) same high) in
@@ -29,4 +29,4 @@ returns-in_default-clause-none c =
 pub returns-in_default-2-clause-none : goal.returns-in_default-2-clause-none
 returns-in_default-2-clause-none c =
     let was = c.in_default.is in
-    not_every Reads (λ t x h. h.0) (found_of c.args.matches.now) c.try_get_one.result c.try_get_one.ensures.none c.try_get_one.ensures.value (λ e. cc) (λ n is low high. cc)
+    no_option 32 Reads (λ t x h. h.0) (found_of c.args.matches.now) (codes "cut-every") c.try_get_one.result c.try_get_one.ensures.none c.try_get_one.ensures.value 1 65536 (omega arith) (λ e. cc) (λ n is low high. cc)

@@ -4,13 +4,15 @@ use Rattle.clap.specs.Words.{kind_of, is_simple, takes, subcommand_of, subcomman
 use Rattle.clap.specs.Faults.{fault_of, is_simple_and_free}
 use Rattle.clap.specs.Kinds.{IsAmong}
 use Rattle.clap.specs.declared.error.kind.ErrorKind.TheVariants.{OutOfMemory}
-use Rattle.td_words.specs.declared.job.Job.TheVariants.{Batch, Run, Format, Feed, Stream}
+use Rattle.td_words.specs.declared.job.Job.TheVariants.{Batch, Run, Format, Feed, Copy, Stream}
 use Rattle.td_words.specs.Command.{td, IsNamed}
 use Rattle.td_words.proofs.Asked.{asked_by, helped_by, refused_by, none_named, named_batch, named_run, named_format, named_feed, batch_met, run_met, format_met, feed_met, only_memory, memory_alone, format_values, feed_values, to}
 use Rattle.td_words.proofs.BatchWords.{td_is_simple, td_is_free, batch_is_taken, batch_is_named, run_is_taken, run_is_named, run_has_one}
 use Rattle.td_words.proofs.DiskWords.{format_is_taken, format_is_named, format_has, feed_is_taken, feed_is_named, feed_has}
-use Rattle.td_words.proofs.StreamAsked.{named_uncut, named_cutting, uncut_met, cutting_met, stream_values}
-use Rattle.td_words.proofs.StreamWords.{stream_is_taken, stream_is_named, stream_has, cutting_is_taken, cutting_is_named, cutting_has, telling_is_taken, telling_is_named, telling_has}
+use Rattle.td_words.proofs.CopyAsked.{named_until, until_met, copy_values}
+use Rattle.td_words.proofs.CopyWords.{until_is_taken, until_is_named, until_has}
+use Rattle.td_words.proofs.StreamAsked.{named_uncut, named_cutting, named_most, uncut_met, cutting_met, most_met, stream_values}
+use Rattle.td_words.proofs.StreamWords.{stream_is_taken, stream_is_named, stream_has, cutting_is_taken, cutting_is_named, cutting_has, most_is_taken, most_is_named, most_has, telling_is_taken, telling_is_named, telling_has}
 use Rattle.td_words.proofs.parse.parsed.Goals as goal
 
 pub returns-in-Err-clause-err : goal.returns-in-Err-clause-err
@@ -108,6 +110,25 @@ returns-clause-feed c = λ e.
     let is = met ∙ ap (subcommand_of td) e in
     absurd (c.in-None.ensures.none (Feed (to (codes "d")) (to (codes "p")) 1) (feed_met (subcommand_rows_of found.matches) (ap (option_map (λ p. p.0)) is ∙ feed_is_named) (ap (option_map (λ p. feed_values p.1)) is ∙ feed_has)))
 
+pub returns-in-Err-clause-until : goal.returns-in-Err-clause-until
+returns-in-Err-clause-until c = λ e. memory_alone _ _ (only_memory _ _ c.asked_instead.ensures.ok c.asked_instead.ensures.err (c.in-Err.ensures.passes (ap₂ takes c.in-Ok.ensures e ∙ until_is_taken)))
+
+pub returns-in-Some-clause-until : goal.returns-in-Some-clause-until
+returns-in-Some-clause-until c = λ e.
+    let given = map string_bytes c.args.given.now in
+    let found = c.in-Ok-try_get_matches_from in
+    let met : subcommand_rows_of found.matches ≡ subcommand_of td given = (found.ensures.matches (ap is_simple c.in-Ok.ensures ∙ td_is_simple)).1 ∙ ap (λ a. subcommand_of a given) c.in-Ok.ensures in
+    let is = met ∙ ap (subcommand_of td) e in
+    (named_until (subcommand_rows_of found.matches) (ap (option_map (λ p. p.0)) is ∙ until_is_named) (ap (option_map (λ p. copy_values p.1)) is ∙ until_has) c.in-Some.job c.in-Some.ensures.some, tt)
+
+pub returns-clause-until : goal.returns-clause-until
+returns-clause-until c = λ e.
+    let given = map string_bytes c.args.given.now in
+    let found = c.in-Ok-try_get_matches_from in
+    let met : subcommand_rows_of found.matches ≡ subcommand_of td given = (found.ensures.matches (ap is_simple c.in-Ok.ensures ∙ td_is_simple)).1 ∙ ap (λ a. subcommand_of a given) c.in-Ok.ensures in
+    let is = met ∙ ap (subcommand_of td) e in
+    absurd (c.in-None.ensures.none (Copy (to (codes "d")) (to (codes "p")) (to (codes "e")) 4 2 3 (Some 4)) (until_met (subcommand_rows_of found.matches) (ap (option_map (λ p. p.0)) is ∙ until_is_named) (ap (option_map (λ p. copy_values p.1)) is ∙ until_has)))
+
 pub returns-in-Err-clause-stream : goal.returns-in-Err-clause-stream
 returns-in-Err-clause-stream c = λ e. memory_alone _ _ (only_memory _ _ c.asked_instead.ensures.ok c.asked_instead.ensures.err (c.in-Err.ensures.passes (ap₂ takes c.in-Ok.ensures e ∙ stream_is_taken)))
 
@@ -125,7 +146,7 @@ returns-clause-stream c = λ e.
     let found = c.in-Ok-try_get_matches_from in
     let met : subcommand_rows_of found.matches ≡ subcommand_of td given = (found.ensures.matches (ap is_simple c.in-Ok.ensures ∙ td_is_simple)).1 ∙ ap (λ a. subcommand_of a given) c.in-Ok.ensures in
     let is = met ∙ ap (subcommand_of td) e in
-    absurd (c.in-None.ensures.none (Stream (to (codes "d")) (to (codes "p")) 1 None false) (uncut_met (subcommand_rows_of found.matches) (ap (option_map (λ p. p.0)) is ∙ stream_is_named) false (ap (option_map (λ p. stream_values p.1)) is ∙ stream_has)))
+    absurd (c.in-None.ensures.none (Stream (to (codes "d")) (to (codes "p")) 1 None None false) (uncut_met (subcommand_rows_of found.matches) (ap (option_map (λ p. p.0)) is ∙ stream_is_named) false (ap (option_map (λ p. stream_values p.1)) is ∙ stream_has)))
 
 pub returns-in-Err-clause-cutting : goal.returns-in-Err-clause-cutting
 returns-in-Err-clause-cutting c = λ e. memory_alone _ _ (only_memory _ _ c.asked_instead.ensures.ok c.asked_instead.ensures.err (c.in-Err.ensures.passes (ap₂ takes c.in-Ok.ensures e ∙ cutting_is_taken)))
@@ -144,7 +165,26 @@ returns-clause-cutting c = λ e.
     let found = c.in-Ok-try_get_matches_from in
     let met : subcommand_rows_of found.matches ≡ subcommand_of td given = (found.ensures.matches (ap is_simple c.in-Ok.ensures ∙ td_is_simple)).1 ∙ ap (λ a. subcommand_of a given) c.in-Ok.ensures in
     let is = met ∙ ap (subcommand_of td) e in
-    absurd (c.in-None.ensures.none (Stream (to (codes "d")) (to (codes "p")) 1 (Some 4) false) (cutting_met (subcommand_rows_of found.matches) (ap (option_map (λ p. p.0)) is ∙ cutting_is_named) (ap (option_map (λ p. stream_values p.1)) is ∙ cutting_has)))
+    absurd (c.in-None.ensures.none (Stream (to (codes "d")) (to (codes "p")) 1 (Some 4) None false) (cutting_met (subcommand_rows_of found.matches) (ap (option_map (λ p. p.0)) is ∙ cutting_is_named) (ap (option_map (λ p. stream_values p.1)) is ∙ cutting_has)))
+
+pub returns-in-Err-clause-most : goal.returns-in-Err-clause-most
+returns-in-Err-clause-most c = λ e. memory_alone _ _ (only_memory _ _ c.asked_instead.ensures.ok c.asked_instead.ensures.err (c.in-Err.ensures.passes (ap₂ takes c.in-Ok.ensures e ∙ most_is_taken)))
+
+pub returns-in-Some-clause-most : goal.returns-in-Some-clause-most
+returns-in-Some-clause-most c = λ e.
+    let given = map string_bytes c.args.given.now in
+    let found = c.in-Ok-try_get_matches_from in
+    let met : subcommand_rows_of found.matches ≡ subcommand_of td given = (found.ensures.matches (ap is_simple c.in-Ok.ensures ∙ td_is_simple)).1 ∙ ap (λ a. subcommand_of a given) c.in-Ok.ensures in
+    let is = met ∙ ap (subcommand_of td) e in
+    (named_most (subcommand_rows_of found.matches) (ap (option_map (λ p. p.0)) is ∙ most_is_named) c.in-Some.job c.in-Some.ensures.some (ap (option_map (λ p. stream_values p.1)) is ∙ most_has), tt)
+
+pub returns-clause-most : goal.returns-clause-most
+returns-clause-most c = λ e.
+    let given = map string_bytes c.args.given.now in
+    let found = c.in-Ok-try_get_matches_from in
+    let met : subcommand_rows_of found.matches ≡ subcommand_of td given = (found.ensures.matches (ap is_simple c.in-Ok.ensures ∙ td_is_simple)).1 ∙ ap (λ a. subcommand_of a given) c.in-Ok.ensures in
+    let is = met ∙ ap (subcommand_of td) e in
+    absurd (c.in-None.ensures.none (Stream (to (codes "d")) (to (codes "p")) 1 None (Some 4) false) (most_met (subcommand_rows_of found.matches) (ap (option_map (λ p. p.0)) is ∙ most_is_named) (ap (option_map (λ p. stream_values p.1)) is ∙ most_has)))
 
 pub returns-in-Err-clause-telling : goal.returns-in-Err-clause-telling
 returns-in-Err-clause-telling c = λ e. memory_alone _ _ (only_memory _ _ c.asked_instead.ensures.ok c.asked_instead.ensures.err (c.in-Err.ensures.passes (ap₂ takes c.in-Ok.ensures e ∙ telling_is_taken)))
@@ -163,7 +203,7 @@ returns-clause-telling c = λ e.
     let found = c.in-Ok-try_get_matches_from in
     let met : subcommand_rows_of found.matches ≡ subcommand_of td given = (found.ensures.matches (ap is_simple c.in-Ok.ensures ∙ td_is_simple)).1 ∙ ap (λ a. subcommand_of a given) c.in-Ok.ensures in
     let is = met ∙ ap (subcommand_of td) e in
-    absurd (c.in-None.ensures.none (Stream (to (codes "d")) (to (codes "p")) 1 None true) (uncut_met (subcommand_rows_of found.matches) (ap (option_map (λ p. p.0)) is ∙ telling_is_named) true (ap (option_map (λ p. stream_values p.1)) is ∙ telling_has)))
+    absurd (c.in-None.ensures.none (Stream (to (codes "d")) (to (codes "p")) 1 None None true) (uncut_met (subcommand_rows_of found.matches) (ap (option_map (λ p. p.0)) is ∙ telling_is_named) true (ap (option_map (λ p. stream_values p.1)) is ∙ telling_has)))
 
 pub returns-in-Err-clause-ok : goal.returns-in-Err-clause-ok
 returns-in-Err-clause-ok c =
