@@ -6,8 +6,10 @@ pub(crate) const FAULTS: &str = r#"# Faults: what `td` says, an input that bring
 
 A fault is one line on standard error, `td: ` and a text, and nothing is written to standard output; but `td feed` and `td stream`
 leave standing what they wrote before the fault, and an epoch of which they wrote `ack` stays on the disk; and with `--progress` a
-stream's other lines stand before it. The status is 1, of the program's words 2. Only the first fault is told: mend it and run
-again. `docs/FORMATS.md` has the rules whole; here is each text with the mistakes that most often lead to it. Each command below is
+stream's other lines stand before it. The status is 1, of the program's words 2. `td stream`, `dump`, `copy` and `plan` have more
+statuses, by cause: 3 `device`, 4 an operator is wanted, 5 a line or a closure, 6 a standard stream, 7 `file`, 8 `too much work`.
+A signal ends `td` as a kill does, without a text, and what was acknowledged stands: so do SIGTERM and SIGHUP, and SIGXFSZ, which comes
+where `ulimit -f` is below the size of the disk. Only the first fault is told: mend it and run again. `docs/FORMATS.md` has the rules whole; here is each text with the mistakes that most often lead to it. Each command below is
 run as it stands by `./check`, with the program's folder in the `PATH`; the line under it is what it prints.
 
 Lines are counted from the first line of the input, from 1: lines that begin with `#`, empty lines and the `--` line are
@@ -15,7 +17,7 @@ counted too.
 
 ## The program's words
 
-**`words`**: the words are none that `td help` shows. The status is 2.
+**`words`**: the words are none that `td help` shows, or one of them is no UTF-8, as the name of a file may be. The status is 2.
 
     $ td
     td: words
@@ -185,7 +187,8 @@ The commands of this part and the next run in one folder, in which this makes a 
     $ printf '0 input\n1 fold 40 0\n2 output 1\n' > total.plan
 
 **`file`**: the file PLAN cannot be opened and read, or the file DISK cannot be made or opened to be read and written: it is
-not there, or is a folder; it may not be written; its folder is not there; another `td` has it open. PLAN comes first.
+not there, or is a folder, a device or a pipe; it may not be written; its folder is not there; another `td` has it open; its file
+system has no locks. PLAN comes first.
 
     $ td show total.disk no.plan
     td: file
@@ -202,6 +205,8 @@ not there, or is a folder; it may not be written; its folder is not there; anoth
     td: file: no.plan: no such file
     $ td stream / total.plan
     td: file: /: a folder
+    $ td stream /dev/null total.plan
+    td: file: /dev/null: no file
     $ td format total.disk total.plan 4 2 3; td copy total.disk total.plan total.plan 4 2 3
     td: file: total.plan: is there
     $ td copy total.disk total.plan no_folder/new.disk 4 2 3
@@ -250,11 +255,17 @@ the cause; nothing on such a disk is believed. `docs/FORMATS.md` has the places.
     ack 1
     td: damaged: cell 1
 
+**`no such epoch`**: E of `td copy --until E` is below the epoch of the last cut, or above the last epoch on the disk. The text has both.
+NEW is not made.
+
+    $ td format total.disk total.plan 4 2 3; td copy total.disk total.plan part.disk 4 2 3 --until 9
+    td: no such epoch: 9, kept 0, told 0
+
 ## Feeding a disk
 
 **`line L: syntax`**, `line L: no such input`, `line L: epoch not closed`: as in *Lines of records*, but L is counted from the
-first line of standard input; nothing of the input was put on the disk. A line `cut` may stand where no record does since the
-last `.`:
+first line of standard input. Of `td feed` nothing of the input was put on the disk; of `td stream` the epochs before the line are
+there. A line of more than 4,096 bytes is `syntax` in `td stream`. A line `cut` may stand where no record does since the last `.`:
 
     $ td format total.disk total.plan 4 2 3; printf '0 7 5\ncut\n.\n' | td feed total.disk total.plan
     td: line 2: syntax
@@ -310,7 +321,8 @@ journal is full; `td copy` makes a disk with a larger N, and says so where the N
     cut 2
     ack 3
 
-**`too many records`**: an epoch has more than M records. Close it earlier, or copy the disk to one with a larger M.
+**`too many records`**: an epoch has more than M records. Close it earlier, or copy the disk to one with a larger M. `td stream` tells it
+at the record that is one too many, before the `.` comes.
 
     $ td format total.disk total.plan 4 2 3; printf '0 7 1\n0 7 1\n0 7 1\n0 7 1\n0 7 1\n.\n' | td feed total.disk total.plan
     td: too many records
@@ -322,7 +334,8 @@ journal is full; `td copy` makes a disk with a larger N, and says so where the N
     td: too many records: epoch 1 has 2, M is 1
 
 **`too many keys`**: at a cut the folds keep more than K states. The disk stays as it was before the cut, with its epochs,
-and cannot be cut any more unless later epochs remove states: copy it to one with a larger K, and go on with that.
+and cannot be cut any more unless later epochs remove states: copy it to one with a larger K, and go on with that. The first line of
+`td dump` tells how many states a disk has of its K.
 
     $ td format total.disk total.plan 4 2 3; printf '0 1 5\n0 2 5\n0 3 5\n0 4 5\n.\ncut\n' | td feed total.disk total.plan
     ack 1
@@ -338,15 +351,57 @@ and cannot be cut any more unless later epochs remove states: copy it to one wit
     1 2 4 5
     cut 1
 
-**`device`**: a read, a write or a sync of DISK failed, as where its device is lost, or the file system is full. Each epoch with an
-`ack` was on the device before; of the next ones all that were to be put there together may be, or none. **Do not feed that file
-again at once.** After a sync that failed, an
-operating system may keep in its memory what the device never got, and answer reads, and later syncs, from there: what `td` would then
-tell and acknowledge, a loss of power would take away. So stop; mend the device, or make room; start the machine again, or take the file
-system off and put it on again, so that what is read is what the device has (or copy the file past that memory, as by `dd
-iflag=direct`, and compare the copy with the file: where they differ the copy is what stands); then look with `td show`, and feed
-the epochs that are not told, or all of them again under their request numbers. Of a file on which `td format` ended so nothing is
-promised: format it again.
+**`too much work`**: the epochs at hand take more than R deliveries each on average, where R is that of `td stream --most R`. A delivery
+is one notification, or up to 64 records of one edge and time. The text has the first epoch that has not passed. The status is 8.
+Loops make such epochs. Bounds of loops that stand in one another multiply, and `td plan` tells the product; a `map 6` in a loop doubles
+its records in each turn.
+
+    $ printf '0 input\nloop 1000\n1 enter 0\n2 feedback 3\n3 map 1 1 2\n4 leave 3\nend\n5 output 4\n' > round.plan
+    $ td plan round.plan | tail -n 1
+    # at most 1000 turns an epoch
+    $ td format round.disk round.plan 4 8 3; printf 'req 1\n0 7 1\n.\n' | td stream round.disk round.plan --most 100; echo "status $?"
+    ack 1
+    td: too much work: epoch 1
+    status 8
+
+An epoch is acknowledged before it is computed. So it stands on the disk, nothing is lost, and each later start with this R ends in the
+same way. Where the work is wanted, start with a greater R, or without `--most`. Else go on without that epoch:
+
+1. Look at it by `td dump`, and keep what was dumped.
+2. Copy the disk up to the epoch before it, by `td copy --until`.
+3. Put the copy in the disk's place.
+4. Send what came after that epoch again, without it.
+
+The first two of these, here:
+
+    $ td dump round.disk round.plan
+    # kept 0 told 1 last 1, epochs 1 of 8, states 0 of 3
+    req 1
+    0 7 1
+    .
+    $ td copy round.disk round.plan before.disk 4 8 3 --until 0; td show before.disk round.plan
+    kept 0
+    told 0
+
+**`device`**: a read, a write or a sync of DISK failed. Each epoch with an `ack` was on the device before. Of the next ones all that were
+to be put there together may be there, or none. `td stream`, `td dump` and `td copy` tell the file, the call and the cause: `td: device:
+total.disk: write: no space left on device`. The call is `read`, `write` or `sync`. What to do:
+
+1. **Do not start `td` on this file at once**, and let no supervisor do so. The status of a stream is 3.
+2. Read the call and the cause. The other commands tell neither: take it for a failed sync, and go to step 5.
+3. `write` and `no space left on device`, `quota exceeded` or `file too large`: make room, or raise the limit. The file is good; go to step 7.
+4. `read` and `the file has become shorter`: something cut the file off. Put a copy back, look for what did it, and go to step 7.
+5. Anything else, and whatever came of a `sync`: mend or replace the device.
+6. Start the machine again, or take the file system off and put it on again. After a sync that failed, an operating system may keep in
+   its memory what the device never got, and answer reads, and later syncs, from there. What `td` would then tell and acknowledge, a
+   loss of power would take away. (Or copy the file past that memory, as by `dd iflag=direct`, and compare: where they differ the copy
+   is what stands.)
+7. Look with `td show`: what it tells is what you have.
+8. Start again, and send everything from the first batch without an answer, under its request numbers. Batches without numbers are sent
+   from the epoch after `told`.
+
+A file on which `td format` ended so is formatted again. Where NEW of `td copy` failed, the text has its path, NEW was removed, and DISK is
+as it was: make room, or take another device, and copy again.
 
 **`no more epochs`**: the last epoch that has a number, 2^63 - 1, stands on the disk. No feed comes so far; here its
 number is written into a slot by hand:
@@ -365,10 +420,15 @@ may go on for ever, the end of a line has not, or an epoch has more than 2^32 li
     $ td batch < /
     td: input
 
-**`output`**: standard output cannot be written: it is closed, or the disk is full, or who read it went away, as `head` does. What was
-written until then stays; epochs whose `ack` could not be written, one or all that were put on the disk together, stand there all the
-same, and a disk whose `version 2` could not is raised; but what stands after such epochs in the input of `td feed` or `td stream` is
-not on the disk: look with `td show`, and feed the rest.
+**`output`**: standard output cannot be written: it is closed, or its file system is full, or who read it went away, as `head` does. The
+disk is fine. It may have a few more epochs than you saw `ack` for, all that were put there together; what stands after them in the input
+is not there. A disk whose `version 2` could not be written is raised. What to do:
+
+1. Have the output read again, or make room for it.
+2. Start again, and send everything from the first batch without an answer, under its request numbers. Batches without numbers are sent
+   from the epoch after the one that `td show` tells.
+
+A feed whose output is closed has put two epochs on the disk:
 
     $ td help >&-
     td: output
@@ -379,9 +439,13 @@ not on the disk: look with `td show`, and feed the rest.
     epoch 1 1
     epoch 2 0
 
-**`memory`**: the system refused memory. The program keeps the whole input, so an input that is cut in two needs half; but `td stream` keeps
-64 KiB of it, one line, at most 256 epochs that it has read ahead, and the epochs since the last cut, so cut more often. Nothing was
-written, but by `td feed` and `td stream`: look with `td show` where the disk stands.
+**`memory`**: the system refused memory. Nothing was written, but by `td feed` and `td stream`: look with `td show` where the disk stands. The
+program keeps the whole input, so an input that is cut in two needs half. `td stream` keeps 64 KiB of it, one line, at most 256 epochs that
+it has read ahead, and the epochs since the last cut, so cut more often.
+
+An epoch may also come to more than the memory holds, by a loop that multiplies its records. It was acknowledged before it was computed,
+so each later start computes it first, and ends as `memory` again, or does not end. Start the stream with `--most R`, which tells the
+epoch; `too much work`, in *Feeding a disk*, says how to go on without it.
 
 **`spent`**: `td run`, `sim`, `feed` and `stream` number their tasks, and 2^63 of them were taken. No machine comes so far.
 "#;
