@@ -141,29 +141,32 @@ impl<'a, I: Source> Streamed<'a, I> {
         ensures err { IfErr result (λ f. is_of_reader f ≡ true) }
     {
         for _line in 0..LINES {
+            if has_too_many(&self.read, room) {
+                return Err(Fault::Keeper(KeeperError::TooManyRecords));
+            }
             let Some(line) = self.lines.next_line(alloc, self.number)? else {
                 return self.ended();
             };
             if let Some(order) = self.with_line(alloc, line.as_slice())? {
                 return Ok(Some(order));
             }
-            if has_too_many(&self.read, room) {
-                return Err(Fault::Keeper(KeeperError::TooManyRecords));
-            }
         }
         Err(Fault::Input)
     }
 
-    /// Reads the lines that the input has given already, until so many orders stand ahead, or a line has a fault. Refusal: `Memory`,
-    /// and `Input` after more lines than can be numbered.
-    fn read_ahead(&mut self, alloc: Global, most: u64) -> Result<(), Fault>
+    /// Reads the lines that the input has given already, until as many orders stand ahead as find room, or a line has a fault, or the
+    /// epoch that is open has too many records. Refusal: `Memory`, and `Input` after more lines than can be numbered.
+    fn read_ahead(&mut self, alloc: Global, room: &Room) -> Result<(), Fault>
         ensures same { OnOk result (SameScript (script_ahead (unread (I.remaining self.old.lines.reader) self.old.lines.unread) self.old.plan.now self.old.number self.old.read self.old.ahead.items self.old.stopped)
             (script_ahead (unread (I.remaining self.new.lines.reader) self.new.lines.unread) self.new.plan.now self.new.number self.new.read self.new.ahead.items self.new.stopped)) }
         ensures grows { OnOk result (length self.old.ahead.items ≤ length self.new.ahead.items) }
         ensures err { IfErr result (λ f. is_of_reader f ≡ true) }
     {
         for _line in 0..LINES {
-            if self.stopped.is_some() || most <= self.ahead.len() as u64 {
+            if self.stopped.is_some()
+                || room.epochs <= self.ahead.len() as u64
+                || has_too_many(&self.read, room)
+            {
                 return Ok(());
             }
             let Some(line) = self.lines.given_line(alloc)? else {
@@ -232,7 +235,7 @@ impl<'a, I: Source> Asking for Streamed<'a, I> {
         if !self.is_any_ahead(alloc, room)? {
             return Ok(None);
         }
-        self.read_ahead(alloc, room.epochs)?;
+        self.read_ahead(alloc, room)?;
         Ok(take_asked(alloc, &mut self.ahead, room))
     }
 }
