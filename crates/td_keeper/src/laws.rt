@@ -7,7 +7,7 @@ ghost use Rattle.td_standing.specs.Advanced.{HeldWhere};
 ghost use Rattle.td_keeper.specs.Keeping.{Keeping, IsKeeping};
 ghost use Rattle.td_keeper.specs.declared.command.Command.{Command as AnyCommand};
 ghost use Rattle.td_keeper.specs.declared.command.Reply.{Reply as AnyReply};
-ghost use Rattle.td_keeper.specs.Driven.{may_write, AcknowledgesUpTo, Obeys, Driven, Rests};
+ghost use Rattle.td_keeper.specs.Driven.{may_write, submitted_by, handed_out, HandsOn, Advances, AcknowledgesUpTo, Obeys, Driven, Rests};
 
 use crate::keeper::Keeper;
 use td_calls::Law;
@@ -56,6 +56,28 @@ pub fn acknowledged_is_counted<D: Disk, L: Law>()
     ensures { (commands : List AnyCommand) (replies : List AnyReply) (old new : Keeping D) → IsKeeping old L.answers → D.is_lawful old.device
         → Driven D.is_lawful D.state D.failures L.answers commands replies old new
         → (new.plan ≡ old.plan) × All (AcknowledgesUpTo (last_epoch new.standing)) replies }
+{
+    laws::advances_join::<L>();
+}
+
+/// What commands hand out is what the batch meaning has, each epoch's once: the outputs among the replies, followed by the queue
+/// left, are the queue found, followed by those of the epochs collected since.
+pub fn driven_hands_on<D: Disk, L: Law>()
+    ensures { (commands : List AnyCommand) (replies : List AnyReply) (old new : Keeping D) → IsKeeping old L.answers
+        → Driven D.is_lawful D.state D.failures L.answers commands replies old new
+        → HandsOn L.answers old new (submitted_by commands replies) (handed_out replies) }
+{
+    laws::advances_join::<L>();
+    td_batch::laws::run_joins::<L>();
+}
+
+/// Each image that a crash may leave after commands was one before them, or it tells an advance of what the keeper stood for with
+/// all that they submitted, which holds every epoch of it.
+pub fn driven_advances<D: Disk, L: Law>()
+    ensures { (commands : List AnyCommand) (replies : List AnyReply) (old new : Keeping D) → IsKeeping old L.answers
+        → D.is_lawful old.device → old.broken ≡ false
+        → Driven D.is_lawful D.state D.failures L.answers commands replies old new
+        → Advances D.is_lawful D.state D.failures L.answers old new (submitted_by commands replies) }
 {
     laws::advances_join::<L>();
 }
