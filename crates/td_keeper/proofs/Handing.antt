@@ -36,7 +36,7 @@ use Rattle.td_keeper.proofs.Runs.{out_at, length_outs, take_on}
 use Rattle.td_keeper.proofs.Driving.{is_device_is, is_of_device_is, driven_broken}
 
 -- outputs, and then others
-numbered-append : (n : ℕ) (xs ys : List (List Output)) → numbered n (xs ++ ys) ≡ numbered n xs ++ numbered (n + length xs) ys
+pub numbered-append : (n : ℕ) (xs ys : List (List Output)) → numbered n (xs ++ ys) ≡ numbered n xs ++ numbered (n + length xs) ys
 numbered-append n [] ys = let is : n ≡ n + 0 = omega arith in ap (λ m. numbered m ys) is
 numbered-append n (x ∷ xs) ys =
     let is : n + 1 + length xs ≡ n + length (x ∷ xs) = omega arith in

@@ -15,3 +15,5 @@ mod Failing
 mod Handing
 mod Receiving
 mod Acknowledging
+mod Handed
+mod Acknowledged

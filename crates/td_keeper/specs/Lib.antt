@@ -4,3 +4,4 @@ pub mod Received
 pub mod Grouped
 pub mod Halls
 pub mod Driven
+pub mod Acknowledged

@@ -1,12 +1,15 @@
 //! Laws of keepers. Each is the contract of a function that does nothing.
-ghost use Rattle.std.specs.Prelude.{◌≡◌, ◌≤◌, false, List, ℕ, All};
+ghost use Rattle.std.specs.Prelude.{◌≡◌, ◌≤◌, false, List, ℕ, All, Contains};
 ghost use Rattle.td_standing.specs.Standing.{Standing, last_epoch, last_request};
 ghost use Rattle.td_standing.specs.Told.{Told};
 ghost use Rattle.td_standing.specs.Read.{Stood};
-ghost use Rattle.td_standing.specs.Advanced.{HeldWhere};
+ghost use Rattle.td_journal.specs.declared.submitted.Submitted.{Submitted as AnySubmitted};
+ghost use Rattle.td_standing.specs.Stops.{Stands};
+ghost use Rattle.td_standing.specs.Advanced.{HeldWhere, states_by};
 ghost use Rattle.td_keeper.specs.Keeping.{Keeping, IsKeeping};
 ghost use Rattle.td_keeper.specs.declared.command.Command.{Command as AnyCommand};
 ghost use Rattle.td_keeper.specs.declared.command.Reply.{Reply as AnyReply};
+ghost use Rattle.td_keeper.specs.Acknowledged.{acknowledged_by, outs_of, HandsOutUpTo, Acknowledges, TellsWork};
 ghost use Rattle.td_keeper.specs.Driven.{may_write, submitted_by, handed_out, HandsOn, Advances, AcknowledgesUpTo, Obeys, Driven, Rests};
 
 use crate::keeper::Keeper;
@@ -80,4 +83,48 @@ pub fn driven_advances<D: Disk, L: Law>()
         → Advances D.is_lawful D.state D.failures L.answers old new (submitted_by commands replies) }
 {
     laws::advances_join::<L>();
+}
+
+/// WHAT IS ACKNOWLEDGED IS THERE, batch by batch. What replies acknowledge are the epochs that follow the keeper's last, in the order
+/// of the commands; a keeper that stood for a history stands for that and these, each at the place that its reply told.
+pub fn driven_acknowledges<D: Disk, L: Law>()
+    ensures { (commands : List AnyCommand) (replies : List AnyReply) (old new : Keeping D) → IsKeeping old L.answers
+        → Driven D.is_lawful D.state D.failures L.answers commands replies old new
+        → Acknowledges L.answers commands replies old new }
+{
+    laws::advance_stands::<L>();
+    laws::standings_advance::<L>();
+    laws::advances_join::<L>();
+}
+
+/// What is handed out is counted: no output that goes out, and none that is left in the queue, is of an epoch beyond the last of what
+/// the keeper then stands for, where none in the queue found was. So each epoch whose outputs went out is told, as one that was
+/// acknowledged is.
+pub fn handed_is_counted<D: Disk, L: Law>()
+    ensures { (commands : List AnyCommand) (replies : List AnyReply) (old new : Keeping D) → IsKeeping old L.answers
+        → Driven D.is_lawful D.state D.failures L.answers commands replies old new
+        → All (λ out. out.epoch ≤ last_epoch old.standing) old.queue
+        → All (HandsOutUpTo (last_epoch new.standing)) replies × All (λ out. out.epoch ≤ last_epoch new.standing) new.queue }
+{
+    driven_acknowledges::<D, L>();
+    driven_hands_on::<D, L>();
+}
+
+/// WHAT WAS ACKNOWLEDGED AND WHAT WAS HANDED OUT IS TOLD. Of a disk that holds what the keeper then stands for, as each keeper's lawful
+/// disk does (`each_disk_holds`), whatever a crash leaves tells a history: each batch that was acknowledged is the epoch of its
+/// reply there, and each output that was handed out is that history's, where those in the queue found were.
+pub fn acknowledged_is_told<D: Disk, L: Law>()
+    ensures { (commands : List AnyCommand) (replies : List AnyReply) (old new : Keeping D) (history : List AnySubmitted) → IsKeeping old L.answers
+        → Driven D.is_lawful D.state D.failures L.answers commands replies old new
+        → Stands (states_by L.answers old.plan) old.standing history
+        → All (Contains (outs_of L.answers old.plan history)) old.queue
+        → HeldWhere new.broken L.answers new.plan new.head new.side new.standing (D.state new.device)
+        → (c : List ℕ) → (D.state new.device).images c
+        → TellsWork L.answers old.plan (acknowledged_by commands replies) (handed_out replies) c }
+{
+    laws::told_in_parts();
+    laws::advance_stands::<L>();
+    laws::standings_advance::<L>();
+    laws::advances_join::<L>();
+    td_batch::laws::run_joins::<L>();
 }
