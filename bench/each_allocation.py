@@ -16,8 +16,13 @@ run is made again up to there, and a recovery must then tell at least what was a
 threads, so that no two runs make their allocations in one order: in rows with them each, and each recovery, is followed by two
 recoveries in the same run, of which one may be refused. Where a drive or one of its workers was refused, the hall may be gone, and the run then
 ends as one that has none. A row whose workers wait for one another at the gate is left out: one would wait ten seconds and more
-for another that was refused. Each run must end within 30 seconds."""
+for another that was refused. Each run must end within 30 seconds.
 
+A feed that was refused must have written a beginning of what it writes otherwise, outputs by themselves and all other lines by themselves, since groups
+may be smaller; nothing stands behind its refusal, and the recovery tells what it acknowledged, handed out and cut. What no feed may write stands in
+this script too, and each run of it first sees that these doctored feeds are refused."""
+
+import argparse
 import concurrent.futures
 import functools
 import importlib.machinery
@@ -52,6 +57,10 @@ LEFT_OUT = re.compile(rb"(?m)^(stop|fail|crash) |^drive meet$")
 OTHER_DISK = (b"format", b"blank", b"byte", b"size")
 # Those that have workers in threads.
 WITH_WORKERS = (b"feed ", b"meet ", b"drive ")
+# Those of them that write what `td feed` writes; and what a map adds whose calls have met.
+FEEDS = (b"feed ", b"meet ")
+MET = b"met"
+SAID = (b"ack ", b"again ", b"cut ")
 # Those that two recoveries follow, of which one may be refused, in rows with workers.
 FOLLOWED = (*WITH_WORKERS, b"recover\n")
 # The allocations of reading the input hang on its length, so each is filled up to so many bytes more.
@@ -124,6 +133,24 @@ def is_as_written(got, want):
     return rest == want
 
 
+def is_fed_as(lines, want):
+    """Whether a feed wrote what it writes otherwise, `want`, or was refused and wrote a beginning of it. An `ack` may come earlier or later than
+    the outputs of other epochs, as the groups are; so the outputs are compared by themselves, and all other lines by themselves. No output comes before
+    its own `ack`, and a cut comes behind all outputs of its epochs."""
+    lines, want = ([line for line in each if line != MET] for each in (lines, want))
+    refusal = lines[-1:] if lines[-1:] != want[-1:] and lines[-1:] in ([AGAIN], [FAILED]) else []
+    outs, wanted_outs = ([line for line in each if line[:1].isdigit()] for each in (lines, want))
+    said, wanted_said = ([line for line in each if not line[:1].isdigit()] for each in (lines[:len(lines) - len(refusal)], want))
+    if refusal and (outs, said) != (wanted_outs[:len(outs)], wanted_said[:len(said)]) or not refusal and (outs, said) != (wanted_outs, wanted_said):
+        return False
+    for at, line in enumerate(lines):
+        if line.startswith(b"cut ") and any(int(out.split()[0]) <= int(line.split()[1]) for out in wanted_outs[sum(it[:1].isdigit() for it in lines[:at]):]):
+            return False
+        if line[:1].isdigit() and b"ack " + line.split()[0] in lines[at:]:
+            return False
+    return True
+
+
 class Played:
     """A row of `engine_steps` that is played with refusals."""
 
@@ -178,19 +205,37 @@ class Played:
         return [self.lines_after(count) for count in range(len(self.steps) + 1)]
 
     def is_told_then(self, lines):
-        """Whether a run hands out no other epochs than the whole from the line on in which it differs, and the first recovery after it
-        tells what was acknowledged until then."""
-        at = next((index for index, (one, other) in enumerate(zip(lines, self.want[1])) if one != other), len(lines))
+        """Whether a run hands out no other epochs than the whole from the line on in which it differs, a feed writes nothing else there than a
+        beginning of what it writes, and the first recovery after it tells what was acknowledged, handed out and cut until then."""
+        at = next((index for index, (one, other) in enumerate(zip(lines, self.want[1])) if one != other), min(len(lines), len(self.want[1])))
         done = next((count for count, printed in enumerate(self.counts) if printed > at), len(self.steps))
         begin = max(index for index, step in enumerate(self.steps[:done]) if step.startswith(OTHER_DISK))
         if begin == done - 1:
             return True
         recovery = next((index for index, line in enumerate(lines) if index >= at and line.startswith(b"kept ")), len(lines))
+        if self.steps[done - 1].startswith(FEEDS) and not self.is_fed(lines[self.counts[done - 1]:], done):
+            # (or it was the command before that failed, which says nothing otherwise, and the feed found no disk to write on)
+            is_before = lines[at] == FAILED and self.counts[done - 2] == self.counts[done - 1]
+            if not is_before or any(line.startswith(SAID) or line[:1].isdigit() for line in lines[at:recovery]):
+                return False
         if any(line.startswith(b"epoch ") and line not in self.want[1] for line in lines[at:recovery]):
             return False
         acknowledged = max([int(line.split()[-1]) for line in lines[self.counts[begin]:recovery] if line.startswith(b"ack ")], default=0)
         told = [int(line.split(b":")[0].split()[1]) for line in self.first_recovery(lines[recovery:])]
         return told[-1] >= acknowledged if told else acknowledged == 0
+
+    def is_fed(self, lines, done):
+        """Whether lines begin with those of the feed that is the last of so many commands, or of one that was refused, and the recovery
+        behind it tells each epoch whose outputs it wrote, and its cuts."""
+        want = self.want[1][self.counts[done - 1]:self.counts[done]]
+        behind = self.want[1][self.counts[done]]
+        kept = b"kept " if behind.startswith(b"kept ") else behind
+        end = next((index for index, line in enumerate(lines) if line.startswith(kept)), len(lines))
+        told = [int(line.split(b":")[0].split()[1]) for line in self.first_recovery(lines[end:])]
+        written = [int(line.split()[0]) for line in lines[:end] if line[:1].isdigit()]
+        cuts = [int(line.split()[1]) for line in lines[:end] if line.startswith(b"cut ")]
+        is_told = not told and not written and not cuts or told and max(written, default=0) <= told[-1] and max(cuts, default=0) <= told[0]
+        return bool(is_told) and is_fed_as(lines[:end], want)
 
     def first_recovery(self, lines):
         """The lines of what is recovered first: `kept ..` and `epoch ..`."""
@@ -224,10 +269,78 @@ class Played:
         return number - UNTOUCHED, again, failed
 
 
+# What a disk tells after the feeds below.
+TWO, FOUR = "kept 1: (1 7 5 1)|epoch 2: (0 7 -2) (0 8 1)", "kept 1: (1 7 5 1)|epoch 2: (0 7 -2) (0 8 1)|epoch 3: (0 9 4)|epoch 4: (0 9 4)"
+# Two feeds: of two epochs with a cut between them, and of two more that are put on the disk as a group. After each command what it prints.
+WRITTEN = [
+    (b"format 4 3 3\n", ""),
+    (b"feed 2\n0 7 5\n.\ncut\n0 7 -2\n0 8 1\n.\nend\n", "ack 1|1 2 7 5|cut 1|ack 2|2 2 7 3|2 2 8 1"),
+    (b"recover\n", TWO),
+    (b"recover\n", TWO),
+    (b"feed 2\n0 9 4\n.\n0 9 4\n.\nend\n", "ack 3|ack 4|2 2 7 3|2 2 8 1|3 2 9 4|4 2 9 8"),
+    (b"recover\n", FOUR),
+    (b"recover\n", FOUR),
+]
+# What they may write where one is refused: which command of the above, its lines, and what the disk tells then.
+LAWFUL = {
+    "a feed that is refused before all": (1, "refused: memory", "kept 0:"),
+    "one that is refused after a cut": (1, "ack 1|1 2 7 5|cut 1|refused: memory", "kept 1: (1 7 5 1)"),
+    "one that is refused between outputs": (1, "ack 1|1 2 7 5|cut 1|ack 2|2 2 7 3|refused: memory", TWO),
+    "a group that is told and not acknowledged": (4, "refused: device", FOUR),
+    "a smaller group": (4, "2 2 7 3|2 2 8 1|ack 3|3 2 9 4|refused: memory", f"{TWO}|epoch 3: (0 9 4)"),
+    "smaller groups, and none refused": (4, "ack 3|2 2 7 3|2 2 8 1|3 2 9 4|ack 4|4 2 9 8", FOUR),
+}
+# And what they may not.
+DOCTORED = {
+    "an output left out, and the feed going on": (1, "ack 1|cut 1|ack 2|2 2 7 3|2 2 8 1", TWO),
+    "an output written twice": (1, "ack 1|1 2 7 5|1 2 7 5|cut 1|ack 2|2 2 7 3|refused: memory", TWO),
+    "an output of another value": (1, "ack 1|1 2 7 6|cut 1|refused: memory", "kept 1: (1 7 5 1)"),
+    "an output of an epoch that was not fed": (1, "ack 1|1 2 7 5|9 2 7 5|refused: memory", "kept 0:|epoch 1: (0 7 5)"),
+    "lines after the refusal": (1, "ack 1|refused: memory|1 2 7 5|cut 1", "kept 1: (1 7 5 1)"),
+    "a cut of an epoch that is not there": (1, "ack 1|1 2 7 5|cut 7|refused: memory", "kept 0:|epoch 1: (0 7 5)"),
+    "a cut that was not written": (1, "ack 1|1 2 7 5|cut 1|refused: memory", "kept 0:|epoch 1: (0 7 5)"),
+    "a cut before the outputs": (1, "ack 1|cut 1|refused: memory", "kept 1: (1 7 5 1)"),
+    "an output before its ack": (1, "1 2 7 5|ack 1|refused: memory", "kept 0:|epoch 1: (0 7 5)"),
+    "an ack that is not told": (1, "ack 1|1 2 7 5|refused: memory", "kept 0:"),
+    "an output that is not told": (4, "ack 3|2 2 7 3|2 2 8 1|3 2 9 4|refused: memory", TWO),
+    "an ack left out": (4, "ack 4|2 2 7 3|2 2 8 1|refused: memory", FOUR),
+    "no line, and no refusal": (4, "2 2 7 3|2 2 8 1", TWO),
+}
+
+
+def lines_of(written):
+    return written.encode().split(b"|") if written else []
+
+
+class Written(Played):
+    """A row whose commands stand above, with what a program prints that is not run."""
+
+    def run(self, text, **_refused):
+        count = len(steps_in(text)[1])
+        return 0, [line for _, printed in WRITTEN[:count] for line in lines_of(printed)], b""
+
+    def accepts(self, at, written, told):
+        """Whether the feed that is the command `at` may write this where the disk then tells this, and the second recovery is refused."""
+        before = [line for _, printed in WRITTEN[:at] for line in lines_of(printed)]
+        return self.is_well_refused(0, [*before, *lines_of(written), *lines_of(told), AGAIN, *lines_of(told)], b"", 1)
+
+
+def see_doctored():
+    """The script ends where it takes what no feed may write for what a refused feed writes, or the other way round."""
+    command = argparse.Namespace(status=0, text={"<": b"0 input\n--\n" + b"".join(step for step, _ in WRITTEN if step != b"recover\n"), ">": b"", "!": b""})
+    row = Written(None, ("a feed that stands in this script", command))
+    for may, table in ((True, LAWFUL), (False, DOCTORED)):
+        for name, feed in table.items():
+            if row.accepts(*feed) != may:
+                sys.exit(f"each_allocation.py does not see what it is for: {name} is {'refused' if may else 'accepted'}")
+    print(f"of feeds written by hand {len(LAWFUL)} accepted and {len(DOCTORED)} doctored ones refused, as they should be")
+
+
 def refuse_all_steps(library):
     """Prints how many calls were made again over all rows of `engine_steps`."""
     if not STEPS.exists():
         sys.exit(f"{STEPS} is not there: cd crates/engine_steps && rt run")
+    see_doctored()
     rows = rows_of_steps()
     with concurrent.futures.ThreadPoolExecutor() as pool:
         counts = list(pool.map(lambda row: Played(library, row).refuse_each(), rows))
@@ -258,4 +371,5 @@ def main():
             refuse_all_steps(library)
 
 
-main()
+if __name__ == "__main__":
+    main()
