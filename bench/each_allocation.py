@@ -7,7 +7,11 @@ It runs `td batch`, `run` and `sim` on the files, by default on the small exampl
 Each run must answer as with ample memory, or write nothing to standard output, `td: memory` to standard error, and end with
 status 1.
 
-Without files it also runs `engine_steps` on its rows (rows/steps.txt and rows/pointstamps.txt, and those of rows/keeper.txt,
+Without files it also runs the commands on disks and plans: `plan`, `plan --dot`, `format`, `show`, `dump`, `copy`, `upgrade`, `feed` and `stream`. Each
+answers as with ample memory, or as above; a feed or a stream, which may have written a beginning of its lines, then left a disk that tells what these
+say, and the others one that tells what it told, or what they would make of it.
+
+Then it runs `engine_steps` on its rows (rows/steps.txt and rows/pointstamps.txt, and those of rows/keeper.txt,
 rows/groups.txt, rows/requests.txt and rows/threads.txt whose disk does not stop or fail), where a call that was refused is made once more. Each run
 must then answer as the row says, but for a line `refused: memory`; or, where the program itself lacked memory before the first
 call, end with status 1 and no answer.
@@ -63,6 +67,32 @@ MET = b"met"
 SAID = (b"ack ", b"again ", b"cut ")
 # Those that two recoveries follow, of which one may be refused, in rows with workers.
 FOLLOWED = (*WITH_WORKERS, b"recover\n")
+# The plans of the commands on files: a running total, and one with a loop.
+TOTAL = b"0 input\n1 fold 40 0\n2 output 1\n"
+LOOP = b"# a countdown\n0 input\nloop 3\n1 enter 0\n2 feedback 3\n3 map 2 1 2\n4 leave 3\nend\n5 output 4\n"
+# How their disk is made, one command after another.
+MADE = [
+    ("format disk plan 4 3 3", b""),
+    ("feed disk plan", b"0 7 5\n.\ncut\n0 7 -2\n0 8 1\n.\n"),
+    ("upgrade disk plan", b""),
+]
+# What they are: their words, their input, and how many of these commands come before.
+ON_FILES = [
+    ("plan loop", b"", 0),
+    ("plan loop --dot", b"", 0),
+    ("format disk plan 4 3 3", b"", 0),
+    ("show disk plan", b"", 2),
+    ("dump disk plan", b"", 2),
+    ("copy disk plan new 5 4 3", b"", 2),
+    ("upgrade disk plan", b"", 2),
+    ("feed disk plan", b"0 9 4\n.\n0 9 4\n.\ncut\n0 7 1\n0 8 1\n.\n", 2),
+    ("feed disk plan", b"req 3\n0 9 4\n.\nreq 3\n0 9 4\n.\ncut\nreq 4\n0 7 1\n0 8 1\n.\n", 3),
+    ("stream disk plan --workers 2 --cut-every 2", b"req 3\n0 9 4\n.\nreq 4\n.\nreq 4\n0 9 4\n.\ncut\nreq 5\n0 7 1\n0 8 1\n.\n", 3),
+]
+# Those of them that may change the disk though they are refused, but not what it tells, but to what they would make of it.
+WRITE = ("format", "upgrade")
+# A file system in memory, if there is one: no device is waited for.
+MEMORY = "/dev/shm"
 # The allocations of reading the input hang on its length, so each is filled up to so many bytes more.
 ROOM = 64
 # So many runs in a row that meet no refusal end the count.
@@ -71,10 +101,10 @@ UNTOUCHED = 40
 SECONDS = 30
 
 
-def answer(library, words, text, program=TD, **refused):
+def answer(library, words, text, program=TD, folder=None, **refused):
     """Status, output and errors of one run."""
     try:
-        done = subprocess.run([program, *words], input=text, capture_output=True, timeout=SECONDS,
+        done = subprocess.run([program, *words], input=text, capture_output=True, timeout=SECONDS, cwd=folder,
                               env={**os.environ, "LD_PRELOAD": str(library), **refused})
     except subprocess.TimeoutExpired:
         return "it did not end", b"", b""
@@ -98,6 +128,90 @@ def refuse_each(library, name, words, text):
     if refused == 0:
         sys.exit(f"{name}: no run was refused")
     print(f"{name}: {number - UNTOUCHED} allocations, {refused} runs refused, no other answer")
+
+
+class OnFiles:
+    """A command of `td` on files of a folder of its own, that is played with refusals."""
+
+    def __init__(self, library, folder, command):
+        words, self.text, made = command
+        self.library, self.folder, self.words = library, folder, words.split()
+        self.feeds = self.words[0] in ("feed", "stream")
+        (folder / "plan").write_bytes(TOTAL)
+        (folder / "loop").write_bytes(LOOP)
+        for each, given in MADE[:made]:
+            done = subprocess.run([TD, *each.split()], input=given, capture_output=True, cwd=folder)
+            if done.returncode != 0:
+                sys.exit(f"td {each} ended with {done.returncode}: {done.stderr}")
+        self.image = (folder / "disk").read_bytes() if made else None
+        self.before = self.shown("disk")
+        self.want = self.run()
+        self.left, self.after, self.new = self.bytes_of("disk"), self.shown("disk"), self.shown("new")
+
+    def run(self, **refused):
+        """One run, on the files as they were before: status, output and errors."""
+        (self.folder / "new").unlink(missing_ok=True)
+        if self.image is None:
+            (self.folder / "disk").unlink(missing_ok=True)
+        else:
+            (self.folder / "disk").write_bytes(self.image)
+        return answer(self.library, self.words, self.text, folder=self.folder, **refused)
+
+    def bytes_of(self, name):
+        return (self.folder / name).read_bytes() if (self.folder / name).exists() else None
+
+    def shown(self, name):
+        """The lines of what a disk tells, with ample memory; None where it is there not, or not formatted."""
+        done = subprocess.run([TD, "show", name, "plan"], stdin=subprocess.DEVNULL, capture_output=True, cwd=self.folder)
+        return done.stdout.splitlines() if done.returncode == 0 else None
+
+    def is_well_refused(self, status, output, errors):
+        """Whether an answer, other than with ample memory, is one of a refusal; of a feed or a stream also of smaller groups."""
+        if not self.feeds:
+            return (status, output, errors) == REFUSED and self.shown("new") in (None, self.new) and (
+                self.bytes_of("disk") == self.image if self.words[0] not in WRITE else self.shown("disk") in (self.before, self.after))
+        lines, want = output.splitlines(), self.want[1].splitlines()
+        if (status, errors) == (0, b""):
+            return is_fed_as(lines, want) and self.shown("disk") == self.after
+        return (status, errors) == REFUSED[::2] and is_fed_as([*lines, AGAIN], want) and self.is_told(lines)
+
+    def is_told(self, lines):
+        """Whether the disk tells what a feed acknowledged, handed out and cut."""
+        shown = self.shown("disk") or []
+        kept, told = ([int(line.split()[1]) for line in shown if line.startswith(word)] for word in (b"kept ", b"told "))
+        cuts = [int(line.split()[1]) for line in lines if line.startswith(b"cut ")]
+        epochs = [int(line.removeprefix(b"ack ").split()[0]) for line in lines if line.startswith(b"ack ") or line[:1].isdigit()]
+        return bool(kept and told) and kept[0] >= max(cuts, default=0) and told[0] >= max(epochs, default=0)
+
+    def refuse_each(self):
+        """How many allocations there are, and how many runs were refused; the script ends at another answer."""
+        refused = untouched = number = 0
+        while untouched < UNTOUCHED:
+            number += 1
+            untouched += 1
+            for more in ({}, {"REFUSED_ON": "1"}):
+                got = self.run(REFUSED=str(number), **more)
+                if got == self.want and (self.shown("disk") == self.after if self.feeds else self.bytes_of("disk") == self.left) and self.shown("new") == self.new:
+                    continue
+                if got == self.want or not self.is_well_refused(*got):
+                    sys.exit(f"td {' '.join(self.words)}: with allocation {number} refused{' and all that follow' * bool(more)}: {got}, and "
+                             f"the disk tells {self.shown('disk')}")
+                refused += 1
+                untouched = 0
+        if refused == 0:
+            sys.exit(f"td {' '.join(self.words)}: no run was refused")
+        return number - UNTOUCHED, refused
+
+
+def refuse_all_on_files(library):
+    """Prints for each command on files how many runs were refused."""
+    with tempfile.TemporaryDirectory(dir=MEMORY if os.access(MEMORY, os.W_OK) else None) as folder, concurrent.futures.ThreadPoolExecutor() as pool:
+        folders = [pathlib.Path(folder) / str(at) for at in range(len(ON_FILES))]
+        for each in folders:
+            each.mkdir()
+        played = pool.map(lambda folder, command: OnFiles(library, folder, command).refuse_each(), folders, ON_FILES)
+        for (words, _, _), (numbers, refused) in zip(ON_FILES, played):
+            print(f"td {words}: {numbers} allocations, {refused} runs refused, no other answer, and nothing lost")
 
 
 def rows_of_steps():
@@ -368,6 +482,7 @@ def main():
         for words in (["help"], ["batch", "now"]):
             refuse_each(library, " ".join(["td", *words]), words, b"")
         if not sys.argv[1:]:
+            refuse_all_on_files(library)
             refuse_all_steps(library)
 
 
