@@ -33,6 +33,13 @@ What is required of feeds is required of them, with the lines of a stream: first
 start, and then for each group `ack` of each of its epochs, their output lines, and the cut that is due. So none is written of an epoch
 that was not acknowledged, or told at the start. In the end each is as a stream that was not stopped.
 
+Two feeds by `td feed` on a file have each of their writes and syncs fail **alone**, all that might follow being as on a sound disk; and so has each stop
+of a stream. Such a run ends with the disk's failure and makes no write and no sync of its own behind it: what a failed sync dropped, a second one does
+not bring back. It writes what it writes where all later calls fail too.
+
+Then each read of `td show`, `dump`, `feed`, `stream`, `copy` and `upgrade` fails alone, on a disk that takes several reads and has an epoch in its last
+cell. The command is refused, or tells all that is on the disk, and never less.
+
 The output lines are those of `td batch` on all epochs. The states of the plan with two folds are reckoned here from these lines
 and the records."""
 
@@ -267,7 +274,36 @@ class NumberedFeed(Feed):
         return [f"last {self.request(told)}"] if told else []
 
 
-class Stream(Feed):
+class OnFile(Feed):
+    """A feed by `td feed` on a file."""
+
+    kind, every = "feed on a file", None
+
+    def words(self, disk, _workers=1, _every=None):
+        return ["feed", disk, disk.with_name("plan")]
+
+    def show(self, disk):
+        return td("show", disk, disk.with_name("plan"))
+
+    def formatted(self, disk):
+        """The bytes of a fresh disk. The plan stands beside all disks of a folder."""
+        disk.with_name("plan").write_text(self.plan)
+        td("format", disk, disk.with_name("plan"), *self.shape.split())
+        return disk.read_bytes()
+
+    def traced(self, disk, before=None, failing=None):
+        """Puts the epochs on a disk that fails from the call on that comes after these, or at the last of these alone, if they are given: what was
+        written, with a last line where the program told that its disk failed, and the calls up to the one that did."""
+        calls = disk.with_suffix(".calls")
+        strace = ["strace", "-qq", "-xx", "-s", "1000000", "-e", "signal=none", "-e", f"trace={TRACED}", *failures(before), *failure(failing), "-o", calls]
+        run = subprocess.run([*strace, TD, *self.words(disk, 2, self.every)], input=text_of(self.input_after(0)), capture_output=True, text=True)
+        is_told = run.returncode > 0 and run.stderr.startswith("td: device")
+        if not is_told and (run.returncode, run.stderr) != (0, ""):
+            sys.exit(f"a {self.kind} that was traced ended with {run.returncode}: {run.stderr}")
+        return run.stdout.splitlines() + ["refused: device"] * is_told, calls_of(calls.read_text())
+
+
+class Stream(OnFile):
     """A feed that comes line by line, by `td stream` on a file. A cut is due after so many epochs, None for no number, and after a stop
     after so many others."""
 
@@ -307,32 +343,16 @@ class Stream(Feed):
     def words(self, disk, workers, every):
         return ["stream", disk, disk.with_name("plan"), "--workers", str(workers), *(["--cut-every", str(every)] if every else [])]
 
-    def show(self, disk):
-        return td("show", disk, disk.with_name("plan"))
-
-    def formatted(self, disk):
-        """The bytes of a fresh disk. The plan stands beside all disks of a folder."""
-        disk.with_name("plan").write_text(self.plan)
-        td("format", disk, disk.with_name("plan"), *self.shape.split())
-        return disk.read_bytes()
-
-    def traced(self, disk, before=None):
-        """Streams to a disk that fails from the call on that comes after these, if they are given: what was written, with a last line
-        where the stream told that its disk failed, and the calls up to the one that did."""
-        calls = disk.with_suffix(".calls")
-        strace = ["strace", "-qq", "-xx", "-s", "1000000", "-e", "signal=none", "-e", f"trace={TRACED}", *failures(before), "-o", calls]
-        run = subprocess.run([*strace, TD, *self.words(disk, 2, self.every)], input=text_of(self.input_after(0)), capture_output=True, text=True)
-        refused = {(0, ""): [], (1, f"td: device: {disk}\n"): ["refused: device"]}.get((run.returncode, run.stderr))
-        if refused is None:
-            sys.exit(f"a stream that was traced ended with {run.returncode}: {run.stderr}")
-        return run.stdout.splitlines() + refused, calls_of(calls.read_text())
-
     def gone_on(self, disk, image):
         """What a disk of these bytes tells; and what is written as the rest is streamed to it, and what it tells then."""
         disk.write_bytes(image)
         shown = self.show(disk)
         rest = td(*self.words(disk, 3, self.every_after), text=text_of(self.rest(*told_by(shown))))
         return shown, rest + self.show(disk)
+
+
+class NumberedOnFile(OnFile, NumberedFeed):
+    """A feed on a file each epoch of which has a request number."""
 
 
 class NumberedStream(Stream, NumberedFeed):
@@ -349,16 +369,25 @@ def failures(before):
     return ["-e", f"inject=pwrite64:error=EIO:when={len(before) - syncs + 1}+", "-e", f"inject=fsync:error=EIO:when={syncs + 1}+"]
 
 
+def failure(calls):
+    """The words of strace by which the last of these calls fails, and no other."""
+    if calls is None:
+        return []
+    alike = [call for call in calls if (call is SYNC) == (calls[-1] is SYNC)]
+    return ["-e", f"inject={'fsync' if calls[-1] is SYNC else 'pwrite64'}:error=EIO:when={len(alike)}"]
+
+
 def calls_of(trace):
-    """The writes and syncs of a trace, up to the first that failed."""
-    calls = []
+    """The writes and syncs of a trace, of which the last alone may have failed: one that did is not made again, and no other follows it."""
+    calls, has_failed = [], False
     for line in trace.splitlines():
+        if has_failed:
+            sys.exit(f"a call that failed was not the last: {line}")
         call = re.fullmatch(r'(?:fsync\(\d+\)|pwrite64\(\d+, "((?:\\x[0-9a-f]{2})+)", (\d+), (\d+)\)) += (-?\d+).*', line)
         if not call:
             sys.exit(f"strace told another call than a write or a sync: {line}")
         calls.append((int(call[3]), bytes.fromhex(call[1].replace("\\x", ""))) if call[1] else SYNC)
-        if call[4] != (call[2] or "0"):
-            break
+        has_failed = call[4] != (call[2] or "0")
     return calls
 
 
@@ -451,10 +480,22 @@ def read_whole(stream, image, disk):
     return calls
 
 
+def fail_once(feed, image, calls, disk):
+    """The last of these calls fails, and none that might follow: what was written, which must end with the disk's failure."""
+    disk.write_bytes(image)
+    written, found = feed.traced(disk, failing=calls)
+    if found != calls or written[-1:] != ["refused: device"]:
+        sys.exit(f"the call {len(calls)} of a {feed.kind} failed alone, and it made the calls {found[-3:]} and wrote {written}")
+    return written
+
+
 def stop_stream(stream, image, calls, disk):
     """Stops a stream at the last of these calls: what it wrote."""
+    once = fail_once(stream, image, calls, disk)
     disk.write_bytes(image)
     written, found = stream.traced(disk, calls[:-1])
+    if written != once:
+        sys.exit(f"stop {len(calls)}: where this call alone fails, a stream writes {once}, and else {written}")
     if found != calls or disk.read_bytes() != made(image, calls[:-1]):
         sys.exit(f"stop {len(calls)}: the disk got other calls than without a stop, or others than strace tells: {found[-3:]}")
     return written
@@ -488,6 +529,79 @@ def stop_each_of_stream(stream):
     return [(len(played), numbers)]
 
 
+def fail_each_once(feed):
+    """Each call of a feed on a file fails alone: how many there are."""
+    with tempfile.TemporaryDirectory(prefix="td-fail-", dir=MEMORY if os.access(MEMORY, os.W_OK) else None) as folder:
+        image = feed.formatted(pathlib.Path(folder) / "fresh")
+        calls = read_whole(feed, image, pathlib.Path(folder) / "fresh")
+
+        def fail(count):
+            disk = pathlib.Path(folder) / f"failed{count}"
+            written = fail_once(feed, image, calls[:count], disk)
+            read_stop(f"the call {count} alone", feed, written + feed.show(disk))
+
+        with concurrent.futures.ThreadPoolExecutor() as pool:
+            list(pool.map(fail, range(1, len(calls) + 1)))
+        return len(calls)
+
+
+def read_once(feed, words, disk):
+    """Runs a command of `td` on a disk, with no input, with each of its reads failing alone: how many there are. Each run must tell all that the
+    command tells otherwise, or be refused, and a disk that it made must tell what this one tells, or nothing; the disk tells what it told."""
+    calls, new = disk.with_suffix(".calls"), disk.with_name("new")
+    whole, image = feed.show(disk), disk.read_bytes()
+
+    def run(*inject):
+        new.unlink(missing_ok=True)
+        disk.write_bytes(image)
+        strace = ["strace", "-qq", "-P", disk, "-e", "signal=none", "-e", "trace=pread64", *inject, "-o", calls]
+        done = subprocess.run([*strace, TD, words[0], disk, disk.with_name("plan"), *words[1:]], stdin=subprocess.DEVNULL, capture_output=True, text=True)
+        made = subprocess.run([TD, "show", new, disk.with_name("plan")], stdin=subprocess.DEVNULL, capture_output=True, text=True).stdout.splitlines()
+        return done.returncode, done.stdout, done.stderr, made
+
+    want = run()
+    count = len(calls.read_text().splitlines())
+    if want[0] != 0 or count < 3 or want[3] != (whole if words[0] == "copy" else []):
+        sys.exit(f"td {' '.join(map(str, words))} made {count} reads and ended so: {want}")
+    for number in range(1, count + 1):
+        status, output, errors, made = run("-e", f"inject=pread64:error=EIO:when={number}")
+        is_refused = status > 0 and errors.startswith("td: ") and want[1].startswith(output) and made in ([], whole)
+        if (status, output, errors, made) != want and not is_refused or feed.show(disk) != whole:
+            sys.exit(f"td {' '.join(map(str, words))}, with its read {number} of {count} failing alone: {status}, {errors}, {output}, {made}")
+    return count
+
+
+def read_each_once():
+    """Each command that reads a disk, on one that is greater than what is read ahead, with epochs in its last cell."""
+    feed = OnFile(FOLDS, "1000 7 6", [(records, number == 2) for number, (records, _) in enumerate(made_epochs(8), 1)])
+    with tempfile.TemporaryDirectory(prefix="td-read-", dir=MEMORY if os.access(MEMORY, os.W_OK) else None) as folder:
+        disk = pathlib.Path(folder) / "disk"
+        feed.formatted(disk)
+        td(*feed.words(disk), text=text_of(feed.input_after(0)))
+        new = [disk.with_name("new"), "1000", "8", "6"]
+        counts = {words[0]: read_once(feed, words, disk) for words in (["show"], ["dump"], ["feed"], ["stream"], ["copy", *new], ["upgrade"])}
+    reads = ", ".join(f"{name} {count}" for name, count in counts.items())
+    print(f"each read of a disk failing alone ({reads}): each command was refused, or told all that was acknowledged")
+
+
+# Traces of calls that nobody may make: each has one that failed and was not the last.
+DOCTORED = (
+    "fsync(3) = -1 EIO (Input/output error) (INJECTED)\nfsync(3) = 0\n",
+    'pwrite64(3, "\\x01", 1, 7) = -1 EIO (Input/output error) (INJECTED)\npwrite64(3, "\\x01", 1, 7) = 1\n',
+    'fsync(3) = -1 EIO (Input/output error) (INJECTED)\npwrite64(3, "\\x01", 1, 7) = 1\n',
+)
+
+
+def see_doctored():
+    """The script ends where it takes a call that is made again for one that is made once."""
+    for trace in DOCTORED:
+        try:
+            calls_of(trace)
+        except SystemExit:
+            continue
+        sys.exit(f"each_stop.py does not see what it is for: a call that failed was made again: {trace}")
+
+
 def tell(feed, runs):
     """Prints how many stops were met; the script ends where the end of some group was never told."""
     met = sum(met for met, _ in runs)
@@ -512,6 +626,10 @@ def main():
         tell(feed, stop_each(feed))
     if not is_traced():
         return print("skipped: the streams of each_stop, since there is no strace that may trace here")
+    see_doctored()
+    for feed in (OnFile(FOLDS, "3 3 6", made_epochs(STREAM_EPOCHS)), NumberedOnFile(FOLDS, "3 3 6", made_epochs(NUMBERED_EPOCHS))):
+        print(f"a {feed.kind} of {len(feed.epochs)} epochs, each of its {fail_each_once(feed)} writes and syncs failing alone: none was made again")
+    read_each_once()
     epochs = [(records, number == STREAM_EPOCHS) for number, (records, _) in enumerate(made_epochs(STREAM_EPOCHS), 1)]
     for stream in (Stream(FOLDS, "3 3 6", epochs, None, 2), Stream(FOLDS, "3 3 6", epochs, 2, None),
                    NumberedStream(FOLDS, "3 3 6", made_epochs(NUMBERED_EPOCHS), None, 2)):
