@@ -4,8 +4,13 @@
     bench/pages.py
 
 Each link of a page leads to a file, and to a heading of it where it names one. Each indented line of docs/CLOSURES.md and docs/SERVICE.md is a line of
-the crate that the page walks through (of its sources, its definitions, or what it prints); `..` stands for lines that are left out."""
+the crate that the page walks through (of its sources, its definitions, or what it prints); `..` stands for lines that are left out.
 
+Each name that a page cites is one of the sources: a path as `Plan::read` or `laws::orders`, in the crate that it names, or that a section of docs/GUARANTEES.md is
+of; each word of code with `_` or a capital inside; each file. In docs/GUARANTEES.md so is each name behind `*Contract*`, and what stands in brackets
+behind a function, as `Plan::read` (`ok`), are clauses of its contract, or definitions of its crate."""
+
+import collections
 import pathlib
 import re
 import sys
@@ -15,6 +20,16 @@ PAGES = [ROOT / "README.md", *sorted(ROOT.glob("docs/*.md")), *sorted(ROOT.glob(
 WALKS = {"docs/CLOSURES.md": "example_closures", "docs/SERVICE.md": "example_service"}
 # A drawing in a page begins so.
 DRAWN = ("producer ──", "(thread)", "release_in     publishes", "▼", "pool: the hall", "▲", "workers (a thread")
+
+
+# What pages cite of Rust and its library, and what stands for any name.
+OUTSIDE = {"f64::total_cmp", "fmt::Error", "Iterator::any", "thread::scope", "Display", "Result", "Clone", "Send", "sync_data", "RandomState",
+           "FILE_FUNCTION_MISTAKE"}
+# The files whose words code on a page may be, beside sources and definitions.
+SOURCES = ("crates/*/proofs/**/*.antt", "bench/*", "rows/*", "examples/*", "check", "edits.py", "build",
+           "crates.txt", "docs/draw.py")
+# Where the files stand that a page names without their folder.
+FOLDERS = ("", "crates/", "docs/", "crates/*/")
 
 
 def anchors_of(page):
@@ -52,11 +67,124 @@ def mistakes_of_walks():
                 yield f"{name}: no line of {crate}: {said}"
 
 
+class Function:
+    """A function of a crate, the types or the trait of whose block it is, and the clauses of its contract."""
+
+    def __init__(self, crate, places, name):
+        self.crate, self.places, self.name, self.clauses = crate, places, name, set()
+
+
+def functions_in(file, crate):
+    """The functions of a source file, each with the places by which it may be cited: its types, its module, its crate."""
+    found, types = [], set()
+    for line in file.read_text(encoding="utf-8").splitlines():
+        if block := re.match(r"(?:pub )?(?:unsafe )?(?:impl|trait)\b(.*)", line):
+            types = set(re.findall(r"(?<!\w)[A-Z]\w*", re.sub(r"<[^<>{]*>", "", re.sub(r"<[^<>{]*>", "", block[1].split(" where ")[0]))))
+        elif line.startswith("}"):
+            types = set()
+        if function := re.match(r"\s*(?:pub(?:\([\w ]+\))? )?(?:const )?(?:ghost )?fn (\w+)", line):
+            found.append(Function(crate, types | {file.stem, file.parent.name, crate}, function[1]))
+        for clause in re.findall(r"\b(?:ensures|requires) (\w+) \{", line):
+            found[-1].clauses.add(clause)
+    return found
+
+
+class Sources:
+    """The names of all crates: what each place, a crate, a module or a type, has, by crate; the definitions of each; the words of the code, and of all sources."""
+
+    def __init__(self):
+        self.crates = {file.name for file in ROOT.glob("crates/*") if file.is_dir()}
+        self.functions = collections.defaultdict(list)
+        self.has = collections.defaultdict(set)
+        self.definitions = collections.defaultdict(set)
+        self.code = set()
+        for file in [*ROOT.glob("crates/*/src/**/*.rt"), *ROOT.glob("crates/*/specs/**/*.antt")]:
+            self.read(file, file.relative_to(ROOT).parts[1])
+        self.code |= self.crates | {file.stem for file in ROOT.glob("crates/*/must-fail/*.edit")}
+        self.words = set(self.code)
+        for file in (file for pattern in SOURCES for file in ROOT.glob(pattern) if file.is_file()):
+            self.words |= set(re.findall(r"\w+", file.read_text(encoding="utf-8", errors="replace")))
+
+    def read(self, file, crate):
+        text = file.read_text(encoding="utf-8")
+        self.code |= set(re.findall(r"\w+", text))
+        named = set(re.findall(r"\b(?:fn|struct|enum|trait|type|const|static|record|abbrev|data|mod) (?:pub )?(\w+)", text))
+        fields = set(re.findall(r"(?m)^\s*(?:pub(?:\(\w+\))? )?(?:ghost )?(\w+) ?:", text)) | set(re.findall(r"(?m)^(?:pub )?(\w+)\b.*(?: :|=)", text))
+        for place in (file.stem, file.parent.name, crate):
+            self.has[crate, place] |= named | (fields if file.suffix == ".antt" or place == crate else set())
+        self.definitions[crate] |= named if file.suffix == ".antt" else set()
+        for kind, body in re.findall(r"(?ms)^(?:pub(?:\(\w+\))? )?(?:struct|enum|trait|record) (\w+).*?\{(.*?)^\}", text):
+            self.has[crate, kind] |= set(re.findall(r"(?m)^\s*(?:pub(?:\(\w+\))? )?(?:ghost )?(?:fn |type )?(\w+)", body))
+        for function in functions_in(file, crate) if file.suffix == ".rt" else []:
+            self.functions[function.name].append(function)
+            for place in function.places:
+                self.has[crate, place].add(function.name)
+
+    def cited(self, path, here):
+        """The functions that a path may name, of these crates; of all where they have none."""
+        *places, name = path.split("::")
+        all_of_it = [it for it in self.functions[name] if not places or places[-1] in it.places]
+        return [it for it in all_of_it if it.crate in here] or all_of_it
+
+    def has_path(self, path, here):
+        """Whether a path leads to a name: in its crate, in these crates, or, where there are none of either, in any."""
+        *places, name = path.split("::")
+        crates = self.crates & {places[0]} or (here if places[-1] == "laws" else set()) or self.crates
+        return any(name in self.has[crate, places[-1]] for crate in crates)
+
+
+def plain(said):
+    """A name as code writes it, without the types and the values that it is given."""
+    return re.sub(r"\(.*\)$", "", re.sub(r"<[^<>]*>", "", said))
+
+
+def mistakes_of_names(sources):
+    """Paths, words of code and files that a page cites and nothing has."""
+    for page in PAGES:
+        here = set()
+        for number, line in enumerate(page.read_text(encoding="utf-8").splitlines(), 1):
+            if line.startswith("## "):
+                here = sources.crates & set(re.findall(r"\w+", line)) if page.name == "GUARANTEES.md" else set()
+            for said in re.findall(r"`([^`]+)`", line):
+                name = plain(said)
+                is_path, is_word = re.fullmatch(r"\w+(::\w+)+", name), re.fullmatch(r"[A-Za-z]\w*(_|[a-z][A-Z])\w*", name)
+                is_file = re.fullmatch(r"[a-z_]+/([\w-]+/)*[\w-]+\.\w+|specs/\w+", said) and not re.search(r"[A-Z]{4}", said)
+                if said in OUTSIDE or name in OUTSIDE:
+                    continue
+                if is_path and not sources.has_path(name, here) or is_word and name not in sources.words:
+                    yield f"{page.relative_to(ROOT)}:{number}: {said} stands nowhere in the sources"
+                elif is_file and not any(list(ROOT.glob(folder + said + ".antt" * ("." not in said))) for folder in FOLDERS):
+                    yield f"{page.relative_to(ROOT)}:{number}: there is no file {said}"
+
+
+def mistakes_of_contracts(sources):
+    """What docs/GUARANTEES.md cites of contracts and no contract has."""
+    page = "docs/GUARANTEES.md"
+    text = (ROOT / page).read_text(encoding="utf-8")
+    for section in re.finditer(r"(?ms)^## (.*?)$(.*?)(?=^## |\Z)", text):
+        here = sources.crates & set(re.findall(r"\w+", section[1]))
+
+        def place(found):
+            return f"{page}:{text[:section.start(2) + found.start()].count(chr(10)) + 1}"
+
+        for found in re.finditer(r"`([A-Za-z_][\w:<>]*)`\s*\((`[^()]*)\)", section[2]):
+            functions = sources.cited(plain(found[1]), here)
+            clauses = set().union(*(it.clauses | sources.definitions[it.crate] for it in functions))
+            for clause in re.findall(r"`([a-z]\w*)`", re.split(r"\b(?:with|by|in|of|which|the)\b", found[2])[0]) if functions else []:
+                if clause not in clauses:
+                    yield f"{place(found)}: {found[1]} has no clause {clause}"
+        for found in re.finditer(r"\*Contract\*:?(.*?)(?=\.\s|\*Only|\*Not|\Z)", section[2], re.S):
+            for name in re.findall(r"`([A-Za-z_]\w*)`", found[1]):
+                if name not in sources.code | OUTSIDE:
+                    yield f"{place(found)}: a contract {name} stands nowhere in the sources"
+
+
 def main():
-    wrong = [*mistakes_of_links(), *mistakes_of_walks()]
+    sources = Sources()
+    wrong = [*mistakes_of_links(), *mistakes_of_walks(), *mistakes_of_names(sources), *mistakes_of_contracts(sources)]
     if wrong:
         sys.exit("\n".join(wrong))
-    print(f"{len(PAGES)} pages: links lead somewhere, and what is quoted of crates stands there")
+    print(f"{len(PAGES)} pages: links lead somewhere, what is quoted of crates stands there, and each name, clause and file that is cited is there")
 
 
 if __name__ == "__main__":
