@@ -45,7 +45,7 @@ impl Chain {
 
     /// Whether there are none.
     pub(crate) fn is_empty(&self) -> bool
-        ensures { IsTrue result → self.now ≡ [] }
+        ensures { IsTrue result ↔ (self.now ≡ []) }
     {
         self.gaps.is_empty()
     }

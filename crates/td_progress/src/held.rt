@@ -232,6 +232,7 @@ fn take(chains: &mut IndexMap<Stamp, Chain>, class: &Stamp, epoch: u64)
 fn drop_empty(chains: &mut IndexMap<Stamp, Chain>, class: &Stamp)
     requires once { IsDistinct is_stamp (keys_of chains.old.entries) }
     ensures entries { (chains.new.entries ≡ chains.old.entries) ⊎ ((chain_at class.now chains.old.entries ≡ []) × (chains.new.entries ≡ remove_entry (is_stamp class.now) chains.old.entries)) }
+    ensures none { chain_at class.now chains.old.entries ≡ [] → lookup (is_stamp class.now) chains.new.entries ≡ None }
     ensures once { IsDistinct is_stamp (keys_of chains.new.entries) }
 {
     let is_empty = match chains.get(class) {
