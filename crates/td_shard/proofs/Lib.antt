@@ -8,6 +8,7 @@ pub mod Extended
 pub mod InOneList
 pub mod Ordered
 pub mod Placed
+pub mod Trimmed
 pub mod Viewed
 pub mod LeftOrders
 pub mod LeftBags

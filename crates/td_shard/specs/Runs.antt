@@ -34,6 +34,22 @@ abbrev pub InOrder : ℕ → List Run → ℕ → Type 0
 InOrder from [] to = from ≤ to
 InOrder from (r ∷ rs) to = (from ≤ r.at) × (r.at ≤ r.end) × InOrder r.end rs to
 
+-- how many records, of so many that are kept from a number on, stand before the first that waits in the first run: all, where there is no run
+abbrev pub taken_of : ℕ → ℕ → List Run → ℕ
+taken_of start len [] = len
+taken_of start len (r ∷ rs) = r.at - start
+
+-- the number of the first that waits in the first run: 0, where there is no run
+abbrev pub begin_of : List Run → ℕ
+begin_of [] = 0
+begin_of (r ∷ rs) = r.at
+
+-- NONE IS KEPT THAT WAS TAKEN before it: the first record that is kept waits in the first run. Where there is no run, none is kept, and
+-- the numbers begin anew
+abbrev pub BeginsAt : ℕ → ℕ → List Run → Type 0
+BeginsAt start len [] = (start ≡ 0) × (len ≡ 0)
+BeginsAt start len (r ∷ rs) = start ≡ r.at
+
 -- WHAT WAITS
 -- the messages that wait, in the order posted
 abbrev pub messages_of : List Part → List Message

@@ -128,7 +128,6 @@ impl Mailbox {
     {
         self.len -= take_task(&mut self.runs, pick);
         let_go(&mut self.runs, &mut self.lasts);
-        self.runs.trim();
     }
 
     /// Posts these records, of which there is one at least.

@@ -1,9 +1,9 @@
 //! The runs of messages of a mailbox.
 ghost use Rattle.std.specs.Prelude.{◌≡◌, ◌+◌, ◌-◌, ◌^◌, ◌<◌, ◌≤◌, ◌++◌, [], ℕ, length, take, drop, max, vec_len, vec_capacity};
-ghost use Rattle.std.specs.Prelude.{OnOk, OnErr, IsTrue, false};
+ghost use Rattle.std.specs.Prelude.{◌↔◌, OnOk, OnErr, IsTrue, false, map};
 ghost use Rattle.std.specs.List.{HoldsAt};
 ghost use Rattle.std.specs.VecDeque.{deque_len, deque_capacity};
-ghost use Rattle.td_shard.specs.Runs.{InOrder, changed_at, extended, linked_to, pushed, with_first, without_front};
+ghost use Rattle.td_shard.specs.Runs.{InOrder, BeginsAt, begin_of, taken_of, part, changed_at, extended, linked_to, pushed, with_first, without_front};
 
 use crate::error::ShardError;
 use crate::lane::Lane;
@@ -132,7 +132,7 @@ impl Runs {
         run.ahead = ahead;
     }
 
-    /// Takes the first records of the run at a place.
+    /// Takes the first records of the run at a place. Those of the first run are let go of.
     pub fn advance(&mut self, place: usize, count: usize)
         requires place { place < length self.old.parts }
         requires count { HoldsAt (λ p. count ≤ length p.recs) self.old.parts place }
@@ -140,6 +140,7 @@ impl Runs {
     {
         let run = &mut self.runs[place];
         run.at += count;
+        trim(&self.runs, &mut self.start, &mut self.recs);
     }
 
     /// Moves a record of the run at a place before its others.
@@ -201,22 +202,22 @@ impl Runs {
         self.runs_room -= 1;
     }
 
-    /// Lets go of the first run. Its place among the records stays until `trim`.
+    /// Lets go of the first run, with all records before the first that waits in the next.
     pub fn pop(&mut self)
         requires { 0 < length self.old.parts }
         ensures { self.new ≡ record self.old { first = self.old.first + 1; parts = drop 1 self.old.parts } }
     {
         let _ = self.runs.pop_front();
         self.first += 1;
+        trim(&self.runs, &mut self.start, &mut self.recs);
     }
 
-    /// Lets go of the records before the first that waits in the first run.
-    pub fn trim(&mut self)
-        ensures { self.new ≡ self.old }
+    /// Numbers the runs from 0 on, where there is none.
+    pub fn number_anew(&mut self)
+        requires { self.old.parts ≡ [] }
+        ensures { self.new ≡ record self.old { first = 0 } }
     {
-        let count = taken_rows(&self.runs, self.start, self.recs.len());
-        pop_rows(&mut self.recs, count);
-        self.start += count;
+        self.first = 0;
     }
 
     /// Makes room for `room` more records, in `runs` runs. Refusal: `Memory`, with the runs unchanged.
@@ -240,15 +241,41 @@ impl Runs {
     }
 }
 
+/// Lets go of the records before the first that waits in the first run. Where there is no run, all go, and records are numbered
+/// from 0 on.
+fn trim(runs: &VecDeque<Run>, start: &mut usize, recs: &mut VecDeque<Rec>)
+    requires { InOrder start.old runs.now.items (start.old + deque_len recs.old) }
+    ensures begins { BeginsAt start.new (deque_len recs.new) runs.now.items }
+    ensures ordered { InOrder start.new runs.now.items (start.new + deque_len recs.new) }
+    ensures parts { map (part start.new recs.new.items) runs.now.items ≡ map (part start.old recs.old.items) runs.now.items }
+    ensures fewer { deque_len recs.new ≤ deque_len recs.old }
+    ensures numbers { start.new + deque_len recs.new ≤ start.old + deque_len recs.old }
+    ensures capacity { deque_capacity recs.new ≡ deque_capacity recs.old }
+{
+    let count = taken_rows(runs, *start, recs.len());
+    pop_rows(recs, count);
+    *start = first_number(runs);
+}
+
 /// How many records there are before the first that waits in the first run: all `len` of them, where there is no run.
 fn taken_rows(runs: &VecDeque<Run>, start: usize, len: usize) -> usize
     requires { InOrder start runs.now.items (start + len) }
     ensures within { result ≤ len }
-    ensures ordered { InOrder (start + result) runs.now.items (start + len) }
+    ensures count { result ≡ taken_of start len runs.now.items }
 {
     match runs.front() {
         Some(run) => run.at - start,
         None => len,
+    }
+}
+
+/// The number of the first record that waits in the first run: 0, where there is no run.
+fn first_number(runs: &VecDeque<Run>) -> usize
+    ensures { result ≡ begin_of runs.now.items }
+{
+    match runs.front() {
+        Some(run) => run.at,
+        None => 0,
     }
 }
 
@@ -257,6 +284,7 @@ fn ends_on(runs: &VecDeque<Run>, lane: &Lane, end: usize) -> bool
     ensures some { IsTrue result → 0 < deque_len runs.now }
     ensures lane { IsTrue result → HoldsAt (λ r. r.lane ≡ lane.now) runs.now.items (deque_len runs.now - 1) }
     ensures end { IsTrue result → HoldsAt (λ r. r.end ≡ end) runs.now.items (deque_len runs.now - 1) }
+    ensures found { 0 < deque_len runs.now → HoldsAt (λ r. (r.lane ≡ lane.now) × (r.end ≡ end)) runs.now.items (deque_len runs.now - 1) → IsTrue result }
 {
     match runs.back() {
         Some(run) => run.end == end && run.lane == *lane,
@@ -266,7 +294,7 @@ fn ends_on(runs: &VecDeque<Run>, lane: &Lane, end: usize) -> bool
 
 /// Whether numbers fit, from `first` on, for `len` things and `room` more.
 fn can_number(first: usize, len: usize, room: usize) -> bool
-    ensures { IsTrue result → first + (len + room) < 2 ^ 64 }
+    ensures { IsTrue result ↔ (first + (len + room) < 2 ^ 64) }
 {
     match len.checked_add(room) {
         Some(many) => first.checked_add(many).is_some(),

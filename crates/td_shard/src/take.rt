@@ -172,13 +172,14 @@ fn take_one(runs: &mut Runs, place: usize, offset: usize)
     runs.advance(place, 1);
 }
 
-/// Lets go of the runs before the first that waits.
+/// Lets go of the runs before the first that waits. Where none waits, runs are numbered from 0 on.
 pub(crate) fn let_go(runs: &mut Runs, lasts: &mut HashMap<Lane, usize>)
     requires linked { AreLinked lane_eq runs.old.parts }
     requires lasts { (q : AnyLane) → get lane_eq lasts.old q ≡ option_map (λ i. runs.old.first + i) (last_on lane_eq q runs.old.parts) }
     ensures linked { AreLinked lane_eq runs.new.parts }
     ensures lasts { (q : AnyLane) → get lane_eq lasts.new q ≡ option_map (λ i. runs.new.first + i) (last_on lane_eq q runs.new.parts) }
     ensures front { FrontWaits runs.new.parts }
+    ensures anew { runs.new.parts ≡ [] → runs.new.first ≡ 0 }
     ensures messages { messages_of runs.new.parts ≡ messages_of runs.old.parts }
     ensures runs { runs.new.runs ≡ runs.old.runs }
     ensures room { runs.new.room ≡ runs.old.room }
@@ -186,6 +187,9 @@ pub(crate) fn let_go(runs: &mut Runs, lasts: &mut HashMap<Lane, usize>)
 {
     while front_is_taken(runs) {
         drop_front(runs, lasts);
+    }
+    if runs.len() == 0 {
+        runs.number_anew();
     }
 }
 

@@ -1,6 +1,6 @@
 use Rattle.std.proofs.Common.{arith, suc, ◌≡◌, ◌+◌, ◌-◌, List, drop, length, sym, ap, ◌∙◌, subst}
 use Rattle.td_stamp.specs.declared.values.Rec.{Rec}
-use Rattle.td_shard.specs.Runs.{InOrder, changed_at, with_first}
+use Rattle.td_shard.specs.Runs.{InOrder, BeginsAt, changed_at, with_first}
 use Rattle.td_shard.proofs.Ordered.{Brought, is_brought, moved_within}
 use Rattle.td_shard.proofs.Placed.{placed, enough, viewed, as_changed}
 use Rattle.td_shard.proofs.runs.Runs.bring_to_front.Goals as goal
@@ -31,6 +31,7 @@ invariant_of-self c =
     let now = c.move_down.new.rows in
     record {
       ordered = subst (λ n. InOrder m.start m.runs.items (m.start + n)) (sym (its c).size) was.ordered;
+      begins = subst (λ n. BeginsAt m.start n m.runs.items) (sym (its c).size) was.begins;
       runs_kept = was.runs_kept;
       recs_kept = omega (arith, was.recs_kept, (its c).size, now.ok.0, m.recs.ok.0, c.move_down.ensures.capacity);
       numbers = was.numbers;

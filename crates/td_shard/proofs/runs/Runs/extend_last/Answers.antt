@@ -7,6 +7,7 @@ use Rattle.td_shard.specs.declared.runs.Runs.TheInside.{Inside}
 use Rattle.td_shard.specs.KeptRuns.{IsRuns}
 use Rattle.td_shard.specs.Runs.{Parts, part, changed_at, with_more}
 use Rattle.td_shard.proofs.Ordered.{order-grow, grown}
+use Rattle.td_shard.proofs.Trimmed.{begins-set}
 use Rattle.td_shard.proofs.Placed.{At, placed, viewed, as_posted}
 use Rattle.td_shard.proofs.runs.Runs.extend_last.Goals as goal
 
@@ -37,6 +38,7 @@ invariant_of-self c =
     record {
       ordered = order-grow m.start (m.start + length m.recs.items) (m.start + length rows.items) m.runs.items (c.len-last.result - 1) r (record r { end = m.start + c.len.result + length c.args.recs.now }) r its.last c.index_mut-run.ensures.value refl
           (omega (arith, its.at.where_it.some, its.end, c.len.ensures, m.recs.ok.0)) (omega (arith, longer, c.len.ensures, m.recs.ok.0)) was.ordered;
+      begins = begins-set m.start (length m.recs.items) (length rows.items) m.runs.items (c.len-last.result - 1) r (record r { end = m.start + c.len.result + length c.args.recs.now }) r its.at.within c.index_mut-run.ensures.value refl was.begins;
       runs_kept = omega (arith, was.runs_kept, c.requires.runs, ap (λ (v : Parts). v.runs) c.self.view_is);
       recs_kept = omega (arith, was.recs_kept, longer, rows.ok.0, m.recs.ok.0, c.push_rows.ensures.capacity, c.requires.room, ap (λ (v : Parts). v.room) c.self.view_is);
       numbers = omega (arith, was.numbers, c.requires.runs, ap (λ (v : Parts). v.runs) c.self.view_is);

@@ -1,6 +1,7 @@
 use Rattle.std.proofs.Common.{arith, ◌+◌, length, refl}
 use Rattle.td_shard.specs.Runs.{part, changed_at, linked_to}
 use Rattle.td_shard.proofs.Ordered.{order-set, changed}
+use Rattle.td_shard.proofs.Trimmed.{begins-set}
 use Rattle.td_shard.proofs.Placed.{placed, viewed, as_changed}
 use Rattle.td_shard.proofs.runs.Runs.link.Goals as goal
 
@@ -12,6 +13,7 @@ invariant_of-self c =
     let r = c.index_mut-run.result.now in
     record {
       ordered = order-set m.start (m.start + length m.recs.items) m.runs.items c.args.place r (record r { ahead = c.args.ahead }) r at.within c.index_mut-run.ensures.value (omega arith) at.where_it.some refl was.ordered;
+      begins = begins-set m.start (length m.recs.items) (length m.recs.items) m.runs.items c.args.place r (record r { ahead = c.args.ahead }) r at.within c.index_mut-run.ensures.value refl was.begins;
       runs_kept = was.runs_kept;
       recs_kept = was.recs_kept;
       numbers = was.numbers;

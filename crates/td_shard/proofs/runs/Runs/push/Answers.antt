@@ -1,8 +1,9 @@
 use Rattle.std.proofs.Common.{arith, ◌≡◌, ◌+◌, ◌++◌, ◌∷◌, [], List, map, length, refl, sym, ap, ◌∙◌, subst, length-append}
 use Rattle.td_stamp.specs.declared.values.Rec.{Rec}
 use Rattle.td_shard.specs.declared.runs.Run.{Run}
-use Rattle.td_shard.specs.Runs.{part, InOrder}
+use Rattle.td_shard.specs.Runs.{part, InOrder, BeginsAt}
 use Rattle.td_shard.proofs.Ordered.{order-push, pushed}
+use Rattle.td_shard.proofs.Trimmed.{begins-push}
 use Rattle.td_shard.proofs.Placed.{viewed, as_posted}
 use Rattle.td_shard.proofs.runs.Runs.push.Goals as goal
 
@@ -17,6 +18,8 @@ invariant_of-self c =
     record {
       ordered = subst (λ l. InOrder m.start l (m.start + length rows.items)) (sym c.push_back_reserved.ensures.items)
           (order-push m.start (m.start + length m.recs.items) (m.start + length rows.items) m.runs.items run (omega (arith, c.len.ensures, m.recs.ok.0)) (omega arith) (omega (arith, longer, c.len.ensures, m.recs.ok.0)) was.ordered);
+      begins = subst (λ l. BeginsAt m.start (length rows.items) l) (sym c.push_back_reserved.ensures.items)
+          (begins-push m.start (length m.recs.items) (length rows.items) m.runs.items run (omega (arith, c.len.ensures, m.recs.ok.0)) was.begins);
       runs_kept = omega (arith, was.runs_kept, c.push_back_reserved.ensures.len, c.push_back_reserved.ensures.capacity, c.requires.runs, ap (λ v. v.runs) c.self.view_is);
       recs_kept = omega (arith, was.recs_kept, longer, rows.ok.0, m.recs.ok.0, c.push_rows.ensures.capacity, c.requires.room, ap (λ v. v.room) c.self.view_is);
       numbers = omega (arith, was.numbers, c.push_back_reserved.ensures.len, c.requires.runs, ap (λ v. v.runs) c.self.view_is);
