@@ -1,9 +1,10 @@
 //! Copying a disk.
-ghost use Rattle.std.specs.Prelude.{◌≡◌, ◌↔◌, IfOk};
+ghost use Rattle.std.specs.Prelude.{◌≡◌, ◌↔◌, IfErr, IfOk};
 ghost use Rattle.td_gate.specs.CrashSafe.{CrashSafe, Unchanged};
 ghost use Rattle.td_standing.specs.Standing.{Standing};
 ghost use Rattle.td_standing.specs.Tells.{Keeps, first_head};
 ghost use Rattle.td_copy.specs.Copied.{EachTold};
+ghost use Rattle.td_copy.specs.Refusals.{IsNotCopied, IsNotPut, IsNotRead};
 
 use crate::error::CopyError;
 use crate::room::check_room;
@@ -17,7 +18,7 @@ use td_standing::{laws, recover_device};
 /// Puts what a disk tells for a plan on a new one of this shape, which `make` makes once the old disk is read and it is known that a
 /// disk of this shape has room for that. It begins with a sync of the old disk, and writes nothing there.
 ///
-/// Refusals, before anything is made: what the old disk refuses, as a keeper's; and those of `check_room`. Then that of `make`, and
+/// Refusals, before anything is made: what the old disk refuses, as `Keeper`; and those of `check_room`. Then that of `make`, and
 /// those of `write_told`.
 pub fn copy<D: Disk, E: Disk + Drop, X: From<CopyError>, F: FnOnce() -> Result<E, X>>(
     alloc: Global,
@@ -33,6 +34,10 @@ pub fn copy<D: Disk, E: Disk + Drop, X: From<CopyError>, F: FnOnce() -> Result<E
     // BOTH DISKS TELL THE SAME, whatever a crash leaves of them; the new one has a head of this shape.
     ensures copied { IfOk result (λ new. D.is_lawful disk.old → E.is_lawful new
         → (s : Standing) × EachTold plan.now s (D.state disk.new) × Keeps plan.now (first_head shape) 0 s (E.state new)) }
+
+    // REFUSED, in this order: what the old disk refuses, what there is no room for, what `make` answers, what the disk that it made refuses.
+    ensures refused { IfErr result (λ x. IsNotCopied X.from_gives (IsNotRead plan.now (D.is_lawful disk.old) (D.state disk.new) (D.failures disk.old) (D.failures disk.new))
+        (λ s. D.is_lawful disk.old → EachTold plan.now s (D.state disk.new)) (F.post make) (IsNotPut E.capacity E.failures E.is_lawful E.state) shape x) }
 
     // The old disk stays as it is.
     ensures crash_safe { D.is_lawful disk.old → CrashSafe Unchanged (D.state disk.old) (D.state disk.new) }

@@ -1,6 +1,6 @@
 // Why a disk was not copied.
 ghost use Rattle.std.specs.Prelude.{◌≡◌};
-ghost use Rattle.td_copy.specs.declared.error.CopyError.TheVariants.{Keeper as OfKeeper};
+ghost use Rattle.td_copy.specs.declared.error.CopyError.TheVariants.{New as OfNew};
 
 use td_standing::KeeperError;
 use thiserror::Error;
@@ -23,15 +23,19 @@ pub enum CopyError {
     /// The new disk has a head already.
     #[error("formatted")]
     Formatted,
-    /// The old disk tells nothing, a disk failed, or memory ran out.
+    /// The old disk tells nothing or failed, or memory ran out for what it tells.
     #[error("{0}")]
     Keeper(KeeperError),
+    /// The new disk failed, or memory ran out for what is put on it.
+    #[error("{0}")]
+    New(KeeperError),
 }
 
+/// What a call of the new disk refuses.
 impl From<KeeperError> for CopyError {
-    ghost from_gives = { λ d e. e ≡ OfKeeper d };
+    ghost from_gives = { λ d e. e ≡ OfNew d };
 
     fn from(error: KeeperError) -> CopyError {
-        CopyError::Keeper(error)
+        CopyError::New(error)
     }
 }

@@ -16,7 +16,7 @@ pub fn check_room(shape: Shape, told: &Recovered) -> Result<(), CopyError>
     requires small { told.now.checkpoint.epoch + length told.now.submitted.items < 2 ^ 63 }
     ensures room { OnOk result (room_fault shape (standing_of told.now) ≡ None) }
     ensures refused { IfErr result (λ e. room_fault shape (standing_of told.now) ≡ Some e) }
-    ensures no_device { IsErrOf result (CopyError.Keeper Device) → ⊥ }
+    ensures no_device { IsErrOf result (CopyError.New Device) → ⊥ }
 {
     let states = told.checkpoint.states.len();
     if (shape.states() as usize) < states {
@@ -44,7 +44,7 @@ fn check_records(most: u32, first: u64, submitted: &[Submitted]) -> Result<(), C
     requires small { first + length submitted.now < 2 ^ 64 }
     ensures room { OnOk result (large_epoch most first submitted.now ≡ None) }
     ensures refused { IfErr result (λ e. large_epoch most first submitted.now ≡ Some e) }
-    ensures no_device { IsErrOf result (CopyError.Keeper Device) → ⊥ }
+    ensures no_device { IsErrOf result (CopyError.New Device) → ⊥ }
 {
     let mut epoch = first;
     for each in submitted {

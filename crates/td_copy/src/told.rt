@@ -15,6 +15,7 @@ ghost use Rattle.td_standing.specs.Tells.{Tells, Keeps, TellsSince, first_head};
 ghost use Rattle.td_standing.specs.Read.{MayStand, standing_of, Stood, Refused};
 ghost use Rattle.td_copy.specs.Room.{room_fault, HasRoomFor};
 ghost use Rattle.td_copy.specs.Copied.{HasNoHead, HasParts, OpensNoHead, IsRising};
+ghost use Rattle.td_copy.specs.Refusals.{IsNotPut};
 
 use crate::epochs::put_epochs;
 use crate::error::CopyError;
@@ -35,7 +36,7 @@ const STATE_LEN: usize = 32;
 /// their cells, and then the head, of version 2. It begins with a sync.
 ///
 /// Refusals: those of `check_room`, and `Shape`, where the disk has fewer bytes than the shape takes; with these the disk is not
-/// called. `Formatted`, where a head is open, with nothing written. `Memory` and `Device` of a keeper's.
+/// called. `Formatted`, where a head is open, with nothing written. `New` of a keeper's `Memory` and `Device`.
 pub fn write_told<D: Disk>(
     alloc: Global,
     device: &mut D,
@@ -47,11 +48,8 @@ pub fn write_told<D: Disk>(
     ensures size { D.capacity device.new ≡ D.capacity device.old }
     ensures lawful { D.is_lawful device.old ↔ D.is_lawful device.new }
     ensures room { OnOk result ((room_fault shape (standing_of told.now) ≡ None) × (size_of shape ≤ D.capacity device.old)) }
-    ensures refused { IfErr result (λ e. ((room_fault shape (standing_of told.now) ≡ Some e) × (device.new ≡ device.old))
-        ⊎ (((e ≡ CopyError.Shape) × (size_of shape ≤ D.capacity device.old → ⊥) × (device.new ≡ device.old))
-        ⊎ (((e ≡ CopyError.Formatted) × (D.is_lawful device.old → (HasNoHead (D.state device.new).bytes → ⊥) × CrashSafe Unchanged (D.state device.old) (D.state device.new)))
-        ⊎ ((e ≡ CopyError.Keeper Memory) ⊎ (e ≡ CopyError.Keeper Device))))) }
-    ensures failures { CountsDevice result (CopyError.Keeper Device) (D.failures device.old) (D.failures device.new) }
+    ensures refused { IfErr result (λ e. IsNotPut D.capacity D.failures D.is_lawful D.state shape (standing_of told.now) device.old device.new e) }
+    ensures failures { CountsDevice result (CopyError.New Device) (D.failures device.old) (D.failures device.new) }
 
     // After Ok a lawful disk tells what was read, whatever a crash leaves of it.
     ensures copied { OnOk result (D.is_lawful device.old → IsRising (standing_of told.now)
@@ -71,7 +69,7 @@ pub fn write_told<D: Disk>(
     match is_headed(device) {
         Ok(false) => {}
         Ok(true) => return Err(CopyError::Formatted),
-        Err(fault) => return Err(CopyError::Keeper(KeeperError::from(fault))),
+        Err(fault) => return Err(CopyError::New(KeeperError::from(fault))),
     }
     write_all(alloc, device, plan, shape, told)?;
     Ok(())

@@ -1,6 +1,12 @@
-use Rattle.std.proofs.Common.{ℕ, List, sym, subst}
+use Rattle.std.proofs.Common.{inl, inr, ℕ, List, sym, subst, Result, Err}
+use Rattle.std.specs.Prelude.{IfErr, IsErrAnd}
+use Rattle.std.proofs.lemmas.Result.{err_from_is_err_and}
+use Rattle.td_plan.specs.Lines.{Line}
+use Rattle.td_disk.specs.Disk.{DiskState}
+use Rattle.td_head.specs.declared.head.Head.{Head}
+use Rattle.td_standing.specs.Standing.{Standing}
 use Rattle.td_standing.specs.Told.{Told, inputs_of, ring_of, floor_of}
-use Rattle.td_standing.specs.Tells.{Keeps, first_head}
+use Rattle.td_standing.specs.Tells.{Tells, Keeps, first_head}
 use Rattle.td_standing.specs.Read.{standing_of, Stood}
 use Rattle.td_copy.specs.Copied.{IsRising, EachTold}
 use Rattle.td_copy.proofs.Rising.{rise_from}
@@ -21,3 +27,61 @@ returns-clause-copied g c lawful lawful_new =
     let first : EachTold plan s (g.D.Disk.state old) =
     λ image left. subst (λ (i : List ℕ). Told plan i (Stood s)) (sym (keeps.durable image left)) (told plan read.head read.checkpoint.slot s (g.D.Disk.state old).bytes keeps.tells) in
     (s, first, copied)
+
+-- a refusal that is given on as the caller's own
+given_on : {T X : Type 0} {Gives Says : X → Type 0} (r : Result T X) → IsErrAnd r Gives → ((x : X) → Gives x → Says x) → IfErr r Says
+given_on {T} {X} {Gives} {Says} r is says =
+    let p = err_from_is_err_and r is in
+    subst (λ (o : Result T X). IfErr o Says) (sym p.1) (says p.0 p.2)
+
+-- what is kept is told by each image
+each_told : (plan : List Line) (head : Head) (side : ℕ) (s : Standing) (state : DiskState)
+    → ((image : List ℕ) → Tells plan head side s image → Told plan image (Stood s)) → Keeps plan head side s state → EachTold plan s state
+each_told plan head side s state told keeps = λ image left. subst (λ (i : List ℕ). Told plan i (Stood s)) (sym (keeps.durable image left)) (told state.bytes keeps.tells)
+
+pub returns-in_err-check_room-clause-refused : goal.returns-in_err-check_room-clause-refused
+returns-in_err-check_room-clause-refused g c =
+    let old = g.D.Disk.state c.recover_device.new.device in
+    let read = c.in-Ok.read.1 in
+    let s = standing_of read in
+    given_on c.from_residual.result c.from_residual.ensures.1
+    (λ x gives. inr (
+      s,
+      (λ lawful. each_told c.args.plan.now read.head read.checkpoint.slot s old
+          (λ image tells. c.told_in_parts.ensures.together c.args.plan.now read.head read.checkpoint.slot s image tells) (c.in-Ok.ensures.kept lawful)),
+      inl (c.in_err-check_room.field-0.0, gives, c.in_err-check_room.ensures.refused),
+    ))
+
+pub returns-in_err-new-clause-refused : goal.returns-in_err-new-clause-refused
+returns-in_err-new-clause-refused g c =
+    let old = g.D.Disk.state c.recover_device.new.device in
+    let read = c.in-Ok.read.1 in
+    let s = standing_of read in
+    given_on c.from_residual-in_err-new.result c.from_residual-in_err-new.ensures.1
+    (λ x same. inr (
+      s,
+      (λ lawful. each_told c.args.plan.now read.head read.checkpoint.slot s old
+          (λ image tells. c.told_in_parts.ensures.together c.args.plan.now read.head read.checkpoint.slot s image tells) (c.in-Ok.ensures.kept lawful)),
+      inr (c.in_ok-check_room.ensures.room, inl (subst (λ y. g.F.FnOnce.post c.args.make tt (Err y)) (sym same) c.in_err-new.ensures)),
+    ))
+
+pub returns-in_err-write_told-clause-refused : goal.returns-in_err-write_told-clause-refused
+returns-in_err-write_told-clause-refused g c =
+    let old = g.D.Disk.state c.recover_device.new.device in
+    let read = c.in-Ok.read.1 in
+    let s = standing_of read in
+    given_on c.from_residual-in_err-write_told.result c.from_residual-in_err-write_told.ensures.1
+    (λ x gives. inr (
+      s,
+      (λ lawful. each_told c.args.plan.now read.head read.checkpoint.slot s old
+          (λ image tells. c.told_in_parts.ensures.together c.args.plan.now read.head read.checkpoint.slot s image tells) (c.in-Ok.ensures.kept lawful)),
+      inr (
+        c.in_ok-check_room.ensures.room,
+        inr (
+          c.in_ok-new.new,
+          c.write_told.new.device,
+          c.in_ok-new.ensures,
+          (c.in_err-write_told.field-0.0, gives, c.in_err-write_told.ensures.refused),
+        ),
+      ),
+    ))

@@ -1,0 +1,39 @@
+-- Why a disk was not copied.
+use Rattle.std.specs.Prelude.{◌≡◌, ◌⊎◌, ℕ, ◌≤◌, List, Some, None, Result, Ok, Err}
+use Rattle.td_plan.specs.Lines.{Line}
+use Rattle.td_disk.specs.Disk.{DiskState, IsDurable, Rises}
+use Rattle.td_gate.specs.CrashSafe.{CrashSafe, Unchanged}
+use Rattle.td_head.specs.Layout.{Sizes, size_of}
+use Rattle.td_standing.specs.declared.error.KeeperError.{KeeperError}
+use Rattle.td_standing.specs.declared.error.KeeperError.TheVariants.{Device, Memory}
+use Rattle.td_standing.specs.Standing.{Standing}
+use Rattle.td_standing.specs.Told.{Told}
+use Rattle.td_standing.specs.Read.{Refused}
+use Rattle.td_copy.specs.declared.error.CopyError.{CopyError}
+use Rattle.td_copy.specs.declared.error.CopyError.TheVariants.{Shape, Formatted, Keeper, New}
+use Rattle.td_copy.specs.Room.{room_fault}
+use Rattle.td_copy.specs.Copied.{HasNoHead}
+
+-- WHAT A DISK REFUSES OF A READER: a call of it failed and was counted, memory ran out, or it tells this refusal, as it reads after a sync.
+abbrev pub IsNotRead : List Line → Type 0 → DiskState → ℕ → ℕ → KeeperError → Type 0
+IsNotRead plan lawful state before after e =
+    ((e ≡ Device) × Rises before after) ⊎ ((e ≡ Memory) ⊎ (lawful → IsDurable state × Told plan state.bytes (Refused e)))
+
+-- WHY A STANDING WAS NOT PUT ON A DISK: there is no room for it, or the disk is too small (with these it was not called); a head is open (it was
+-- only read); memory ran out, or a call failed and was counted.
+abbrev pub IsNotPut : {E : Type 0} → (E → ℕ) → (E → ℕ) → (E → Type 0) → (E → DiskState) → Sizes → Standing → E → E → CopyError → Type 0
+IsNotPut capacity failures is_lawful state sizes s old new e =
+    ((room_fault sizes s ≡ Some e) × (new ≡ old))
+    ⊎ (((e ≡ Shape) × (size_of sizes ≤ capacity old → ⊥) × (new ≡ old))
+    ⊎ (((e ≡ Formatted) × (is_lawful old → (HasNoHead (state new).bytes → ⊥) × CrashSafe Unchanged (state old) (state new)))
+    ⊎ ((e ≡ New Memory) ⊎ ((e ≡ New Device) × Rises (failures old) (failures new)))))
+
+-- WHY A DISK WAS NOT COPIED, in this order: what the old one refuses of a reader; for what it tells there is no room; the answer of the one that
+-- makes the new disk; or why that was not put on the disk that was made. The refusals given to the caller are of its own type.
+abbrev pub IsNotCopied : {E X : Type 0} → (CopyError → X → Type 0) → (KeeperError → Type 0) → (Standing → Type 0) → (Result E X → Type 0)
+    → (Sizes → Standing → E → E → CopyError → Type 0) → Sizes → X → Type 0
+IsNotCopied {E} gives is_not_read is_told makes is_not_put sizes x =
+    ((e : KeeperError) × gives (Keeper e) x × is_not_read e)
+    ⊎ ((s : Standing) × is_told s × (((e : CopyError) × gives e x × (room_fault sizes s ≡ Some e))
+    ⊎ ((room_fault sizes s ≡ None) × (makes (Err x)
+    ⊎ ((made left : E) × makes (Ok made) × ((e : CopyError) × gives e x × is_not_put sizes s made left e))))))
