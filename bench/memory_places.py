@@ -50,6 +50,7 @@ PLACES = {
     ],
     CALLS: [
         "engine_steps/src/drive.rt drive_pool: Pool::<K, Stock>::new",
+        "td/src/plan.rt push_turns: blocks",
         "td/src/progress.rt followed: Watch::new alloc",
         "td/src/store.rt store_map: add_map StockMap::new",
         "td/src/store.rt store_group: add_group StockGroup::new",
