@@ -135,6 +135,7 @@ impl<K: Crew, L: Law> Held<K, L> {
 
     /// The next task of a shard, if there is one that can be taken and the pool is not stopped.
     pub(crate) fn next(&mut self, shard: u8) -> Option<Task>
+        ensures rests { self.old.stopped ≡ true → result ≡ None }
         ensures none { result ≡ None → self.new ≡ self.old }
         ensures some { IfSome result (λ task. Takes self.old.hall shard (has_taken (Some task)) self.new.hall) }
         ensures stopped { self.new.stopped ≡ self.old.stopped }
