@@ -4,3 +4,4 @@ mod Rising
 mod Headed
 mod Fitting
 mod Stopped
+mod Zeroed

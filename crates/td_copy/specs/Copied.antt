@@ -1,5 +1,5 @@
 -- A disk that is made to tell what another one tells. Its head comes last.
-use Rattle.std.specs.Prelude.{◌≡◌, ◌⊎◌, ℕ, ◌≤◌, true, List, Some, None, Ok}
+use Rattle.std.specs.Prelude.{◌≡◌, ◌⊎◌, ℕ, ◌≤◌, ◌<◌, true, slice_index, List, Some, None, Ok}
 use Rattle.td_plan.specs.Lines.{Line}
 use Rattle.td_disk.specs.Disk.{DiskState}
 use Rattle.td_gate.specs.Region.{opened}
@@ -15,6 +15,14 @@ use Rattle.td_standing.specs.Tells.{checkpoint_of}
 pub record HasNoHead (image : List ℕ) : Type 0 where
   pub first : opened head_a image ≡ None
   pub second : opened head_b image ≡ None
+
+-- In each image of a disk none is.
+abbrev pub EachHasNoHead : DiskState → Type 0
+EachHasNoHead state = (c : List ℕ) → state.images c → HasNoHead c
+
+-- The bytes from one place up to another are 0.
+pub record IsZeroBetween (at end : ℕ) (image : List ℕ) : Type 0 where
+  pub each : (i : ℕ) → at ≤ i → i < end → slice_index image i ≡ 0
 
 -- Behind heads that are closed an image has the checkpoint of a standing in slot 0, and its batches after it.
 pub record HasParts (plan : List Line) (sizes : Sizes) (s : Standing) (image : List ℕ) : Type 0 where

@@ -8,6 +8,7 @@ mod epochs;
 mod error;
 mod room;
 mod told;
+mod zeros;
 
 pub use copying::copy;
 pub use error::CopyError;

@@ -1,4 +1,4 @@
-//! Putting what was read of a disk on another one: the parts behind the heads first, and the head last.
+//! Putting what was read of a disk on another one: zeros first, then the parts behind the heads, and the head last.
 ghost use Rattle.std.specs.Prelude.{◌≡◌, ◌⊎◌, ◌↔◌, ◌+◌, ◌*◌, ◌^◌, ◌<◌, ◌≤◌, [], ◌∷◌, true, false, All, List, ℕ, length, None, Some, OnOk, IfOk, IfErr, IsErrOf};
 ghost use Rattle.td_plan.specs.Lines.{Line};
 ghost use Rattle.td_disk.specs.Disk.{CountsDevice, CountsFailures, IsDurable};
@@ -20,20 +20,17 @@ ghost use Rattle.td_copy.specs.Refusals.{IsNotPut};
 use crate::epochs::put_epochs;
 use crate::error::CopyError;
 use crate::room::check_room;
+use crate::zeros::put_zeros;
 use std::alloc::Global;
 use td_disk::{Disk, Fault};
-use td_gate::fields::FRONT_LEN;
 use td_gate::{OPEN, Region};
 use td_head::{Shape, head_region};
 use td_plan::Plan;
 use td_slots::Checkpoint;
 use td_standing::{KeeperError, Recovered, ring_of, slots_of};
 
-/// How many bytes a kept state has in a slot.
-const STATE_LEN: usize = 32;
-
-/// Puts what was read of a disk on another one, of this shape, which has no head: the checkpoint into slot 0, the epochs after it into
-/// their cells, and then the head, of version 2. It begins with a sync.
+/// Puts what was read of a disk on another one, of this shape, which has no head: zeros over all parts, so that their room is taken,
+/// the checkpoint into slot 0, the epochs after it into their cells, and then the head, of version 2. It begins with a sync.
 ///
 /// Refusals: those of `check_room`, and `Shape`, where the disk has fewer bytes than the shape takes; with these the disk is not
 /// called. `Formatted`, where a head is open, with nothing written. `New` of a keeper's `Memory` and `Device`.
@@ -153,13 +150,13 @@ fn write_parts<D: Disk>(
         → IsDurable (D.state device.old) → HasNoHead (D.state device.old).bytes
         → HasParts plan shape (standing_of told.now) (D.state device.new).bytes) }
 {
-    write_checkpoint(alloc, device, shape, &told.checkpoint)?;
     let ring = ring_of(&shape, told.checkpoint.epoch);
+    write_checkpoint(alloc, device, shape, &told.checkpoint)?;
     put_epochs(alloc, &ring, device, told.submitted.as_slice())?;
     Ok(())
 }
 
-/// Puts a checkpoint into slot 0, with no epochs after it.
+/// Puts a checkpoint into slot 0, with no epochs after it, and zeros over all else behind the heads.
 fn write_checkpoint<D: Disk>(
     alloc: Global,
     device: &mut D,
@@ -167,6 +164,7 @@ fn write_checkpoint<D: Disk>(
     checkpoint: &Checkpoint,
 ) -> Result<(), KeeperError>
     requires few { length checkpoint.now.states ≤ shape.k }
+    requires cells { 0 < shape.n }
     requires small { checkpoint.now.epoch < 2 ^ 63 }
     requires bytes { size_of shape ≤ D.capacity device.old }
     ensures size { D.capacity device.new ≡ D.capacity device.old }
@@ -189,7 +187,7 @@ fn write_checkpoint<D: Disk>(
     td_slots::laws::slots_read_back();
     td_journal::laws::closed_tells_nothing();
     let slots = slots_of(&shape);
-    clear_way(device, shape, checkpoint.epoch)?;
+    put_zeros(alloc, device, shape)?;
     slots.write(
         alloc,
         device,
@@ -199,47 +197,6 @@ fn write_checkpoint<D: Disk>(
         &checkpoint.states,
     )?;
     Ok(())
-}
-
-/// Closes slot 1, and the cell of the epoch after a checkpoint's.
-fn clear_way<D: Disk>(device: &mut D, shape: Shape, kept: u64) -> Result<(), Fault>
-    requires small { kept < 2 ^ 63 }
-    requires bytes { size_of shape ≤ D.capacity device.old }
-    ensures size { D.capacity device.new ≡ D.capacity device.old }
-    ensures lawful { D.is_lawful device.old ↔ D.is_lawful device.new }
-    ensures failures { CountsFailures result (D.failures device.old) (D.failures device.new) }
-    ensures no_head { D.is_lawful device.old → IsDurable (D.state device.old) → HasNoHead (D.state device.old).bytes
-        → OpensNoHead (D.state device.old) (D.state device.new) }
-    ensures durable { OnOk result (D.is_lawful device.old → IsDurable (D.state device.old) → IsDurable (D.state device.new)) }
-    ensures head { OnOk result (D.is_lawful device.old → IsDurable (D.state device.old) → HasNoHead (D.state device.old).bytes
-        → HasNoHead (D.state device.new).bytes) }
-    ensures slot { OnOk result (D.is_lawful device.old → IsDurable (D.state device.old)
-        → opened (slot (slots_in shape) 1) (D.state device.new).bytes ≡ None) }
-    ensures cell { OnOk result (D.is_lawful device.old → IsDurable (D.state device.old)
-        → opened (cell_of (ring_in shape kept) (kept + 1)) (D.state device.new).bytes ≡ None) }
-{
-    td_gate::laws::put_leaves_others();
-    td_gate::laws::durable_is_settled::<D>();
-    td_standing::laws::parts_are_apart();
-    let _size = device.size();
-    second_slot(shape).shut(device)?;
-    let ring = ring_of(&shape, kept);
-    ring.cell_of(kept + 1).shut(device)?;
-    Ok(())
-}
-
-/// Slot 1.
-fn second_slot(shape: Shape) -> Region
-    ensures region { result ≡ slot (slots_in shape) 1 }
-    ensures within { result.at + result.len + 1 ≤ size_of shape }
-{
-    let _bytes = shape.bytes();
-    let slots = slots_of(&shape);
-    let len = (FRONT_LEN + STATE_LEN * slots.k as usize) as u64;
-    Region {
-        at: slots.at + len + 1,
-        len,
-    }
 }
 
 /// Whether the gate of a region reads open.

@@ -7,31 +7,35 @@ use Rattle.td_slots.specs.Slot.{slot, slot_bytes, AreSlotStates}
 use Rattle.td_slots.specs.Newest.{newest_in}
 use Rattle.td_journal.specs.Cell.{cell_of}
 use Rattle.td_standing.specs.Told.{inputs_of, folds_of, slots_of, ring_of}
+use Rattle.std.proofs.Math.Nat.{mod-lt}
+use Rattle.td_head.specs.Layout.{size_of}
+use Rattle.td_copy.specs.Copied.{IsZeroBetween}
+use Rattle.td_copy.proofs.Zeroed.{slot_closed, cell_closed}
 use Rattle.td_copy.proofs.Steps.{Behind, opens_none, opens_in_turn, no_head_after, read_step}
 use Rattle.td_copy.proofs.told.write_checkpoint.Goals as goal
 
 pub returns-in_err-write-clause-no_head : goal.returns-in_err-write-clause-no_head
 returns-in_err-write-clause-no_head g c lawful durable none =
     let state = g.D.Disk.state in
-    let mid = c.clear_way.new.device in
+    let mid = c.put_zeros.new.device in
     let r = slot c.slots_of-slots.result 0 in
     let behind : Behind r = subst (λ (z : Slots). Behind (slot z 0)) (sym c.slots_of-slots.ensures.slots) (c.parts_are_apart.ensures.heads_slots c.args.shape 0) in
-    let still = c.in_ok-clear_way.ensures.lawful.0 lawful in
-    let durable_mid = c.in_ok-clear_way.ensures.durable lawful durable in
-    opens_in_turn (state c.args.device.now) (state mid) (state c.write.new.device) (c.in_ok-clear_way.ensures.no_head lawful durable none)
-    (opens_none c.put_leaves_others.ensures r _ behind (state mid) (state c.write.new.device) durable_mid (c.in_ok-clear_way.ensures.head lawful durable none)
+    let still = c.in_ok-put_zeros.ensures.lawful.0 lawful in
+    let durable_mid = c.in_ok-put_zeros.ensures.durable lawful in
+    opens_in_turn (state c.args.device.now) (state mid) (state c.write.new.device) (c.in_ok-put_zeros.ensures.no_head lawful durable none)
+    (opens_none c.put_leaves_others.ensures r _ behind (state mid) (state c.write.new.device) durable_mid (c.in_ok-put_zeros.ensures.head lawful durable none)
     (c.in_err-write.ensures.crash_safe still (c.durable_is_settled.ensures mid r durable_mid)))
 
 pub returns-clause-no_head : goal.returns-clause-no_head
 returns-clause-no_head g c lawful durable none =
     let state = g.D.Disk.state in
-    let mid = c.clear_way.new.device in
+    let mid = c.put_zeros.new.device in
     let r = slot c.slots_of-slots.result 0 in
     let behind : Behind r = subst (λ (z : Slots). Behind (slot z 0)) (sym c.slots_of-slots.ensures.slots) (c.parts_are_apart.ensures.heads_slots c.args.shape 0) in
-    let still = c.in_ok-clear_way.ensures.lawful.0 lawful in
-    let durable_mid = c.in_ok-clear_way.ensures.durable lawful durable in
-    opens_in_turn (state c.args.device.now) (state mid) (state c.write.new.device) (c.in_ok-clear_way.ensures.no_head lawful durable none)
-    (opens_none c.put_leaves_others.ensures r _ behind (state mid) (state c.write.new.device) durable_mid (c.in_ok-clear_way.ensures.head lawful durable none)
+    let still = c.in_ok-put_zeros.ensures.lawful.0 lawful in
+    let durable_mid = c.in_ok-put_zeros.ensures.durable lawful in
+    opens_in_turn (state c.args.device.now) (state mid) (state c.write.new.device) (c.in_ok-put_zeros.ensures.no_head lawful durable none)
+    (opens_none c.put_leaves_others.ensures r _ behind (state mid) (state c.write.new.device) durable_mid (c.in_ok-put_zeros.ensures.head lawful durable none)
     (c.in_ok-write.ensures.crash_safe still (c.durable_is_settled.ensures mid r durable_mid)))
 
 pub returns-clause-put : goal.returns-clause-put
@@ -41,34 +45,34 @@ returns-clause-put g c lawful plan valid durable none =
     let others = c.put_leaves_others.ensures in
     let sizes = c.args.shape in
     let at = c.args.checkpoint.now in
-    let mid = c.clear_way.new.device in
+    let mid = c.put_zeros.new.device in
     let new = c.write.new.device in
     let slots = c.slots_of-slots.result in
     let is : slots ≡ slots_of sizes = c.slots_of-slots.ensures.slots in
     let r = slot (slots_of sizes) 0 in
     let p = slot_bytes sizes.k at.epoch at.last at.states in
     let behind : Behind r = c.parts_are_apart.ensures.heads_slots sizes 0 in
-    let still = c.in_ok-clear_way.ensures.lawful.0 lawful in
-    let durable_mid = c.in_ok-clear_way.ensures.durable lawful durable in
+    let still = c.in_ok-put_zeros.ensures.lawful.0 lawful in
+    let durable_mid = c.in_ok-put_zeros.ensures.durable lawful in
     let settled = c.durable_is_settled.ensures mid (slot slots 0) durable_mid in
     let safe = subst (λ (z : Slots). CrashSafe (Puts (slot z 0) (slot_bytes z.k at.epoch at.last at.states)) (state mid) (state new)) is (c.in_ok-write.ensures.crash_safe still settled) in
     let is_open = subst (λ (z : Slots). IsOpen (slot z 0) (slot_bytes z.k at.epoch at.last at.states) (state new)) is (c.in_ok-write.ensures.open still settled) in
     let also = c.in_ok-write.ensures.lawful.0 still in
     let now = laws.counts_now new (state mid).moment (state new).bytes also safe.later (laws.reads_image new also) in
     let put : Puts r p (state mid).bytes (state new).bytes = read_step (Puts r p) (state mid) (state new) durable_mid safe now in
+    let zeros : IsZeroBetween 8258 (size_of sizes) (state mid).bytes = c.in_ok-put_zeros.ensures.behind lawful in
     let second : opened (slot (slots_of sizes) 1) (state new).bytes ≡ None =
-    others r (slot (slots_of sizes) 1) p (state mid).bytes (state new).bytes (c.parts_are_apart.ensures.slots sizes) put ∙ c.in_ok-clear_way.ensures.slot lawful durable in
-    let next : at.epoch + 1 ≡ suc at.epoch = omega arith in
+    others r (slot (slots_of sizes) 1) p (state mid).bytes (state new).bytes (c.parts_are_apart.ensures.slots sizes) put ∙ slot_closed sizes (state mid).bytes zeros in
     let ring = ring_of sizes at.epoch in
     let cell : opened (cell_of ring (suc at.epoch)) (state new).bytes ≡ None =
     others r (cell_of ring (suc at.epoch)) p (state mid).bytes (state new).bytes (c.parts_are_apart.ensures.slots_cells sizes at.epoch (suc at.epoch % sizes.n)).0 put
-    ∙ subst (λ (n : ℕ). opened (cell_of ring n) (state mid).bytes ≡ None) next (c.in_ok-clear_way.ensures.cell lawful durable) in
+    ∙ cell_closed sizes at.epoch (suc at.epoch % sizes.n) (state mid).bytes (c.parts_are_apart.ensures.ends sizes at.epoch (suc at.epoch % sizes.n) (mod-lt (suc at.epoch) c.requires.cells)) zeros in
     let limit : sizes.k ≤ 1048576 = subst (λ (z : Slots). z.k ≤ 1048576) is c.slots_of-slots.ensures.limit in
     let room : sizes.k < 2 ^ 32 = omega (arith, limit) in
     let fit : AreSlotStates (folds_of plan) sizes.k at.states = record { few = c.requires.few; room = room; lawful = valid; fits = c.in_ok-write.ensures.fits } in
     let last : at.last < 2 ^ 64 = omega arith in
     record {
-      no_head = no_head_after others r p behind (state mid).bytes (state new).bytes put (c.in_ok-clear_way.ensures.head lawful durable none);
+      no_head = no_head_after others r p behind (state mid).bytes (state new).bytes put (c.in_ok-put_zeros.ensures.head lawful durable none);
       slot = ap (λ (h : Option (List ℕ)). newest_in 2 (folds_of plan) sizes.k h (opened (slot (slots_of sizes) 1) (state new).bytes)) is_open.read
           ∙ ap (newest_in 2 (folds_of plan) sizes.k (Some p)) second
           ∙ c.slots_read_back.ensures.found 2 (folds_of plan) sizes.k 0 at.epoch at.last at.states c.requires.small (record { lawful = refl; fits = last }) fit;
@@ -79,16 +83,16 @@ pub returns-clause-head : goal.returns-clause-head
 returns-clause-head g c lawful durable none =
     let state = g.D.Disk.state in
     let laws = g.met.D.Disk in
-    let mid = c.clear_way.new.device in
+    let mid = c.put_zeros.new.device in
     let new = c.write.new.device in
     let slots = c.slots_of-slots.result in
     let r = slot slots 0 in
     let p = slot_bytes slots.k c.args.checkpoint.now.epoch c.args.checkpoint.now.last c.args.checkpoint.now.states in
     let behind : Behind r = subst (λ (z : Slots). Behind (slot z 0)) (sym c.slots_of-slots.ensures.slots) (c.parts_are_apart.ensures.heads_slots c.args.shape 0) in
-    let still = c.in_ok-clear_way.ensures.lawful.0 lawful in
-    let durable_mid = c.in_ok-clear_way.ensures.durable lawful durable in
+    let still = c.in_ok-put_zeros.ensures.lawful.0 lawful in
+    let durable_mid = c.in_ok-put_zeros.ensures.durable lawful in
     let safe = c.in_ok-write.ensures.crash_safe still (c.durable_is_settled.ensures mid r durable_mid) in
     let also = c.in_ok-write.ensures.lawful.0 still in
     let now = laws.counts_now new (state mid).moment (state new).bytes also safe.later (laws.reads_image new also) in
     no_head_after c.put_leaves_others.ensures r p behind (state mid).bytes (state new).bytes (read_step (Puts r p) (state mid) (state new) durable_mid safe now)
-    (c.in_ok-clear_way.ensures.head lawful durable none)
+    (c.in_ok-put_zeros.ensures.head lawful durable none)

@@ -1,5 +1,6 @@
-use Rattle.std.proofs.Common.{◌≡◌, ◌≤◌, true, List, [], length, Some, refl, sym, subst}
+use Rattle.std.proofs.Common.{◌≡◌, ◌<◌, ◌≤◌, true, List, [], length, Some, refl, sym, subst}
 use Rattle.std.specs.Prelude.{All}
+use Rattle.td_journal.specs.declared.journal.Journal.{Journal}
 use Rattle.td_journal.specs.Cell.{is_batch}
 use Rattle.td_journal.specs.Numbers.{rise}
 use Rattle.td_journal.specs.declared.submitted.Submitted.{Submitted}
@@ -34,3 +35,6 @@ returns-clause-put g c lawful plan states batches rising durable none =
     (subst (λ (l : List Submitted). rise (Some told.checkpoint.last) l ≡ true) (sym is) rising)
     (subst (λ (l : List Submitted). All (λ x. is_batch (inputs_of plan) x.batch ≡ true) l) (sym is) batches)
     (first.durable lawful durable) (first.put lawful plan states durable none))
+
+pub write_checkpoint-requires-clause-cells : goal.write_checkpoint-requires-clause-cells
+write_checkpoint-requires-clause-cells g c = subst (λ (j : Journal). 0 < j.n) c.ring_of-ring.ensures.ring c.ring_of-ring.ensures.cells

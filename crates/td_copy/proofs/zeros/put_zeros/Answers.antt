@@ -1,0 +1,15 @@
+use Rattle.std.proofs.Common.{ℕ, List, sym, subst}
+use Rattle.td_copy.specs.Copied.{EachHasNoHead, HasNoHead}
+use Rattle.td_copy.proofs.zeros.put_zeros.Goals as goal
+
+pub returns-clause-head : goal.returns-clause-head
+returns-clause-head g c lawful durable none =
+    let state = g.D.Disk.state in
+    let new = c.sync.new.self in
+    let first = c.in_ok-write_zeros.ensures in
+    let second = c.in_ok-write_zeros-2.ensures in
+    let l1 = first.lawful.0 lawful in
+    let l2 = second.lawful.0 l1 in
+    let each : EachHasNoHead (state c.args.device.now) = λ image left. subst HasNoHead (sym (durable image left)) none in
+    let read = g.met.D.Disk.reads_image new (c.in_ok-sync.ensures.lawful.0 l2) in
+    (second.no_head l1 (first.no_head lawful each).0).0 (state new).bytes (c.in_ok-sync.ensures.images l2 (state new).bytes read)
