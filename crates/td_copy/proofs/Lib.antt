@@ -1,6 +1,7 @@
 mod Steps
 mod Parts
 mod Rising
+mod Shorter
 mod Headed
 mod Fitting
 mod Stopped

@@ -1,8 +1,8 @@
 -- Numbers that rise, epoch by epoch, and what stands after each of them.
 use Rattle.std.proofs.Common.{◌≡◌, ◌==◌, ⊎_elim, ℕ, zero, suc, ◌+◌, ◌-◌, ◌<◌, ◌≤◌, ◌^◌, ◌&&◌, Bool, true, false, List, [], ◌∷◌, ◌++◌, length, take, get_or, nat_le, refl, sym, ap, ◌∙◌, subst, arith, Option, Some, None}
-use Rattle.std.proofs.lemmas.Bool.{and_parts, false≢true}
+use Rattle.std.proofs.lemmas.Bool.{and_parts, cases_lt, false≢true}
 use Rattle.std.proofs.lemmas.Bool.Decides.{eqb_tells}
-use Rattle.std.proofs.lemmas.List.{take_more, append_assoc, length-take-le}
+use Rattle.std.proofs.lemmas.List.{take_more, take_all, append_assoc, length-take-le}
 use Rattle.std.proofs.Math.Seq.{take-length}
 use Rattle.td_stamp.specs.declared.values.Entry.{Entry}
 use Rattle.td_journal.specs.declared.submitted.Submitted.{Submitted}
@@ -32,6 +32,11 @@ module _ (one_more : OneMore) (floor : Option ℕ) (w : List Submitted) (default
   -- EACH NUMBER MAY COME after those before it
   pub each_comes : (i : ℕ) → i < length w → rise floor w ≡ true → may_come (floor_after floor (take i w)) (get_or w i default).request ≡ true
   each_comes i lt all = (both i lt (begins (length w - (i + 1)) (i + 1) (omega (arith, lt)) all)).1
+
+-- A BEGINNING RISES TOO, also one that asks for more than there is.
+pub rise_take : OneMore → (floor : Option ℕ) (w : List Submitted) (k : ℕ) → rise floor w ≡ true → rise floor (take k w) ≡ true
+rise_take one_more floor w k all = ⊎_elim (λ lt. begins one_more floor w (record { request = 0; batch = [] }) (length w - k) k (omega (arith, lt)) all)
+    (λ le. ap (rise floor) (take_all k w le) ∙ all) (cases_lt k (length w))
 
 -- a standing with the first i of some epochs, and the next one
 module _ (s : Standing) (empty : s.submitted ≡ []) (w : List Submitted) (i : ℕ) (x : Submitted) (is : x ≡ get_or w i x) (lt : i < length w) where

@@ -1,10 +1,9 @@
 -- Zeros behind heads that are closed, write by write.
-use Rattle.std.proofs.Common.{◌≡◌, ◌⊎◌, inl, inr, ⊎_elim, if◌then◌else◌, ℕ, zero, suc, ◌+◌, ◌-◌, ◌<◌, ◌≤◌, ◌==◌, Bool, true, false, List, length, take, drop, replicate, sym, ap, ◌∙◌, arith, Option, Some, None, refl}
+use Rattle.std.proofs.Common.{◌≡◌, ◌⊎◌, inl, inr, ⊎_elim, if◌then◌else◌, ℕ, zero, suc, ◌+◌, ◌-◌, ◌<◌, ◌≤◌, ◌==◌, Bool, true, false, List, length, take, drop, replicate, sym, ap, ◌∙◌, arith, Some, None, refl}
 use Rattle.std.specs.Prelude.{slice_index}
 use Rattle.std.proofs.lemmas.Bool.{cases_lt}
-use Rattle.std.proofs.lemmas.Bool.Decides.{eqb_tells}
 use Rattle.std.proofs.lemmas.List.{get_or-take, get_or-drop}
-use Rattle.td_disk.specs.Disk.{DiskState, ImagesFollow, NoNewImages, TimePasses, IsDurable, SameOutside, bytes_at}
+use Rattle.td_disk.specs.Disk.{DiskState, ImagesFollow, NoNewImages, TimePasses, SameOutside, bytes_at}
 use Rattle.td_gate.specs.declared.region.Region.{Region}
 use Rattle.td_gate.specs.Region.{gate_of, opened}
 use Rattle.td_head.specs.Layout.{Sizes, head_a, head_b, size_of}

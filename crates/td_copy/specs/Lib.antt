@@ -1,3 +1,4 @@
 pub mod Room
+pub mod Until
 pub mod Copied
 pub mod Refusals

@@ -1,5 +1,5 @@
 -- Why a disk was not copied.
-use Rattle.std.specs.Prelude.{◌≡◌, ◌⊎◌, ℕ, ◌≤◌, List, Some, None, Result, Ok, Err}
+use Rattle.std.specs.Prelude.{◌≡◌, ◌⊎◌, ℕ, ◌≤◌, List, Option, Some, None, Result, Ok, Err}
 use Rattle.td_plan.specs.Lines.{Line}
 use Rattle.td_disk.specs.Disk.{DiskState, IsDurable, Rises}
 use Rattle.td_gate.specs.CrashSafe.{CrashSafe, Unchanged}
@@ -12,6 +12,7 @@ use Rattle.td_standing.specs.Read.{Refused}
 use Rattle.td_copy.specs.declared.error.CopyError.{CopyError}
 use Rattle.td_copy.specs.declared.error.CopyError.TheVariants.{Shape, Formatted, Keeper, New}
 use Rattle.td_copy.specs.Room.{room_fault}
+use Rattle.td_copy.specs.Until.{told_until, copy_fault}
 use Rattle.td_copy.specs.Copied.{HasNoHead}
 
 -- WHAT A DISK REFUSES OF A READER: a call of it failed and was counted, memory ran out, or it tells this refusal, as it reads after a sync.
@@ -28,12 +29,12 @@ IsNotPut capacity failures is_lawful state sizes s old new e =
     ⊎ (((e ≡ Formatted) × (is_lawful old → (HasNoHead (state new).bytes → ⊥) × CrashSafe Unchanged (state old) (state new)))
     ⊎ ((e ≡ New Memory) ⊎ ((e ≡ New Device) × Rises (failures old) (failures new)))))
 
--- WHY A DISK WAS NOT COPIED, in this order: what the old one refuses of a reader; for what it tells there is no room; the answer of the one that
--- makes the new disk; or why that was not put on the disk that was made. The refusals given to the caller are of its own type.
+-- WHY A DISK WAS NOT COPIED, in this order: what the old one refuses of a reader; it has no such epoch, or there is no room for what it tells up
+-- to that; the answer of the one that makes the new disk; or why that was not put on the disk that was made. The caller gets them as its own.
 abbrev pub IsNotCopied : {E X : Type 0} → (CopyError → X → Type 0) → (KeeperError → Type 0) → (Standing → Type 0) → (Result E X → Type 0)
-    → (Sizes → Standing → E → E → CopyError → Type 0) → Sizes → X → Type 0
-IsNotCopied {E} gives is_not_read is_told makes is_not_put sizes x =
+    → (Sizes → Standing → E → E → CopyError → Type 0) → Option ℕ → Sizes → X → Type 0
+IsNotCopied {E} gives is_not_read is_told makes is_not_put until sizes x =
     ((e : KeeperError) × gives (Keeper e) x × is_not_read e)
-    ⊎ ((s : Standing) × is_told s × (((e : CopyError) × gives e x × (room_fault sizes s ≡ Some e))
-    ⊎ ((room_fault sizes s ≡ None) × (makes (Err x)
-    ⊎ ((made left : E) × makes (Ok made) × ((e : CopyError) × gives e x × is_not_put sizes s made left e))))))
+    ⊎ ((s : Standing) × is_told s × (((e : CopyError) × gives e x × (copy_fault until sizes s ≡ Some e))
+    ⊎ ((copy_fault until sizes s ≡ None) × (makes (Err x)
+    ⊎ ((made left : E) × makes (Ok made) × ((e : CopyError) × gives e x × is_not_put sizes (told_until until s) made left e))))))

@@ -1,53 +1,59 @@
 //! Copying a disk.
-ghost use Rattle.std.specs.Prelude.{◌≡◌, ◌↔◌, IfErr, IfOk};
+ghost use Rattle.std.specs.Prelude.{◌≡◌, ◌↔◌, None, IfErr, IfOk};
 ghost use Rattle.td_gate.specs.CrashSafe.{CrashSafe, Unchanged};
 ghost use Rattle.td_standing.specs.Standing.{Standing};
 ghost use Rattle.td_standing.specs.Tells.{Keeps, first_head};
 ghost use Rattle.td_copy.specs.Copied.{EachTold};
+ghost use Rattle.td_copy.specs.Until.{copy_fault, told_until};
 ghost use Rattle.td_copy.specs.Refusals.{IsNotCopied, IsNotPut, IsNotRead};
 
 use crate::error::CopyError;
 use crate::room::check_room;
 use crate::told::write_told;
+use crate::until::keep_until;
 use std::alloc::Global;
 use td_disk::Disk;
 use td_head::Shape;
 use td_plan::Plan;
 use td_standing::{laws, recover_device};
 
-/// Puts what a disk tells for a plan on a new one of this shape, which `make` makes once the old disk is read and it is known that a
-/// disk of this shape has room for that. It begins with a sync of the old disk, and writes nothing there.
+/// Puts what a disk tells for a plan, up to an epoch where one is named, on a new disk of this shape, which `make` makes once the old
+/// disk is read and it is known that a disk of this shape has room for that. It begins with a sync of the old disk, and writes nothing there.
 ///
-/// Refusals, before anything is made: what the old disk refuses, as `Keeper`; and those of `check_room`. Then that of `make`, and
-/// those of `write_told`.
+/// Refusals, before anything is made: what the old disk refuses, as `Keeper`; `Until`, where it has no such epoch; and those of
+/// `check_room` of what is told up to that. Then that of `make`, and those of `write_told`.
 pub fn copy<D: Disk, E: Disk + Drop, X: From<CopyError>, F: FnOnce() -> Result<E, X>>(
     alloc: Global,
     disk: &mut D,
     plan: &Plan,
     shape: Shape,
+    until: Option<u64>,
     make: F,
 ) -> Result<E, X>
     requires { F.IsAlwaysCallable make }
     ensures size { D.capacity disk.new ≡ D.capacity disk.old }
     ensures lawful { D.is_lawful disk.old ↔ D.is_lawful disk.new }
 
-    // BOTH DISKS TELL THE SAME, whatever a crash leaves of them; the new one has a head of this shape.
+    // THE NEW DISK TELLS WHAT THE OLD ONE TELLS up to that epoch, whatever a crash leaves of them; it has a head of this shape.
     ensures copied { IfOk result (λ new. D.is_lawful disk.old → E.is_lawful new
-        → (s : Standing) × EachTold plan.now s (D.state disk.new) × Keeps plan.now (first_head shape) 0 s (E.state new)) }
+        → (s : Standing) × EachTold plan.now s (D.state disk.new)
+        × (copy_fault until shape s ≡ None) × Keeps plan.now (first_head shape) 0 (told_until until s) (E.state new)) }
 
     // REFUSED, in this order: what the old disk refuses, what there is no room for, what `make` answers, what the disk that it made refuses.
     ensures refused { IfErr result (λ x. IsNotCopied X.from_gives (IsNotRead plan.now (D.is_lawful disk.old) (D.state disk.new) (D.failures disk.old) (D.failures disk.new))
-        (λ s. D.is_lawful disk.old → EachTold plan.now s (D.state disk.new)) (F.post make) (IsNotPut E.capacity E.failures E.is_lawful E.state) shape x) }
+        (λ s. D.is_lawful disk.old → EachTold plan.now s (D.state disk.new)) (F.post make) (IsNotPut E.capacity E.failures E.is_lawful E.state) until shape x) }
 
     // The old disk stays as it is.
     ensures crash_safe { D.is_lawful disk.old → CrashSafe Unchanged (D.state disk.old) (D.state disk.new) }
 {
     laws::told_in_parts();
+    td_journal::laws::numbers();
     td_journal::laws::told_numbers_rise();
-    let (_plan, told) = match recover_device(alloc, disk, plan) {
+    let (_plan, mut told) = match recover_device(alloc, disk, plan) {
         Ok(read) => read,
         Err(error) => return Err(X::from(CopyError::Keeper(error))),
     };
+    keep_until(&mut told, until)?;
     check_room(shape, &told)?;
     let mut new = make()?;
     write_told(alloc, &mut new, plan, shape, &told)?;

@@ -8,6 +8,9 @@ use thiserror::Error;
 /// Why a disk was not copied.
 #[derive(Clone, Copy, Debug, PartialEq, Eq, Error)]
 pub enum CopyError {
+    /// The old disk has no such epoch: its checkpoint's is `kept`, and the last that it tells is `told`.
+    #[error("no such epoch: {until}, kept {kept}, told {told}")]
+    Until { until: u64, kept: u64, told: u64 },
     /// The checkpoint has more states than a slot of the new disk holds.
     #[error("too many keys: {states}, K is {most}")]
     TooManyKeys { states: u64, most: u32 },

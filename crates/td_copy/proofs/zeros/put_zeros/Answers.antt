@@ -1,4 +1,4 @@
-use Rattle.std.proofs.Common.{ℕ, List, sym, subst}
+use Rattle.std.proofs.Common.{sym, subst}
 use Rattle.td_copy.specs.Copied.{EachHasNoHead, HasNoHead}
 use Rattle.td_copy.proofs.zeros.put_zeros.Goals as goal
 
