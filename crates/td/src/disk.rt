@@ -10,7 +10,7 @@ use std::{fs, io};
 use td_calls::Stock;
 use td_console::{Fault, StdReader, StdWriter};
 use td_copy::copy;
-use td_disk::{FileDisk, ReadAhead};
+use td_disk::{Disk, FileDisk, FileFailure, ReadAhead};
 use td_feed::{dump, format, read_plan, shape_of, show, upgrade};
 use td_head::Shape;
 use td_plan::Plan;
@@ -94,8 +94,9 @@ pub(crate) fn copy_disk<R: Files<File = File> + AllocGlobal>(
     match copied {
         Ok(_new) => Ok(()),
         Err(Refusal::New(fault)) => {
+            let failure = why_not_written(rt, new);
             let _ = fs::remove_file(rt, new);
-            Err(Refusal::Plain(fault).on_disk(alloc, new, None))
+            Err(Refusal::Plain(fault).on_disk(alloc, new, failure))
         }
         Err(refusal) => {
             let failure = disk.inner().last_failure();
@@ -123,6 +124,16 @@ fn make_disk<R: Files<File = File> + AllocGlobal>(
             }
         }
     }
+}
+
+/// Why the file of a new disk cannot be written, as a second look at its last bytes finds: they are written anew, and synced.
+fn why_not_written<R: Files<File = File>>(rt: &R, path: &str) -> Option<FileFailure> {
+    let mut disk = FileDisk::open(rt, path).ok()?;
+    let zeros = [0; 4096];
+    let at = disk.size().checked_sub(4096)?;
+    let _ = disk.write(at, &zeros);
+    let _ = disk.sync();
+    disk.last_failure()
 }
 
 /// The shape of a disk, or which of its numbers is out of its limits.
