@@ -37,6 +37,7 @@ pub mod TakeLists
 pub mod TakeSteps
 pub mod TakenHall
 pub mod PickNamed
+pub mod FullTasks
 pub mod NextReady
 pub mod DrainSteps
 pub mod DrainFloors

@@ -177,11 +177,11 @@ module _ {X : Type 0} (cmp : X → X → Ordering) (p : X → Bool) where
           let less = one_or_none (p y) y (filter p ys) in
           omega (arith, more, less, later)
 
-  in_bag_too : (xs : List X) → length (filter p (bag_of cmp xs)) ≡ length (filter p xs)
+  pub in_bag_too : (xs : List X) → length (filter p (bag_of cmp xs)) ≡ length (filter p xs)
   in_bag_too [] = refl
   in_bag_too (x ∷ xs) = put_in x (bag_of cmp xs) ∙ (ap (λ n. cond (p x) 1 0 + n) (in_bag_too xs) ∙ sym (one_or_none (p x) x (filter p xs)))
 
-  of_both : (xs ys : List X) → length (filter p (xs ++ ys)) ≡ length (filter p xs) + length (filter p ys)
+  pub of_both : (xs ys : List X) → length (filter p (xs ++ ys)) ≡ length (filter p xs) + length (filter p ys)
   of_both xs ys = ap length (filter-append p xs ys) ∙ length-append (filter p xs) (filter p ys)
 
 module _ (workers s : ℕ) where
@@ -206,7 +206,7 @@ module _ (workers s : ℕ) where
       differ : (a b : ℕ) → (a ≡ b → ⊥) → (a == b) ≡ false
       differ a b d = grind (arith, nat_tests)
 
-others_mail : (workers k s : ℕ) (m : List Message) → (k ≡ s → ⊥) → AllByRecursion (IsKeyOf workers k) m → AllByRecursion (λ c. IsKeyOf workers s c → ⊥) m
+pub others_mail : (workers k s : ℕ) (m : List Message) → (k ≡ s → ⊥) → AllByRecursion (IsKeyOf workers k) m → AllByRecursion (λ c. IsKeyOf workers s c → ⊥) m
 others_mail workers k s [] d h = tt
 others_mail workers k s (c ∷ m) d h = ((λ e. d (sym h.0 ∙ e)), others_mail workers k s m d h.1)
 

@@ -15,7 +15,7 @@ ghost use Rattle.td_shard.specs.Asked.{items_at};
 ghost use Rattle.td_core.specs.Floor.{state_of, taken_up, IsHall};
 ghost use Rattle.td_core.specs.Sites.{IsSites};
 ghost use Rattle.td_core.specs.Posted.{mails, waits};
-ghost use Rattle.td_core.specs.Picks.{IsPick};
+ghost use Rattle.td_core.specs.Picks.{IsPick, IsFull};
 ghost use Rattle.td_core.specs.Taking.{changed_at, IsThere, IsTakeRefused, IsSame, IsTakenIf, HasRoomBack, IsLastTake};
 ghost use Rattle.td_core.specs.Taking.{asked_at, AreAsked, AreReady, IsNextReady, comes_after, comes_before, earlier, asked_of};
 ghost use Rattle.td_core.specs.Taking.{IsReadyAt, IsPlaceOf, IsPicked, IsTaskFor, mails_without, room_of, IsTakenFor};
@@ -68,6 +68,7 @@ impl<L: Law> Hall<L> {
     pub fn take(&mut self, shard: u8, pick: u64) -> Result<Option<Task>, HallError>
         ensures taken { IfOk result (λ task. Takes self.old shard (has_taken task) self.new) }
         ensures picked { IfOk result (λ task. IfSome task (IsPick self.old shard pick)) }
+        ensures full { IfOk result (λ task. IfSome task (IsFull self.old shard)) }
         ensures refused { IfErr result (IsTakeRefused self.old shard) }
         ensures memory_last { IfErr result (λ e. e ≡ Memory → (is_out self.old shard ≡ false) × (self.old.taken < ends)) }
         ensures err { OnErr result (self.new ≡ self.old) }
@@ -93,6 +94,7 @@ pub(crate) fn take_floor<L: Law>(
     requires hall { IsHall L.answers floor.old }
     ensures taken { IfOk result (λ task. Takes (state_of floor.old) shard (has_taken task) (state_of floor.new)) }
     ensures picked { IfOk result (λ task. IfSome task (IsPick (state_of floor.old) shard pick)) }
+    ensures full { IfOk result (λ task. IfSome task (IsFull (state_of floor.old) shard)) }
     ensures refused { IfErr result (IsTakeRefused (state_of floor.old) shard) }
     ensures memory_last { IfErr result (λ e. e ≡ Memory → (is_out (state_of floor.old) shard ≡ false) × (floor.old.taken < ends)) }
     ensures hall { IsHall L.answers floor.new }

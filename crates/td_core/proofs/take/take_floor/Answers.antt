@@ -5,6 +5,7 @@ use Rattle.std.specs.List.{list_any}
 use Rattle.td_core.proofs.TakeSteps.{none_beyond, are_asked}
 use Rattle.td_core.specs.Floor.{empty_shard}
 use Rattle.td_core.proofs.PickNamed.{named_so}
+use Rattle.td_core.proofs.FullTasks.{full_so}
 use Rattle.td_core.proofs.TakenHall.{answered, still_hall, refused_so, memory_last}
 use Rattle.td_core.proofs.take.take_floor.Goals as goal
 
@@ -59,6 +60,14 @@ returns-clause-picked g c =
     (are_asked g.L.Law.answers c.args.floor.now c.requires.hall c.bags_of_states.ensures.messages c.bags_of_states.ensures.notifications c.time_list_order.ensures.told_apart c.in_any_order.ensures.frontier
     (c.reached_in_order.ensures.lists _ c.requires.hall.reached) (c.reached_in_order.ensures.tasks _ c.requires.hall.reached) (c.reached_in_order.ensures.numbers _ c.requires.hall.reached)
     c.counted.ensures.contains (c.asked_where_notified.ensures _ c.requires.hall.reached) (c.active_of_plan.ensures _ c.requires.hall.reached) c.args.shard empty_shard (omega (arith, c.if-from-len.false, c.from.ensures, c.len.ensures))).once
+    c.take_there.new.floor c.take_there.result c.take_there.ensures.taken
+
+pub returns-clause-full : goal.returns-clause-full
+returns-clause-full g c =
+    full_so g.L.Law.answers c.args.floor.now c.requires.hall c.bags_of_states.ensures.messages c.bags_of_states.ensures.notifications c.time_list_order.ensures.told_apart c.in_any_order.ensures.frontier
+    (c.reached_in_order.ensures.lists _ c.requires.hall.reached) (c.reached_in_order.ensures.tasks _ c.requires.hall.reached) (c.reached_in_order.ensures.numbers _ c.requires.hall.reached)
+    c.tasks.ensures.parted c.tasks.ensures.some c.tasks.ensures.few c.tasks.ensures.beside c.tasks.ensures.full c.args.shard c.args.pick
+    (omega (arith, c.if-from-len.false, c.from.ensures, c.len.ensures)) (sym (c.is_busy.ensures ∙ ap (λ l. list_any (λ t. t.shard == c.args.shard) l) c.as_slice.ensures.value) ∙ c.if-is_busy.false)
     c.take_there.new.floor c.take_there.result c.take_there.ensures.taken
 
 pub returns-clause-hall : goal.returns-clause-hall
