@@ -146,9 +146,10 @@ def code_of(line):
 
 
 def is_passed_on(code, found):
-    """Whether the refusal at this place of a line is a pattern, or is answered in the arm of one."""
+    """Whether the refusal at this place of a line is a pattern, or is answered in the arm of one that has no other case."""
     before, behind = code[:found.start()], code[found.end():]
-    return "=>" in behind or re.search(r"\b(Memory|OutOfMemory)\b.*=>|matches!\(|\blet $", before) or "OutOfMemory" in found[0]
+    cases = before.partition("=>")[0].split(" | ") if "=>" in before else [""]
+    return "=>" in behind or all("Memory" in case for case in cases) or re.search(r"matches!\(|\blet $", before) or "OutOfMemory" in found[0]
 
 
 def places_in(file):
