@@ -23,7 +23,7 @@ DRAWN = ("producer ──", "(thread)", "release_in     publishes", "▼", "pool
 
 
 # What pages cite of Rust and its library, and what stands for any name.
-OUTSIDE = {"f64::total_cmp", "fmt::Error", "Iterator::any", "thread::scope", "Display", "Result", "Clone", "Send", "sync_data", "RandomState",
+OUTSIDE = {"f64::total_cmp", "fmt::Error", "Iterator::any", "thread::scope", "Display", "Result", "Clone", "Send", "sync_data", "RandomState", "posix_fadvise",
            "FILE_FUNCTION_MISTAKE"}
 # The files whose words code on a page may be, beside sources and definitions.
 SOURCES = ("crates/*/proofs/**/*.antt", "bench/*", "rows/*", "examples/*", "check", "edits.py", "build",
@@ -121,10 +121,10 @@ class Sources:
                 self.has[crate, place].add(function.name)
 
     def cited(self, path, here):
-        """The functions that a path may name, of these crates; of all where they have none."""
+        """The functions that a path may name, of these crates; of all where there are none of these, or the path says of what it is."""
         *places, name = path.split("::")
         all_of_it = [it for it in self.functions[name] if not places or places[-1] in it.places]
-        return [it for it in all_of_it if it.crate in here] or all_of_it
+        return [it for it in all_of_it if it.crate in here] or (all_of_it if places or not here else [])
 
     def has_path(self, path, here):
         """Whether a path leads to a name: in its crate, in these crates, or, where there are none of either, in any."""
@@ -170,7 +170,7 @@ def mistakes_of_contracts(sources):
         for found in re.finditer(r"`([A-Za-z_][\w:<>]*)`\s*\((`[^()]*)\)", section[2]):
             functions = sources.cited(plain(found[1]), here)
             clauses = set().union(*(it.clauses | sources.definitions[it.crate] for it in functions))
-            for clause in re.findall(r"`([a-z]\w*)`", re.split(r"\b(?:with|by|in|of|which|the)\b", found[2])[0]) if functions else []:
+            for clause in re.findall(r"`([a-z]\w*)`", re.split(r";|\b(?:with|by|in|of|which|the)\b", found[2])[0]) if functions else []:
                 if clause not in clauses:
                     yield f"{place(found)}: {found[1]} has no clause {clause}"
         for found in re.finditer(r"\*Contract\*:?(.*?)(?=\.\s|\*Only|\*Not|\Z)", section[2], re.S):
