@@ -1,5 +1,5 @@
 //! The calls of a keeper that work on the hall of a pool, beside its workers.
-ghost use Rattle.std.specs.Prelude.{◌≡◌};
+ghost use Rattle.std.specs.Prelude.{◌≡◌, ◌⊎◌, true, None};
 ghost use Rattle.td_machine.specs.Active.{unpassed};
 ghost use Rattle.td_machine.specs.Reached.{IsReached};
 ghost use Rattle.td_keeper.specs.Driven.{Releases, Settles, Collects, Cuts, released, settled, collected, cut};
@@ -65,8 +65,9 @@ impl<D: Disk, L: Law> Keeper<D, L> {
     }
 }
 
-/// The first released epoch that has not passed in a hall that is lent, if there is one.
+/// The first released epoch that has not passed in a hall that is lent, if there is one. Every one has passed, or its pool is stopped.
 fn unpassed_in<L: Law, H: AnyHall<L>>(hall: &H) -> Option<u64>
+    requires settled { (H.stopped hall.now ≡ true) ⊎ (unpassed (H.state hall.now) ≡ None) }
     ensures reached { IsReached L.answers (H.state hall.now) }
     ensures unpassed { result ≡ unpassed (H.state hall.now) }
 {
