@@ -3,9 +3,10 @@
 use crate::file_cause::{make_empty, why_not_opened, why_not_read};
 use crate::refusal::Refusal;
 use crate::streams;
-use crate::streams::AwaitedWriter;
+use crate::streams::Awaited;
 use std::fs::File;
 use std::rt::Files;
+use std::sync::Wait;
 use std::{fs, io};
 use td_calls::Stock;
 use td_console::{Fault, StdReader, StdWriter};
@@ -33,24 +34,24 @@ pub(crate) fn format_disk<R: Files<File = File> + AllocGlobal>(
 }
 
 /// Writes what the disk in the file at `disk` tells to standard output.
-pub(crate) fn show_disk<R: Files<File = File> + Print + AllocGlobal>(
+pub(crate) fn show_disk<R: Files<File = File> + Print + AllocGlobal + Wait>(
     rt: &R,
     disk: &str,
     plan: &str,
 ) -> Result<(), Fault> {
     let (mut disk, plan) = open_disk(rt, disk, plan)?;
-    let mut writer = StdWriter(AwaitedWriter(io::writer(rt), 1));
+    let mut writer = StdWriter(Awaited::new(rt, io::writer(rt)));
     show(rt.alloc(), &mut disk, &plan, &mut writer)
 }
 
 /// Writes the epochs after the checkpoint of the disk in the file at `disk` to standard output, as lines that a feed takes.
-pub(crate) fn dump_disk<R: Files<File = File> + Print + AllocGlobal>(
+pub(crate) fn dump_disk<R: Files<File = File> + Print + AllocGlobal + Wait>(
     rt: &R,
     path: &str,
     plan: &str,
 ) -> Result<(), Refusal> {
     let (mut disk, plan) = open_disk_or_tell(rt, path, plan)?;
-    let mut writer = StdWriter(AwaitedWriter(io::writer(rt), 1));
+    let mut writer = StdWriter(Awaited::new(rt, io::writer(rt)));
     match dump(rt.alloc(), &mut disk, &plan, &mut writer) {
         Ok(()) => Ok(()),
         Err(fault) => {
@@ -61,13 +62,13 @@ pub(crate) fn dump_disk<R: Files<File = File> + Print + AllocGlobal>(
 }
 
 /// Raises the disk in the file at `disk` to the version of the format that has request numbers.
-pub(crate) fn upgrade_disk<R: Files<File = File> + Print + AllocGlobal>(
+pub(crate) fn upgrade_disk<R: Files<File = File> + Print + AllocGlobal + Wait>(
     rt: &R,
     disk: &str,
     plan: &str,
 ) -> Result<(), Fault> {
     let (disk, plan) = open_disk(rt, disk, plan)?;
-    let mut writer = StdWriter(AwaitedWriter(io::writer(rt), 1));
+    let mut writer = StdWriter(Awaited::new(rt, io::writer(rt)));
     upgrade::<_, Stock, _>(rt.alloc(), disk, &plan, &mut writer).1
 }
 

@@ -25,7 +25,7 @@ use crate::plan::print_plan;
 use crate::progress::stream_told;
 use crate::refusal::Refusal;
 use crate::store::{store_fold, store_group, store_map};
-use crate::streams::{AwaitedReader, AwaitedWriter};
+use crate::streams::Awaited;
 use std::fs::File;
 use std::process::ExitCode;
 use std::rt::{Env, Files, Stderr};
@@ -220,8 +220,8 @@ fn answer<R: Input + Print + AllocGlobal + Threads + Wait + Sync>(
     requires groups { HasEach (λ c. c.code) calls.now.stock.groups group_codes }
     requires folds { HasEach (λ c. c.code) calls.now.stock.folds fold_codes }
 {
-    let mut reader = StdReader(AwaitedReader(rt.reader(), 0));
-    let mut writer = StdWriter(AwaitedWriter(io::writer(rt), 1));
+    let mut reader = StdReader(Awaited::new(rt, rt.reader()));
+    let mut writer = StdWriter(Awaited::new(rt, io::writer(rt)));
     match engine {
         Engine::Batch => Ok(batch::<_, _, Catalogue, CatalogueCalls>(
             rt.alloc(),

@@ -3,11 +3,12 @@
 use crate::disk::{file_refusal, open_to_read};
 use crate::file_cause::why_not_read;
 use crate::refusal::Refusal;
-use crate::streams::AwaitedWriter;
+use crate::streams::Awaited;
 use std::alloc::Global;
 use std::fs::File;
 use std::io;
 use std::rt::Files;
+use std::sync::Wait;
 use td_console::{Fault, StdReader, StdWriter, ascii_text, first_line, read_all, write_answer};
 use td_feed::read_plan;
 use td_picture::{drawn, listed};
@@ -18,7 +19,7 @@ use td_plan::{Block, Plan, PlanError};
 const TOLD: usize = 80;
 
 /// Writes the plan in the file at `path` to standard output: its lines with what its closures are in words, or a picture, if `dot`.
-pub(crate) fn print_plan<R: Files<File = File> + Print + AllocGlobal>(
+pub(crate) fn print_plan<R: Files<File = File> + Print + AllocGlobal + Wait>(
     rt: &R,
     path: &str,
     dot: bool,
@@ -37,7 +38,7 @@ pub(crate) fn print_plan<R: Files<File = File> + Print + AllocGlobal>(
     if !dot {
         push_turns(alloc, &mut told, &plan)?;
     }
-    let mut writer = StdWriter(AwaitedWriter(io::writer(rt), 1));
+    let mut writer = StdWriter(Awaited::new(rt, io::writer(rt)));
     Ok(write_answer(&mut writer, told.as_str())?)
 }
 

@@ -3,7 +3,6 @@ ghost use Rattle.std.specs.Prelude.{◌≡◌, ◌≤◌, [], ◌∷◌, IfOk, I
 
 use crate::engine::Limits;
 use crate::refusal::Refusal;
-use crate::streams::is_ready;
 use std::io::IsTerminal;
 use std::rt::Stderr;
 use std::sync::Wait;
@@ -138,7 +137,7 @@ fn followed<'s, E, R: Threads + Wait + AllocGlobal + Sync>(
 }
 
 /// Writes how far a watch has come: each second in which a word rose; and at the end, if one rose since, or nothing was written. A write
-/// that fails is passed over, and so is one that would wait for somebody to read.
+/// that fails is passed over.
 fn follow<R: Wait>(rt: &R, stderr: Stderr, mut reader: Reader, ending: &Ending) {
     let is_terminal = stderr.is_terminal();
     let mut written: Option<[u64; 3]> = None;
@@ -150,7 +149,7 @@ fn follow<R: Wait>(rt: &R, stderr: Stderr, mut reader: Reader, ending: &Ending) 
             Some(before) => words != before,
             None => is_last || words != [0; 3],
         };
-        if is_new && is_ready(2) {
+        if is_new {
             write_words(stderr, is_terminal, words);
             written = Some(words);
         }
@@ -158,7 +157,7 @@ fn follow<R: Wait>(rt: &R, stderr: Stderr, mut reader: Reader, ending: &Ending) 
             break;
         }
     }
-    if is_terminal && is_ready(2) {
+    if is_terminal {
         let _ = stderr.eprint("\n");
     }
 }

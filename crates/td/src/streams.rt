@@ -1,85 +1,84 @@
 //! The program's standard streams. One that another program made non-blocking is waited for.
 ghost use Rattle.std.specs.Prelude.{ℕ, List, Option};
 
-use libc::net::{POLLIN, POLLNVAL, POLLOUT, poll};
-use libc::types::pollfd;
 use std::fs::File;
-use std::io;
 use std::io::{ErrorKind, Read, Write};
 use std::rt::Files;
+use std::sync::Wait;
+use std::thread::Parker;
+use std::time::Duration;
+use std::{fs, io};
 
-/// A reader of the descriptor with this number. Where a read would block, it waits until there is something to read, and the read
-/// counts as interrupted.
+/// How many milliseconds pass before a call that would block is made again.
+const PAUSE: u64 = 5;
+
+/// A reader or a writer of the system's, each call of which that would block counts as interrupted, after a pause: who reads and
+/// writes here makes such a call again.
 #[derive(Drop)]
-pub(crate) struct AwaitedReader<R>(pub(crate) R, pub(crate) i32);
+pub(crate) struct Awaited<'a, S, T> {
+    stream: S,
+    rt: &'a T,
+    parker: Parker,
+}
 
-impl<R: Read> Read for AwaitedReader<R> {
-    ghost remaining = { λ r. R.remaining r.0 };
+impl<'a, S, T: Wait> Awaited<'a, S, T> {
+    /// A stream whose calls are waited for.
+    pub(crate) fn new(rt: &'a T, stream: S) -> Awaited<'a, S, T> {
+        Awaited {
+            stream,
+            rt,
+            parker: Parker::new(),
+        }
+    }
+
+    /// The error of a call; where the call would have blocked, an interruption, after a pause.
+    fn awaited(&self, error: io::Error) -> io::Error {
+        if error.kind() != ErrorKind::WouldBlock {
+            return error;
+        }
+        self.parker
+            .park_timeout(self.rt, Duration::from_millis(PAUSE));
+        io::Error::from(ErrorKind::Interrupted)
+    }
+}
+
+impl<'a, S: Read, T: Wait> Read for Awaited<'a, S, T> {
+    ghost remaining = { λ r. S.remaining r.stream };
 
     fn read(&mut self, buf: &mut [u8]) -> io::Result<usize> {
-        match self.0.read(buf) {
-            Err(error) => Err(awaited(error, self.1, POLLIN)),
+        match self.stream.read(buf) {
             Ok(count) => Ok(count),
+            Err(error) => Err(self.awaited(error)),
         }
     }
 }
 
-/// A writer to the descriptor with this number. Where a write would block, it waits until there is room, and the write counts as
-/// interrupted.
-#[derive(Drop)]
-pub(crate) struct AwaitedWriter<W>(pub(crate) W, pub(crate) i32);
-
-impl<W: Write> Write for AwaitedWriter<W> {
-    ghost contents = { λ w. W.contents w.0 };
+impl<'a, S: Write, T: Wait> Write for Awaited<'a, S, T> {
+    ghost contents = { λ w. S.contents w.stream };
 
     fn write(&mut self, buf: &[u8]) -> io::Result<usize> {
-        match self.0.write(buf) {
-            Err(error) => Err(awaited(error, self.1, POLLOUT)),
+        match self.stream.write(buf) {
             Ok(count) => Ok(count),
+            Err(error) => Err(self.awaited(error)),
         }
     }
 
     fn flush(&mut self) -> io::Result<()> {
-        self.0.flush()
+        self.stream.flush()
     }
 }
 
-/// The error of a call on a descriptor; where the call would have blocked, an interruption, once these events have come.
-fn awaited(error: io::Error, descriptor: i32, events: i16) -> io::Error {
-    if error.kind() != ErrorKind::WouldBlock {
-        return error;
-    }
-    let mut asked = [asked_of(descriptor, events)];
-    poll(&mut asked, -1);
-    io::Error::from(ErrorKind::Interrupted)
+/// Whether a standard stream may be closed: the system tells nothing of it.
+fn is_any_closed<R: Files<File = File>>(rt: &R) -> bool {
+    ["/proc/self/fd/0", "/proc/self/fd/1", "/proc/self/fd/2"]
+        .iter()
+        .any(|path| fs::metadata(rt, *path).is_err())
 }
 
-/// Whether a write to a descriptor would not wait now. A write of at most 512 bytes to a pipe then goes through whole.
-pub(crate) fn is_ready(descriptor: i32) -> bool {
-    let mut asked = [asked_of(descriptor, POLLOUT)];
-    poll(&mut asked, 0) == 1
-}
-
-/// Whether one of the three standard streams is closed.
-fn is_any_closed() -> bool {
-    let mut asked = [asked_of(0, 0), asked_of(1, 0), asked_of(2, 0)];
-    poll(&mut asked, 0);
-    asked.iter().any(|it| it.revents & POLLNVAL != 0)
-}
-
-/// A question to the system about these events of a descriptor.
-fn asked_of(fd: i32, events: i16) -> pollfd {
-    pollfd {
-        fd,
-        events,
-        revents: 0,
-    }
-}
-
-/// Takes the numbers of the standard streams, where one is closed, for as long as the answer is held. A file that is opened gets
+/// Takes the numbers of the standard streams, where one may be closed, for as long as the answer is held. A file that is opened gets
 /// the lowest number that is free: a disk that got that of standard output would be written over by the lines of the answer.
 pub(crate) fn hold_streams<R: Files<File = File>>(rt: &R) -> io::Result<Option<[File; 3]>> {
-    if !is_any_closed() {
+    if !is_any_closed(rt) {
         return Ok(None);
     }
     Ok(Some([
