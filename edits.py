@@ -183,7 +183,8 @@ def tried_alone(edit, crate, rt, kept):
     """Whether an edit by itself is refused, and what the kit says of it: over what was kept, and else from nothing."""
     for start in (kept, None):
         kind, said = rt.must_fail(crate, edit.file, ["--jobs", "1"], start)
-        if kind in (rt.REFUSED, rt.AT_LIMIT):
+        # (a kit says whether the edit is refused, or how)
+        if kind if isinstance(kind, bool) else kind in (rt.REFUSED, rt.AT_LIMIT):
             return True, said
     return False, said
 

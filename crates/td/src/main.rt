@@ -65,11 +65,18 @@ fn tells_who(job: &Job<'_>) -> bool {
 }
 
 /// Does what is asked for. How far a stream has come is told to `stderr`, if that is asked for.
-fn done<R: Files<File = File> + Input + Print + AllocGlobal + Threads + Wait + Sync>(
-    rt: &R,
-    stderr: Stderr,
-    job: Job<'_>,
-) -> Result<(), Refusal>
+fn done<
+    R: Files<File = File>
+        + Input
+        + Print
+        + AllocGlobal
+        + Threads
+        + Wait
+        + Sync
+        + Send
+        + Copy
+        + 'static,
+>(rt: &R, stderr: Stderr, job: Job<'_>) -> Result<(), Refusal>
     requires workers { HasWorkers job }
 {
     match job {
@@ -180,7 +187,7 @@ fn ended<R: Eprint + AllocGlobal>(
 
 /// Answers standard input with the closures of the catalogue. Those of its first shelf are made here, since a function may not hand
 /// out one that it makes; of each kind there is one, which captures its code.
-fn run_engine<R: Input + Print + AllocGlobal + Threads + Wait + Sync>(
+fn run_engine<R: Input + Print + AllocGlobal + Threads + Wait + Sync + Send + Copy + 'static>(
     rt: &R,
     engine: Engine<'_>,
 ) -> Result<(), Refusal>
@@ -210,7 +217,7 @@ fn run_engine<R: Input + Print + AllocGlobal + Threads + Wait + Sync>(
 }
 
 /// Answers standard input with the whole catalogue.
-fn answer<R: Input + Print + AllocGlobal + Threads + Wait + Sync>(
+fn answer<R: Input + Print + AllocGlobal + Threads + Wait + Sync + Send + Copy + 'static>(
     rt: &R,
     calls: &CatalogueCalls,
     engine: Engine<'_>,

@@ -3,12 +3,13 @@ ghost use Rattle.std.specs.Prelude.{◌≡◌, ◌≤◌, [], ◌∷◌, IfOk, I
 
 use crate::engine::Limits;
 use crate::refusal::Refusal;
+use std::alloc::Global;
 use std::io::IsTerminal;
 use std::rt::Stderr;
-use std::sync::Wait;
 use std::sync::atomic::{AtomicBool, Ordering};
+use std::sync::{Arc, Wait};
 use std::thread;
-use std::thread::{Parker, Scope, Threads};
+use std::thread::{Parker, Threads};
 use std::time::Duration;
 use td_catalogue::{Catalogue, CatalogueCalls};
 use td_console::{Fault, Sink, Source};
@@ -18,17 +19,17 @@ use td_plan::Plan;
 use td_standing::KeeperError;
 use td_watch::{Reader, Watch, Writer};
 
-/// Whether a stream has ended, for the thread that follows it.
+/// Something that comes once, and that another thread waits for.
 #[derive(Drop)]
-struct Ending {
+struct Moment {
     has_come: AtomicBool,
     parker: Parker,
 }
 
-impl Ending {
+impl Moment {
     /// Not yet.
-    fn new() -> Ending {
-        Ending {
+    fn new() -> Moment {
+        Moment {
             has_come: AtomicBool::new(false),
             parker: Parker::new(),
         }
@@ -47,9 +48,20 @@ impl Ending {
     }
 }
 
+/// The end of a stream, and the end of what is told of it by the thread that follows it.
+#[derive(Drop)]
+struct Ending {
+    of_stream: Moment,
+    of_telling: Moment,
+}
+
 /// Does what `stream` does, and meanwhile tells `told`, if that is given, how far it has come. Refusals: those of `stream`, of a
 /// disk in the file at `path`, with place and cause; and `Memory`, before it is called, where there is no room for a watch or no thread.
-pub(crate) fn stream_told<I: Source + Drop, W: Sink, R: Threads + Wait + AllocGlobal + Sync>(
+pub(crate) fn stream_told<
+    I: Source + Drop,
+    W: Sink,
+    R: Threads + Wait + AllocGlobal + Sync + Send + Copy + 'static,
+>(
     rt: &R,
     disk: ReadAhead<FileDisk>,
     path: &str,
@@ -64,54 +76,53 @@ pub(crate) fn stream_told<I: Source + Drop, W: Sink, R: Threads + Wait + AllocGl
     requires some { 1 ≤ workers }
     requires most { workers ≤ 16 }
 {
-    let ending = Ending::new();
-    let ending = &ending;
-    thread::scope(
-        thread::scope_env(),
-        rt,
-        move |scope| -> Result<(), Refusal>
-            requires some { 1 ≤ workers }
-            requires most { workers ≤ 16 }
-        {
-            let watch = followed(scope, rt, told, ending)?;
-            let (mut disk, ended) = stream::<_, _, _, Catalogue, CatalogueCalls, _>(
-                rt,
-                rt.alloc(),
-                disk,
-                plan,
-                workers,
-                limits.cut_every,
-                limits.most,
-                reader,
-                writer,
-                watch,
-                calls,
-            );
-            ending.tell();
-            match ended {
-                Ok(()) => Ok(()),
-                Err(Fault::Keeper(KeeperError::NotPassed(epoch))) if limits.most.is_some() => {
-                    Err(Refusal::TooMuchWork(epoch))
-                }
-                Err(fault) => {
-                    let failure = disk.inner().last_failure();
-                    Err(
-                        Refusal::Plain(fault)
-                            .on_disk(rt.alloc(), path, failure)
-                            .for_room(rt.alloc(), &mut disk, plan),
-                    )
-                }
-            }
+    let ending = Arc::new(
+        rt.alloc(),
+        Ending {
+            of_stream: Moment::new(),
+            of_telling: Moment::new(),
         },
-    )
+    )?;
+    let watch = followed(rt, told, &ending)?;
+    let (mut disk, ended) = stream::<_, _, _, Catalogue, CatalogueCalls, _>(
+        rt,
+        rt.alloc(),
+        disk,
+        plan,
+        workers,
+        limits.cut_every,
+        limits.most,
+        reader,
+        writer,
+        watch,
+        calls,
+    );
+    ending.of_stream.tell();
+    if told.is_some() {
+        // A thread that is still told nothing then waits for a pipe that nobody reads, and is left behind.
+        let _ = ending.of_telling.wait(rt);
+    }
+    match ended {
+        Ok(()) => Ok(()),
+        Err(Fault::Keeper(KeeperError::NotPassed(epoch))) if limits.most.is_some() => {
+            Err(Refusal::TooMuchWork(epoch))
+        }
+        Err(fault) => {
+            let failure = disk.inner().last_failure();
+            Err(
+                Refusal::Plain(fault)
+                    .on_disk(rt.alloc(), path, failure)
+                    .for_room(rt.alloc(), &mut disk, plan),
+            )
+        }
+    }
 }
 
 /// The writer of a watch that a thread follows until an ending has come; none where it is told nowhere. Refusal: `Memory`.
-fn followed<'s, E, R: Threads + Wait + AllocGlobal + Sync>(
-    scope: &Scope<'s, E>,
-    rt: &'s R,
+fn followed<R: Threads + Wait + AllocGlobal + Sync + Send + Copy + 'static>(
+    rt: &R,
     told: Option<Stderr>,
-    ending: &'s Ending,
+    ending: &Arc<Ending, Global>,
 ) -> Result<Option<Writer>, Fault>
     ensures { IfOk result (λ watch. IfSome watch (λ w. w.words ≡ 0 ∷ 0 ∷ 0 ∷ [])) }
 {
@@ -130,20 +141,22 @@ fn followed<'s, E, R: Threads + Wait + AllocGlobal + Sync>(
     let Some(reader) = readers.pop() else {
         unreachable!()
     };
-    match scope.spawn(move || follow(rt, stderr, reader, ending)) {
+    let ending = Arc::try_clone(ending)?;
+    let here = *rt;
+    match thread::spawn(rt, move || follow(&here, stderr, reader, &ending)) {
         Ok(_) => Ok(Some(writer)),
         Err(_) => Err(Fault::Memory),
     }
 }
 
 /// Writes how far a watch has come: each second in which a word rose; and at the end, if one rose since, or nothing was written. A write
-/// that fails is passed over.
+/// that fails is passed over. Where one waits, since nobody reads a pipe that is full, the thread is left behind at the end.
 fn follow<R: Wait>(rt: &R, stderr: Stderr, mut reader: Reader, ending: &Ending) {
     let is_terminal = stderr.is_terminal();
     let mut written: Option<[u64; 3]> = None;
     for _ in rt.forever() {
         // Asked before the words are read: at the end these are the last.
-        let is_last = ending.wait(rt);
+        let is_last = ending.of_stream.wait(rt);
         let words = reader.read();
         let is_new = match written {
             Some(before) => words != before,
@@ -160,6 +173,7 @@ fn follow<R: Wait>(rt: &R, stderr: Stderr, mut reader: Reader, ending: &Ending) 
     if is_terminal {
         let _ = stderr.eprint("\n");
     }
+    ending.of_telling.tell();
 }
 
 /// Writes words as a line; on a terminal over the line before, which is never longer, since no word falls.

@@ -9,7 +9,7 @@ use td_pool::{Crew, Gate, Pool};
 /// 1, so that it is a number up to which tasks may be run.
 #[derive(Drop)]
 pub(crate) struct Allowance<'a, K: Crew, L: Law> {
-    pool: &'a Pool<K, L>,
+    pub(crate) pool: &'a Pool<K, L>,
     of_an_epoch: u64,
     taken: AtomicU64,
     up_to: AtomicU64,

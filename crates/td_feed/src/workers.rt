@@ -113,6 +113,7 @@ fn beside<
             ensures said { IfSome (S.script orders) (λ script. SaysBy D.is_lawful D.state D.failures L.answers result.0.1 (W.contents writer.entry.now) (W.contents result.1.now) keeper result.0.0 (new_to keeper (submissions script.orders))) }
             ensures failures { CountsDevice result.0.1 (Fault.Keeper Device) (D.failures keeper.device) (D.failures result.0.0.device) }
         {
+            let pool = allowance.pool;
             let mut keeper = keeper;
             let mut orders = orders;
             let mut workers = Vec::new(alloc);
