@@ -6,7 +6,7 @@ lost, and nothing doubled.
 
 The file is formatted for a plan with two folds and a group. Each feed has epochs of a few records, with a cut after each fifth, so that
 the epochs up to one are put on the disk as a group; it
-gets SIGKILL after a random number of its `ack` lines and a random while after that, as long as some epochs take. 150 kills are of
+gets SIGKILL after a random number of its `ack` lines and a random while after that, up to half of what a whole feed takes. 150 kills are of
 feeds of 60 epochs without request numbers: `td show` tells which epochs are on the disk, and the next feed begins with the first
 that is not. It is required that
 
@@ -65,8 +65,9 @@ EPOCHS_OF_A_FEED, EPOCHS_OF_A_NUMBERED_FEED, EPOCHS_OF_A_CUT = 60, 180, 5
 # which one in so many begins with the very first epoch.
 EPOCHS_OF_A_STREAM, EPOCHS_AT_ONCE, ANSWERED_AT_ONCE, KILLS_OF_A_BEGINNING = 120, 4, 100, 8
 MOST_ACKS = 12
-SECONDS_AFTER = 0.01
 SECONDS_OF_A_WAIT = 30
+# A kill comes at most so long after the answers that it waits for: what `measure` finds.
+seconds_after = 0.01
 
 
 def td(*words, text=""):
@@ -74,6 +75,23 @@ def td(*words, text=""):
     if done.returncode != 0:
         sys.exit(f"td {' '.join(map(str, words))}: status {done.returncode}: {done.stderr}")
     return done.stdout.splitlines()
+
+
+def measure(folder):
+    """Finds how long the epochs of a feed take, beyond an empty feed, and has kills come within half of that: on a fast device a feed would
+    else have ended before most of them."""
+    global seconds_after
+    disk, plan, epochs = f"{folder}/measured", f"{folder}/plan", Epochs(random.Random(1))
+    td("format", disk, plan, *SHAPE)
+
+    def seconds(text):
+        begun = time.monotonic()
+        td("feed", disk, plan, text=text)
+        return time.monotonic() - begun
+
+    ends = range(EPOCHS_OF_A_FEED, 5 * EPOCHS_OF_A_FEED, EPOCHS_OF_A_FEED)
+    whole = min(seconds(epochs.text(end - EPOCHS_OF_A_FEED + 1, end)) for end in ends)
+    seconds_after = max(0.001, (whole - min(seconds("") for _ in ends)) / 2)
 
 
 def lines_of(records):
@@ -151,7 +169,7 @@ def shown(disk, plan, epochs):
 
 def killed(disk, plan, text, made):
     """Feeds, and kills the feed: what it wrote until then, in whole lines, and whether it was still there."""
-    acks, after = made.randrange(MOST_ACKS + 1), made.random() * SECONDS_AFTER
+    acks, after = made.randrange(MOST_ACKS + 1), made.random() * seconds_after
     with tempfile.TemporaryFile("w+") as given:
         given.write(text)
         given.seek(0)
@@ -412,7 +430,7 @@ def killed_stream(disk, plan, every, pieces, wanted, made):
         producer = Producer(run, pieces, wanted)
         producer.start()
         have_come = wanted == 0 or producer.have_come.wait(SECONDS_OF_A_WAIT)
-        time.sleep(made.random() * SECONDS_AFTER)
+        time.sleep(made.random() * seconds_after)
         status = run.poll()
         run.send_signal(signal.SIGKILL)
         producer.join()
@@ -478,6 +496,7 @@ def main():
     made = random.Random(seed)
     with tempfile.TemporaryDirectory(prefix="td-kill-") as folder:
         pathlib.Path(f"{folder}/plan").write_text(PLAN)
+        measure(folder)
         ways = [(KILLS_OF_A_HALF, "feeds", "fed on where the disk ended", kill_half(made, folder)),
                 (KILLS_OF_A_HALF, "feeds", "fed again from their beginning by their request numbers", kill_numbered_half(made, folder)),
                 (KILLS_OF_STREAMS, "streams", "sent again by a producer that waits for answers", kill_streams(made, folder))]

@@ -89,7 +89,7 @@ PLACES = {
     ],
     THREADS: [
         "engine_steps/src/worker.rt start_each: spawn serve",
-        "td/src/progress.rt followed: spawn follow",
+        "td/src/progress.rt followed: thread::spawn follow",
     ],
     PASSED_ON: [
         "engine_steps/src/worker.rt drive_and_join: no call",
