@@ -1,0 +1,7 @@
+pub mod Closures
+pub mod Environments
+pub mod Meaning
+pub mod Names
+pub mod ProvedWritten
+pub mod Room
+pub mod Written

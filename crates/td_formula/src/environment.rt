@@ -1,0 +1,72 @@
+//! What the names of a closure stand for.
+ghost use Rattle.std.specs.Prelude.{◌≡◌, ◌<◌};
+ghost use Rattle.td_formula.specs.Names.{place, with_name, no_names};
+ghost use Rattle.td_formula.specs.Environments.{named};
+
+use crate::expression::Name;
+
+/// How many names there are.
+const NAMES: usize = 18;
+
+impl Name {
+    /// Its place among the numbers of an environment.
+    fn place(self) -> usize
+        ensures place { result ≡ place self }
+        ensures within { result < 18 }
+    {
+        match self {
+            Name::Key => 0,
+            Name::Val => 1,
+            Name::Port => 2,
+            Name::A => 3,
+            Name::B => 4,
+            Name::BeforeA => 5,
+            Name::BeforeB => 6,
+            Name::Known => 7,
+            Name::Items => 8,
+            Name::Lost => 9,
+            Name::Register(r) => 10 + usize::from(r % 8),
+        }
+    }
+}
+
+/// What each name stands for.
+#[derive(Drop)]
+pub struct Environment {
+    numbers: [i128; NAMES],
+}
+
+#[tactic(auto, unfolding(crate::specs::Environments::named, crate::specs::Names::with_name, crate::specs::Names::no_names))]
+impl Environment {
+    /// Each name stands for 0.
+    pub fn new() -> Self
+        ensures { named result ≡ no_names }
+    {
+        Environment {
+            numbers: [0; NAMES],
+        }
+    }
+
+    /// What a name stands for.
+    pub fn get(&self, name: Name) -> i128
+        ensures { result ≡ named self.now name }
+    {
+        self.numbers[name.place()]
+    }
+
+    /// The name stands for this number from now on.
+    pub fn set(&mut self, name: Name, number: i128)
+        ensures { named self.new ≡ with_name (named self.old) name number }
+    {
+        self.numbers[name.place()] = number;
+    }
+
+    /// The same once more.
+    pub fn copy(&self) -> Self
+        ensures { named result ≡ named self.now }
+    {
+        Environment {
+            numbers: self.numbers,
+        }
+    }
+}
