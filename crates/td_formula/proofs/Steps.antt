@@ -1,6 +1,6 @@
 -- One step of the loops over lines and over items.
-use Rattle.std.proofs.Common.{◌≡◌, ℕ, ◌+◌, ◌<◌, ◌-◌, ◌≤◌, min, List, [], ◌∷◌, ◌++◌, length, take, get_or, ℤ, pos, refl, ap, sym, ◌∙◌, arith, length-take}
-use Rattle.std.specs.Prelude.{fold, flat_map, Option, option_to_list}
+use Rattle.std.proofs.Common.{◌≡◌, ℕ, ◌+◌, ◌<◌, ◌≤◌, min, List, [], ◌∷◌, ◌++◌, length, take, get_or, ℤ, ap, sym, ◌∙◌, arith, length-take}
+use Rattle.std.specs.Prelude.{fold, flat_map, option_to_list}
 use Rattle.std.proofs.lemmas.List.{append-nil}
 use Rattle.std.proofs.lemmas.List.Sums.{fold_more}
 use Rattle.std.proofs.lemmas.Grind.{fold-append, flat_map-append, take_at_read}
@@ -15,7 +15,7 @@ use Rattle.td_formula.specs.Names.{with_name}
 use Rattle.td_formula.specs.Closures.{assigned, with_lets, with_changes, with_item, record_of, records_of, after_item, after_items, sends, room, at_end, answer, state_of}
 use Rattle.td_formula.specs.Room.{with_record, settled}
 use Rattle.td_formula.specs.ProvedWritten.{records_few}
-use Rattle.td_formula.proofs.Room.{settled_more, settled_none, all_out}
+use Rattle.td_formula.proofs.Room.{settled_more, all_out}
 
 -- one line of `let` more
 pub one_let : (lines : List Assignment) (start before at next : Name → ℤ) (i : ℕ) (d : Assignment) → i < length lines

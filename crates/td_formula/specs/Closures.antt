@@ -1,5 +1,5 @@
 -- WHAT CLOSURES MEAN.
-use Rattle.std.specs.Prelude.{ℕ, ◌-◌, Bool, if◌then◌else◌, ℤ, pos, List, [], ◌++◌, fold, flat_map, length, take, Option, Some, None, option_to_list}
+use Rattle.std.specs.Prelude.{ℕ, ◌-◌, if◌then◌else◌, ℤ, pos, List, [], ◌++◌, fold, flat_map, length, take, Option, Some, None, option_to_list}
 use Rattle.std.specs.Int.{saturate_signed, saturate_unsigned, w64}
 use Rattle.td_stamp.specs.declared.values.Rec.{Rec}
 use Rattle.td_stamp.specs.declared.values.Item.{Item}

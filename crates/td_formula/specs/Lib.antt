@@ -1,3 +1,4 @@
+pub mod Beside
 pub mod Closures
 pub mod Environments
 pub mod Meaning

@@ -1,5 +1,5 @@
 -- Names, and what they stand for: a function of the name.
-use Rattle.std.specs.Prelude.{ℕ, ◌+◌, ◌%◌, Bool, ◌==◌, if◌then◌else◌, ℤ, pos, List}
+use Rattle.std.specs.Prelude.{ℕ, ◌+◌, ◌%◌, Bool, ◌==◌, if◌then◌else◌, ℤ, pos}
 use Rattle.td_formula.specs.declared.expression.Name.{Name}
 use Rattle.td_formula.specs.declared.expression.Name.TheVariants.{Key, Val, Port, A, B, BeforeA, BeforeB, Known, Items, Lost, Register}
 

@@ -1,6 +1,6 @@
 -- A proof, and nothing that a reader must believe: no closure that is written as formulas sends more than eight records. It stands
 -- here since the law of these closures has it as a field.
-use Rattle.std.specs.Prelude.{◌≡◌, ℕ, ◌≤◌, ◌+◌, ◌-◌, min, ℤ, List, [], ◌∷◌, ◌++◌, length, take, Option, Some, None, option_to_list}
+use Rattle.std.specs.Prelude.{ℕ, ◌≤◌, ℤ, List, [], ◌∷◌, length, take, Option, Some, None, option_to_list}
 use Rattle.std.proofs.Common.{lit≤, arith, length-append, length-take}
 use Rattle.td_stamp.specs.declared.values.Rec.{Rec}
 use Rattle.td_stamp.specs.declared.values.Item.{Item}

@@ -3,6 +3,7 @@
 #![tactic(auto)]
 
 mod answer;
+mod beside;
 mod closure;
 mod environment;
 mod expression;
@@ -12,6 +13,7 @@ mod outgoing;
 mod value;
 mod written;
 
+pub use beside::{Beside, BesideCalls};
 pub use closure::{Assignment, Closure, ClosureKind, Pair};
 pub use environment::Environment;
 pub use expression::{Expression, Name, Operator, Sign};

@@ -1,4 +1,4 @@
-use Rattle.std.proofs.Common.{◌≡◌, ◌-◌, List, length, take, ap, ◌∙◌, rules, SFits, to_z-of_z}
+use Rattle.std.proofs.Common.{◌≡◌, ◌-◌, length, take, ap, ◌∙◌, rules, SFits, to_z-of_z}
 use Rattle.std.specs.Prelude.{fold}
 use Rattle.std.specs.Int.{w128}
 use Rattle.td_formula.specs.declared.expression.Name.TheVariants.{Lost}
