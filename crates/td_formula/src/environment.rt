@@ -4,6 +4,7 @@ ghost use Rattle.td_formula.specs.Names.{place, with_name, no_names};
 ghost use Rattle.td_formula.specs.Environments.{named};
 
 use crate::expression::Name;
+use std::marker::Model;
 
 /// How many names there are.
 const NAMES: usize = 18;
@@ -30,10 +31,18 @@ impl Name {
     }
 }
 
-/// What each name stands for.
+/// What each name stands for: a contract sees the numbers in the order of the names' places, and `named` reads them.
 #[derive(Drop)]
 pub struct Environment {
     numbers: [i128; NAMES],
+}
+
+impl Model for Environment {
+    ghost use Rattle.std.specs.Prelude.{List, ℤ};
+
+    ghost Value = { List ℤ };
+
+    ghost view = { λ e. e.numbers };
 }
 
 #[tactic(auto, unfolding(crate::specs::Environments::named, crate::specs::Names::with_name, crate::specs::Names::no_names))]
@@ -63,7 +72,7 @@ impl Environment {
 
     /// The same once more.
     pub fn copy(&self) -> Self
-        ensures { named result ≡ named self.now }
+        ensures { result ≡ self.now }
     {
         Environment {
             numbers: self.numbers,
