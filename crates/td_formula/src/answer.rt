@@ -49,37 +49,37 @@ fn at_first(key: u64, state: Option<State>, items: usize) -> Environment
 
 impl Closure {
     /// What the names stand for after an item.
-    fn after_item(&self, before: &Environment, item: Item) -> Environment
-        ensures { named result ≡ with_changes self.now.changes.items (with_item item.port item.val (named before.now)) }
+    fn after_item(&self, at: &mut Environment, item: Item)
+        ensures { named at.new ≡ with_changes self.now.changes.items (with_item item.port item.val (named at.old)) }
     {
-        let mut at = before.copy();
-        set_item(item.port, item.val, &mut at);
-        with_changes(&self.changes, &at)
+        set_item(item.port, item.val, at);
+        let after = with_changes(&self.changes, at);
+        *at = after;
     }
 
     /// What the names stand for after the items, and what `each` sent, as far as there is room.
     fn after_items(
         &self,
-        start: &Environment,
+        start: Environment,
         room: usize,
         items: &[Item],
     ) -> (Environment, Outgoing)
         requires { room ≤ 8 }
-        ensures names { named result.0 ≡ (after_items self.now (named start.now) items.now).0 }
-        ensures sent { (result.1.few.items, result.1.lost) ≡ settled room (after_items self.now (named start.now) items.now).1 }
+        ensures names { named result.0 ≡ (after_items self.now (named start) items.now).0 }
+        ensures sent { (result.1.few.items, result.1.lost) ≡ settled room (after_items self.now (named start) items.now).1 }
     {
         let mut at = with_lets(&self.lets, start);
         let mut out = Outgoing::new();
         for item in items {
-            at = self.after_item(&at, *item);
+            self.after_item(&mut at, *item);
             send(&self.each, &at, room, &mut out);
         }
         (at, out)
     }
 
     /// What it keeps and sends, where the names stand for this at first.
-    fn answer(&self, start: &Environment, items: &[Item]) -> (Option<State>, Few)
-        ensures { (result.0, result.1.items) ≡ answer self.now (named start.now) items.now }
+    fn answer(&self, start: Environment, items: &[Item]) -> (Option<State>, Few)
+        ensures { (result.0, result.1.items) ≡ answer self.now (named start) items.now }
     {
         let sends = first_eight(&self.sends);
         let room = FEW - sends.len();
@@ -96,20 +96,20 @@ impl Closure {
     {
         let mut at = at_first(rec.key, None, 0);
         set_item(port, rec.val, &mut at);
-        self.answer(&at, &[]).1
+        self.answer(at, &[]).1
     }
 
     /// What it sends, as a group, of a key and its sorted items.
     pub fn group_sent(&self, key: u64, items: &[Item]) -> Few
         ensures { result.items ≡ group_sent self.now key items.now }
     {
-        self.answer(&at_first(key, None, items.len()), items).1
+        self.answer(at_first(key, None, items.len()), items).1
     }
 
     /// What it keeps and sends, as a fold, of a key, which had `state`, and its sorted items.
     pub fn fold_sent(&self, key: u64, state: Option<State>, items: &[Item]) -> (Option<State>, Few)
         ensures { (result.0, result.1.items) ≡ fold_sent self.now key state items.now }
     {
-        self.answer(&at_first(key, state, items.len()), items)
+        self.answer(at_first(key, state, items.len()), items)
     }
 }

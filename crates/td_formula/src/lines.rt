@@ -22,10 +22,10 @@ impl Assignment {
 }
 
 /// The registers at the start: each line sees those before it.
-pub(crate) fn with_lets(lines: &[Assignment], start: &Environment) -> Environment
-    ensures { named result ≡ with_lets lines.now (named start.now) }
+pub(crate) fn with_lets(lines: &[Assignment], start: Environment) -> Environment
+    ensures { named result ≡ with_lets lines.now (named start) }
 {
-    let mut at = start.copy();
+    let mut at = start;
     for line in lines {
         let before = at.copy();
         line.assign(&before, &mut at);

@@ -16,8 +16,8 @@ returns c =
     let fits : SFits w128 lost = search rules in
     let eight : c.first_eight-sends.result.now ≡ sends c.args.self.now = c.first_eight-sends.ensures ∙ ap (take 8) c.deref.ensures.value in
     (λ k. (c.state.ensures k, c.send.new.out.few.items))
-    ∙ at_the_end c.args.self.now (named c.args.start.now) (named c.after_items-at.result.0) (named c.set.new.self) c.args.items.now out c.send.new.out.few.items lost c.send.new.out.lost
+    ∙ at_the_end c.args.self.now (named c.args.start) (named c.after_items-at.result.0) (named c.set.new.self) c.args.items.now out c.send.new.out.few.items lost c.send.new.out.lost
     c.after_items-at.ensures.names
-    (c.after_items-at.ensures.sent ∙ ap (λ lines. settled (8 - length lines) (after_items c.args.self.now (named c.args.start.now) c.args.items.now).1) eight)
+    (c.after_items-at.ensures.sent ∙ ap (λ lines. settled (8 - length lines) (after_items c.args.self.now (named c.args.start) c.args.items.now).1) eight)
     (c.set.ensures ∙ ap (with_name (named c.after_items-at.result.0) Lost) (to_z-of_z fits))
     (c.send.ensures ∙ ap (λ lines. fold (with_record 8) (out, lost) (records_of lines (named c.set.new.self))) eight)
