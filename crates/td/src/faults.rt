@@ -364,10 +364,11 @@ its records in each turn.
     td: too much work: epoch 1
     status 8
 
-An epoch is acknowledged before it is computed. So it stands on the disk, nothing is lost, and each later start with this R ends in the
-same way. Where the work is wanted, start with a greater R, or without `--most`. Else go on without that epoch:
+An epoch is acknowledged before it is computed. So it stands on the disk, and nothing is lost. A later start allows R for each epoch since
+the last cut: it ends in the same way, or gets through. Where the work is wanted, start with a greater R, or without `--most`. Else go on
+without that epoch:
 
-1. Look at it by `td dump`, and keep what was dumped.
+1. Look at it by `td dump`, and keep what was dumped. Where several epochs were at hand it may be one after that which was told.
 2. Copy the disk up to the epoch before it, by `td copy --until`.
 3. Put the copy in the disk's place.
 4. Send what came after that epoch again, without it.
