@@ -60,6 +60,13 @@ impl<L: Law> Hall<L> {
         self.floor.collected
     }
 
+    /// How many tasks were taken.
+    pub fn taken(&self) -> u64
+        ensures { result ≡ self.now.taken }
+    {
+        self.floor.taken
+    }
+
     /// How many tasks were given.
     pub fn given(&self) -> u64
         ensures { result ≡ self.now.given }
