@@ -1,3 +1,4 @@
 pub mod Refusals
 pub mod Hands
 pub mod Lents
+pub mod Counts

@@ -1,5 +1,5 @@
 //! What lies under a pool's lock.
-ghost use Rattle.std.specs.Prelude.{◌≡◌, ◌⊎◌, ◌+◌, ◌-◌, ◌<◌, ◌≤◌, IsTrue, true, false, None, Contains, IfOk, IfSome, IfErr, OnOk, OnErr};
+ghost use Rattle.std.specs.Prelude.{◌≡◌, ◌⊎◌, ◌+◌, ◌-◌, ◌<◌, ◌≤◌, IsTrue, true, false, not, None, Some, Contains, IfOk, IfSome, IfErr, OnOk, OnErr};
 ghost use Rattle.crossbeam_utils.specs.Padded.{padded_value};
 ghost use Rattle.td_machine.specs.Active.{has_passed, unpassed};
 ghost use Rattle.td_machine.specs.Sound.{run_states};
@@ -10,55 +10,64 @@ ghost use Rattle.td_core.specs.Refusals.{IsRefused, error_of};
 ghost use Rattle.td_core.specs.Meant.{IsMeant};
 ghost use Rattle.td_core.specs.Picks.{IsPick};
 ghost use Rattle.td_core.specs.Taking.{IsTakeRefused};
-ghost use Rattle.td_core.specs.declared.error.HallError.TheVariants.{Memory};
+ghost use Rattle.td_core.specs.declared.error.HallError.TheVariants.{Memory, Stranger};
+ghost use Rattle.td_pool.specs.Counts.{IsCounted};
+ghost use Rattle.td_pool.specs.Hands.{is_empty, is_ready, task_of};
 ghost use Rattle.td_pool.specs.Lents.{lent};
 
 use crate::any_hall::AnyHall;
+use crate::hand::Hand;
 use crate::seat::{Crew, Seat};
 use std::marker::Model;
+use std::mem;
 use std::sync::ledger::{Book, Share};
 use td_calls::Law;
 use td_core::laws::each_is_sound;
 use td_core::{Cut, Hall, HallError};
 use td_machine::laws::reached_in_order;
 use td_stamp::{Batch, EpochOut};
-use td_task::{Done, Task};
+use td_task::Done;
+
+/// What a take counts for in the ledger, where a give counts 1.
+pub(crate) const TAKE_WEIGHT: u64 = u64::MAX;
 
 /// The hall of a pool, for as long as its lock is held. Contracts see the hall's state, and whether the pool is stopped. By its type
-/// it stays the hall with which the pool was made, to which as many tasks were given since as its seats have counted: it cannot be
-/// exchanged, and `give` alone gives to it.
+/// it stays the hall with which the pool was made, to which as many tasks were given since as its seats have counted, and of which no
+/// more are out than its seats hold or have lost: it cannot be exchanged, and `give` alone gives to it.
 #[derive(Drop)]
 pub struct Held<K: Crew, L: Law> {
     hall: Hall<L>,
     pub(crate) is_stopped: bool,
     /// Of each shard, whether its worker waits for something to take.
     sleeps: Vec<bool>,
-    pub(crate) gives: Book<K>,
+    pub(crate) book: Book<K>,
     pub(crate) rest: Share<K>,
 }
 
 impl<K: Crew, L: Law> Model for Held<K, L> {
-    ghost use Rattle.std.specs.Prelude.{◌≡◌, ◌+◌};
+    ghost use Rattle.std.specs.Prelude.{◌≡◌};
+    ghost use Rattle.td_pool.specs.Counts.{IsCounted};
     ghost use Rattle.td_pool.specs.Lents.{Lent, lent};
 
     ghost Value = { Lent };
 
     ghost view = { λ h. lent h.hall h.is_stopped };
 
-    ghost invariant = { λ h. (h.hall.given ≡ K.start + h.gives.total) × (h.rest.parts ≡ 0) × (h.rest.amount ≡ 0) };
+    ghost invariant = { λ h. IsCounted K.start h.hall h.book.total × (h.rest.parts ≡ 0) × (h.rest.amount ≡ 0) };
 }
 
 impl<K: Crew, L: Law> Held<K, L> {
-    /// A hall to which as many tasks were given as the book begins with.
-    pub(crate) fn new(hall: Hall<L>, sleeps: Vec<bool>, gives: Book<K>, rest: Share<K>) -> Self
-        requires { (hall.given ≡ K.start + gives.total) × (rest.parts ≡ 0) × (rest.amount ≡ 0) }
+    /// A hall whose gives and takes are those of the book.
+    pub(crate) fn new(hall: Hall<L>, sleeps: Vec<bool>, book: Book<K>, rest: Share<K>) -> Self
+        requires counted { IsCounted K.start hall book.total }
+        requires rest { (rest.parts ≡ 0) × (rest.amount ≡ 0) }
         ensures { result ≡ lent hall false }
     {
         Held {
             hall,
             is_stopped: false,
             sleeps,
-            gives,
+            book,
             rest,
         }
     }
@@ -66,17 +75,17 @@ impl<K: Crew, L: Law> Held<K, L> {
     /// The hall, and the book with all that no seat has.
     pub(crate) fn into_parts(self) -> (Hall<L>, Book<K>, Share<K>)
         ensures hall { result.0 ≡ self.hall }
-        ensures given { result.0.given ≡ K.start + result.1.total }
+        ensures counted { IsCounted K.start result.0 result.1.total }
         ensures rest { (result.2.parts ≡ 0) × (result.2.amount ≡ 0) }
     {
         let Held {
             hall,
             is_stopped: _,
             sleeps: _,
-            gives,
+            book,
             rest,
         } = self;
-        (hall, gives, rest)
+        (hall, book, rest)
     }
 
     /// The hall, to read.
@@ -122,35 +131,42 @@ impl<K: Crew, L: Law> Held<K, L> {
         }
     }
 
-    /// Takes a task of a shard, its first, if it has one.
-    pub(crate) fn take(&mut self, shard: u8) -> Result<Option<Task>, HallError>
-        ensures taken { IfOk result (λ task. Takes self.old.hall shard (has_taken task) self.new.hall) }
-        ensures first { IfOk result (λ task. IfSome task (IsPick self.old.hall shard 0)) }
-        ensures refused { IfErr result (IsTakeRefused self.old.hall shard) }
-        ensures err { OnErr result (self.new ≡ self.old) }
+    /// Takes a task of a seat's shard, its first, into the seat, and answers whether there is one.
+    pub(crate) fn take(&mut self, seat: &mut Seat<K, L>) -> Result<bool, HallError>
+        requires { is_empty seat.old.hand ≡ true }
+        ensures taken { IfOk result (λ _. Takes self.old.hall seat.old.shard (has_taken (task_of seat.new.hand)) self.new.hall) }
+        ensures hand { IfOk result (λ is_taken. is_empty seat.new.hand ≡ not is_taken) }
+        ensures first { IfSome (task_of seat.new.hand) (IsPick self.old.hall seat.old.shard 0) }
+        ensures refused { IfErr result (IsTakeRefused self.old.hall seat.old.shard) }
+        ensures err { OnErr result ((self.new ≡ self.old) × (is_empty seat.new.hand ≡ true)) }
         ensures stopped { self.new.stopped ≡ self.old.stopped }
+        ensures seat { (seat.new.shard ≡ seat.old.shard) × (padded_value seat.new.gives ≡ padded_value seat.old.gives) × (seat.new.strays ≡ seat.old.strays) }
     {
-        self.hall.take(shard, 0)
+        let Some(task) = self.hall.take(seat.shard, 0)? else {
+            return Ok(false);
+        };
+        self.book.add(&mut seat.share, TAKE_WEIGHT);
+        seat.hand = Hand::Taken(task);
+        Ok(true)
     }
 
-    /// The next task of a shard, if there is one that can be taken and the pool is not stopped.
-    pub(crate) fn next(&mut self, shard: u8) -> Option<Task>
-        ensures rests { self.old.stopped ≡ true → result ≡ None }
-        ensures none { result ≡ None → self.new ≡ self.old }
-        ensures some { IfSome result (λ task. Takes self.old.hall shard (has_taken (Some task)) self.new.hall) }
+    /// Takes the next task of a seat's shard into the seat, if there is one that can be taken and the pool is not stopped.
+    pub(crate) fn next(&mut self, seat: &mut Seat<K, L>)
+        requires { is_empty seat.old.hand ≡ true }
+        ensures rests { self.old.stopped ≡ true → is_empty seat.new.hand ≡ true }
+        ensures none { is_empty seat.new.hand ≡ true → self.new ≡ self.old }
+        ensures some { IfSome (task_of seat.new.hand) (λ task. Takes self.old.hall seat.old.shard (has_taken (Some task)) self.new.hall) }
         ensures stopped { self.new.stopped ≡ self.old.stopped }
+        ensures seat { (seat.new.shard ≡ seat.old.shard) × (padded_value seat.new.gives ≡ padded_value seat.old.gives) × (seat.new.strays ≡ seat.old.strays) }
     {
         if self.is_stopped {
-            return None;
+            return;
         }
-        match self.take(shard) {
-            Ok(task) => task,
-            Err(_) => None,
-        }
+        let _ = self.take(seat);
     }
 
-    /// Takes a task back that was run, as `Hall::give` does. Nothing else raises the hall's count of gives, and the seat's rises with
-    /// it. Refusals, with nothing changed and the task handed back: `Stranger` and `Memory`.
+    /// Takes a task back that was run, as `Hall::give` does. Nothing else raises the hall's count of gives, but for a worker's give of what
+    /// its seat holds, and the seat's rises with it. Refusals, with nothing changed and the task handed back: `Stranger` and `Memory`.
     pub fn give(&mut self, seat: &mut Seat<K, L>, done: Done<L>) -> Result<(), (HallError, Done<L>)>
         ensures given { OnOk result (Gives L.answers self.old.hall done has_given self.new.hall) }
         ensures counted { OnOk result (padded_value seat.new.gives ≡ padded_value seat.old.gives + 1) }
@@ -160,27 +176,83 @@ impl<K: Crew, L: Law> Held<K, L> {
         ensures back { IfErr result (λ e. e.1 ≡ done) }
         ensures stopped { self.new.stopped ≡ self.old.stopped }
         ensures seat { (seat.new.shard ≡ seat.old.shard) × (seat.new.hand ≡ seat.old.hand) }
+        ensures strays { seat.new.strays ≡ seat.old.strays }
     {
         reached_in_order::<L>();
         let Held {
             hall,
             is_stopped: _,
             sleeps: _,
-            gives,
+            book,
             rest: _,
         } = self;
         let Seat {
             shard: _,
             gives: count,
+            strays: _,
             hand: _,
             share,
         } = seat;
-        gives.audit(share);
+        book.audit(share);
         each_is_sound(hall);
         hall.give(done)?;
-        gives.add(share, 1);
+        book.add(share, 1);
+        // Whoever gives what no seat holds has taken it elsewhere.
+        book.add(share, TAKE_WEIGHT);
         **count += 1;
         Ok(())
+    }
+
+    /// Takes back what a seat holds, which was run, as `Hall::give` does. Refusals, with the hall unchanged: `Memory`, with the task left
+    /// in the seat, and `Stranger`, with the task dropped, which is a stray of the seat from then on.
+    pub(crate) fn give_held(&mut self, seat: &mut Seat<K, L>) -> Result<(), HallError>
+        requires { is_ready seat.old.hand ≡ true }
+        ensures given { OnOk result (IfSome (task_of seat.old.hand) (λ done. Gives L.answers self.old.hall done has_given self.new.hall)) }
+        ensures counted { OnOk result ((padded_value seat.new.gives ≡ padded_value seat.old.gives + 1) × (is_empty seat.new.hand ≡ true)) }
+        ensures kept { OnOk result (seat.new.strays ≡ seat.old.strays) }
+        ensures refused { IfErr result (λ e. (e ≡ Memory) ⊎ (e ≡ Stranger)) }
+        ensures memory { IfErr result (λ e. e ≡ Memory → (seat.new.hand ≡ seat.old.hand) × (seat.new.strays ≡ seat.old.strays)) }
+        ensures memory_last { IfErr result (λ e. e ≡ Memory → IfSome (task_of seat.old.hand) (Contains self.old.hall.out)) }
+        ensures stray { IfErr result (λ e. e ≡ Stranger → (is_empty seat.new.hand ≡ true) × (seat.new.strays ≡ seat.old.strays + 1)) }
+        ensures err { OnErr result ((self.new ≡ self.old) × (padded_value seat.new.gives ≡ padded_value seat.old.gives)) }
+        ensures stopped { self.new.stopped ≡ self.old.stopped }
+        ensures shard { seat.new.shard ≡ seat.old.shard }
+    {
+        reached_in_order::<L>();
+        let Held {
+            hall,
+            is_stopped: _,
+            sleeps: _,
+            book,
+            rest: _,
+        } = self;
+        let Seat {
+            shard: _,
+            gives,
+            strays,
+            hand,
+            share: own,
+        } = seat;
+        book.audit(own);
+        each_is_sound(hall);
+        let Hand::Ready(done) = mem::replace(hand, Hand::Empty) else {
+            unreachable!()
+        };
+        match hall.give(done) {
+            Ok(()) => {
+                book.add(own, 1);
+                **gives += 1;
+                Ok(())
+            }
+            Err((HallError::Memory, done)) => {
+                *hand = Hand::Ready(done);
+                Err(HallError::Memory)
+            }
+            Err((error, _stranger)) => {
+                *strays += 1;
+                Err(error)
+            }
+        }
     }
 }
 

@@ -1,5 +1,6 @@
 //! The pool: a hall behind a lock, and a seat for each of its shards, from which a worker in a thread of its own takes tasks, runs
-//! them outside the lock and gives them back. Its one contract: the gives of the hall rose by the sum of the seats' counts.
+//! them outside the lock and gives them back. Its contract: the gives of the hall rose by the sum of the seats' counts, and no task that was
+//! taken is lost.
 #![tactic(auto)]
 
 mod any_hall;

@@ -1,21 +1,24 @@
 //! Making pools, lending their halls, and gathering their seats.
-ghost use Rattle.std.specs.Prelude.{◌≡◌, ◌⊎◌, ◌+◌, ◌&&◌, ◌==◌, true, None, map, sum, length, All, IfOk, IfErr, is_ok};
+ghost use Rattle.std.specs.Prelude.{◌≡◌, ◌⊎◌, ◌+◌, ◌*◌, ◌≤◌, ◌<◌, ◌&&◌, ◌==◌, true, None, map, sum, length, All, IfOk, IfErr, is_ok};
 ghost use Rattle.std.specs.List.{list_all};
 ghost use Rattle.std.specs.Sync.Mutex.{mutex_guard_value};
 ghost use Rattle.crossbeam_utils.specs.Padded.{padded_value};
 ghost use Rattle.td_batch.specs.Flow.{numbers_from};
 ghost use Rattle.td_machine.specs.Active.{unpassed};
+ghost use Rattle.td_pool.specs.Counts.{take_weight};
 ghost use Rattle.td_pool.specs.Hands.{is_empty};
 ghost use Rattle.td_pool.specs.declared.error.PoolError.TheVariants.{NotAll, Memory};
 
 use crate::error::PoolError;
-use crate::held::Held;
+use crate::held::{Held, TAKE_WEIGHT};
 use crate::seat::{Crew, Seat};
 use std::alloc::{AllocError, Global};
-use std::sync::ledger::Blank;
+use std::sync::ledger::{Blank, Book, Share};
 use std::sync::{Condvar, Mutex, MutexGuard, Wait};
 use td_calls::Law;
 use td_core::Hall;
+use td_core::laws::each_is_sound;
+use td_machine::laws::reached_in_order;
 
 /// A hall behind a lock, on which workers in threads of their own work, each from a seat of this pool.
 #[derive(Drop)]
@@ -31,7 +34,7 @@ pub struct Pool<K: Crew, L: Law> {
 
 impl<K: Crew, L: Law> Pool<K, L> {
     /// A pool over a hall, and a seat for each of its shards, in order. `blank` is the name of the pool and its seats, with a part
-    /// for each shard. Refusal, with the hall handed back: `Memory`.
+    /// for each shard. The tasks that are out are strays of the first seat. Refusal, with the hall handed back: `Memory`.
     pub fn new(
         alloc: Global,
         hall: Hall<L>,
@@ -43,10 +46,11 @@ impl<K: Crew, L: Law> Pool<K, L> {
         ensures seats { IfOk result (λ made. length made.1.items ≡ K.shards) }
         ensures shards { IfOk result (λ made. map (λ s. s.shard) made.1.items ≡ numbers_from 0 K.shards) }
         ensures free { IfOk result (λ made. All (λ s. (is_empty s.hand ≡ true) × (padded_value s.gives ≡ 0)) made.1.items) }
+        ensures strays { IfOk result (λ made. sum (map (λ s. s.strays) made.1.items) ≡ length hall.out) }
         ensures back { IfErr result (λ e. (e.0 ≡ Memory) × (e.1 ≡ hall)) }
     {
         let shards = hall.workers();
-        let (book, mut rest) = blank.open::<K>();
+        let (mut book, mut rest) = blank.open::<K>();
         let Ok(mut seats) = Vec::with_capacity(alloc, shards as usize) else {
             return Err((PoolError::Memory, hall));
         };
@@ -56,9 +60,12 @@ impl<K: Crew, L: Law> Pool<K, L> {
         let Ok(sleeps) = Vec::from_elem(alloc, false, shards as usize) else {
             return Err((PoolError::Memory, hall));
         };
+        let mut strays = how_many_out(&hall);
         for shard in 0..shards {
-            let share = rest.split_off(1, 0);
-            seats.push_reserved(Seat::new(shard, share));
+            let mut share = rest.split_off(1, 0);
+            count_takes(&mut book, &mut share, strays);
+            seats.push_reserved(Seat::new(shard, strays, share));
+            strays = 0;
         }
         let pool = Pool {
             held: Mutex::new(Held::new(hall, sleeps, book, rest)),
@@ -138,15 +145,16 @@ impl<K: Crew, L: Law> Pool<K, L> {
         unreachable!()
     }
 
-    /// The hall, where all seats are there and free. Since the pool was made as many tasks were given to it as the seats have counted.
-    /// Refusal, with the pool and the seats handed back: `NotAll`, exactly where seats are missing, or one holds a task, or a task
-    /// that was run and not given.
+    /// The hall, where all seats are there and free. Since the pool was made as many tasks were given to it as the seats have counted, and
+    /// no more tasks are out than the seats have as strays. Refusal, with the pool and the seats handed back: `NotAll`, exactly where seats
+    /// are missing, or one holds a task, or a task that was run and not given.
     pub fn gather(
         self,
         seats: Vec<Seat<K, L>>,
     ) -> Result<Hall<L>, (PoolError, Pool<K, L>, Vec<Seat<K, L>>)>
         requires { K.parts ≡ K.shards }
         ensures gives { IfOk result (λ hall. hall.given ≡ K.start + sum (map (λ s. padded_value s.gives) seats.items)) }
+        ensures out { IfOk result (λ hall. length hall.out ≤ sum (map (λ s. s.strays) seats.items)) }
         ensures exact { is_ok result ≡ (length seats.items == K.shards && list_all (λ s. is_empty s.hand) seats.items) }
         ensures back { IfErr result (λ e. (e.0 ≡ NotAll) × (e.2.items ≡ seats.items)) }
     {
@@ -165,12 +173,38 @@ impl<K: Crew, L: Law> Pool<K, L> {
                 shard: _,
                 hand: _,
                 gives: _,
+                strays: _,
                 share,
             } = seat;
             all.merge(share);
         }
         book.audit(&mut all);
+        reached_in_order::<L>();
+        each_is_sound(&hall);
         Ok(hall)
+    }
+}
+
+/// How many tasks of a hall are out.
+fn how_many_out<L: Law>(hall: &Hall<L>) -> u64
+    ensures out { result ≡ length hall.now.out }
+    ensures numbers { hall.now.given + result ≡ hall.now.taken }
+    ensures workers { 1 ≤ hall.now.workers }
+{
+    reached_in_order::<L>();
+    each_is_sound(hall);
+    hall.taken() - hall.given()
+}
+
+/// Counts so many takes more.
+fn count_takes<K: Crew>(book: &mut Book<K>, share: &mut Share<K>, takes: u64)
+    requires { 0 < share.old.parts }
+    ensures total { book.new.total ≡ book.old.total + take_weight * takes }
+    ensures amount { share.new.amount ≡ share.old.amount + take_weight * takes }
+    ensures parts { share.new.parts ≡ share.old.parts }
+{
+    for _take in 0..takes {
+        book.add(share, TAKE_WEIGHT);
     }
 }
 

@@ -4,8 +4,7 @@ ghost use Rattle.crossbeam_utils.specs.Padded.{padded_value};
 ghost use Rattle.td_calls.specs.Fits.{lacking_code};
 ghost use Rattle.td_machine.specs.State.{Task as AnyTask};
 ghost use Rattle.td_core.specs.declared.error.HallError.TheVariants.{Stranger, Busy, Spent};
-ghost use Rattle.td_pool.specs.Hands.{is_empty, task_of, Stays};
-ghost use Rattle.td_pool.specs.declared.hand.Hand.TheVariants.{Taken, Ready};
+ghost use Rattle.td_pool.specs.Hands.{is_empty, is_ready, held_in, task_of, Stays, Strays};
 ghost use Rattle.td_pool.specs.declared.error.PoolError.TheVariants.{Hall as OfHall, Memory};
 
 use crate::error::PoolError;
@@ -18,7 +17,7 @@ use std::mem;
 use std::sync::Wait;
 use td_calls::{Closures, Law};
 use td_core::HallError;
-use td_task::{Done, Task, TaskError};
+use td_task::TaskError;
 
 impl<K: Crew, L: Law> Pool<K, L> {
     /// Works from a seat until the pool is stopped: takes a task of the seat's shard, passes the gate, runs the task outside the
@@ -38,6 +37,8 @@ impl<K: Crew, L: Law> Pool<K, L> {
         ensures shard { seat.new.shard ≡ seat.old.shard }
         ensures rises { padded_value seat.old.gives ≤ padded_value seat.new.gives }
         ensures ok { OnOk result (is_empty seat.new.hand ≡ true) }
+        ensures strays { OnOk result (seat.new.strays ≡ seat.old.strays) }
+        ensures lost { IfErr result (λ e. Strays e seat.old.strays seat.new.strays) }
         ensures stays { let lacks = lacking_code (C.has_map calls.now) (C.has_group calls.now) (C.has_fold calls.now) in IfErr result (λ e. Stays lacks e seat.new.hand) }
         ensures kept { (held : AnyTask) → task_of seat.old.hand ≡ Some held
             → (padded_value seat.old.gives < padded_value seat.new.gives) ⊎ (IsErrAnd result (λ e. e ≡ OfHall Stranger) ⊎ (task_of seat.new.hand ≡ Some held)) }
@@ -52,7 +53,7 @@ impl<K: Crew, L: Law> Pool<K, L> {
         unreachable!()
     }
 
-    /// Waits for a task of the seat's shard, passes the gate with it, and puts it into the seat. Answers false, with nothing taken,
+    /// Waits for a task of the seat's shard, takes it into the seat, and passes the gate with it. Answers false, with nothing taken,
     /// where the pool is stopped. Refusals, with nothing taken: `Memory`, and `Hall` with `Busy` or `Spent`.
     fn take<G: Gate<R>, R: Wait>(
         &self,
@@ -61,38 +62,40 @@ impl<K: Crew, L: Law> Pool<K, L> {
         gate: &G,
     ) -> Result<bool, PoolError>
         requires { is_empty seat.old.hand ≡ true }
-        ensures same { (seat.new.shard ≡ seat.old.shard) × (padded_value seat.new.gives ≡ padded_value seat.old.gives) }
+        ensures same { (seat.new.shard ≡ seat.old.shard) × (padded_value seat.new.gives ≡ padded_value seat.old.gives) × (seat.new.strays ≡ seat.old.strays) }
         ensures taken { IfOk result (λ taken. is_empty seat.new.hand ≡ not taken) }
         ensures err { OnErr result (is_empty seat.new.hand ≡ true) }
         ensures refused { IfErr result (λ e. (e ≡ Memory) ⊎ ((e ≡ OfHall Busy) ⊎ (e ≡ OfHall Spent))) }
     {
-        let Some(task) = self.next_task(rt, seat.shard)? else {
-            return Ok(false);
-        };
-        pass(rt, seat, gate, task);
-        Ok(true)
+        let is_taken = self.next_task(rt, seat)?;
+        pass(rt, seat.hand(), gate);
+        Ok(is_taken)
     }
 
-    /// Waits for a task of a shard, and takes it; None where the pool is stopped. Refusals: `Memory`, and `Hall` with `Busy` or
-    /// `Spent`.
-    fn next_task<R: Wait>(&self, rt: &R, shard: u8) -> Result<Option<Task>, PoolError>
-        ensures { IfErr result (λ e. (e ≡ Memory) ⊎ ((e ≡ OfHall Busy) ⊎ (e ≡ OfHall Spent))) }
+    /// Waits for a task of the seat's shard, and takes it into the seat; false where the pool is stopped. Refusals, with nothing taken:
+    /// `Memory`, and `Hall` with `Busy` or `Spent`.
+    fn next_task<R: Wait>(&self, rt: &R, seat: &mut Seat<K, L>) -> Result<bool, PoolError>
+        requires { is_empty seat.old.hand ≡ true }
+        ensures same { (seat.new.shard ≡ seat.old.shard) × (padded_value seat.new.gives ≡ padded_value seat.old.gives) × (seat.new.strays ≡ seat.old.strays) }
+        ensures taken { IfOk result (λ taken. is_empty seat.new.hand ≡ not taken) }
+        ensures err { OnErr result (is_empty seat.new.hand ≡ true) }
+        ensures refused { IfErr result (λ e. (e ≡ Memory) ⊎ ((e ≡ OfHall Busy) ⊎ (e ≡ OfHall Spent))) }
     {
         let mut held = self.held.lock(rt);
         for _turn in rt.forever() {
             if held.is_stopped() {
-                return Ok(None);
+                return Ok(false);
             }
-            match held.take(shard) {
-                Ok(Some(task)) => return Ok(Some(task)),
-                Ok(None) => {}
+            match held.take(seat) {
+                Ok(true) => return Ok(true),
+                Ok(false) => {}
                 Err(HallError::Memory) => return Err(PoolError::Memory),
                 Err(error) => return Err(PoolError::Hall(error)),
             }
             if held.hall().unpassed().is_none() {
                 self.has_rest.notify_all();
             }
-            held = self.wait_for_work(rt, held, shard);
+            held = self.wait_for_work(rt, held, seat.shard);
         }
         unreachable!()
     }
@@ -111,63 +114,68 @@ impl<K: Crew, L: Law> Pool<K, L> {
         ensures shard { seat.new.shard ≡ seat.old.shard }
         ensures counted { OnOk result (padded_value seat.new.gives ≡ padded_value seat.old.gives + 1) }
         ensures same { OnErr result (padded_value seat.new.gives ≡ padded_value seat.old.gives) }
+        ensures strays { OnOk result (seat.new.strays ≡ seat.old.strays) }
+        ensures lost { IfErr result (λ e. Strays e seat.old.strays seat.new.strays) }
         ensures stays { let lacks = lacking_code (C.has_map calls.now) (C.has_group calls.now) (C.has_fold calls.now) in IfErr result (λ e. Stays lacks e seat.new.hand) }
         ensures kept { IfErr result (λ e. (e ≡ OfHall Stranger) ⊎ (task_of seat.new.hand ≡ task_of seat.old.hand)) }
     {
-        let next = match mem::replace(&mut seat.hand, Hand::Empty) {
-            Hand::Empty => unreachable!(),
-            Hand::Taken(task) => match task.run::<L, C>(alloc, calls) {
-                Ok(done) => self.give(rt, seat, done)?,
-                Err((error, task)) => {
-                    seat.hand = Hand::Taken(task);
-                    return Err(PoolError::from(error));
-                }
-            },
-            Hand::Ready(done) => self.give(rt, seat, done)?,
-        };
-        if let Some(task) = next {
-            pass(rt, seat, gate, task);
-        }
+        run(alloc, &mut seat.hand, calls)?;
+        self.give(rt, seat)?;
+        pass(rt, seat.hand(), gate);
         Ok(())
     }
 
-    /// Gives a task and takes the next one of the seat's shard, if there is one, under one hold of the lock, and wakes those of the
-    /// workers that wait for which there is something to take now. What hinders the take is told by the next one. Refusals: `Memory`,
-    /// with the task put back into the seat, and `Hall` with `Stranger`, with the task dropped.
-    fn give<R: Wait>(
-        &self,
-        rt: &R,
-        seat: &mut Seat<K, L>,
-        done: Done<L>,
-    ) -> Result<Option<Task>, PoolError>
-        requires { is_empty seat.old.hand ≡ true }
+    /// Gives the task that a seat holds, and takes the next one of its shard into it, if there is one, under one hold of the lock, and
+    /// wakes those of the workers that wait for which there is something to take now. What hinders the take is told by the next one.
+    /// Refusals: `Memory`, with the task left in the seat, and `Hall` with `Stranger`, with the task dropped.
+    fn give<R: Wait>(&self, rt: &R, seat: &mut Seat<K, L>) -> Result<(), PoolError>
+        requires { is_ready seat.old.hand ≡ true }
         ensures shard { seat.new.shard ≡ seat.old.shard }
         ensures counted { OnOk result (padded_value seat.new.gives ≡ padded_value seat.old.gives + 1) }
         ensures same { OnErr result (padded_value seat.new.gives ≡ padded_value seat.old.gives) }
-        ensures ok { OnOk result (is_empty seat.new.hand ≡ true) }
-        ensures refused { IfErr result (λ e. ((e ≡ Memory) × (seat.new.hand ≡ Ready done)) ⊎ ((e ≡ OfHall Stranger) × (is_empty seat.new.hand ≡ true))) }
+        ensures strays { OnOk result (seat.new.strays ≡ seat.old.strays) }
+        ensures lost { IfErr result (λ e. Strays e seat.old.strays seat.new.strays) }
+        ensures refused { IfErr result (λ e. ((e ≡ Memory) × (seat.new.hand ≡ seat.old.hand)) ⊎ ((e ≡ OfHall Stranger) × (is_empty seat.new.hand ≡ true))) }
     {
         let mut held = self.held.lock(rt);
-        match held.give(seat, done) {
+        match held.give_held(seat) {
             Ok(()) => {
-                let next = held.next(seat.shard);
+                held.next(seat);
                 self.wake_for_tasks(&mut held);
-                Ok(next)
+                Ok(())
             }
-            Err((HallError::Memory, done)) => {
-                seat.hand = Hand::Ready(done);
-                Err(PoolError::Memory)
-            }
-            Err((error, _stranger)) => Err(PoolError::Hall(error)),
+            Err(HallError::Memory) => Err(PoolError::Memory),
+            Err(error) => Err(PoolError::Hall(error)),
         }
     }
 }
 
-/// Passes the gate with a task, and puts it into its seat.
-fn pass<K: Crew, L: Law, G: Gate<R>, R: Wait>(rt: &R, seat: &mut Seat<K, L>, gate: &G, task: Task)
-    ensures hand { seat.new.hand ≡ Taken task }
-    ensures same { (seat.new.shard ≡ seat.old.shard) × (padded_value seat.new.gives ≡ padded_value seat.old.gives) }
+/// Runs the task that a hand holds, if it was not run yet. Refusals, with the task left in the hand: those of `Task::run`.
+fn run<L: Law, C: Closures<L>>(
+    alloc: Global,
+    hand: &mut Hand<L>,
+    calls: &C,
+) -> Result<(), PoolError>
+    requires { is_empty hand.old ≡ false }
+    ensures task { task_of hand.new ≡ task_of hand.old }
+    ensures held { is_empty hand.new ≡ false }
+    ensures ready { OnOk result (is_ready hand.new ≡ true) }
+    ensures stays { let lacks = lacking_code (C.has_map calls.now) (C.has_group calls.now) (C.has_fold calls.now) in IfErr result (λ e. Stays lacks e hand.new × (held_in hand.new ≡ 1)) }
 {
-    gate.enter(rt, task.shard(), task.number());
-    seat.hand = Hand::Taken(task);
+    let (ran, left) = match mem::replace(hand, Hand::Empty) {
+        Hand::Taken(task) => match task.run::<L, C>(alloc, calls) {
+            Ok(done) => (Ok(()), Hand::Ready(done)),
+            Err((error, task)) => (Err(PoolError::from(error)), Hand::Taken(task)),
+        },
+        other => (Ok(()), other),
+    };
+    *hand = left;
+    ran
+}
+
+/// Passes the gate with what a seat holds, if it is a task to run.
+fn pass<L: Law, G: Gate<R>, R: Wait>(rt: &R, hand: &Hand<L>, gate: &G) {
+    if let Hand::Taken(task) = hand {
+        gate.enter(rt, task.shard(), task.number());
+    }
 }

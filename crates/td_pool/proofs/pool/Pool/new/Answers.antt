@@ -1,16 +1,21 @@
-use Rattle.std.proofs.Common.{◌≡◌, ◌+◌, ◌∙◌, ◌∷◌, [], subst, sym, ap, arith, length, map, ◌++◌, length-append, rules, true, All}
+use Rattle.std.proofs.Common.{◌≡◌, ◌+◌, ◌∙◌, ◌∷◌, [], subst, sym, ap, refl, arith, length, map, sum, ◌++◌, length-append, rules, true, All}
 use Rattle.std.proofs.lemmas.List.{map-append}
 use Rattle.std.proofs.lemmas.List.Elements.{All-append}
 use Rattle.crossbeam_utils.specs.Padded.{padded_value}
 use Rattle.td_batch.specs.Flow.{numbers_from}
 use Rattle.td_pool.specs.Hands.{is_empty}
 use Rattle.td_pool.proofs.Counted.{next_number}
+use Rattle.td_pool.proofs.Ledger.{one_more}
 use Rattle.td_pool.proofs.pool.Pool.new.Goals as goal
 
 pub loop-shard-preserved : goal.loop-shard-preserved
 loop-shard-preserved g c = record {
   parts = omega (arith, c.split_off-share.ensures.parts_left, c.loop-shard.invariant.parts);
   amount = omega (arith, c.split_off-share.ensures.amount_left, c.loop-shard.invariant.amount);
+  total = omega (arith, c.count_takes.ensures.total, c.loop-shard.invariant.total);
+  strays = ap (λ l. sum (map (λ s. s.strays) l) + 0) c.push_reserved.ensures.items
+      ∙ one_more (λ s. s.strays) c.loop-shard.seats.items c.new.result c.loop-shard.strays _ c.new.ensures.strays c.loop-shard.invariant.strays;
+  first = λ _. refl;
   seats = ap length c.push_reserved.ensures.items ∙ (length-append c.loop-shard.seats.items (c.new.result ∷ []) ∙ ap (λ n. n + 1) c.loop-shard.invariant.seats);
   numbers = ap (map (λ s. s.shard)) c.push_reserved.ensures.items ∙ (map-append (λ s. s.shard) c.loop-shard.seats.items (c.new.result ∷ [])
       ∙ ((λ i. c.loop-shard.invariant.numbers i ++ c.new.ensures.shard i ∷ []) ∙ sym (next_number c.loop-shard.shard)));
