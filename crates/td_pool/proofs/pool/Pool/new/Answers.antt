@@ -1,11 +1,11 @@
-use Rattle.std.proofs.Common.{◌≡◌, ◌+◌, ◌∙◌, ◌∷◌, [], subst, sym, ap, refl, arith, length, map, sum, ◌++◌, length-append, rules, true, All}
+use Rattle.std.proofs.Common.{◌≡◌, ◌≤◌, ◌+◌, ◌∙◌, ◌∷◌, [], subst, sym, ap, refl, arith, length, map, sum, ◌++◌, length-append, rules, true, All}
 use Rattle.std.proofs.lemmas.List.{map-append}
 use Rattle.std.proofs.lemmas.List.Elements.{All-append}
 use Rattle.crossbeam_utils.specs.Padded.{padded_value}
 use Rattle.td_batch.specs.Flow.{numbers_from}
 use Rattle.td_pool.specs.Hands.{is_empty}
 use Rattle.td_pool.proofs.Counted.{next_number}
-use Rattle.td_pool.proofs.Ledger.{one_more}
+use Rattle.td_pool.proofs.Ledger.{one_more, at_new}
 use Rattle.td_pool.proofs.pool.Pool.new.Goals as goal
 
 pub loop-shard-preserved : goal.loop-shard-preserved
@@ -27,3 +27,10 @@ pub returns-clause-shards : goal.returns-clause-shards
 returns-clause-shards g c =
     let last : c.loop-shard.shard ≡ g.K.Crew.shards = search rules in
     c.loop-shard.invariant.numbers ∙ ap (numbers_from 0) last
+
+pub new-requires-2-clause-counted : goal.new-requires-2-clause-counted
+new-requires-2-clause-counted g c =
+    let some : 1 ≤ c.loop-shard.shard = search rules in
+    let none : c.loop-shard.strays ≡ 0 = c.loop-shard.invariant.first some in
+    at_new g.K.Crew.start c.loop-shard.book.total c.how_many_out-strays.result c.args.hall c.requires.hall.1
+    (search rules) (omega (arith, c.loop-shard.invariant.total, none))
