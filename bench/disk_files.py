@@ -1,0 +1,104 @@
+#!/usr/bin/env python3
+"""Looks at the files of disks: what `td copy` leaves where its new file cannot be written, whether a copy has all its room, and a pipe for a disk.
+
+    bench/disk_files.py [TD]        needs crates/td/out/td (see the README), or the program that is named, and strace; without it says so
+
+- Each write and each sync of NEW of a copy fails in turn, alone, and with all that follow, as on a full device. The copy is then refused with NEW's path,
+  and with the cause where a second look meets it too; NEW is not there any more, and DISK is as it was, byte for byte.
+- A copy that succeeds takes as much room of its file system as a formatted disk of the same shape, so that none of it is lacking later.
+- A pipe is no disk: each command refuses it at once, by the words for files, and it stays."""
+
+import os
+import pathlib
+import re
+import shutil
+import subprocess
+import sys
+import tempfile
+
+TD = pathlib.Path(sys.argv[1] if len(sys.argv) > 1 else pathlib.Path(__file__).resolve().parent.parent / "crates/td/out/td").resolve()
+PLAN = "0 input\n1 fold 40 0\n2 output 1\n"
+FED = "0 7 5\n.\ncut\nreq 1\n0 7 1\n0 8 2\n.\n"
+SHAPE = ("4", "64", "1000")
+SECONDS = 10
+CALLS = {"pwrite64": ("write", "ENOSPC", "no space left on device"), "fsync": ("sync", "EIO", "input/output error")}
+
+
+def is_traced():
+    """Whether there is a strace that may trace here."""
+    return bool(shutil.which("strace")) and subprocess.run(["strace", "-o", os.devnull, "true"], capture_output=True).returncode == 0
+
+
+def copy(folder, *inject):
+    """What a copy ends with, its error text, and how often it called NEW by each call."""
+    disk, plan, new, calls = (folder / name for name in ("disk", "plan", "new", "calls"))
+    strace = ["strace", "-qq", "-P", new, "-e", "signal=none", "-e", f"trace={','.join(CALLS)}", *inject, "-o", calls]
+    done = subprocess.run([*strace, TD, "copy", disk, plan, new, *SHAPE], stdin=subprocess.DEVNULL, capture_output=True, text=True)
+    return done.returncode, done.stderr, {name: len(re.findall(rf"(?m)^{name}\(", calls.read_text())) for name in CALLS}
+
+
+def made(folder):
+    """A disk with a checkpoint and an epoch after it."""
+    (folder / "plan").write_text(PLAN)
+    subprocess.run([TD, "format", folder / "disk", folder / "plan", "4", "3", "3"], check=True)
+    subprocess.run([TD, "feed", folder / "disk", folder / "plan"], input=FED, text=True, stdout=subprocess.DEVNULL, check=True)
+    return (folder / "disk").read_bytes()
+
+
+def wanted(folder, name, number, is_alone):
+    """The status and the error text of a copy whose call of NEW of this number fails: the first sync is of its making."""
+    call, _, cause = CALLS[name]
+    if name == "fsync" and number == 1:
+        return 7, f"td: file: {folder / 'new'}: cannot be made\n"
+    return 3, f"td: device: {folder / 'new'}{'' if is_alone else f': {call}: {cause}'}\n"
+
+
+def copy_whole(folder):
+    """Copies a disk, and answers how often NEW was called by each call; the script ends where the copy lacks room that it will need."""
+    status, _, counts = copy(folder)
+    subprocess.run([TD, "format", folder / "formatted", folder / "plan", *SHAPE], check=True)
+    room, wanted_room = ((folder / name).stat().st_blocks for name in ("new", "formatted"))
+    if status != 0 or min(counts.values()) < 2 or room < wanted_room:
+        sys.exit(f"a copy ended with status {status}, after {counts}, and takes {room} blocks; a formatted disk takes {wanted_room}")
+    return counts
+
+
+def fail_each(folder, image, counts):
+    """Has each call of NEW fail; the script ends where a copy then ends otherwise than it should."""
+    new = folder / "new"
+    for call, number, is_alone in ((call, number, is_alone) for call in CALLS for number in range(1, counts[call] + 1) for is_alone in (True, False)):
+        new.unlink(missing_ok=True)
+        *found, _ = copy(folder, "-e", f"inject={call}:error={CALLS[call][1]}:when={number}{'' if is_alone else '+'}")
+        if tuple(found) != wanted(folder, call, number, is_alone) or new.exists() or (folder / "disk").read_bytes() != image:
+            sys.exit(f"{call} {number} of NEW failed{' alone' if is_alone else ''}: {found}, and NEW is {'' if new.exists() else 'not '}there")
+
+
+def take_pipe(folder):
+    """Gives each command a pipe for a disk; the script ends where one does otherwise than refuse it."""
+    pipe, plan = folder / "pipe", folder / "plan"
+    os.mkfifo(pipe)
+    told = (7, f"td: file: {pipe}: no file\n")
+    for name, words, wanted_end in (("format", SHAPE, (1, "td: file\n")), ("feed", (), (1, "td: file\n")), ("show", (), (1, "td: file\n")),
+                                    ("upgrade", (), (1, "td: file\n")), ("stream", (), told), ("dump", (), told), ("copy", (folder / "other", *SHAPE), told)):
+        done = subprocess.run([TD, name, pipe, plan, *words], input="", capture_output=True, text=True, timeout=SECONDS)
+        if (done.returncode, done.stderr) != wanted_end or done.stdout or not pipe.is_fifo() or (folder / "other").exists():
+            sys.exit(f"td {name} of a pipe for a disk: {done}")
+
+
+def main():
+    if not TD.is_file():
+        sys.exit(f"{TD} is not there: cd crates/td && rt run")
+    with tempfile.TemporaryDirectory(prefix="td-files-") as name:
+        folder = pathlib.Path(name).resolve()
+        image = made(folder)
+        take_pipe(folder)
+        print("a pipe for a disk is refused by each command")
+        if not is_traced():
+            return print("skipped: the copies of disk_files, since there is no strace that may trace here")
+        counts = copy_whole(folder)
+        fail_each(folder, image, counts)
+    print(f"a copy whose {counts['pwrite64']} writes and {counts['fsync']} syncs of NEW fail in turn is refused with NEW's path, and NEW is gone; a copy has all its room")
+    return None
+
+
+main()
