@@ -161,7 +161,7 @@ def places_in(file):
         if head := re.match(r"\s*(?:pub(?:\([\w ]+\))? )?(?:const )?fn (\w+)", line):
             function = head[1]
         code = code_of(line)
-        for found in re.finditer(r"\b\w+::(?:Memory|OutOfMemory)\b|(?:[({] ?|return |=> ?|= |\|\| ?)(?:AllocError|AllocFailed)\b", code):
+        for found in re.finditer(r"\b\w+::(?:Memory|OutOfMemory)\b|(?:[({] ?|return |=> ?|= |\|\| ?)(?:\w+::)*(?:AllocError|AllocFailed)\b", code):
             condition = block if function == "from" else condition_of(lines, at)
             taken = re.search(r"\bFrom<(\w+)", block)
             is_from = taken and taken[1] in MEMORY_ALONE | {"AllocError", "AllocFailed"}
