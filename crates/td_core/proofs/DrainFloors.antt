@@ -14,8 +14,8 @@ use Rattle.td_machine.specs.Reached.{IsReached}
 use Rattle.td_core.specs.declared.floor.Floor.{Floor}
 use Rattle.td_core.specs.declared.drain.Drained.{Drained}
 use Rattle.td_core.specs.Floor.{state_of, IsHall}
-use Rattle.td_core.specs.Drained.{Works, IsTurn, IsTurnIf, IsIdle, IsFurther}
-use Rattle.td_core.proofs.DrainSteps.{Joined, GivenByBoth, none_worked, works_on, effect_kept}
+use Rattle.td_core.specs.Drained.{Works, IsKept, IsTurn, IsTurnIf, IsIdle, IsFurther}
+use Rattle.td_core.proofs.DrainSteps.{Joined, GivenByBoth, none_worked, works_on, effect_kept, kept_as_is, kept_on, take_kept, give_kept}
 
 -- A TAKE that answers a task
 abbrev taken_in : Answer → Task → Task
@@ -102,6 +102,16 @@ one_more answers S T s delivered turn =
       none_out = λ none.
           ap (λ S. S.out) after ∙ none_stays task _ (e.out ∙ (ap (λ S. S.out) t.after ∙ ap (λ out. (with_task (record S { out = out }) task).out) none));
     }
+
+-- what a turn leaves as it was, and that no task is out after it
+pub kept_by_turn : (answers : Answers) (S T : HallState) (s : ℕ) (o : Option Drained) → IsTurnIf answers S s o T → IsKept S T
+kept_by_turn answers S T s None turn = subst (IsKept S) (sym turn.0) (kept_as_is S)
+kept_by_turn answers S T s (Some delivered) turn =
+    kept_on S turn.between T (take_kept answers S turn.between s (has_taken (Some turn.task)) turn.takes) (give_kept answers turn.between T turn.task has_given turn.gives)
+
+pub none_out_by_turn : (answers : Answers) (S T : HallState) (s : ℕ) (o : Option Drained) → IsTurnIf answers S s o T → S.out ≡ [] → T.out ≡ []
+none_out_by_turn answers S T s None turn none = ap (λ S. S.out) turn.0 ∙ none
+none_out_by_turn answers S T s (Some delivered) turn none = (one_more answers S T s delivered turn).none_out none
 
 pub turn_of : (answers : Answers) (S T : HallState) (s : ℕ) (o : Option Drained) (delivered : Drained) → o ≡ Some delivered → IsTurnIf answers S s o T → IsTurn answers S s delivered T
 turn_of answers S T s o delivered e turn = subst (λ o. IsTurnIf answers S s o T) e turn

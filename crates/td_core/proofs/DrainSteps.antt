@@ -61,13 +61,13 @@ module _ (answers : Answers) where
   effect_kept S task (notification items) = record { kept = record { plan = refl; workers = refl; base = refl; base_states = refl; batches = refl; next = refl; closed = refl; collected = refl }; out = refl; taken = refl; given = refl }
 
   -- takes and gives
-  take_kept : (S T : HallState) (s : ℕ) (answer : Answer) → Takes S s answer T → IsKept S T
+  pub take_kept : (S T : HallState) (s : ℕ) (answer : Answer) → Takes S s answer T → IsKept S T
   take_kept S T s answer (is_busy b) = kept_as_is S
   take_kept S T s answer (has_none b none) = kept_as_is S
   take_kept S T s answer (is_spent b task may all) = kept_as_is S
   take_kept S T s answer (takes b task may more) = record { plan = refl; workers = refl; base = refl; base_states = refl; batches = refl; next = refl; closed = refl; collected = refl }
 
-  give_kept : (S T : HallState) (task : Task) (answer : Answer) → Gives answers S task answer T → IsKept S T
+  pub give_kept : (S T : HallState) (task : Task) (answer : Answer) → Gives answers S task answer T → IsKept S T
   give_kept S T task answer (gives there) = let e = (effect_kept S task task.content).kept in record { plan = e.plan; workers = e.workers; base = e.base; base_states = e.base_states; batches = e.batches; next = e.next; closed = e.closed; collected = e.collected }
   give_kept S T task answer (is_stranger away) = kept_as_is S
 

@@ -67,6 +67,22 @@ impl<L: Law> Hall<L> {
         drain_floor::<L, C>(&mut self.floor, calls, &mut drained)?;
         Ok(drained)
     }
+
+    /// Takes the first task of a shard, runs it and gives it, where the shard has one, and tells what it delivered; None where it has
+    /// none. So a caller can drain a hall task by task, and stop after any. Refusals, with nothing changed: `Memory`; and `Spent`, where
+    /// there is something to take and all numbers of tasks are used.
+    pub fn run_one<C: Closures<L>>(&mut self, calls: &C, shard: u8) -> Result<Option<Drained>, HallError>
+        requires fits { first_lack (C.has_map calls.now) (C.has_group calls.now) (C.has_fold calls.now) (vertices self.old.plan) ≡ None }
+        requires none_out { self.old.out ≡ [] }
+        requires within { shard < self.old.workers }
+        ensures turn { IfOk result (λ delivered. IsTurnIf L.answers self.old shard delivered self.new) }
+        ensures none_out { self.new.out ≡ [] }
+        ensures kept { IsKept self.old self.new }
+        ensures unchanged { OnErr result (self.new ≡ self.old) }
+        ensures refused { IfErr result (IsWhy self.new) }
+    {
+        advance::<L, C>(&mut self.floor, calls, shard)
+    }
 }
 
 /// Goes round all shards until none has a task, and counts what is delivered. Refusals: `Memory` and `Spent`.
