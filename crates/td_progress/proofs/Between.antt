@@ -13,7 +13,7 @@ use Rattle.td_progress.specs.Bag.{is_stamp}
 use Rattle.td_progress.specs.Gaps.{within, start_of, changed_from, plus, minus, with_epoch, without_epoch, AreGaps}
 use Rattle.td_progress.specs.Held.{total, between, chain_at, with_stamp, without_stamp, shifted, IsChain}
 use Rattle.td_progress.proofs.Same.{Decides-is_stamp}
-use Rattle.td_progress.proofs.Gaps.{Gaps, covers, Splits, gaps_raised, gaps_lowered, gaps_same, gaps_with, gaps_without, within_le, within_splits, within_changed, within_with, within_without, length_changed}
+use Rattle.td_progress.proofs.Gaps.{Gaps, covers, Splits, gaps_raised, gaps_lowered, gaps_same, gaps_with, gaps_without, within_le, within_splits, within_changed, within_with, within_without, length_changed, length_without}
 
 abbrev pub Chains : Type 0
 Chains = List (Stamp × Gaps)
@@ -152,7 +152,7 @@ module _ (plan : List Line) where
     pub kept_with : ((d : Stamp) → Splits (count d)) → (ks : Chains) (c : Stamp) (e n : ℕ) → IsOf plan c → c.time.epoch ≡ 0 → n ≡ count c (start_of 0 e (chain_at c ks)) e
         → HasNot e (chain_at c ks) → AllByRecursion (IsChain plan count) ks → AllByRecursion (IsChain plan count) (with_stamp c e n ks)
     kept_with splits [] c e n of_plan class is new h =
-        (record { of_plan = of_plan; class = class; gaps = gaps_with (count c) (splits c) e n 0 [] (omega arith) is new tt }, tt)
+        (record { of_plan = λ l. of_plan; class = class; gaps = gaps_with (count c) (splits c) e n 0 [] (omega arith) is new tt }, tt)
     kept_with splits (k ∷ ks) c e n of_plan class is new h = by (is_stamp c k.0) refl (λ i j. kept_with splits ks c e n of_plan class i j h.1)
       where
         by : (b : Bool) → is_stamp c k.0 ≡ b
@@ -162,7 +162,7 @@ module _ (plan : List Line) where
             let it = (Decides-is_stamp c k.0).0 same in
             let is' : n ≡ count k.0 (start_of 0 e k.1) e = is ∙ ap (λ gs. count c (start_of 0 e gs) e) own ∙ ap (λ s. count s (start_of 0 e k.1) e) it in (
               record {
-                of_plan = h.0.of_plan;
+                of_plan = λ l. subst (IsOf plan) it of_plan;
                 class = h.0.class;
                 gaps = gaps_with (count k.0) (splits k.0) e n 0 k.1 (omega arith) is' (subst (HasNot e) own new) h.0.gaps;
               },
@@ -181,7 +181,7 @@ module _ (plan : List Line) where
         by true same rest =
             let own : chain_at c (k ∷ ks) ≡ k.1 = ap (λ b. unwrap_or (cond b (Some k.1) (lookup (is_stamp c) ks)) []) same in (
               record {
-                of_plan = h.0.of_plan;
+                of_plan = λ l. h.0.of_plan (omega (arith, length_without e k.1 (subst (HasEpoch e) own there)));
                 class = h.0.class;
                 gaps = gaps_without (count k.0) (splits k.0) e (small k.0) 0 k.1 (subst (HasEpoch e) own there) h.0.gaps;
               },
@@ -196,7 +196,7 @@ module _ (plan : List Line) where
           → AllByRecursion (IsChain plan after) (all_shifted c e (plus 1) ks)
       kept_raised small [] h = tt
       kept_raised small (k ∷ ks) h =
-          (record { of_plan = h.0.of_plan; class = h.0.class; gaps = by (could_test plan c k.0) refl }, kept_raised small ks h.1)
+          (record { of_plan = λ l. h.0.of_plan (subst (λ n. 0 < n) (if_length (could_test plan c k.0) e (plus 1) k.1) l); class = h.0.class; gaps = by (could_test plan c k.0) refl }, kept_raised small ks h.1)
         where
           by : (b : Bool) → could_test plan c k.0 ≡ b → AreGaps (after k.0) 0 (cond b (changed_from e (plus 1) k.1) k.1)
           by true could =
@@ -207,7 +207,7 @@ module _ (plan : List Line) where
       pub kept_lowered : (ks : Chains) → AllByRecursion (IsChain plan after) ks → AllByRecursion (IsChain plan count) (all_shifted c e (minus 1) ks)
       kept_lowered [] h = tt
       kept_lowered (k ∷ ks) h =
-          (record { of_plan = h.0.of_plan; class = h.0.class; gaps = by (could_test plan c k.0) refl }, kept_lowered ks h.1)
+          (record { of_plan = λ l. h.0.of_plan (subst (λ n. 0 < n) (if_length (could_test plan c k.0) e (minus 1) k.1) l); class = h.0.class; gaps = by (could_test plan c k.0) refl }, kept_lowered ks h.1)
         where
           by : (b : Bool) → could_test plan c k.0 ≡ b → AreGaps (count k.0) 0 (cond b (changed_from e (minus 1) k.1) k.1)
           by true could =

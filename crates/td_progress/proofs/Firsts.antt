@@ -1,5 +1,5 @@
 -- The frontier, from the first of each place and counters.
-use Rattle.std.proofs.Common.{◌≡◌, ◌==◌, ℕ, zero, suc, Bool, true, false, cond, List, [], ◌∷◌, slice_get, Option, Some, None, option_map, unwrap_or, Contains, refl, sym, ap, ◌∙◌, subst, true≢false, arith}
+use Rattle.std.proofs.Common.{length, ◌<◌, ◌≡◌, ◌==◌, ℕ, zero, suc, Bool, true, false, cond, List, [], ◌∷◌, slice_get, Option, Some, None, option_map, unwrap_or, Contains, refl, sym, ap, ◌∙◌, subst, true≢false, arith}
 use Rattle.std.proofs.lemmas.Bool.{eqb-true}
 use Rattle.std.specs.List.{AllByRecursion, IsDistinct, cons_option}
 use Rattle.std.specs.Map.{keys_of, lookup}
@@ -114,12 +114,16 @@ module _ (plan : List Line) (count : Stamp → ℕ → ℕ → ℕ) where
   -- each is of the plan
   pub first_of_plan : (p : Stamp) (ks : Chains) → AllByRecursion (IsChain plan count) ks → Contains (firsts ks) p → IsOf plan p
   first_of_plan p [] each h = absurd (let l = h.1 in omega (arith, l))
-  first_of_plan p (k ∷ ks) each h = by (first_alone k.1) h (first_of_plan p ks each.1)
+  first_of_plan p (k ∷ ks) each h = by (first_alone k.1) refl h (first_of_plan p ks each.1)
     where
-      by : (o : Option ℕ) → Contains (cons_option (option_map (λ e. at e k.0) o) (firsts ks)) p → (Contains (firsts ks) p → IsOf plan p) → IsOf plan p
-      by None g rest = rest g
-      by (Some e) (zero, l, is) rest = subst (IsOf plan) is (other_epoch plan k.0 e each.0.of_plan)
-      by (Some e) (suc i, l, is) rest = rest (i, omega (arith, l), is)
+      some : (gs : Gaps) (e : ℕ) → first_alone gs ≡ Some e → 0 < length gs
+      some [] e is = absurd (none_is_some is)
+      some (g ∷ gs) e is = omega arith
+
+      by : (o : Option ℕ) → first_alone k.1 ≡ o → Contains (cons_option (option_map (λ e. at e k.0) o) (firsts ks)) p → (Contains (firsts ks) p → IsOf plan p) → IsOf plan p
+      by None none g rest = rest g
+      by (Some e) alone (zero, l, is) rest = subst (IsOf plan) is (other_epoch plan k.0 e (each.0.of_plan (some k.1 e alone)))
+      by (Some e) alone (suc i, l, is) rest = rest (i, omega (arith, l), is)
 
   -- and stands there once
   apart_from : (k : Stamp) (e : ℕ) → k.time.epoch ≡ 0 → (ks : Chains) → AllByRecursion (IsChain plan count) ks → AllByRecursion (λ l. is_stamp k l ≡ false) (keys_of ks)

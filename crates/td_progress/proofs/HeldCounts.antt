@@ -17,7 +17,7 @@ use Rattle.td_reach.specs.Tables.{could_test}
 use Rattle.td_reach.specs.Frontier.{Frontier, IsFree, IsPrecursor, Precursors}
 use Rattle.td_progress.specs.Bag.{is_stamp, occurrences}
 use Rattle.td_progress.specs.Gaps.{has_epoch, within, sum_to, with_epoch, AreGaps}
-use Rattle.td_progress.specs.Held.{at, class_of, held, total, between, with_stamp, chain_at, count_of, IsFirst, IsChain, AreHeld}
+use Rattle.td_progress.specs.Held.{at, class_of, held, total, between, with_stamp, chain_at, count_of, IsFirst, IsOfPlan, IsChain, AreHeld}
 use Rattle.td_progress.proofs.Same.{Decides-is_stamp}
 use Rattle.td_progress.proofs.Counted.{one, none_is_some, occurrences-cons, occurs, stands}
 use Rattle.td_progress.proofs.Free.{all-has, has-all, all-append}
@@ -45,13 +45,13 @@ other_epoch plan p e h = by p.place h
 -- each that is held is of the plan
 pub all_of_plan : (plan : List Line) (count : Stamp → ℕ → ℕ → ℕ) (ks : Chains) → AllByRecursion (IsChain plan count) ks → AllByRecursion (IsOf plan) (held ks)
 all_of_plan plan count [] h = tt
-all_of_plan plan count (k ∷ ks) h = all-append (IsOf plan) (stamps_of k.0 k.1) (held ks) (own k.1) (all_of_plan plan count ks h.1)
+all_of_plan plan count (k ∷ ks) h = all-append (IsOf plan) (stamps_of k.0 k.1) (held ks) (own k.1 h.0.of_plan) (all_of_plan plan count ks h.1)
   where
-    own : (gs : Gaps) → AllByRecursion (IsOf plan) (stamps_of k.0 gs)
-    own [] = tt
-    own (g ∷ gs) = (other_epoch plan k.0 g.0 h.0.of_plan, own gs)
+    own : (gs : Gaps) → (0 < length gs → IsOf plan k.0) → AllByRecursion (IsOf plan) (stamps_of k.0 gs)
+    own [] of_plan = tt
+    own (g ∷ gs) of_plan = (other_epoch plan k.0 g.0 (of_plan (omega arith)), own gs (λ l. of_plan (omega arith)))
 
-pub keys_of_plan : (plan : List Line) (count : Stamp → ℕ → ℕ → ℕ) (ks : Chains) → AllByRecursion (IsChain plan count) ks → AllByRecursion (λ (k : Stamp × Gaps). IsOf plan k.0) ks
+pub keys_of_plan : (plan : List Line) (count : Stamp → ℕ → ℕ → ℕ) (ks : Chains) → AllByRecursion (IsChain plan count) ks → AllByRecursion (IsOfPlan plan) ks
 keys_of_plan plan count [] h = tt
 keys_of_plan plan count (k ∷ ks) h = (h.0.of_plan, keys_of_plan plan count ks h.1)
 
@@ -358,18 +358,20 @@ module _ (plan : List Line) (tested : (p q : Stamp) → IsOf plan p → IsOf pla
               ((tested first p (other_epoch plan p g.0 of_plan) of_plan).0 could))
 
 -- the places and counters, with another
-pub keys_with : (plan : List Line) (ks : Chains) → AreHeld plan ks → (p : Stamp) → IsOf plan p → (n : ℕ)
-    → AllByRecursion (λ (k : Stamp × Gaps). IsOf plan k.0) (with_stamp (class_of p) p.time.epoch n ks)
+pub keys_with : (plan : List Line) (ks : Chains) → AreHeld plan ks → (p : Stamp) → IsOf plan p → (n : ℕ) → AllByRecursion (IsOfPlan plan) (with_stamp (class_of p) p.time.epoch n ks)
 keys_with plan ks kept p of_plan n = along ks (keys_of_plan plan (between plan ks) ks kept.each)
   where
-    along : (js : Chains) → AllByRecursion (λ (k : Stamp × Gaps). IsOf plan k.0) js → AllByRecursion (λ (k : Stamp × Gaps). IsOf plan k.0) (with_stamp (class_of p) p.time.epoch n js)
-    along [] h = (other_epoch plan p 0 of_plan, tt)
-    along (k ∷ js) h = by (is_stamp (class_of p) k.0) (along js h.1)
+    of_class : IsOf plan (class_of p)
+    of_class = other_epoch plan p 0 of_plan
+
+    along : (js : Chains) → AllByRecursion (IsOfPlan plan) js → AllByRecursion (IsOfPlan plan) (with_stamp (class_of p) p.time.epoch n js)
+    along [] h = (λ l. of_class, tt)
+    along (k ∷ js) h = by (is_stamp (class_of p) k.0) refl (along js h.1)
       where
-        by : (b : Bool) → AllByRecursion (λ (k : Stamp × Gaps). IsOf plan k.0) (with_stamp (class_of p) p.time.epoch n js)
-            → AllByRecursion (λ (k : Stamp × Gaps). IsOf plan k.0) (cond b ((k.0, with_epoch p.time.epoch n k.1) ∷ js) (k ∷ with_stamp (class_of p) p.time.epoch n js))
-        by true rest = (h.0, h.1)
-        by false rest = (h.0, rest)
+        by : (b : Bool) → is_stamp (class_of p) k.0 ≡ b → AllByRecursion (IsOfPlan plan) (with_stamp (class_of p) p.time.epoch n js)
+            → AllByRecursion (IsOfPlan plan) (cond b ((k.0, with_epoch p.time.epoch n k.1) ∷ js) (k ∷ with_stamp (class_of p) p.time.epoch n js))
+        by true same rest = (λ l. subst (IsOf plan) ((Decides-is_stamp (class_of p) k.0).0 same) of_class, h.1)
+        by false apart rest = (h.0, rest)
 
 -- what is answered of a pointstamp that is held
 module _ (plan : List Line) (tested : (p q : Stamp) → IsOf plan p → IsOf plan q → (could_test plan p q ≡ true → Could plan p q) × (Could plan p q → could_test plan p q ≡ true))

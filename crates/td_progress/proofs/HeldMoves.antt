@@ -5,18 +5,20 @@ use Rattle.std.specs.List.{AllByRecursion, IsDistinct}
 use Rattle.std.specs.Map.{keys_of, lookup, remove_entry}
 use Rattle.std.specs.BTreeMap.{is_at}
 use Rattle.std.specs.Ordering.{nat_cmp}
+use Rattle.td_stamp.specs.Time.{depth}
 use Rattle.td_plan.specs.Lines.{Line}
 use Rattle.td_reach.specs.declared.stamp.Stamp.{Stamp}
 use Rattle.td_reach.specs.Paths.{IsOf}
 use Rattle.td_reach.specs.Tables.{could_test}
 use Rattle.td_progress.specs.Bag.{is_stamp, occurrences, IsSameBag}
 use Rattle.td_progress.specs.Gaps.{has_epoch, within, start_of, changed_from, plus, minus}
-use Rattle.td_progress.specs.Held.{at, class_of, held, total, between, chain_at, with_stamp, without_stamp, IsChain, AreHeld}
+use Rattle.td_progress.specs.Held.{at, class_of, held, total, between, chain_at, with_stamp, without_stamp, IsChain, IsLaidOut, AreHeld}
 use Rattle.td_progress.proofs.Counted.{one, occurrences-cons, stands}
 use Rattle.td_progress.proofs.Free.{all-has}
 use Rattle.td_progress.proofs.Gaps.{Gaps, gaps_same}
 use Rattle.td_progress.proofs.Between.{Chains, HasEpoch, HasNot, between_le, between_splits, between-cons, between_with, between_without, between_shifted, total_shifted, keys_shifted, all_shifted, counts_one, kept_with, kept_without, kept_raised, kept_lowered}
 use Rattle.td_progress.proofs.HeldBags.{held_shifted, bag_with, bag_without, total_with, total_without, occurs_held}
+use Rattle.td_progress.proofs.Laid.{laid_come, laid_go, laid_removed}
 use Rattle.td_progress.proofs.HeldCounts.{all_of_plan, other_epoch, one_is}
 
 one_not : (b : Bool) → one b ≡ 0 → b ≡ false
@@ -45,6 +47,7 @@ module _ (plan : List Line) (ks : Chains) (kept : AreHeld plan ks) (p : Stamp) w
         → total ks + 1 < 2 ^ 64 → IsDistinct is_stamp (keys_of (with_stamp (class_of p) p.time.epoch n ks)) → AreHeld plan come_to
     come_kept of_plan none is fits once = record {
       once = subst (λ js. IsDistinct is_stamp js) (sym (keys_shifted plan (with_stamp (class_of p) p.time.epoch n ks) (class_of p) p.time.epoch (plus 1))) once;
+      laid = laid_come plan (class_of p) p.time.epoch n (plus 1) ks kept.laid;
       each =
           kept_raised plan (between plan ks) (between plan come_to) (class_of p) p.time.epoch come_more
           (λ d lo f. let a = between_le plan come_to d lo f in let b = come_total in omega (arith, a, b, fits))
@@ -121,6 +124,9 @@ module _ (plan : List Line) (ks : Chains) (kept : AreHeld plan ks) (p : Stamp) w
         lowered (class_of p) p.time.epoch there_lowered
         (kept_lowered plan (between plan go_to) (between plan ks) (class_of p) p.time.epoch go_more ks kept.each)
 
+    pub go_laid : IsLaidOut plan (keys_of go_to)
+    go_laid = laid_go plan (class_of p) p.time.epoch (minus 1) ks kept.laid
+
     pub go_bag : IsSameBag (held ks) (p ∷ held go_to)
     go_bag q =
         ap (occurrences q) (sym (held_shifted plan ks (class_of p) p.time.epoch (minus 1)))
@@ -195,17 +201,21 @@ module _ (c : Stamp) where
 
 -- what is left after one went, its chain let go where it is empty
 abbrev pub IsLeft : Stamp → Chains → Chains → Type 0
-IsLeft c ks js = (js ≡ ks) ⊎ ((chain_at c ks ≡ []) × (js ≡ remove_entry (is_stamp c) ks))
+IsLeft c ks js = (js ≡ ks) ⊎ ((0 < depth c.time) × (chain_at c ks ≡ []) × (js ≡ remove_entry (is_stamp c) ks))
 
 module _ (plan : List Line) (c : Stamp) (ks js : Chains) where
   pub left_held : IsLeft c ks js → held js ≡ held ks
   left_held (inl e) = ap held e
-  left_held (inr h) = ap held h.1 ∙ held_emptied c ks h.0
+  left_held (inr h) = ap held h.2 ∙ held_emptied c ks h.1
 
   pub left_total : IsLeft c ks js → total js ≡ total ks
   left_total (inl e) = ap total e
-  left_total (inr h) = ap total h.1 ∙ total_emptied c ks h.0
+  left_total (inr h) = ap total h.2 ∙ total_emptied c ks h.1
 
   pub left_each : IsLeft c ks js → AllByRecursion (IsChain plan (between plan ks)) ks → AllByRecursion (IsChain plan (between plan js)) js
   left_each (inl e) h = subst (λ ls. AllByRecursion (IsChain plan (between plan ls)) ls) (sym e) h
-  left_each (inr h) each = subst (λ ls. AllByRecursion (IsChain plan (between plan ls)) ls) (sym h.1) (each_emptied c plan ks h.0 each)
+  left_each (inr h) each = subst (λ ls. AllByRecursion (IsChain plan (between plan ls)) ls) (sym h.2) (each_emptied c plan ks h.1 each)
+
+  pub left_laid : IsLeft c ks js → IsLaidOut plan (keys_of ks) → IsLaidOut plan (keys_of js)
+  left_laid (inl e) h = subst (λ ls. IsLaidOut plan (keys_of ls)) (sym e) h
+  left_laid (inr h) laid = subst (λ ls. IsLaidOut plan (keys_of ls)) (sym h.2) (laid_removed plan c ks h.0 laid)

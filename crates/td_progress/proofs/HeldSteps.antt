@@ -1,6 +1,5 @@
 -- What the code of held pointstamps does to its map, in the words of its contracts.
-use Rattle.std.proofs.Common.{◌≡◌, ℕ, zero, suc, Bool, true, false, ◌&&◌, cond, List, [], ◌∷◌, map, length, slice_get, Option, Some, None, is_some, unwrap_or, Result, Ok, Err, refl, sym, ap, ◌∙◌, true≢false, arith}
-use Rattle.std.specs.List.{AllByRecursion}
+use Rattle.std.proofs.Common.{◌≡◌, ℕ, zero, suc, Bool, true, false, ◌&&◌, cond, List, [], ◌∷◌, slice_get, Option, Some, None, is_some, unwrap_or, Result, Ok, Err, refl, sym, ap, ◌∙◌, true≢false}
 use Rattle.std.specs.Result.{OnOk, OnErr}
 use Rattle.std.specs.Map.{values_of, lookup, set_value}
 use Rattle.indexmap.specs.IndexMap.{insert_entry, set_value_at}
@@ -9,7 +8,7 @@ use Rattle.td_reach.specs.declared.stamp.Stamp.{Stamp}
 use Rattle.td_reach.specs.Tables.{could_test}
 use Rattle.td_progress.specs.Bag.{is_stamp}
 use Rattle.td_progress.specs.Gaps.{first_from, changed_from, with_epoch, without_epoch}
-use Rattle.td_progress.specs.Held.{with_stamp, without_stamp, shifted, shifted_at, first_shifted, is_ahead}
+use Rattle.td_progress.specs.Held.{with_stamp, without_stamp, shifted_at, is_ahead}
 use Rattle.td_progress.proofs.Counted.{none_is_some}
 use Rattle.td_progress.proofs.Gaps.{Gaps}
 use Rattle.td_progress.proofs.ChainSteps.{none_from}
@@ -98,21 +97,3 @@ module _ (plan : List Line) (c : Stamp) (e : ℕ) (f : ℕ → ℕ) where
       by true None is h = sym (none_from e f k.1 is)
       by true (Some x) is h = absurd (true≢false h)
   not_shifted (k ∷ es) (suc i) ahead = ap (λ r. k ∷ r) (not_shifted es i ahead)
-
-  pub first_more : (es : Chains) (i : ℕ) → shifted_at plan c e f i (first_shifted plan c e f i es) ≡ first_shifted plan c e f (suc i) es
-  first_more [] zero = refl
-  first_more [] (suc i) = refl
-  first_more (k ∷ es) zero = refl
-  first_more (k ∷ es) (suc i) = ap (λ r. shifted plan c e f k ∷ r) (first_more es i)
-
-  pub first_all : (es : Chains) (n : ℕ) → n ≡ length es → first_shifted plan c e f n es ≡ map (shifted plan c e f) es
-  first_all [] zero h = refl
-  first_all [] (suc n) h = refl
-  first_all (k ∷ es) zero h = absurd (omega (arith, h))
-  first_all (k ∷ es) (suc n) h = ap (λ r. shifted plan c e f k ∷ r) (first_all es n (omega (arith, h)))
-
-  module _ (P : Stamp → Type 0) where
-    pub first_keys : (es : Chains) (n : ℕ) → AllByRecursion (λ (k : Stamp × Gaps). P k.0) es → AllByRecursion (λ (k : Stamp × Gaps). P k.0) (first_shifted plan c e f n es)
-    first_keys es zero h = h
-    first_keys [] (suc n) h = tt
-    first_keys (k ∷ es) (suc n) h = (h.0, first_keys es n h.1)

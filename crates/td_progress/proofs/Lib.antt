@@ -5,6 +5,9 @@ pub mod Gaps
 pub mod ChainSteps
 pub mod Between
 pub mod HeldBags
+pub mod Rows
+pub mod Laid
+pub mod Visits
 pub mod Could
 pub mod HeldCounts
 pub mod Firsts

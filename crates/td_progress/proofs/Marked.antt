@@ -1,14 +1,13 @@
 -- Of the pointstamps that occur each is held once: what a change of either keeps.
 use Rattle.std.proofs.Common.{◌≡◌, ℕ, zero, suc, ◌+◌, ◌<◌, Bool, true, false, cond, List, [], ◌∷◌, ◌++◌, replicate, Option, Some, None, Contains, Result, Ok, Err, refl, sym, ap, ◌∙◌, subst, arith, nat_lt}
 use Rattle.std.proofs.lemmas.Bool.Decides.{nat_tests}
-use Rattle.std.specs.List.{IsDistinct}
 use Rattle.std.specs.Result.{OnOk, OnErr}
 use Rattle.std.specs.Option.{IfSome}
 use Rattle.td_plan.specs.Lines.{Line}
 use Rattle.td_reach.specs.declared.stamp.Stamp.{Stamp}
 use Rattle.td_reach.specs.Frontier.{Frontier, Precursors}
 use Rattle.td_progress.specs.Bag.{is_stamp, occurrences, IsSameBag}
-use Rattle.td_progress.specs.Held.{held, count_of, AreHeld, AreMarked}
+use Rattle.td_progress.specs.Held.{held, count_of, AreMarked}
 use Rattle.td_progress.proofs.Same.{Decides-is_stamp, is_stamp-self}
 use Rattle.td_progress.proofs.Counted.{one, if_so, occurrences-cons, occurrences-more, occurs, stands}
 use Rattle.td_progress.proofs.Free.{all-has, has-all}
@@ -23,12 +22,8 @@ mark_some n h = grind (arith, nat_tests)
 mark_none : (n : ℕ) → n ≡ 0 → mark n ≡ 0
 mark_none n h = ap mark h
 
-pub nothing_held : {plan : List Line} → AreHeld plan []
-unfolding IsDistinct
-nothing_held = record { once = tt; each = tt }
-
-pub marked_nothing : AreMarked [] []
-marked_nothing p = refl
+pub marked_nothing : (ks : Chains) → held ks ≡ [] → AreMarked ks []
+marked_nothing ks none p = ap (occurrences p) none
 
 module _ (p : Stamp) (n : ℕ) (xs ys : List Stamp) (more : IsSameBag ys (replicate n p ++ xs)) where
   pub of_itself : occurrences p ys ≡ n + occurrences p xs

@@ -1,6 +1,6 @@
 -- How a table keeps precursor counts: for each place and counters with active pointstamps, their epochs and gaps.
-use Rattle.std.specs.Prelude.{◌≡◌, ◌==◌, ℕ, zero, suc, ◌<◌, ◌≤◌, nat_lt, Bool, true, false, ◌&&◌, cond, List, [], ◌∷◌, map, filter_map, length, slice_get, Option, Some, None, is_some, option_map}
-use Rattle.std.specs.List.{AllByRecursion, IsDistinct, flat_map, sum_by}
+use Rattle.std.specs.Prelude.{◌≡◌, ◌==◌, ℕ, zero, suc, ◌<◌, ◌≤◌, nat_lt, Bool, true, false, ◌&&◌, cond, List, [], ◌∷◌, map, filter_map, fold, length, slice_get, Option, Some, None, is_some, option_map}
+use Rattle.std.specs.List.{AllByRecursion, IsDistinct, flat_map, sum_by, range_with_len}
 use Rattle.std.specs.Map.{lookup, keys_of}
 use Rattle.std.specs.Option.{unwrap_or}
 use Rattle.td_plan.specs.Lines.{Line}
@@ -9,6 +9,7 @@ use Rattle.td_reach.specs.Paths.{IsOf}
 use Rattle.td_reach.specs.Tables.{could_test}
 use Rattle.td_progress.specs.Bag.{is_stamp, occurrences}
 use Rattle.td_progress.specs.Gaps.{has_epoch, sum_to, within, first_from, count_to, with_epoch, without_epoch, changed_from, plus, minus, AreGaps}
+use Rattle.td_progress.specs.Ways.{places_of, outside}
 use Rattle.td_progress.specs.declared.chain.Step.{Step}
 use Rattle.td_progress.specs.declared.chain.Step.TheVariants as steps
 
@@ -36,6 +37,15 @@ total chains = sum_by (λ k. length k.1) chains
 -- how many of epochs from lo to e could result in what has the place and counters of c
 abbrev pub between : List Line → List (Stamp × List (ℕ × ℕ)) → Stamp → ℕ → ℕ → ℕ
 between plan chains c lo e = sum_by (λ k. cond (could_test plan k.0 c) (within lo e k.1) 0) chains
+
+-- how many of one of them, if it is there
+abbrev pub count_in : List Line → Stamp → ℕ → ℕ → Option (Stamp × List (ℕ × ℕ)) → ℕ
+count_in plan c lo e None = 0
+count_in plan c lo e (Some k) = cond (could_test plan k.0 c) (within lo e k.1) 0
+
+-- how many of those at these positions
+abbrev pub count_among : List Line → List (Stamp × List (ℕ × ℕ)) → Stamp → ℕ → ℕ → List ℕ → ℕ
+count_among plan chains c lo e positions = sum_by (λ i. count_in plan c lo e (slice_get chains i)) positions
 
 -- the epochs and gaps of a place and counters
 abbrev pub chain_at : Stamp → List (Stamp × List (ℕ × ℕ)) → List (ℕ × ℕ)
@@ -66,11 +76,9 @@ abbrev pub is_ahead : List Line → Stamp → ℕ → Option (Stamp × List (ℕ
 is_ahead plan c e None = false
 is_ahead plan c e (Some k) = is_some (first_from e k.1) && could_test plan c k.0
 
--- the same of the first n
-abbrev pub first_shifted : List Line → Stamp → ℕ → (ℕ → ℕ) → ℕ → List (Stamp × List (ℕ × ℕ)) → List (Stamp × List (ℕ × ℕ))
-first_shifted plan c e f zero chains = chains
-first_shifted plan c e f (suc n) [] = []
-first_shifted plan c e f (suc n) (k ∷ chains) = shifted plan c e f k ∷ first_shifted plan c e f n chains
+-- the same of those at these positions, one after the other
+abbrev pub all_shifted_at : List Line → Stamp → ℕ → (ℕ → ℕ) → List ℕ → List (Stamp × List (ℕ × ℕ)) → List (Stamp × List (ℕ × ℕ))
+all_shifted_at plan c e f positions chains = fold (λ ks i. shifted_at plan c e f i ks) chains positions
 
 -- the first of its place and counters, with only itself in its gap
 abbrev pub IsFirst : Stamp → List (Stamp × List (ℕ × ℕ)) → Type 0
@@ -95,15 +103,29 @@ IsCounted p chains =
 abbrev pub count_of : Stamp → List (Stamp × List (ℕ × ℕ)) → Option ℕ
 count_of p chains = count_to p.time.epoch (chain_at (class_of p) chains)
 
+-- the plan has the place and counters, where any epoch of them is active
+abbrev pub IsOfPlan : List Line → Stamp × List (ℕ × ℕ) → Type 0
+IsOfPlan plan k = 0 < length k.1 → IsOf plan k.0
+
 -- of a place and counters of the plan, the gaps are as counted
 pub record IsChain (plan : List Line) (count : Stamp → ℕ → ℕ → ℕ) (k : Stamp × List (ℕ × ℕ)) : Type 0 where
-  pub of_plan : IsOf plan k.0
+  pub of_plan : IsOfPlan plan k
   pub class : k.0.time.epoch ≡ 0
   pub gaps : AreGaps (count k.0) 0 k.1
 
--- each place and counters stands there once, and all count what could result in theirs
+-- the places of the plan stand first, in no loop, by number
+abbrev pub IsLaidOut : List Line → List Stamp → Type 0
+IsLaidOut plan classes = (i : ℕ) → i < places_of plan → slice_get classes i ≡ Some (outside plan i)
+
+-- those that stand there where nothing is active
+abbrev pub empty_chains : List Line → List (Stamp × List (ℕ × ℕ))
+empty_chains plan = map (λ i. (outside plan i, [])) (range_with_len 0 (places_of plan))
+
+-- each place and counters stands there once, those outside loops at their places' numbers, and all count what could result in
+-- theirs
 pub record AreHeld (plan : List Line) (chains : List (Stamp × List (ℕ × ℕ))) : Type 0 where
   pub once : IsDistinct is_stamp (keys_of chains)
+  pub laid : IsLaidOut plan (keys_of chains)
   pub each : AllByRecursion (IsChain plan (between plan chains)) chains
 
 -- of the pointstamps that occur in a list each is held once

@@ -2,3 +2,4 @@ pub mod Bag
 pub mod Entries
 pub mod Gaps
 pub mod Held
+pub mod Ways

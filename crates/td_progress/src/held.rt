@@ -1,26 +1,34 @@
 //! The active pointstamps, each once, with what their precursor counts are made of.
-ghost use Rattle.std.specs.Prelude.{◌≡◌, ◌+◌, ◌-◌, ◌<◌, ◌≤◌, ◌∷◌, ◌^◌, ◌↔◌, ◌⊎◌, true, false, cond, IsTrue, OnOk, OnErr, Some, None, [], map, slice_get, is_some};
-ghost use Rattle.std.specs.List.{AllByRecursion, IsDistinct};
+ghost use Rattle.std.specs.Prelude.{◌≡◌, ◌+◌, ◌-◌, ◌<◌, ◌≤◌, ◌∷◌, ◌^◌, ◌↔◌, ◌⊎◌, true, false, cond, IsTrue, IfOk, OnOk, OnErr, Some, None, [], length, map, slice_get, is_some};
+ghost use Rattle.std.specs.List.{AllByRecursion, IsDistinct, range_with_len};
 ghost use Rattle.std.specs.Map.{keys_of, lookup, remove_entry};
 ghost use Rattle.std.specs.BTreeMap.{is_at};
 ghost use Rattle.std.specs.Ordering.{nat_cmp};
+ghost use Rattle.td_stamp.specs.Time.{depth};
 ghost use Rattle.td_reach.specs.Paths.{IsOf};
 ghost use Rattle.td_progress.specs.Bag.{is_stamp, occurrences, IsSameBag};
 ghost use Rattle.td_progress.specs.Gaps.{has_epoch, sum_to, start_of, within};
 ghost use Rattle.td_reach.specs.Tables.{could_test};
 ghost use Rattle.td_progress.specs.Held.{class_of, held, total, between, chain_at, with_stamp, without_stamp};
-ghost use Rattle.td_progress.specs.Held.{stepped, shifted, shifted_at, is_ahead, AreHeld, IsFirst, IsCounted, count_of, firsts};
+ghost use Rattle.td_progress.specs.Held.{stepped, shifted, shifted_at, all_shifted_at, is_ahead, AreHeld, IsFirst, IsCounted, count_of, firsts};
+ghost use Rattle.td_progress.specs.Held.{IsOfPlan, IsLaidOut, empty_chains, count_in, count_among};
+ghost use Rattle.td_progress.specs.Ways.{places_of, number_of, row};
+ghost use Rattle.td_progress.specs.declared.ways.Side.TheVariants as Side;
 
 use crate::chain::{Chain, Step};
 use crate::frontier::FrontierStamps;
+use crate::ways::{Side, Ways};
 use indexmap::IndexMap;
 use std::alloc::{AllocError, Global};
 use std::marker::Model;
-use td_reach::laws::could_tested;
+use td_reach::laws::{could_leads, could_tested};
 use td_reach::{Reach, Stamp};
 
 /// The active pointstamps, each once, by place and counters and then by epoch. Each has its gap: how many precursors it has
 /// that the one of the epoch before has not, itself counted too.
+///
+/// The places of the plan stand first, in no loop, at their numbers, and stay there where none of their pointstamps is active. So a
+/// change looks at the places that lead to its own, or to which it leads, and at the counters in loops that are active, alone.
 #[derive(Drop)]
 pub(crate) struct Held {
     // Each place and counters, as the pointstamp of epoch 0.
@@ -42,23 +50,24 @@ impl Model for Held {
 }
 
 impl Held {
-    /// No pointstamps, in maps that allocate with `alloc`.
-    pub(crate) fn new(alloc: Global) -> Held
-        ensures { result ≡ [] }
+    /// No pointstamps of a plan, in maps that allocate with `alloc`.
+    pub(crate) fn new(alloc: Global, ways: &Ways) -> Result<Held, AllocError>
+        ensures kept { IfOk result (AreHeld ways.now) }
+        ensures none { IfOk result (λ h. held h ≡ []) }
     {
-        Held {
-            chains: IndexMap::new(alloc),
+        Ok(Held {
+            chains: laid_out(alloc, ways)?,
             active: 0,
             alloc,
-        }
+        })
     }
 
     /// A pointstamp becomes active. Refusal: nothing has changed.
-    pub(crate) fn come(&mut self, reach: &Reach, stamp: &Stamp) -> Result<(), AllocError>
-        requires kept { AreHeld reach.now self.old }
-        requires of_plan { IsOf reach.now stamp.now }
+    pub(crate) fn come(&mut self, ways: &Ways, stamp: &Stamp) -> Result<(), AllocError>
+        requires kept { AreHeld ways.now self.old }
+        requires of_plan { IsOf ways.now stamp.now }
         requires new { occurrences stamp.now (held self.old) ≡ 0 }
-        ensures kept { OnOk result (AreHeld reach.now self.new) }
+        ensures kept { OnOk result (AreHeld ways.now self.new) }
         ensures ok { OnOk result (IsSameBag (held self.new) (stamp.now ∷ held self.old)) }
         ensures err { OnErr result (self.new ≡ self.old) }
     {
@@ -67,23 +76,23 @@ impl Held {
         };
         let class = class_of(stamp);
         let epoch = stamp.time.epoch();
-        let gap = gap_for(reach, &self.chains, &class, epoch);
+        let gap = gap_for(ways, &self.chains, &class, epoch);
         put(self.alloc, &mut self.chains, &class, epoch, gap)?;
-        step_from(reach, &mut self.chains, &class, epoch, Step::Up);
+        step_from(ways, &mut self.chains, &class, epoch, Step::Up);
         self.active = active;
         Ok(())
     }
 
     /// A pointstamp is active no more.
-    pub(crate) fn go(&mut self, reach: &Reach, stamp: &Stamp)
-        requires kept { AreHeld reach.now self.old }
+    pub(crate) fn go(&mut self, ways: &Ways, stamp: &Stamp)
+        requires kept { AreHeld ways.now self.old }
         requires there { 0 < occurrences stamp.now (held self.old) }
-        ensures kept { AreHeld reach.now self.new }
+        ensures kept { AreHeld ways.now self.new }
         ensures less { IsSameBag (held self.old) (stamp.now ∷ held self.new) }
     {
         let class = class_of(stamp);
         let epoch = stamp.time.epoch();
-        step_from(reach, &mut self.chains, &class, epoch, Step::Down);
+        step_from(ways, &mut self.chains, &class, epoch, Step::Down);
         take(&mut self.chains, &class, epoch);
         drop_empty(&mut self.chains, &class);
         self.active -= 1;
@@ -128,15 +137,28 @@ fn class_of(stamp: &Stamp) -> Stamp
     }
 }
 
+/// An empty chain for each place of a plan, in no loop.
+fn laid_out(alloc: Global, ways: &Ways) -> Result<IndexMap<Stamp, Chain>, AllocError>
+    ensures entries { IfOk result (λ chains. chains.entries ≡ empty_chains ways.now) }
+    ensures once { IfOk result (λ chains. IsDistinct is_stamp (keys_of chains.entries)) }
+{
+    let mut chains = IndexMap::new(alloc);
+    for number in 0..ways.places() {
+        chains.insert(ways.outside(number), Chain::new(alloc))?;
+    }
+    Ok(chains)
+}
+
 /// How many of the epochs up to this one could result in a place and counters that could not in the one before.
-fn gap_for(reach: &Reach, chains: &IndexMap<Stamp, Chain>, class: &Stamp, epoch: u64) -> u64
-    requires class { IsOf reach.now class.now }
-    requires each { AllByRecursion (λ k. IsOf reach.now k.0) chains.now.entries }
+fn gap_for(ways: &Ways, chains: &IndexMap<Stamp, Chain>, class: &Stamp, epoch: u64) -> u64
+    requires class { IsOf ways.now class.now }
+    requires each { AllByRecursion (IsOfPlan ways.now) chains.now.entries }
+    requires laid { IsLaidOut ways.now (keys_of chains.now.entries) }
     requires fits { total chains.now.entries < 2 ^ 64 }
-    ensures { result ≡ between reach.now chains.now.entries class.now (start_of 0 epoch (chain_at class.now chains.now.entries)) epoch }
+    ensures { result ≡ between ways.now chains.now.entries class.now (start_of 0 epoch (chain_at class.now chains.now.entries)) epoch }
 {
     let from = start_in(chains, class, epoch);
-    count_within(reach, chains, class, from, epoch)
+    count_within(ways, chains, class, from, epoch)
 }
 
 /// The epoch from which a gap counts: after the last in the chain that is before this one.
@@ -149,30 +171,98 @@ fn start_in(chains: &IndexMap<Stamp, Chain>, class: &Stamp, epoch: u64) -> u64
     }
 }
 
-/// How many pointstamps of these epochs could result in a place and counters.
+/// How many pointstamps of these epochs could result in a place and counters: those at places that lead there, and those in
+/// loops.
 fn count_within(
-    reach: &Reach,
+    ways: &Ways,
     chains: &IndexMap<Stamp, Chain>,
     class: &Stamp,
     from: u64,
     upto: u64,
 ) -> u64
-    requires class { IsOf reach.now class.now }
-    requires each { AllByRecursion (λ k. IsOf reach.now k.0) chains.now.entries }
+    requires class { IsOf ways.now class.now }
+    requires each { AllByRecursion (IsOfPlan ways.now) chains.now.entries }
+    requires laid { IsLaidOut ways.now (keys_of chains.now.entries) }
     requires fits { total chains.now.entries < 2 ^ 64 }
     requires forward { from ≤ upto }
-    ensures { result ≡ between reach.now chains.now.entries class.now from upto }
+    ensures { result ≡ between ways.now chains.now.entries class.now from upto }
 {
+    could_tested();
+    could_leads();
+    let _plan = ways.reach().plan().vertices();
+    let before = count_before(ways, chains, class, from, upto);
+    let in_loops = count_in_loops(ways, chains, class, from, upto);
+    before + in_loops
+}
+
+/// Those at places that lead there, in no loop.
+fn count_before(
+    ways: &Ways,
+    chains: &IndexMap<Stamp, Chain>,
+    class: &Stamp,
+    from: u64,
+    upto: u64,
+) -> u64
+    requires class { IsOf ways.now class.now }
+    requires each { AllByRecursion (IsOfPlan ways.now) chains.now.entries }
+    requires laid { IsLaidOut ways.now (keys_of chains.now.entries) }
+    requires fits { total chains.now.entries < 2 ^ 64 }
+    requires forward { from ≤ upto }
+    ensures { result ≡ count_among ways.now chains.now.entries class.now from upto (row ways.now Side.Before (number_of ways.now class.now.place)) }
+{
+    could_leads();
     let mut count = 0;
-    for (other, chain) in chains.iter() {
-        count += counted(reach, other, chain, class, from, upto);
+    for number in ways.row(Side::Before, class.place) {
+        count += count_at(ways, chains, class, from, upto, usize::from(*number));
     }
     count
 }
 
-/// The same of one chain.
+/// Those behind the places in no loop.
+fn count_in_loops(
+    ways: &Ways,
+    chains: &IndexMap<Stamp, Chain>,
+    class: &Stamp,
+    from: u64,
+    upto: u64,
+) -> u64
+    requires class { IsOf ways.now class.now }
+    requires each { AllByRecursion (IsOfPlan ways.now) chains.now.entries }
+    requires laid { IsLaidOut ways.now (keys_of chains.now.entries) }
+    requires fits { total chains.now.entries < 2 ^ 64 }
+    requires forward { from ≤ upto }
+    ensures { result ≡ count_among ways.now chains.now.entries class.now from upto (range_with_len (places_of ways.now) (length chains.now.entries - places_of ways.now)) }
+{
+    let mut count = 0;
+    for index in usize::from(ways.places())..chains.len() {
+        count += count_at(ways, chains, class, from, upto, index);
+    }
+    count
+}
+
+/// Those of the chain at a position.
+fn count_at(
+    ways: &Ways,
+    chains: &IndexMap<Stamp, Chain>,
+    class: &Stamp,
+    from: u64,
+    upto: u64,
+    index: usize,
+) -> u64
+    requires class { IsOf ways.now class.now }
+    requires each { AllByRecursion (IsOfPlan ways.now) chains.now.entries }
+    requires forward { from ≤ upto }
+    ensures { result ≡ count_in ways.now class.now from upto (slice_get chains.now.entries index) }
+{
+    match chains.get_index(index) {
+        Some((other, chain)) => counted(ways.reach(), other, chain, class, from, upto),
+        None => 0,
+    }
+}
+
+/// Those of one chain.
 fn counted(reach: &Reach, other: &Stamp, chain: &Chain, class: &Stamp, from: u64, upto: u64) -> u64
-    requires other { IsOf reach.now other.now }
+    requires other { 0 < length chain.now → IsOf reach.now other.now }
     requires class { IsOf reach.now class.now }
     requires forward { from ≤ upto }
     ensures { result ≡ cond (could_test reach.now other.now class.now) (within from upto chain.now) 0 }
@@ -228,13 +318,16 @@ fn take(chains: &mut IndexMap<Stamp, Chain>, class: &Stamp, epoch: u64)
     chain.take(epoch);
 }
 
-/// Takes a chain out that has no epochs.
+/// Takes a chain out that has no epochs, where it is in a loop.
 fn drop_empty(chains: &mut IndexMap<Stamp, Chain>, class: &Stamp)
     requires once { IsDistinct is_stamp (keys_of chains.old.entries) }
-    ensures entries { (chains.new.entries ≡ chains.old.entries) ⊎ ((chain_at class.now chains.old.entries ≡ []) × (chains.new.entries ≡ remove_entry (is_stamp class.now) chains.old.entries)) }
-    ensures none { chain_at class.now chains.old.entries ≡ [] → lookup (is_stamp class.now) chains.new.entries ≡ None }
+    ensures entries { (chains.new.entries ≡ chains.old.entries) ⊎ ((0 < depth class.now.time) × (chain_at class.now chains.old.entries ≡ []) × (chains.new.entries ≡ remove_entry (is_stamp class.now) chains.old.entries)) }
+    ensures none { 0 < depth class.now.time → chain_at class.now chains.old.entries ≡ [] → lookup (is_stamp class.now) chains.new.entries ≡ None }
     ensures once { IsDistinct is_stamp (keys_of chains.new.entries) }
 {
+    if class.time.depth() == 0 {
+        return;
+    }
     let is_empty = match chains.get(class) {
         Some(chain) => chain.is_empty(),
         None => false,
@@ -246,36 +339,76 @@ fn drop_empty(chains: &mut IndexMap<Stamp, Chain>, class: &Stamp)
 
 /// Changes each gap by one that a pointstamp counts in: in each chain that it could result in, the first from its epoch on.
 fn step_from(
-    reach: &Reach,
+    ways: &Ways,
     chains: &mut IndexMap<Stamp, Chain>,
     class: &Stamp,
     epoch: u64,
     step: Step,
 )
-    requires class { IsOf reach.now class.now }
-    requires each { AllByRecursion (λ k. IsOf reach.now k.0) chains.old.entries }
-    ensures { chains.new.entries ≡ map (shifted reach.now class.now epoch (stepped step)) chains.old.entries }
+    requires class { IsOf ways.now class.now }
+    requires each { AllByRecursion (IsOfPlan ways.now) chains.old.entries }
+    requires laid { IsLaidOut ways.now (keys_of chains.old.entries) }
+    ensures { chains.new.entries ≡ map (shifted ways.now class.now epoch (stepped step)) chains.old.entries }
+{
+    could_tested();
+    could_leads();
+    let _plan = ways.reach().plan().vertices();
+    step_after(ways, chains, class, epoch, step);
+    step_in_loops(ways, chains, class, epoch, step);
+}
+
+/// The same of the places to which its own leads, in no loop.
+fn step_after(
+    ways: &Ways,
+    chains: &mut IndexMap<Stamp, Chain>,
+    class: &Stamp,
+    epoch: u64,
+    step: Step,
+)
+    requires class { IsOf ways.now class.now }
+    requires each { AllByRecursion (IsOfPlan ways.now) chains.old.entries }
+    ensures entries { chains.new.entries ≡ all_shifted_at ways.now class.now epoch (stepped step) (row ways.now Side.After (number_of ways.now class.now.place)) chains.old.entries }
+    ensures each { AllByRecursion (IsOfPlan ways.now) chains.new.entries }
+{
+    could_leads();
+    for number in ways.row(Side::After, class.place) {
+        step_at(ways, chains, class, epoch, step, usize::from(*number));
+    }
+}
+
+/// The same of what stands behind the places in no loop.
+fn step_in_loops(
+    ways: &Ways,
+    chains: &mut IndexMap<Stamp, Chain>,
+    class: &Stamp,
+    epoch: u64,
+    step: Step,
+)
+    requires class { IsOf ways.now class.now }
+    requires each { AllByRecursion (IsOfPlan ways.now) chains.old.entries }
+    requires laid { places_of ways.now ≤ length chains.old.entries }
+    ensures { chains.new.entries ≡ all_shifted_at ways.now class.now epoch (stepped step) (range_with_len (places_of ways.now) (length chains.old.entries - places_of ways.now)) chains.old.entries }
 {
     let len = chains.len();
-    for index in 0..len {
-        step_at(reach, chains, class, epoch, step, index);
+    for index in usize::from(ways.places())..len {
+        step_at(ways, chains, class, epoch, step, index);
     }
 }
 
 /// The same of one chain.
 fn step_at(
-    reach: &Reach,
+    ways: &Ways,
     chains: &mut IndexMap<Stamp, Chain>,
     class: &Stamp,
     epoch: u64,
     step: Step,
     index: usize,
 )
-    requires class { IsOf reach.now class.now }
-    requires each { AllByRecursion (λ k. IsOf reach.now k.0) chains.old.entries }
-    ensures { chains.new.entries ≡ shifted_at reach.now class.now epoch (stepped step) index chains.old.entries }
+    requires class { IsOf ways.now class.now }
+    requires each { AllByRecursion (IsOfPlan ways.now) chains.old.entries }
+    ensures { chains.new.entries ≡ shifted_at ways.now class.now epoch (stepped step) index chains.old.entries }
 {
-    if leads_on(reach, chains, class, epoch, index) {
+    if leads_on(ways, chains, class, epoch, index) {
         if let Some(chain) = chains.get_index_mut(index) {
             chain.step_from(epoch, step);
         }
@@ -284,18 +417,20 @@ fn step_at(
 
 /// Whether a chain has an epoch that is not before this one, and could be resulted in.
 fn leads_on(
-    reach: &Reach,
+    ways: &Ways,
     chains: &IndexMap<Stamp, Chain>,
     class: &Stamp,
     epoch: u64,
     index: usize,
 ) -> bool
-    requires class { IsOf reach.now class.now }
-    requires each { AllByRecursion (λ k. IsOf reach.now k.0) chains.now.entries }
-    ensures { result ≡ is_ahead reach.now class.now epoch (slice_get chains.now.entries index) }
+    requires class { IsOf ways.now class.now }
+    requires each { AllByRecursion (IsOfPlan ways.now) chains.now.entries }
+    ensures { result ≡ is_ahead ways.now class.now epoch (slice_get chains.now.entries index) }
 {
     match chains.get_index(index) {
-        Some((other, chain)) => chain.first_from(epoch).is_some() && could(reach, class, other),
+        Some((other, chain)) => {
+            chain.first_from(epoch).is_some() && could(ways.reach(), class, other)
+        }
         None => false,
     }
 }

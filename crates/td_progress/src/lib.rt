@@ -9,6 +9,7 @@ mod held;
 pub mod laws;
 mod table;
 mod tally;
+mod ways;
 
 pub use error::ProgressError;
 pub use frontier::FrontierStamps;

@@ -10,6 +10,7 @@ use crate::error::ProgressError;
 use crate::frontier::FrontierStamps;
 use crate::held::Held;
 use crate::tally::Tally;
+use crate::ways::Ways;
 use std::alloc::Global;
 use std::marker::Model;
 use td_plan::Plan;
@@ -57,9 +58,11 @@ impl Table {
         ensures plan { IfOk result (λ table. table.plan ≡ reach) }
         ensures inputs { IfOk result (λ table. IsSameBag table.stamps (map (input_stamp first) inputs.now)) }
     {
+        let ways = Ways::of(alloc, reach)?;
+        let held = Held::new(alloc, &ways)?;
         let mut table = Table {
-            tally: Tally::new(alloc, reach),
-            held: Held::new(alloc),
+            tally: Tally::new(alloc, ways),
+            held,
         };
         for input in inputs {
             table.add(&Stamp {
@@ -117,9 +120,9 @@ impl Table {
         if self.tally.occurrences(stamp) > 0 {
             return self.tally.add_many(stamp, times);
         }
-        self.held.come(self.tally.reach(), stamp)?;
+        self.held.come(self.tally.ways(), stamp)?;
         if let Err(refused) = self.tally.add_many(stamp, times) {
-            self.held.go(self.tally.reach(), stamp);
+            self.held.go(self.tally.ways(), stamp);
             return Err(refused);
         }
         Ok(())
@@ -145,8 +148,8 @@ impl Table {
         }
         self.tally.take_off_many(stamp, times);
         if self.tally.occurrences(stamp) == 0 {
-            let reach = self.tally.reach();
-            self.held.go(reach, stamp);
+            let ways = self.tally.ways();
+            self.held.go(ways, stamp);
         }
     }
 
@@ -157,7 +160,7 @@ impl Table {
     {
         could_tested();
         could_order();
-        let _plan = self.tally.reach().plan().vertices();
+        let _plan = self.tally.ways().reach().plan().vertices();
         self.held.is_first(stamp)
     }
 
@@ -169,7 +172,7 @@ impl Table {
     {
         could_tested();
         could_order();
-        let _plan = self.tally.reach().plan().vertices();
+        let _plan = self.tally.ways().reach().plan().vertices();
         self.held.firsts()
     }
 
@@ -182,7 +185,7 @@ impl Table {
     {
         could_tested();
         could_order();
-        let _plan = self.tally.reach().plan().vertices();
+        let _plan = self.tally.ways().reach().plan().vertices();
         self.held.count(stamp)
     }
 

@@ -7,17 +7,18 @@ ghost use Rattle.td_progress.specs.Bag.{occurrences, IsSameBag};
 
 use crate::counts::Counts;
 use crate::error::ProgressError;
+use crate::ways::Ways;
 use std::alloc::{AllocError, Global};
 use std::collections::BTreeMap;
 use std::marker::Model;
 use td_plan::Plan;
-use td_reach::{Reach, Stamp};
+use td_reach::Stamp;
 
 /// The active pointstamps of a plan, by epoch, with how often each occurs: its occurrence count (Naiad, section 2.3). Contracts
 /// see the plan, and a list in which each stands as often as it occurs.
 #[derive(Drop)]
 pub(crate) struct Tally {
-    reach: Reach,
+    ways: Ways,
     // Each epoch that has active pointstamps.
     epochs: BTreeMap<u64, Counts>,
     alloc: Global,
@@ -29,28 +30,28 @@ impl Model for Tally {
 
     ghost Value = { Active };
 
-    ghost view = { λ t. record { plan = t.reach; stamps = all_stamps t.epochs.entries } };
+    ghost view = { λ t. record { plan = t.ways; stamps = all_stamps t.epochs.entries } };
 
-    ghost invariant = { λ t. AreOpen t.reach t.epochs.entries };
+    ghost invariant = { λ t. AreOpen t.ways t.epochs.entries };
 }
 
 impl Tally {
     /// No pointstamps, of this plan.
-    pub(crate) fn new(alloc: Global, reach: Reach) -> Tally
-        ensures { result ≡ record { plan = reach; stamps = [] } }
+    pub(crate) fn new(alloc: Global, ways: Ways) -> Tally
+        ensures { result ≡ record { plan = ways; stamps = [] } }
     {
         Tally {
-            reach,
+            ways,
             epochs: BTreeMap::new(alloc),
             alloc,
         }
     }
 
-    /// The plan, with what could result in what.
-    pub(crate) fn reach(&self) -> &Reach
+    /// The plan, with what could result in what and which place leads to which.
+    pub(crate) fn ways(&self) -> &Ways
         ensures { result.now ≡ self.now.plan }
     {
-        &self.reach
+        &self.ways
     }
 
     /// The plan.
@@ -59,14 +60,14 @@ impl Tally {
         ensures each { AllByRecursion (IsOf self.now.plan) self.now.stamps }
     {
         let _ = &self.epochs;
-        self.reach.plan()
+        self.ways.reach().plan()
     }
 
     /// Whether the plan has the place of a pointstamp, and its time is in as many loops as are open there.
     pub(crate) fn has(&self, stamp: &Stamp) -> bool
         ensures { IsTrue result ↔ IsOf self.now.plan stamp.now }
     {
-        self.reach.has(stamp)
+        self.ways.reach().has(stamp)
     }
 
     /// How often a pointstamp occurs, 0 where it is not active. It takes no memory.

@@ -8,4 +8,4 @@ count_within-requires-clause-forward c =
     subst (λ n. n ≤ c.args.epoch) (sym c.start_in-from.ensures) (start_le c.args.epoch 0 (chain_at c.args.class.now c.args.chains.now.entries) (omega arith))
 
 pub returns : goal.returns
-returns c = c.count_within.ensures ∙ ap (λ n. between c.args.reach.now c.args.chains.now.entries c.args.class.now n c.args.epoch) c.start_in-from.ensures
+returns c = c.count_within.ensures ∙ ap (λ n. between c.args.ways.now c.args.chains.now.entries c.args.class.now n c.args.epoch) c.start_in-from.ensures

@@ -43,7 +43,7 @@ pub invariant_of-self-in-Err : goal.invariant_of-self-in-Err
 invariant_of-self-in-Err c =
     let p = c.args.stamp.now in
     let same = c.in-Err.ensures.err in (
-      subst (λ l. AreHeld l c.go.new.self) c.reach-in-Err.ensures c.go.ensures.kept,
+      subst (λ l. AreHeld l c.go.new.self) c.ways-in-Err.ensures c.go.ensures.kept,
       subst (λ a. AreMarked c.go.new.self a.stamps) (sym same)
           (marked_back p c.self.inside.tally.stamps c.self.inside.held c.come.new.self c.go.new.self c.in_ok-come.ensures.ok c.go.ensures.less c.self.invariant.1),
     )
@@ -51,7 +51,7 @@ invariant_of-self-in-Err c =
 pub invariant_of-self-in_default : goal.invariant_of-self-in_default
 invariant_of-self-in_default c =
     let p = c.args.stamp.now in (
-      subst (λ l. AreHeld l c.come.new.self) (c.reach.ensures ∙ sym c.add_many-2.ensures.plan) c.in_ok-come.ensures.kept,
+      subst (λ l. AreHeld l c.come.new.self) (c.ways.ensures ∙ sym c.add_many-2.ensures.plan) c.in_ok-come.ensures.kept,
       marked_came p c.args.times c.self.inside.tally.stamps c.add_many-2.new.self.stamps c.in_default.ensures.ok c.self.inside.held c.come.new.self c.in_ok-come.ensures.ok
           (omega (arith, c.if-times-eq0.false)) (omega (arith, c.occurrences.ensures, c.if-occurrences-gt0.false)) c.self.invariant.1,
     )

@@ -18,7 +18,7 @@ returns-clause-each c p =
     let ks = c.self.inside.held in
     let kept = c.self.invariant.0 in
     let count = between plan ks in
-    let tested = c.could_tested.ensures.could plan (subst IsPlan (c.plan.ensures ∙ c.reach.ensures) c.vertices-plan.ensures.lawful) in (
+    let tested = c.could_tested.ensures.could plan (subst IsPlan (c.plan.ensures ∙ (c.reach.ensures ∙ c.ways.ensures)) c.vertices-plan.ensures.lawful) in (
       λ at.
           let there = subst (λ fs. Contains fs p) c.firsts.ensures at in
           let of_plan = first_of_plan plan count p ks kept.each there in

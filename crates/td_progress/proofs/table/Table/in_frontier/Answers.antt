@@ -12,7 +12,7 @@ returns c =
     let plan = c.self.inside.tally.plan in
     let stamps = c.self.inside.tally.stamps in
     let ks = c.self.inside.held in
-    let tested = c.could_tested.ensures.could plan (subst IsPlan (c.plan.ensures ∙ c.reach.ensures) c.vertices-plan.ensures.lawful) in
+    let tested = c.could_tested.ensures.could plan (subst IsPlan (c.plan.ensures ∙ (c.reach.ensures ∙ c.ways.ensures)) c.vertices-plan.ensures.lawful) in
     let of_plan = subst (λ a. IsOf a.plan p) (sym c.self.view_is) c.requires in (
       λ t. subst (λ a. Frontier a.plan a.stamps p) c.self.view_is
           (frontier_listed plan ks stamps c.self.invariant.1 p (first_is_free plan tested (c.could_order.ensures.reflexive plan) ks c.self.invariant.0 p of_plan (c.is_first.ensures.0 t))),

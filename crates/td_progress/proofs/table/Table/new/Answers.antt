@@ -6,7 +6,7 @@ use Rattle.td_reach.specs.declared.stamp.Place.TheVariants as places
 use Rattle.td_progress.specs.Bag.{occurrences, input_stamp}
 use Rattle.td_progress.proofs.Counted.{occurrences-cons, occurrences-append, occurrences-le}
 use Rattle.td_progress.specs.Held.{AreHeld, AreMarked}
-use Rattle.td_progress.proofs.Marked.{marked_nothing, nothing_held}
+use Rattle.td_progress.proofs.Marked.{marked_nothing}
 use Rattle.td_progress.proofs.table.Table.new.Goals as goal
 
 -- an input's pointstamp more, at the end or at the front
@@ -54,6 +54,6 @@ returns-clause-inputs c p =
 
 pub invariant_of-table : goal.invariant_of-table
 invariant_of-table c = (
-  subst (AreHeld c.new.result.plan) (sym c.new-2.ensures) nothing_held,
-  subst (λ ks. AreMarked ks c.new.result.stamps) (sym c.new-2.ensures) (subst (λ a. AreMarked [] a.stamps) (sym c.new.ensures) marked_nothing),
+  subst (λ l. AreHeld l c.in_ok-held.held) (sym (ap (λ a. a.plan) c.new-2.ensures)) c.in_ok-held.ensures.kept,
+  subst (λ a. AreMarked c.in_ok-held.held a.stamps) (sym c.new-2.ensures) (marked_nothing c.in_ok-held.held c.in_ok-held.ensures.none),
 )

@@ -12,7 +12,7 @@ pub count-requires : goal.count-requires
 count-requires c =
     let p = c.args.stamp.now in
     let plan = c.self.inside.tally.plan in
-    let tested = c.could_tested.ensures.could plan (subst IsPlan (c.plan.ensures ∙ c.reach.ensures) c.vertices-plan.ensures.lawful) in
+    let tested = c.could_tested.ensures.could plan (subst IsPlan (c.plan.ensures ∙ (c.reach.ensures ∙ c.ways.ensures)) c.vertices-plan.ensures.lawful) in
     let of_plan = subst (λ a. IsOf a.plan p) (sym c.self.view_is) c.requires in
     sum_bounds plan tested (c.could_order.ensures.reflexive plan) c.self.inside.held c.self.invariant.0 p of_plan
 
@@ -22,7 +22,7 @@ returns-clause-none c =
     let plan = c.self.inside.tally.plan in
     let stamps = c.self.inside.tally.stamps in
     let ks = c.self.inside.held in
-    let tested = c.could_tested.ensures.could plan (subst IsPlan (c.plan.ensures ∙ c.reach.ensures) c.vertices-plan.ensures.lawful) in
+    let tested = c.could_tested.ensures.could plan (subst IsPlan (c.plan.ensures ∙ (c.reach.ensures ∙ c.ways.ensures)) c.vertices-plan.ensures.lawful) in
     let of_plan = subst (λ a. IsOf a.plan p) (sym c.self.view_is) c.requires in
     let whole = ap (λ a. occurrences p a.stamps) c.self.view_is in (
       λ none. sym whole ∙ not_listed plan ks stamps c.self.invariant.1 p (gone_if_none plan tested (c.could_order.ensures.reflexive plan) ks c.self.invariant.0 p of_plan (sym c.count.ensures ∙ none)),
@@ -35,7 +35,7 @@ returns-clause-some c =
     let plan = c.self.inside.tally.plan in
     let stamps = c.self.inside.tally.stamps in
     let ks = c.self.inside.held in
-    let tested = c.could_tested.ensures.could plan (subst IsPlan (c.plan.ensures ∙ c.reach.ensures) c.vertices-plan.ensures.lawful) in
+    let tested = c.could_tested.ensures.could plan (subst IsPlan (c.plan.ensures ∙ (c.reach.ensures ∙ c.ways.ensures)) c.vertices-plan.ensures.lawful) in
     let of_plan = subst (λ a. IsOf a.plan p) (sym c.self.view_is) c.requires in
     subst (λ a. IfSome c.count.result (Precursors a.plan a.stamps p)) c.self.view_is
     (subst (λ o. IfSome o (Precursors plan stamps p)) (sym c.count.ensures)

@@ -21,7 +21,7 @@ go-requires-clause-there c =
 pub invariant_of-self : goal.invariant_of-self
 invariant_of-self c =
     let p = c.args.stamp.now in (
-      subst (λ l. AreHeld l c.go.new.self) c.reach-reach.ensures c.go.ensures.kept,
+      subst (λ l. AreHeld l c.go.new.self) c.ways-ways.ensures c.go.ensures.kept,
       marked_gone p c.args.times c.take_off_many.new.self.stamps c.self.inside.tally.stamps c.take_off_many.ensures.stamps c.go.new.self c.self.inside.held c.go.ensures.less
           (omega (arith, c.if-times-eq0.false)) (sym c.occurrences.ensures ∙ c.if-occurrences-eq0.true) c.self.invariant.1,
     )

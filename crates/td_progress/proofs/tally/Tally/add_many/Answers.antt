@@ -14,14 +14,14 @@ use Rattle.td_progress.proofs.tally.Tally.add_many.Goals as goal
 pub add-requires-clause-fits : goal.add-requires-clause-fits
 add-requires-clause-fits c =
     let p = c.args.stamp.now in
-    let all = in_own_epoch c.self.inside.reach p c.self.inside.epochs.entries c.self.invariant c.epoch-epoch.result c.epoch-epoch.ensures in
+    let all = in_own_epoch c.self.inside.ways p c.self.inside.epochs.entries c.self.invariant c.epoch-epoch.result c.epoch-epoch.ensures in
     let own = ap (occurs_in p) c.in-Some.ensures.value in
     let whole = ap (λ a. occurrences p a.stamps) c.self.view_is in
     omega (arith, all, own, whole, c.requires.fits, c.from.ensures)
 
 pub invariant_of-self : goal.invariant_of-self
 invariant_of-self c =
-    let plan = c.self.inside.reach in
+    let plan = c.self.inside.ways in
     let es = c.self.inside.epochs.entries in
     let epoch = c.epoch-epoch.result in
     let held = c.get_mut.follows.holds c.add.new.self in
@@ -33,7 +33,7 @@ invariant_of-self c =
 
 pub returns-in_err-add-clause-err : goal.returns-in_err-add-clause-err
 returns-in_err-add-clause-err c =
-    let plan = c.self.inside.reach in
+    let plan = c.self.inside.ways in
     let es = c.self.inside.epochs.entries in
     let epoch = c.epoch-epoch.result in
     let held = c.get_mut.follows.holds c.add.new.self in
@@ -42,7 +42,7 @@ returns-in_err-add-clause-err c =
 
 pub invariant_of-self-in-Some : goal.invariant_of-self-in-Some
 invariant_of-self-in-Some c =
-    let plan = c.self.inside.reach in
+    let plan = c.self.inside.ways in
     let p = c.args.stamp.now in
     let es = c.self.inside.epochs.entries in
     let epoch = c.epoch-epoch.result in
@@ -57,7 +57,7 @@ invariant_of-self-in-Some c =
 
 pub returns-in-Some-clause-ok : goal.returns-in-Some-clause-ok
 returns-in-Some-clause-ok c q =
-    let plan = c.self.inside.reach in
+    let plan = c.self.inside.ways in
     let p = c.args.stamp.now in
     let es = c.self.inside.epochs.entries in
     let epoch = c.epoch-epoch.result in
@@ -80,21 +80,21 @@ came c =
     let epoch = c.epoch-epoch.result in
     subst (λ m. ChangedAt epoch (Some c.add-2.new.self) m.entries c.insert.new.self.entries) c.get_mut.follows.holds-at-none c.in_ok-insert.ensures.updates.0
 
-came_open : (c : goal.Joined-branch-4) → IsOpen c.self.inside.reach c.epoch-epoch.result c.add-2.new.self
+came_open : (c : goal.Joined-branch-4) → IsOpen c.self.inside.ways c.epoch-epoch.result c.add-2.new.self
 came_open c =
     let p = c.args.stamp.now in
     let of_plan = subst (λ l. IsOf l p) (sym (ap (λ a. a.plan) c.self.view_is)) c.requires.of_plan in
-    opened c.self.inside.reach c.epoch-epoch.result c.from-2.result p [] c.add-2.new.self (omega (arith, c.if-times-eq0.false, c.from-2.ensures))
+    opened c.self.inside.ways c.epoch-epoch.result c.from-2.result p [] c.add-2.new.self (omega (arith, c.if-times-eq0.false, c.from-2.ensures))
     (of_plan, sym c.epoch-epoch.ensures) tt (subst (λ old. IsSameBag c.add-2.new.self (replicate c.from-2.result p ++ old)) c.new-counts.ensures c.in_ok-add-2.ensures.ok)
 
 pub invariant_of-self-2 : goal.invariant_of-self-2
 invariant_of-self-2 c =
-    still_open c.self.inside.reach c.self.inside.epochs.entries c.self.invariant c.insert.new.self.entries c.in_ok-insert.ensures.ordered
-    c.epoch-epoch.result (Some c.add-2.new.self) (came c) (some_open c.self.inside.reach c.epoch-epoch.result c.add-2.new.self (came_open c))
+    still_open c.self.inside.ways c.self.inside.epochs.entries c.self.invariant c.insert.new.self.entries c.in_ok-insert.ensures.ordered
+    c.epoch-epoch.result (Some c.add-2.new.self) (came c) (some_open c.self.inside.ways c.epoch-epoch.result c.add-2.new.self (came_open c))
 
 pub returns-clause-ok : goal.returns-clause-ok
 returns-clause-ok c q =
-    let plan = c.self.inside.reach in
+    let plan = c.self.inside.ways in
     let p = c.args.stamp.now in
     let es = c.self.inside.epochs.entries in
     let epoch = c.epoch-epoch.result in

@@ -8,12 +8,12 @@ returns-in-Some c =
     let p = c.args.stamp.now in
     c.occurrences.ensures
     ∙ ap (occurs_in p) c.in-Some.ensures.value
-    ∙ sym (in_own_epoch c.self.inside.reach p c.self.inside.epochs.entries c.self.invariant c.epoch.result c.epoch.ensures)
+    ∙ sym (in_own_epoch c.self.inside.ways p c.self.inside.epochs.entries c.self.invariant c.epoch.result c.epoch.ensures)
     ∙ ap (λ a. occurrences p a.stamps) c.self.view_is
 
 pub returns-in-None : goal.returns-in-None
 returns-in-None c =
     let p = c.args.stamp.now in
     ap (occurs_in p) c.in-None.ensures.value
-    ∙ sym (in_own_epoch c.self.inside.reach p c.self.inside.epochs.entries c.self.invariant c.epoch.result c.epoch.ensures)
+    ∙ sym (in_own_epoch c.self.inside.ways p c.self.inside.epochs.entries c.self.invariant c.epoch.result c.epoch.ensures)
     ∙ ap (λ a. occurrences p a.stamps) c.self.view_is

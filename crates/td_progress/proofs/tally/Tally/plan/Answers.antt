@@ -6,4 +6,4 @@ use Rattle.td_progress.proofs.tally.Tally.plan.Goals as goal
 
 pub returns-clause-each : goal.returns-clause-each
 returns-clause-each c =
-    subst (λ a. AllByRecursion (IsOf a.plan) a.stamps) c.self.view_is (each_of_plan c.self.inside.reach c.self.inside.epochs.entries c.self.invariant)
+    subst (λ a. AllByRecursion (IsOf a.plan) a.stamps) c.self.view_is (each_of_plan c.self.inside.ways c.self.inside.epochs.entries c.self.invariant)

@@ -13,7 +13,7 @@ use Rattle.td_progress.proofs.tally.Tally.take_off_many.Goals.{in-Some-1, in-Non
 pub take_off-requires : goal.take_off-requires
 take_off-requires c =
     let p = c.args.stamp.now in
-    let all = in_own_epoch c.self.inside.reach p c.self.inside.epochs.entries c.self.invariant c.epoch-epoch.result c.epoch-epoch.ensures in
+    let all = in_own_epoch c.self.inside.ways p c.self.inside.epochs.entries c.self.invariant c.epoch-epoch.result c.epoch-epoch.ensures in
     let own = ap (occurs_in p) c.in-Some.ensures.value in
     let whole = ap (λ a. occurrences p a.stamps) c.self.view_is in
     record { there = omega (arith, all, own, whole, c.requires, c.from.ensures) }
@@ -21,7 +21,7 @@ take_off-requires c =
 pub returns-in_default-clause-stamps : goal.returns-in_default-clause-stamps
 returns-in_default-clause-stamps c q =
     let p = c.args.stamp.now in
-    let all = in_own_epoch c.self.inside.reach p c.self.inside.epochs.entries c.self.invariant c.epoch-epoch.result c.epoch-epoch.ensures in
+    let all = in_own_epoch c.self.inside.ways p c.self.inside.epochs.entries c.self.invariant c.epoch-epoch.result c.epoch-epoch.ensures in
     let own = ap (occurs_in p) c.in_default.ensures.value in
     let whole = ap (λ a. occurrences p a.stamps) c.self.view_is in
     let none : c.args.times ≡ 0 = omega (arith, all, own, whole, c.requires) in
@@ -31,7 +31,7 @@ returns-in_default-clause-stamps c q =
 
 pub invariant_of-self-else-is_empty : goal.invariant_of-self-else-is_empty
 invariant_of-self-else-is_empty c =
-    let plan = c.self.inside.reach in
+    let plan = c.self.inside.ways in
     let epoch = c.epoch-epoch.result in
     let es = c.self.inside.epochs.entries in
     let w = c.take_off.new.self in
@@ -44,7 +44,7 @@ invariant_of-self-else-is_empty c =
 
 pub returns-else-is_empty-clause-stamps : goal.returns-else-is_empty-clause-stamps
 returns-else-is_empty-clause-stamps c q =
-    let plan = c.self.inside.reach in
+    let plan = c.self.inside.ways in
     let p = c.args.stamp.now in
     let es = c.self.inside.epochs.entries in
     let epoch = c.epoch-epoch.result in
@@ -58,7 +58,7 @@ returns-else-is_empty-clause-stamps c q =
 
 pub invariant_of-self-then-is_empty : goal.invariant_of-self-then-is_empty
 invariant_of-self-then-is_empty c =
-    let plan = c.self.inside.reach in
+    let plan = c.self.inside.ways in
     let epoch = c.epoch-epoch.result in
     let es = c.self.inside.epochs.entries in
     let w = c.take_off.new.self in
@@ -69,7 +69,7 @@ invariant_of-self-then-is_empty c =
 
 pub returns-then-is_empty-clause-stamps : goal.returns-then-is_empty-clause-stamps
 returns-then-is_empty-clause-stamps c q =
-    let plan = c.self.inside.reach in
+    let plan = c.self.inside.ways in
     let p = c.args.stamp.now in
     let epoch = c.epoch-epoch.result in
     let es = c.self.inside.epochs.entries in
