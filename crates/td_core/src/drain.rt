@@ -71,7 +71,11 @@ impl<L: Law> Hall<L> {
     /// Takes the first task of a shard, runs it and gives it, where the shard has one, and tells what it delivered; None where it has
     /// none. So a caller can drain a hall task by task, and stop after any. Refusals, with nothing changed: `Memory`; and `Spent`, where
     /// there is something to take and all numbers of tasks are used.
-    pub fn run_one<C: Closures<L>>(&mut self, calls: &C, shard: u8) -> Result<Option<Drained>, HallError>
+    pub fn run_one<C: Closures<L>>(
+        &mut self,
+        calls: &C,
+        shard: u8,
+    ) -> Result<Option<Drained>, HallError>
         requires fits { first_lack (C.has_map calls.now) (C.has_group calls.now) (C.has_fold calls.now) (vertices self.old.plan) ≡ None }
         requires none_out { self.old.out ≡ [] }
         requires within { shard < self.old.workers }

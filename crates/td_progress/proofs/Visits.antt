@@ -240,8 +240,8 @@ module _ (plan : List Line) (ks : Chains) (laid : IsLaidOut plan (keys_of ks)) w
       → count_among plan ks c lo f (row plan side at) + count_among plan ks c lo f (range_with_len (places_of plan) (length ks - places_of plan)) ≤ total ks
   among_le c lo f side at =
       let part = sum_some (λ i. count_in plan c lo f (slice_get ks i)) (λ k. cond (could_test plan k.0 c) (within lo f k.1) 0)
-          (is_on plan side at) ks 0 (places_of plan) (places_of plan) (length ks - places_of plan) (omega arith) all_of_them
-          (λ i j k e at. let same : j ≡ i = omega (arith, e) in ap (λ m. count_in plan c lo f (slice_get ks m)) same ∙ ap (count_in plan c lo f) at) in
+      (is_on plan side at) ks 0 (places_of plan) (places_of plan) (length ks - places_of plan) (omega arith) all_of_them
+      (λ i j k e at. let same : j ≡ i = omega (arith, e) in ap (λ m. count_in plan c lo f (slice_get ks m)) same ∙ ap (count_in plan c lo f) at) in
       let all = between_le plan ks c lo f in
       omega (arith, part, all)
 

@@ -1,0 +1,66 @@
+//! A stream on one thread.
+ghost use Rattle.std.specs.Prelude.{◌≡◌, ◌↔◌, true, false, None, IfSome, OnOk, OnErr};
+ghost use Rattle.td_plan.specs.Blocks.{vertices};
+ghost use Rattle.td_calls.specs.Fits.{first_lack};
+ghost use Rattle.td_disk.specs.Disk.{CountsDevice};
+ghost use Rattle.td_standing.specs.declared.error.KeeperError.TheVariants.{Device};
+ghost use Rattle.td_feed.specs.Orders.{submissions};
+ghost use Rattle.td_feed.specs.Carried.{new_to, Carries, Leaves};
+ghost use Rattle.td_feed.specs.Said.{SaysBy};
+
+use crate::asking::Asking;
+use crate::in_turn::{ended_as, obey_each};
+use crate::under_way::{Feeding, is_at_last_number};
+use std::alloc::Global;
+use std::sync::Wait;
+use td_calls::{Closures, Law};
+use td_console::{Fault, Sink};
+use td_core::HallError;
+use td_disk::Disk;
+use td_keeper::{Engine, Keeper};
+use td_pool::PoolError;
+use td_standing::KeeperError;
+
+/// Obeys orders by a hall of the keeper's own, in this thread, and settles: so nothing is locked, lent or compared. Refusals: `Epochs`,
+/// where the checkpoint's epoch is the last that there can be; those of what asks for the orders, of the keeper, of the tasks and of the
+/// writer; and `Memory`.
+pub(crate) fn obey_alone<D: Disk, S: Asking + Drop, W: Sink, L: Law, C: Closures<L>, R: Wait>(
+    rt: &R,
+    alloc: Global,
+    keeper: Keeper<D, L>,
+    feeding: Feeding,
+    orders: S,
+    writer: &mut W,
+    calls: &C,
+) -> (Keeper<D, L>, Result<(), Fault>)
+    requires whole { keeper.broken ≡ false }
+    requires fits { first_lack (C.has_map calls.now) (C.has_group calls.now) (C.has_fold calls.now) (vertices keeper.plan) ≡ None }
+    requires collected { keeper.collected ≡ keeper.base }
+    ensures size { D.capacity result.0.device ≡ D.capacity keeper.device }
+    ensures lawful { D.is_lawful keeper.device ↔ D.is_lawful result.0.device }
+    ensures sound { OnOk result.1 (IfSome (S.script orders) (λ script. script.is_sound ≡ true)) }
+    ensures fed { OnOk result.1 (IfSome (S.script orders) (λ script. Carries L.answers keeper result.0 (new_to keeper (submissions script.orders)))) }
+    ensures left { OnErr result.1 (IfSome (S.script orders) (λ script. Leaves D.is_lawful D.state L.answers keeper result.0 (new_to keeper (submissions script.orders)))) }
+    ensures said { IfSome (S.script orders) (λ script. SaysBy D.is_lawful D.state D.failures L.answers result.1 (W.contents writer.old) (W.contents writer.new) keeper result.0 (new_to keeper (submissions script.orders))) }
+    ensures failures { CountsDevice result.1 (Fault.Keeper Device) (D.failures keeper.device) (D.failures result.0.device) }
+{
+    if is_at_last_number(&keeper) {
+        return (keeper, Err(Fault::Keeper(KeeperError::Epochs)));
+    }
+    let mut engine = match Engine::open(alloc, keeper, calls, feeding.pace.tasks_of_an_epoch()) {
+        Ok(engine) => engine,
+        Err((_memory, keeper)) => return (keeper, Err(Fault::Memory)),
+    };
+    let mut orders = orders;
+    let obeyed = obey_each(rt, alloc, &mut engine, false, feeding, &mut orders, writer);
+    let (keeper, refusal) = engine.into_keeper();
+    (keeper, ended_as(obeyed, worked_until(refusal)))
+}
+
+/// How the tasks ended: as what one of them was refused, if it was.
+fn worked_until(refusal: Option<HallError>) -> Result<(), PoolError> {
+    match refusal {
+        Some(error) => Err(PoolError::Hall(error)),
+        None => Ok(()),
+    }
+}

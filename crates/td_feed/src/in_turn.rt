@@ -1,0 +1,88 @@
+//! What is asked for, in turn.
+ghost use Rattle.std.specs.Prelude.{◌≡◌, ◌↔◌, ℕ, true, false, Ok, Err, IfErr, IfSome, OnOk, OnErr};
+ghost use Rattle.std.specs.Prelude.{◌⊎◌};
+ghost use Rattle.td_disk.specs.Disk.{CountsDevice};
+ghost use Rattle.td_pool.specs.declared.error.PoolError.{PoolError as AnyPoolError};
+ghost use Rattle.td_standing.specs.declared.error.KeeperError.TheVariants.{Device, NotPassed};
+ghost use Rattle.td_feed.specs.Orders.{submissions};
+ghost use Rattle.td_feed.specs.Fed.{pool_fault};
+ghost use Rattle.td_feed.specs.Carried.{new_to, Carries, Leaves};
+ghost use Rattle.td_feed.specs.Said.{SaysBy};
+
+use crate::asking::Asking;
+use crate::at_once::Room;
+use crate::under_way::{Feeding, open_epochs};
+use std::alloc::Global;
+use std::sync::Wait;
+use td_calls::Law;
+use td_console::{Fault, Sink};
+use td_core::HallError;
+use td_disk::Disk;
+use td_keeper::Obey;
+use td_pool::PoolError;
+use td_standing::KeeperError;
+
+/// Does what is asked for in turn, at the feeding's pace, and settles. Refusals: `Memory`, before anything else, where a worker was
+/// refused a thread; those of what asks for the orders, of the keeper and of the writer.
+pub(crate) fn obey_each<D: Disk, S: Asking, W: Sink, L: Law, R: Wait, E: Obey<D, L, R>>(
+    rt: &R,
+    alloc: Global,
+    engine: &mut E,
+    is_refused: bool,
+    mut feeding: Feeding,
+    orders: &mut S,
+    writer: &mut W,
+) -> Result<(), Fault>
+    requires whole { (E.keeping engine.old).broken ≡ false }
+    ensures size { D.capacity (E.keeping engine.new).device ≡ D.capacity (E.keeping engine.old).device }
+    ensures lawful { D.is_lawful (E.keeping engine.old).device ↔ D.is_lawful (E.keeping engine.new).device }
+    ensures sound { OnOk result (IfSome (S.script orders.old) (λ script. script.is_sound ≡ true)) }
+    ensures fed { OnOk result (IfSome (S.script orders.old) (λ script. Carries L.answers (E.keeping engine.old) (E.keeping engine.new) (new_to (E.keeping engine.old) (submissions script.orders)))) }
+    ensures left { OnErr result (IfSome (S.script orders.old) (λ script. Leaves D.is_lawful D.state L.answers (E.keeping engine.old) (E.keeping engine.new) (new_to (E.keeping engine.old) (submissions script.orders)))) }
+    ensures said { IfSome (S.script orders.old) (λ script. SaysBy D.is_lawful D.state D.failures L.answers result (W.contents writer.old) (W.contents writer.new) (E.keeping engine.old) (E.keeping engine.new) (new_to (E.keeping engine.old) (submissions script.orders))) }
+    ensures failures { CountsDevice result (Fault.Keeper Device) (D.failures (E.keeping engine.old).device) (D.failures (E.keeping engine.new).device) }
+{
+    if is_refused {
+        return Err(Fault::Memory);
+    }
+    engine.allow(open_epochs(engine.keeper()));
+    feeding.begin(rt, alloc, engine, writer)?;
+    for _asked in rt.forever() {
+        let most = feeding.pace.epochs_at_once(engine.keeper());
+        let room = Room::of(engine.keeper(), most);
+        let Some(asked) = orders.next_asked(alloc, &room)? else {
+            return feeding.settle(rt, alloc, engine, writer);
+        };
+        engine.allow(asked.epochs());
+        feeding.obey_at_pace(rt, alloc, engine, asked, writer)?;
+    }
+    unreachable!()
+}
+
+/// How a feed ended: as what hindered the tasks says, in place of epochs that did not pass for it.
+pub(crate) fn ended_as(
+    obeyed: Result<(), Fault>,
+    worked: Result<(), PoolError>,
+) -> Result<(), Fault>
+    ensures ok { OnOk result ((obeyed ≡ Ok tt) × (worked ≡ Ok tt)) }
+    ensures err { IfErr result (λ f. (obeyed ≡ Err f) ⊎ (((obeyed ≡ Ok tt) ⊎ ((e : ℕ) × (obeyed ≡ Err (Fault.Keeper (NotPassed e))))) × ((r : AnyPoolError) × (worked ≡ Err r) × (f ≡ pool_fault r)))) }
+{
+    match (obeyed, worked) {
+        (Ok(()) | Err(Fault::Keeper(KeeperError::NotPassed(_))), Err(refusal)) => {
+            Err(fault_of(refusal))
+        }
+        (obeyed, _) => obeyed,
+    }
+}
+
+/// The fault for what hindered the tasks.
+fn fault_of(refusal: PoolError) -> Fault
+    ensures { result ≡ pool_fault refusal }
+{
+    match refusal {
+        PoolError::NoCall(vertex, code) => Fault::NoCall(vertex, code),
+        PoolError::Memory | PoolError::Hall(HallError::Memory) => Fault::Memory,
+        PoolError::Hall(HallError::Spent) => Fault::Spent,
+        PoolError::Hall(_) | PoolError::NotAll => Fault::Keeper(KeeperError::Foreign),
+    }
+}

@@ -1,0 +1,90 @@
+//! A keeper at work: with a hall of its own, or beside the workers of a pool.
+ghost use Rattle.std.specs.Prelude.{◌≡◌, ◌↔◌, false};
+ghost use Rattle.td_keeper.specs.Keeping.{Keeping};
+ghost use Rattle.td_keeper.specs.declared.command.Reply.TheVariants.{Out};
+ghost use Rattle.td_keeper.specs.Driven.{needs_hall, Releases, Settles, Collects, HandsOut, Cuts, Obeys, IsTold, released, settled, collected, cut};
+
+use crate::command::{Command, Reply};
+use crate::keeper::Keeper;
+use crate::laws::{each_disk_holds, each_is_kept};
+use td_calls::Law;
+use td_disk::Disk;
+use td_stamp::EpochOut;
+use td_standing::{KeeperError, laws};
+
+/// A keeper, and a hall that works on its epochs: one of its own (`Engine`), or that of a pool, which others lend it. It is told
+/// commands, one after another, and replies to each.
+pub trait Obey<D: Disk, L: Law, R> {
+    /// What contracts see of the keeper.
+    ghost keeping: { Self → Keeping D };
+
+    /// The keeper, to read.
+    fn keeper(&self) -> &Keeper<D, L>
+        ensures { result.now ≡ keeping self.now };
+
+    /// Allows the tasks of so many epochs more to be run.
+    fn allow(&mut self, epochs: u64)
+        ensures { keeping self.new ≡ keeping self.old };
+
+    /// Releases into the hall the epochs on the journal that it lacks, and answers how many these are.
+    fn release(&mut self, rt: &R) -> Result<u64, KeeperError>
+        ensures { Releases D.is_lawful D.state D.failures L.answers (released result) (keeping self.old) (keeping self.new) };
+
+    /// Lets every epoch pass that was released. Refusal: `NotPassed` of the first that has not, where no more tasks are run.
+    fn settle(&mut self, rt: &R) -> Result<(), KeeperError>
+        ensures { Settles D.is_lawful D.state D.failures L.answers (settled result) (keeping self.old) (keeping self.new) };
+
+    /// Brings into the queue what has come to the outputs of the hall for epochs that have passed, and answers for how many epochs.
+    fn collect(&mut self, rt: &R) -> Result<u64, KeeperError>
+        ensures { Collects D.is_lawful D.state D.failures L.answers (collected result) (keeping self.old) (keeping self.new) };
+
+    /// Cuts the hall, and answers at which epoch: the cut waits to be written.
+    fn cut(&mut self, rt: &R) -> Result<u64, KeeperError>
+        ensures { Cuts D.is_lawful D.state D.failures L.answers (cut result) (keeping self.old) (keeping self.new) };
+
+    /// Hands out the outputs of the first epoch of those that were collected and not yet handed out; None where there is none.
+    fn next_out(&mut self) -> Option<EpochOut>
+        ensures { HandsOut D.is_lawful D.state D.failures L.answers (Out result) (keeping self.old) (keeping self.new) };
+
+    /// Obeys a command for which the keeper needs no hall.
+    fn obey_without_hall(&mut self, command: Command) -> Reply
+        requires { needs_hall command ≡ false }
+        ensures obeyed { Obeys D.is_lawful D.state D.failures L.answers command result (keeping self.old) (keeping self.new) }
+        ensures size { D.capacity (keeping self.new).device ≡ D.capacity (keeping self.old).device }
+        ensures lawful { D.is_lawful (keeping self.old).device ↔ D.is_lawful (keeping self.new).device };
+
+    /// Obeys one command.
+    final fn obey(&mut self, rt: &R, command: Command) -> Reply
+        ensures obeyed { Obeys D.is_lawful D.state D.failures L.answers command result (keeping self.old) (keeping self.new) }
+        ensures size { D.capacity (keeping self.new).device ≡ D.capacity (keeping self.old).device }
+        ensures lawful { D.is_lawful (keeping self.old).device ↔ D.is_lawful (keeping self.new).device }
+    {
+        match command {
+            Command::Release => Reply::of_release(self.release(rt)),
+            Command::Settle => Reply::of_settle(self.settle(rt)),
+            Command::Collect => Reply::of_collect(self.collect(rt)),
+            Command::Cut => Reply::of_cut(self.cut(rt)),
+            other => self.obey_without_hall(other),
+        }
+    }
+}
+
+/// Tells a keeper at work one command, and answers its reply, with all that is known of the two.
+pub fn tell_one<D: Disk, L: Law, R, E: Obey<D, L, R>>(
+    rt: &R,
+    engine: &mut E,
+    command: Command,
+) -> Reply
+    ensures told { IsTold D.is_lawful D.state D.failures L.answers command result (E.keeping engine.old) (E.keeping engine.new) }
+    ensures size { D.capacity (E.keeping engine.new).device ≡ D.capacity (E.keeping engine.old).device }
+    ensures lawful { D.is_lawful (E.keeping engine.old).device ↔ D.is_lawful (E.keeping engine.new).device }
+{
+    laws::told_in_parts();
+    laws::standings_advance::<L>();
+    laws::advances_join::<L>();
+    each_is_kept(engine.keeper());
+    each_disk_holds(engine.keeper());
+    let reply = engine.obey(rt, command);
+    each_is_kept(engine.keeper());
+    reply
+}
