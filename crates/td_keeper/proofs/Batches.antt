@@ -77,7 +77,7 @@ module _ {D : Type 0} (answers : Answers) (k : Keeping D) (keeping : IsKeeping k
   pub lacks : batches_of (drop (k.base - k.standing.epoch + length S.batches) k.standing.submitted) ≡ lacking k S
   lacks = sym (drop-map (λ s. s.batch) (k.base - k.standing.epoch + length S.batches) k.standing.submitted) ∙ sym (drop-drop (length S.batches) (k.base - k.standing.epoch) (batches_of k.standing.submitted))
 
-  left : lacking k S ≡ own.batches.0
+  pub left : lacking k S ≡ own.batches.0
   left = ap (drop (length S.batches)) own.batches.1 ∙ drop_at S.batches own.batches.0 (length S.batches) refl
 
   pub has_few : k.base - k.standing.epoch + length S.batches ≤ length k.standing.submitted

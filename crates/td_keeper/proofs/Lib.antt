@@ -5,6 +5,7 @@ mod Beginning
 mod Collecting
 mod Cutting
 mod Kept
+mod Owning
 mod Releasing
 mod Rows
 mod Runs

@@ -1,16 +1,18 @@
 -- A hall that is a keeper's stays the keeper's own, whatever the keeper does.
-use Rattle.std.proofs.Common.{◌≡◌, ℕ, ◌+◌, ◌-◌, ◌^◌, ◌≤◌, ◌<◌, Bool, true, false, List, [], ◌∷◌, ◌++◌, map, take, drop, length, refl, sym, ap, ◌∙◌, subst, arith}
-use Rattle.std.proofs.lemmas.List.{append_assoc, append-nil, length-map, length-append, length-take, map-append, drop-append-le, drop-drop, drop-map}
+use Rattle.std.proofs.Common.{◌≡◌, ◌⊎◌, ⊎_elim, ℕ, ◌+◌, ◌-◌, ◌≤◌, Bool, true, false, List, [], ◌∷◌, ◌++◌, drop, length, refl, sym, ap, ◌∙◌, subst, arith}
+use Rattle.std.proofs.lemmas.List.{append_assoc, length-map, length-append, map-append, drop-append-le, drop-drop, drop-map}
 use Rattle.td_stamp.specs.declared.values.Entry.{Entry}
-use Rattle.td_stamp.specs.States.{StateList}
-use Rattle.td_plan.specs.Lines.{Line}
 use Rattle.td_calls.specs.Answers.{Answers}
 use Rattle.td_journal.specs.declared.submitted.Submitted.{Submitted}
 use Rattle.td_machine.specs.State.{HallState}
 use Rattle.td_machine.specs.Active.{has_passed}
 use Rattle.td_machine.specs.Steps.{opened, cut_to, cut_at_by}
 use Rattle.td_machine.specs.Sound.{Sound}
-use Rattle.td_standing.specs.Standing.{batches_of, with_more, cut_at}
+use Rattle.td_core.specs.Drained.{IsKept}
+use Rattle.td_standing.specs.Standing.{batches_of, submission}
+use Rattle.td_keeper.specs.declared.receipt.Receipt.{Receipt}
+use Rattle.td_keeper.specs.declared.receipt.Receipt.TheVariants.{New, Already}
+use Rattle.td_keeper.specs.Received.{IsReceived}
 use Rattle.td_keeper.specs.Keeping.{Keeping, IsKeeping, since_base, with_epochs, with_group, with_checkpoint}
 use Rattle.td_keeper.specs.Halls.{IsOwn, StaysOwn, IsAtHome, lacking, with_released, with_collected, with_cut, collected_hall, cut_hall, last_passed}
 use Rattle.td_keeper.proofs.Releasing.{has_released}
@@ -42,16 +44,16 @@ module _ {D : Type 0} (k : Keeping D) (S : HallState) (own : IsOwn k S) where
       let then = has_released S xs unclosed (omega (arith, short, many, numbers)) in
       record {
         own = record {
-            plan = then.plan ∙ own.plan;
-            base = then.base ∙ own.base;
-            base_states = then.base_states ∙ own.base_states;
-            collected = then.collected ∙ own.collected;
-            batches = (
-              rest,
-              own.batches.1 ∙ (ap (λ l. S.batches ++ l) (sym (left answers k keeping S own sound) ∙ is)
-                  ∙ (sym (append_assoc S.batches xs rest) ∙ ap (λ l. l ++ rest) (sym then.batches))),
-            );
-          };
+          plan = then.plan ∙ own.plan;
+          base = then.base ∙ own.base;
+          base_states = then.base_states ∙ own.base_states;
+          collected = then.collected ∙ own.collected;
+          batches = (
+            rest,
+            own.batches.1 ∙ (ap (λ l. S.batches ++ l) (sym (left answers k keeping S own sound) ∙ is)
+                ∙ (sym (append_assoc S.batches xs rest) ∙ ap (λ l. l ++ rest) (sym then.batches))),
+          );
+        };
         closed = then.closed;
         workers = then.workers;
         out = then.out;
@@ -96,6 +98,19 @@ module _ {D : Type 0} (k : Keeping D) (S : HallState) (own : IsOwn k S) where
   -- the device is another, and failed or not; the cut waits or not
   pub own_aside : (device : D) (broken waiting : Bool) → IsOwn (record k { device = device; broken = broken; waiting = waiting }) S
   own_aside device broken waiting = record { plan = own.plan; base = own.base; base_states = own.base_states; collected = own.collected; batches = own.batches }
+
+  -- a submit that was refused
+  pub own_refused : (l : Keeping D) (d : D) (P Q : Type 0) → (l ≡ k) ⊎ (P × (l ≡ record k { device = d })) ⊎ (Q × (l ≡ record k { device = d; broken = true })) → IsOwn l S
+  own_refused l d P Q is =
+      ⊎_elim (λ same. subst (λ (q : Keeping D). IsOwn q S) (sym same) own)
+      (λ other. ⊎_elim
+      (λ memory. subst (λ (q : Keeping D). IsOwn q S) (sym memory.1) (own_aside d k.broken k.waiting))
+      (λ device. subst (λ (q : Keeping D). IsOwn q S) (sym device.1) (own_aside d true k.waiting)) other) is
+
+  -- a request that was answered
+  pub own_received : (answers : Answers) → IsKeeping k answers → (request : ℕ) (batch : List Entry) (receipt : Receipt) (l : Keeping D) → IsReceived request batch receipt k l → IsOwn l S
+  own_received answers keeping request batch (New epoch) l r = subst (λ (q : Keeping D). IsOwn q S) (sym r.2) (own_more answers keeping l.device (submission request batch ∷ []))
+  own_received answers keeping request batch (Already last) l r = subst (λ (q : Keeping D). IsOwn q S) (sym r.2) own
 
   -- A CUT is the base of both
   module _ (last : ℕ) (after : S.base ≤ last) (few : last - S.base ≤ length S.batches) (down : k.standing.epoch ≤ k.base) where
@@ -147,3 +162,18 @@ stays_home k l S T home stays = record { own = stays.own; not_closed = stays.clo
 
 pub own_home : {D : Type 0} (k l : Keeping D) (S : HallState) → IsAtHome k S → IsOwn l S → IsAtHome l S
 own_home k l S home own = record { own = own; not_closed = home.not_closed; alone = home.alone; none_out = home.none_out }
+
+-- takes and gives leave it at home
+pub kept_home : {D : Type 0} (k : Keeping D) (S T : HallState) → IsAtHome k S → IsKept S T → T.out ≡ [] → IsAtHome k T
+kept_home k S T home kept none = record {
+  own = record {
+    plan = kept.plan ∙ home.own.plan;
+    base = kept.base ∙ home.own.base;
+    base_states = kept.base_states ∙ home.own.base_states;
+    collected = kept.collected ∙ home.own.collected;
+    batches = (home.own.batches.0, home.own.batches.1 ∙ ap (λ l. l ++ home.own.batches.0) (sym kept.batches));
+  };
+  not_closed = kept.closed ∙ home.not_closed;
+  alone = kept.workers ∙ home.alone;
+  none_out = none;
+}

@@ -17,7 +17,7 @@ use Rattle.td_standing.specs.declared.error.KeeperError.{KeeperError}
 use Rattle.td_standing.specs.declared.error.KeeperError.TheVariants.{Foreign, NotPassed, TooManyKeys, Broken, Device, Memory, OldVersion}
 use Rattle.td_journal.specs.declared.submitted.Submitted.{Submitted as AnySubmitted}
 use Rattle.td_standing.specs.Standing.{last_epoch, batches_of, submission}
-use Rattle.td_standing.specs.Advanced.{AdvancesSince}
+use Rattle.td_standing.specs.Advanced.{AdvancesSince, SinceAdvance}
 use Rattle.td_keeper.specs.declared.receipt.Receipt.{Receipt}
 use Rattle.td_keeper.specs.declared.receipt.Receipt.TheVariants.{New}
 use Rattle.td_keeper.specs.declared.command.Command.{Command}
@@ -77,6 +77,14 @@ may_write (SubmitAll group) = true
 may_write WriteCut = true
 may_write (CloseFree most) = true
 may_write _ = false
+
+-- whether the keeper needs a hall to obey it
+abbrev pub needs_hall : Command → Bool
+needs_hall Release = true
+needs_hall Settle = true
+needs_hall Collect = true
+needs_hall Cut = true
+needs_hall _ = false
 
 -- WHAT A COMMAND SUBMITTED, by its reply: its batch or its group, where it was acknowledged, or where the device failed in it; not
 -- a request that was there already
@@ -319,6 +327,19 @@ module _ {D : Type 0} (is_lawful : D → Type 0) (state : D → DiskState) (fail
   Driven [] (reply ∷ replies) old new = ⊥
   Driven (command ∷ commands) [] old new = ⊥
   Driven (command ∷ commands) (reply ∷ replies) old new = (mid : Keeping D) × IsKeeping mid answers × Obeys command reply old mid × Driven commands replies mid new
+
+  -- ONE COMMAND AND ITS REPLY, of a keeper whose memory is right. The device failed in it exactly where the reply says so. In each image
+  -- since its start, and since an earlier moment, the disk tells an advance of the standing with what it submitted
+  pub record IsTold (command : Command) (reply : Reply) (old new : Keeping D) : Type 0 where
+    pub kept : IsKeeping old answers
+    pub obeyed : Obeys command reply old new
+    pub driven : Driven (command ∷ []) (reply ∷ []) old new
+    pub counted : failures old.device ≤ failures new.device
+    pub fails : is_failed reply ≡ true → Fails old new
+    pub whole : is_failed reply ≡ false → (new.broken ≡ old.broken) × (failures new.device ≡ failures old.device)
+    pub further : is_lawful old.device → old.broken ≡ false → Advances old new (submitted_in command reply)
+    pub images : is_lawful old.device → old.broken ≡ false
+        → SinceAdvance answers old.plan old.standing (submitted_in command reply) (last_epoch old.standing) (state old.device).moment (state new.device)
 
 -- A REPLY ACKNOWLEDGES no epoch beyond the n-th
 abbrev pub AcknowledgesUpTo : ℕ → Reply → Type 0

@@ -1,5 +1,5 @@
 -- A keeper and a hall.
-use Rattle.std.specs.Prelude.{◌≡◌, ℕ, ◌+◌, ◌-◌, true, List, [], ◌∷◌, ◌++◌, length, take, drop, Option, Some, None}
+use Rattle.std.specs.Prelude.{◌≡◌, ℕ, ◌+◌, ◌-◌, true, false, List, [], ◌∷◌, ◌++◌, length, take, drop, Option, Some, None}
 use Rattle.td_stamp.specs.declared.values.Entry.{Entry}
 use Rattle.td_stamp.specs.declared.epoch_out.EpochOut.{EpochOut}
 use Rattle.td_plan.specs.Tree.{tree_of}
@@ -25,6 +25,13 @@ module _ {D : Type 0} (k : Keeping D) where
     pub base_states : S.base_states ≡ k.base_states
     pub collected : S.collected ≡ k.collected
     pub batches : Begin S.batches (since_base k)
+
+  -- it stays one, whatever else was released into it, collected of it or cut; no task was taken, given or lost, and it is no more closed
+  pub record StaysOwn (S T : HallState) : Type 0 where
+    pub own : IsOwn T
+    pub closed : T.closed ≡ S.closed
+    pub workers : T.workers ≡ S.workers
+    pub out : T.out ≡ S.out
 
   -- the batches that such a hall lacks
   abbrev pub lacking : HallState → List (List Entry)
@@ -66,3 +73,10 @@ last_passed S = before_unpassed S.next (unpassed S)
 -- a hall after it was cut there
 abbrev pub cut_hall : HallState → HallState
 cut_hall S = (cut_at_by S (has_passed S (last_passed S)) (last_passed S)).1
+
+-- AN ENGINE'S HALL: the keeper's own, open, with one shard, and no task of it is out
+pub record IsAtHome {D : Type 0} (k : Keeping D) (S : HallState) : Type 0 where
+  pub own : IsOwn k S
+  pub not_closed : S.closed ≡ false
+  pub alone : S.workers ≡ 1
+  pub none_out : S.out ≡ []

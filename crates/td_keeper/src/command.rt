@@ -1,4 +1,7 @@
-//! What a keeper is told to do beside workers, and what it replies.
+//! What a keeper is told to do, and what it replies.
+ghost use Rattle.std.specs.Prelude.{◌≡◌};
+ghost use Rattle.td_keeper.specs.Driven.{released, settled, collected, cut};
+
 use crate::group::{Group, GroupError};
 use crate::receipt::Receipt;
 use td_stamp::{Batch, EpochOut};
@@ -62,4 +65,46 @@ pub enum Reply {
         error: GroupError,
         group: Group,
     },
+}
+
+impl Reply {
+    /// The reply to `Release`.
+    pub(crate) fn of_release(outcome: Result<u64, KeeperError>) -> Reply
+        ensures { result ≡ released outcome }
+    {
+        match outcome {
+            Ok(count) => Reply::Released(count),
+            Err(error) => Reply::Refused { error, batch: None },
+        }
+    }
+
+    /// The reply to `Settle`.
+    pub(crate) fn of_settle(outcome: Result<(), KeeperError>) -> Reply
+        ensures { result ≡ settled outcome }
+    {
+        match outcome {
+            Ok(()) => Reply::Settled,
+            Err(error) => Reply::Refused { error, batch: None },
+        }
+    }
+
+    /// The reply to `Collect`.
+    pub(crate) fn of_collect(outcome: Result<u64, KeeperError>) -> Reply
+        ensures { result ≡ collected outcome }
+    {
+        match outcome {
+            Ok(count) => Reply::Collected(count),
+            Err(error) => Reply::Refused { error, batch: None },
+        }
+    }
+
+    /// The reply to `Cut`.
+    pub(crate) fn of_cut(outcome: Result<u64, KeeperError>) -> Reply
+        ensures { result ≡ cut outcome }
+    {
+        match outcome {
+            Ok(epoch) => Reply::CutTaken(epoch),
+            Err(error) => Reply::Refused { error, batch: None },
+        }
+    }
 }

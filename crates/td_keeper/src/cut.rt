@@ -7,7 +7,7 @@ ghost use Rattle.td_machine.specs.Reached.{IsReached};
 ghost use Rattle.td_machine.specs.Sound.{outs_by};
 ghost use Rattle.td_standing.specs.Standing.{batches_of};
 ghost use Rattle.td_keeper.specs.Refused.{cut_refusal};
-ghost use Rattle.td_keeper.specs.Halls.{IsOwn, with_collected, with_cut, collected_hall, cut_hall, last_passed, meant_outs};
+ghost use Rattle.td_keeper.specs.Halls.{IsOwn, StaysOwn, with_collected, with_cut, collected_hall, cut_hall, last_passed, meant_outs};
 ghost use Rattle.td_standing.specs.declared.error.KeeperError.TheVariants.{Foreign, Memory};
 
 use crate::keeper::{Keeper, Taken};
@@ -67,9 +67,32 @@ impl<D: Disk, L: Law> Keeper<D, L> {
         run_joins::<L>();
         base_has_passed::<L>();
         each_is_sound(hall);
-        if !self.owns(hall) {
-            return Err(KeeperError::Foreign);
+        if self.owns(hall) {
+            self.cut_own(hall)
+        } else {
+            Err(KeeperError::Foreign)
         }
+    }
+
+    /// As `cut`, of a hall that is known to be this keeper's, and is so after it too. Refusals: `NotPassed`, `CutWaiting` and `Memory`.
+    pub(crate) fn cut_own<H: AnyHall<L>>(&mut self, hall: &mut H) -> Result<u64, KeeperError>
+        requires { IsOwn self.old (H.state hall.old) }
+        ensures accepted { IfOk result (λ _. cut_refusal self.old (H.state hall.old) ≡ None) }
+        ensures cut { IfOk result (λ epoch. (epoch ≡ last_passed (H.state hall.old)) × (H.state hall.new ≡ cut_hall (collected_hall (H.state hall.old)))
+            × (self.new ≡ with_cut (with_collected self.old (H.state hall.old)) (H.state hall.new))) }
+        ensures base { IfOk result (λ epoch. self.new.base ≡ epoch) }
+        ensures meaning { IfOk result (λ epoch. self.new.base_states ≡ states_after L.answers (tree_of self.old.plan) self.old.standing.states (batches_of self.old.standing.submitted) (epoch - self.old.standing.epoch)) }
+        ensures refused { IfErr result (λ e. (cut_refusal self.old (H.state hall.old) ≡ Some e) ⊎ (e ≡ Memory)) }
+        ensures collected { IfErr result (λ e. ((e ≡ Memory) × (self.new ≡ self.old) × (H.state hall.new ≡ H.state hall.old))
+            ⊎ ((self.new ≡ with_collected self.old (H.state hall.old)) × (H.state hall.new ≡ collected_hall (H.state hall.old)))) }
+
+        // What is brought into the queue before is the batch meaning's.
+        ensures outs { outs_by (collect_step (H.state hall.old)).0 ≡ meant_outs self.old L.answers self.old.collected (collect_step (H.state hall.old)).1.collected }
+        ensures stays { StaysOwn self.new (H.state hall.old) (H.state hall.new) }
+    {
+        run_joins::<L>();
+        base_has_passed::<L>();
+        each_is_sound(hall);
         self.collects_what_is_meant(hall);
         self.bring_in(hall)?;
         each_is_sound(hall);

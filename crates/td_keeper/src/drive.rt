@@ -1,10 +1,12 @@
 //! A keeper beside the workers of a pool.
 ghost use Rattle.std.specs.Prelude.{◌≡◌, ◌↔◌, ◌≤◌, true, false, IfOk, IfErr};
 ghost use Rattle.td_disk.specs.Disk.{Rises};
+ghost use Rattle.td_machine.specs.State.{HallState};
 ghost use Rattle.td_standing.specs.Standing.{last_epoch, last_request};
 ghost use Rattle.td_standing.specs.Advanced.{SinceAdvance};
 ghost use Rattle.td_keeper.specs.Keeping.{IsKeeping};
-ghost use Rattle.td_keeper.specs.Driven.{submitted_by, handed_out, some_failed, HandsOn, Advances, Obeys, Driven};
+ghost use Rattle.td_keeper.specs.Halls.{IsOwn};
+ghost use Rattle.td_keeper.specs.Driven.{submitted_by, handed_out, some_failed, needs_hall, HandsOn, Advances, Obeys, Driven};
 ghost use Rattle.td_standing.specs.declared.error.KeeperError.TheVariants.{Memory};
 
 use crate::command::{Command, Reply};
@@ -78,12 +80,30 @@ impl<D: Disk, L: Law> Keeper<D, L> {
         Ok(replies)
     }
 
-    /// Obeys one command.
+    /// Obeys one command, beside workers of a pool.
     fn obey<K: Crew, R: Wait>(&mut self, rt: &R, pool: &Pool<K, L>, command: Command) -> Reply
         ensures obeyed { Obeys D.is_lawful D.state D.failures L.answers command result self.old self.new }
         ensures size { D.capacity self.new.device ≡ D.capacity self.old.device }
         ensures lawful { D.is_lawful self.old.device ↔ D.is_lawful self.new.device }
     {
+        match command {
+            Command::Release => Reply::of_release(self.release_in(rt, pool)),
+            Command::Settle => Reply::of_settle(self.settle_in(rt, pool)),
+            Command::Collect => Reply::of_collect(self.collect_in(rt, pool)),
+            Command::Cut => Reply::of_cut(self.cut_in(rt, pool)),
+            other => self.obey_without_hall(other),
+        }
+    }
+
+    /// Obeys a command for which it needs no hall, as the call of that name does. A hall that was this keeper's own is so after it.
+    pub fn obey_without_hall(&mut self, command: Command) -> Reply
+        requires { needs_hall command ≡ false }
+        ensures obeyed { Obeys D.is_lawful D.state D.failures L.answers command result self.old self.new }
+        ensures size { D.capacity self.new.device ≡ D.capacity self.old.device }
+        ensures lawful { D.is_lawful self.old.device ↔ D.is_lawful self.new.device }
+        ensures own { (S : HallState) → IsOwn self.old S → IsOwn self.new S }
+    {
+        each_is_kept(self);
         match command {
             Command::Submit(batch) => match self.submit(batch) {
                 Ok(epoch) => Reply::Submitted(epoch),
@@ -97,23 +117,7 @@ impl<D: Disk, L: Law> Keeper<D, L> {
                 Ok(first) => Reply::SubmittedAll(first, self.last_epoch() + 1),
                 Err((error, group)) => Reply::RefusedAll { error, group },
             },
-            Command::Release => match self.release_in(rt, pool) {
-                Ok(count) => Reply::Released(count),
-                Err(error) => refused(error, None),
-            },
-            Command::Settle => match self.settle_in(rt, pool) {
-                Ok(()) => Reply::Settled,
-                Err(error) => refused(error, None),
-            },
-            Command::Collect => match self.collect_in(rt, pool) {
-                Ok(count) => Reply::Collected(count),
-                Err(error) => refused(error, None),
-            },
             Command::NextOut => Reply::Out(self.next_out()),
-            Command::Cut => match self.cut_in(rt, pool) {
-                Ok(epoch) => Reply::CutTaken(epoch),
-                Err(error) => refused(error, None),
-            },
             Command::WriteCut => match self.write_cut() {
                 Ok(epoch) => Reply::Written(epoch),
                 Err(error) => refused(error, None),
@@ -122,6 +126,7 @@ impl<D: Disk, L: Law> Keeper<D, L> {
                 Ok(()) => Reply::Closed,
                 Err(error) => refused(error, None),
             },
+            Command::Release | Command::Settle | Command::Collect | Command::Cut => unreachable!(),
         }
     }
 }

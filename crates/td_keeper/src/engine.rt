@@ -80,7 +80,7 @@ impl<'a, D: Disk, L: Law, C: Closures<L>> Engine<'a, D, L, C> {
 
     /// The keeper, and why a task was not run, where one was refused.
     pub fn into_keeper(self) -> (Keeper<D, L>, Option<HallError>)
-        ensures { result.0 ≡ self }
+        ensures { result.0 ≡ self.entry }
     {
         let Engine {
             keeper,

@@ -13,6 +13,7 @@ ghost use Rattle.td_keeper.specs.Acknowledged.{acknowledged_by, outs_of, HandsOu
 ghost use Rattle.td_keeper.specs.Driven.{may_write, submitted_by, handed_out, HandsOn, Advances, AcknowledgesUpTo, Obeys, Driven, Rests};
 
 use crate::keeper::Keeper;
+use crate::obey::Obey;
 use td_calls::Law;
 use td_disk::Disk;
 use td_standing::laws;
@@ -24,6 +25,13 @@ pub fn each_is_kept<D: Disk, L: Law>(keeper: &Keeper<D, L>)
 {
     // Read for its contract alone.
     let _collected = keeper.collected;
+}
+
+/// So does each that is at work.
+pub fn each_at_work_is_kept<D: Disk, L: Law, R, E: Obey<D, L, R>>(engine: &E)
+    ensures { IsKeeping (E.keeping engine.now) L.answers }
+{
+    each_is_kept(engine.keeper());
 }
 
 /// And a lawful disk of each keeper holds what it stands for, image by image; after a fault of the device in a call that writes,

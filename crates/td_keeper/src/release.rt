@@ -5,7 +5,7 @@ ghost use Rattle.td_standing.specs.Standing.{batches_of};
 ghost use Rattle.td_standing.specs.Told.{inputs_of};
 ghost use Rattle.td_machine.specs.Reached.{IsReached};
 ghost use Rattle.td_keeper.specs.Keeping.{since_base};
-ghost use Rattle.td_keeper.specs.Halls.{IsOwn, lacking, with_released};
+ghost use Rattle.td_keeper.specs.Halls.{IsOwn, StaysOwn, lacking, with_released};
 ghost use Rattle.td_standing.specs.declared.error.KeeperError.TheVariants.{Foreign, Memory};
 
 use crate::keeper::Keeper;
@@ -53,6 +53,21 @@ impl<D: Disk, L: Law> Keeper<D, L> {
         if hall.hall().is_closed() || !self.owns(hall) {
             return Err(KeeperError::Foreign);
         }
+        self.release_own(hall)
+    }
+
+    /// As `release`, of an open hall that is known to be this keeper's. Nothing is compared, so it costs what is new; and it is this
+    /// keeper's after it too, also at a refusal. Refusal: `Memory`.
+    pub(crate) fn release_own<H: AnyHall<L>>(&self, hall: &mut H) -> Result<u64, KeeperError>
+        requires own { IsOwn self.now (H.state hall.old) }
+        requires not_closed { (H.state hall.old).closed ≡ false }
+        ensures released { IfOk result (λ n. (n ≡ length (lacking self.now (H.state hall.old))) × (H.state hall.new ≡ with_released (H.state hall.old) (lacking self.now (H.state hall.old)))) }
+        ensures all { IfOk result (λ _. (H.state hall.new).batches ≡ since_base self.now) }
+        ensures memory { IfErr result (λ e. e ≡ Memory) }
+        ensures some { IfErr result (λ e. (n : ℕ) × (H.state hall.new ≡ with_released (H.state hall.old) (take n (lacking self.now (H.state hall.old))))) }
+        ensures stays { StaysOwn self.now (H.state hall.old) (H.state hall.new) }
+    {
+        each_is_sound(hall);
         let submitted = &self.submitted;
         let has = self.past() + hall.hall().inputs().len();
         release_after::<L, H>(hall, submitted, has)

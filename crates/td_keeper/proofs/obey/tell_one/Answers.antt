@@ -1,4 +1,4 @@
-use Rattle.std.proofs.Common.{◌≡◌, List, [], ◌∷◌, ◌++◌, ◌||◌, Bool, true, false, refl, sym, ap, ◌∙◌, subst}
+use Rattle.std.proofs.Common.{◌≡◌, List, [], ◌∷◌, ◌++◌, ◌||◌, Bool, true, false, refl, ◌∙◌, subst}
 use Rattle.std.proofs.lemmas.List.{append-nil}
 use Rattle.td_plan.specs.Tree.{tree_of}
 use Rattle.td_journal.specs.declared.submitted.Submitted.{Submitted}
@@ -6,7 +6,7 @@ use Rattle.td_keeper.specs.declared.command.Command.{Command}
 use Rattle.td_keeper.specs.declared.command.Reply.{Reply}
 use Rattle.td_keeper.specs.Keeping.{Keeping, IsKeeping}
 use Rattle.td_standing.specs.Advanced.{HeldWhere}
-use Rattle.td_keeper.specs.Driven.{submitted_in, is_failed, some_failed, Advances, Obeys, Driven}
+use Rattle.td_keeper.specs.Driven.{submitted_in, is_failed, Advances, Driven}
 use Rattle.td_keeper.proofs.Driving.{driven_advances}
 use Rattle.td_keeper.proofs.Failing.{driven_counted, driven_failed, driven_whole}
 use Rattle.td_keeper.proofs.Since.{from_start}
@@ -35,8 +35,8 @@ returns-clause-told g c =
     let none : submitted_in command reply ++ [] ≡ submitted_in command reply = append-nil (submitted_in command reply) in
     let join = c.advances_join.ensures in
     let further = λ (lawful : is_lawful old.device) (whole : old.broken ≡ false).
-        subst (λ (x : List Submitted). Advances is_lawful state failures answers old new x) none
-        (driven_advances is_lawful state failures answers join.submitted join.cut join.later join.last (command ∷ []) (reply ∷ []) old new kept driven lawful whole) in
+    subst (λ (x : List Submitted). Advances is_lawful state failures answers old new x) none
+    (driven_advances is_lawful state failures answers join.submitted join.cut join.later join.last (command ∷ []) (reply ∷ []) old new kept driven lawful whole) in
     record {
       kept = kept;
       obeyed = c.obey-reply.ensures.obeyed;

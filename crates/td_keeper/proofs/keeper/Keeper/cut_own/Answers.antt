@@ -1,4 +1,4 @@
-use Rattle.std.proofs.Common.{◌≡◌, ◌≤◌, ◌-◌, true, sym, ap, ◌∙◌, subst, inl, inr, arith}
+use Rattle.std.proofs.Common.{◌≡◌, ◌≤◌, ◌-◌, true, sym, ap, ◌∙◌, subst, inl, arith, rules}
 use Rattle.td_plan.specs.Tree.{tree_of}
 use Rattle.td_batch.specs.Meaning.{states_after}
 use Rattle.td_standing.specs.Standing.{batches_of}
@@ -7,8 +7,9 @@ use Rattle.td_machine.specs.Active.{has_passed}
 use Rattle.td_machine.specs.Steps.{cut_at_by}
 use Rattle.td_keeper.specs.Keeping.{Keeping, IsKeeping, keeping_of}
 use Rattle.td_keeper.specs.Refused.{cut_refusal}
-use Rattle.td_keeper.specs.Halls.{IsOwn, with_collected, cut_hall, last_passed}
+use Rattle.td_keeper.specs.Halls.{IsOwn, StaysOwn, with_collected, with_cut, collected_hall, cut_hall, last_passed}
 use Rattle.td_keeper.proofs.Collecting.{own_after, cut_is, is_last, last_has_passed, cut_right, cut_meaning}
+use Rattle.td_keeper.proofs.Owning.{stays_at, stays_itself, stays_collected, stays_cut, stays_then}
 use Rattle.td_keeper.proofs.keeper.Keeper.cut_own.Goals as goal
 
 pub returns-in-Err-clause-refused : goal.returns-in-Err-clause-refused
@@ -88,13 +89,42 @@ returns-clause-meaning g c =
     ∙ ap (λ (p : Keeping g.row.D.Denot). states_after g.L.Law.answers (tree_of p.plan) p.standing.states (batches_of p.standing.submitted) (c.in-Ok-cut_at_epoch.field-0.epoch - p.standing.epoch)) view
 
 pub returns-in_err-bring_in-clause-stays : goal.returns-in_err-bring_in-clause-stays
-returns-in_err-bring_in-clause-stays g c = ?
+returns-in_err-bring_in-clause-stays g c =
+    let k = c.args.self.now in
+    let S = g.H.AnyHall.state c.args.hall.now in
+    let same = c.in_err-bring_in.ensures.unchanged in
+    stays_at k c.bring_in.new.self S S (g.H.AnyHall.state c.bring_in.new.hall) same.0 same.1 (stays_itself k S c.requires)
 
 pub returns-in-Err-clause-stays : goal.returns-in-Err-clause-stays
-returns-in-Err-clause-stays g c = ?
+returns-in-Err-clause-stays g c =
+    let k = c.args.self.now in
+    let S = g.H.AnyHall.state c.args.hall.now in
+    let now = c.in_ok-bring_in.ensures.collected in
+    stays_at (with_collected k S) c.bring_in.new.self S (collected_hall S) (g.H.AnyHall.state c.bring_in.new.hall) now.0 now.1 (stays_collected k S c.requires)
 
 pub returns-in_default-clause-stays : goal.returns-in_default-clause-stays
-returns-in_default-clause-stays g c = ?
+returns-in_default-clause-stays g c =
+    let k = c.args.self.now in
+    let S = g.H.AnyHall.state c.args.hall.now in
+    let now = c.in_ok-bring_in.ensures.collected in
+    let same : g.H.AnyHall.state c.cut_at_epoch.new.self ≡ g.H.AnyHall.state c.bring_in.new.hall = search rules in
+    stays_at (with_collected k S) c.bring_in.new.self S (collected_hall S) (g.H.AnyHall.state c.cut_at_epoch.new.self) now.0 (same ∙ now.1) (stays_collected k S c.requires)
 
 pub returns-clause-stays : goal.returns-clause-stays
-returns-clause-stays g c = ?
+returns-clause-stays g c =
+    let k = c.args.self.now in
+    let S = g.H.AnyHall.state c.args.hall.now in
+    let l = c.bring_in.new.self in
+    let T = g.H.AnyHall.state c.bring_in.new.hall in
+    let now = c.in_ok-bring_in.ensures.collected in
+    let cut = returns-clause-cut g c in
+    let keeping = subst (λ (q : Keeping g.row.D.Denot). IsKeeping q g.L.Law.answers) c.self.view_is c.self.invariant.1 in
+    let first : StaysOwn l S T = stays_at (with_collected k S) l S (collected_hall S) T now.0 now.1 (stays_collected k S c.requires) in
+    let sound = c.each_is_sound-2.ensures.sound in
+    let passed = c.base_has_passed.ensures T c.each_is_sound-2.ensures.reached in
+    let joins = c.run_joins.ensures in
+    let last = is_last g.L.Law.answers joins.states joins.outs l keeping T first.own sound passed in
+    let second = stays_cut l T first.own g.L.Law.answers keeping sound last (last_has_passed g.L.Law.answers joins.states joins.outs l keeping T first.own sound passed) in
+    let hall = cut.1 ∙ ap cut_hall (sym now.1) in
+    let back = sym now.0 in
+    stays_at (with_cut l (cut_hall T)) _ S (cut_hall T) _ (cut.2 ∙ (λ i. with_cut (back i) (hall i))) hall (stays_then l (with_cut l (cut_hall T)) S T (cut_hall T) first second)

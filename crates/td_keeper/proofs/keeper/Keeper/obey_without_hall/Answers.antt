@@ -1,4 +1,4 @@
-use Rattle.std.proofs.Common.{◌≡◌, ◌∙◌, List, [], ◌∷◌, true, false, sym, ap, ⊎_elim, inl, inr, refl, Some}
+use Rattle.std.proofs.Common.{◌≡◌, ◌+◌, ◌∙◌, List, [], ◌∷◌, true, false, sym, ap, subst, ⊎_elim, inl, inr, refl, Some}
 use Rattle.td_journal.specs.declared.submitted.Submitted.{Submitted}
 use Rattle.td_standing.specs.Standing.{last_epoch, submission}
 use Rattle.td_standing.specs.Advanced.{AdvancesSince}
@@ -7,6 +7,9 @@ use Rattle.td_keeper.proofs.Driving.{refused_in, none_in, received_since}
 use Rattle.std.specs.Prelude.{Option, Result, Ok, Err, ℕ}
 use Rattle.td_standing.specs.declared.error.KeeperError.{KeeperError}
 use Rattle.td_standing.specs.declared.error.KeeperError.TheVariants as error
+use Rattle.td_keeper.specs.Keeping.{Keeping}
+use Rattle.td_keeper.specs.Halls.{IsOwn}
+use Rattle.td_keeper.proofs.Owning.{own_more, own_group, own_written, own_refused, own_received}
 use Rattle.td_keeper.proofs.keeper.Keeper.obey_without_hall.Goals as goal
 
 abbrev as_ok : Option ℕ → Result (Option ℕ) KeeperError
@@ -207,3 +210,45 @@ returns-in-Err-close_free-clause-obeyed g c =
         };
       },
     )
+
+pub returns-in-Ok-submit_all-clause-obeyed : goal.returns-in-Ok-submit_all-clause-obeyed
+returns-in-Ok-submit_all-clause-obeyed g c =
+    let e = c.in-Ok-submit_all.ensures in
+    rw c.in-SubmitAll.is (
+      record { accepted = e.accepted; submitted = e.submitted; first_is = e.acknowledged; end_is = ap (λ n. n + 1) c.last_epoch.ensures },
+      record {
+        counted = e.counted;
+        stays = λ quiet. e.stays;
+        advances = λ lawful. record { lawful = e.lawful.0 lawful; later = e.later lawful; since = λ whole. e.further lawful whole };
+      },
+    )
+
+-- a hall that was the keeper's own is so still
+pub returns-in-Ok-clause-own : goal.returns-in-Ok-clause-own
+returns-in-Ok-clause-own g c = λ S own.
+    subst (λ (q : Keeping g.row.D.Denot). IsOwn q S) (sym c.in-Ok.ensures.submitted)
+    (own_more c.args.self.now S own g.L.Law.answers c.each_is_kept.ensures c.submit.new.self.device (submission 0 c.in-Submit.batch ∷ []))
+
+pub returns-in-Err-clause-own : goal.returns-in-Err-clause-own
+returns-in-Err-clause-own g c = λ S own. own_refused c.args.self.now S own c.submit.new.self c.submit.new.self.device _ _ c.in-Err.ensures.unchanged
+
+pub returns-in-Ok-submit_as-clause-own : goal.returns-in-Ok-submit_as-clause-own
+returns-in-Ok-submit_as-clause-own g c = λ S own.
+    own_received c.args.self.now S own g.L.Law.answers c.each_is_kept.ensures c.in-SubmitAs.request c.in-SubmitAs.batch c.in-Ok-submit_as.receipt c.submit_as.new.self c.in-Ok-submit_as.ensures.received
+
+pub returns-in-Err-submit_as-clause-own : goal.returns-in-Err-submit_as-clause-own
+returns-in-Err-submit_as-clause-own g c = λ S own. own_refused c.args.self.now S own c.submit_as.new.self c.submit_as.new.self.device _ _ c.in-Err-submit_as.ensures.unchanged
+
+pub returns-in-Ok-submit_all-clause-own : goal.returns-in-Ok-submit_all-clause-own
+returns-in-Ok-submit_all-clause-own g c = λ S own.
+    subst (λ (q : Keeping g.row.D.Denot). IsOwn q S) (sym c.in-Ok-submit_all.ensures.submitted)
+    (own_group c.args.self.now S own g.L.Law.answers c.each_is_kept.ensures c.submit_all.new.self.device c.in-SubmitAll.group)
+
+pub returns-in-Err-submit_all-clause-own : goal.returns-in-Err-submit_all-clause-own
+returns-in-Err-submit_all-clause-own g c = λ S own. own_refused c.args.self.now S own c.submit_all.new.self c.submit_all.new.self.device _ _ c.in-Err-submit_all.ensures.unchanged
+
+pub returns-in-Ok-write_cut-clause-own : goal.returns-in-Ok-write_cut-clause-own
+returns-in-Ok-write_cut-clause-own g c = λ S own.
+    let e = c.in-Ok-write_cut.ensures in
+    ⊎_elim (λ none. subst (λ (q : Keeping g.row.D.Denot). IsOwn q S) (sym (e.none_unchanged (ap as_ok none))) own)
+    (λ written. subst (λ (q : Keeping g.row.D.Denot). IsOwn q S) (sym written.1) (own_written c.args.self.now S own g.L.Law.answers c.each_is_kept.ensures c.write_cut.new.self.device)) e.written

@@ -1,9 +1,12 @@
-use Rattle.std.proofs.Common.{◌≡◌, ◌+◌, ◌-◌, Result, Ok, Err, IfOk, IfErr, length, take, drop, sym, ap, ◌∙◌, subst, arith}
-use Rattle.std.proofs.lemmas.List.{length-map}
+use Rattle.std.proofs.Common.{◌≡◌, ℕ, ◌+◌, ◌-◌, Result, Ok, Err, IfOk, IfErr, List, [], length, take, drop, refl, sym, ap, ◌∙◌, subst, arith}
+use Rattle.std.proofs.lemmas.List.{length-map, append-nil, take-append-drop}
+use Rattle.td_stamp.specs.declared.values.Entry.{Entry}
+use Rattle.td_standing.specs.declared.error.KeeperError.{KeeperError}
 use Rattle.td_machine.specs.State.{HallState}
 use Rattle.td_standing.specs.Standing.{batches_of}
 use Rattle.td_keeper.specs.Keeping.{Keeping, IsKeeping}
-use Rattle.td_keeper.specs.Halls.{with_released, lacking}
+use Rattle.td_keeper.specs.Halls.{StaysOwn, with_released, lacking}
+use Rattle.td_keeper.proofs.Owning.{stays_at, stays_released}
 use Rattle.td_keeper.proofs.Batches.{lacks, has_few, has_numbers, all_then}
 use Rattle.td_keeper.proofs.keeper.Keeper.release_own.Goals as goal
 
@@ -70,3 +73,20 @@ returns-clause-some g c =
     let whole : batches_of (drop (c.past.result + c.len.result) c.self.inside.submitted.items) ≡ lacking c.args.self.now (g.H.AnyHall.state c.args.hall.now) =
     (λ i. batches_of (drop (place i) (same i))) ∙ lacks g.L.Law.answers c.args.self.now keeping (g.H.AnyHall.state c.args.hall.now) c.requires.own c.each_is_sound.ensures.sound in
     if_err c.release_after.result (λ e h. (h.0, h.1 ∙ ap (λ l. with_released (g.H.AnyHall.state c.args.hall.now) (take h.0 l)) whole)) c.release_after.ensures.some
+
+module _ {D : Type 0} (k : Keeping D) (S T : HallState) (xs : List (List Entry)) where
+  stays_after : (r : Result ℕ KeeperError) → IfOk r (λ n. (n ≡ length xs) × (T ≡ with_released S xs)) → IfErr r (λ e. (n : ℕ) × (T ≡ with_released S (take n xs)))
+      → StaysOwn k S (with_released S xs) → ((n : ℕ) → StaysOwn k S (with_released S (take n xs))) → StaysOwn k S T
+  stays_after (Ok n) ok err all some = stays_at k k S (with_released S xs) T refl ok.1 all
+  stays_after (Err e) ok err all some = stays_at k k S (with_released S (take err.0 xs)) T refl err.1 (some err.0)
+
+pub returns-clause-stays : goal.returns-clause-stays
+returns-clause-stays g c =
+    let k = c.args.self.now in
+    let S = g.H.AnyHall.state c.args.hall.now in
+    let lack = lacking k S in
+    let keeping = subst (λ (q : Keeping g.row.D.Denot). IsKeeping q g.L.Law.answers) c.self.view_is c.self.invariant.1 in
+    let stays = stays_released k S c.requires.own g.L.Law.answers keeping c.each_is_sound.ensures.sound c.requires.not_closed in
+    stays_after k S (g.H.AnyHall.state c.release_after.new.hall) lack c.release_after.result (returns-clause-released g c) (returns-clause-some g c)
+    (stays lack [] (sym (append-nil lack)))
+    (λ n. stays (take n lack) (drop n lack) (sym (take-append-drop n lack)))
