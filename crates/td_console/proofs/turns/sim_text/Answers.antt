@@ -1,13 +1,15 @@
-use Rattle.std.proofs.Common.{◌≡◌, ◌++◌, [], None, ap, sym, ◌∙◌, subst, arith, length}
+use Rattle.std.proofs.Common.{◌≡◌, ◌⊎◌, ◌++◌, [], None, ap, sym, ◌∙◌, subst, arith, length}
 use Rattle.std.specs.Prelude.{string_bytes}
 use Rattle.td_plan.specs.Blocks.{vertices}
 use Rattle.td_plan.specs.Tree.{tree_of}
 use Rattle.td_calls.specs.Fits.{first_lack}
 use Rattle.td_batch.specs.Meaning.{run, numbered}
 use Rattle.td_machine.specs.Steps.{opened}
+use Rattle.td_console.specs.declared.faults.Fault.TheVariants.{Memory, Spent}
 use Rattle.td_console.specs.Answer.{output_text}
 use Rattle.td_console.specs.Turns.{Played, notes_of}
 use Rattle.td_console.proofs.Released.{IsReleased, is_released}
+use Rattle.td_console.proofs.OneByOne.{handed_on}
 use Rattle.td_console.proofs.Turning.{all_passed}
 use Rattle.td_console.proofs.turns.sim_text.Goals as goal
 
@@ -62,3 +64,7 @@ returns-clause-ok g c =
           ∙ (λ i. (from_start.written ∙ ap (λ l. l ++ notes_of from_start.turns) c.new-text.ensures.bytes) i
           ++ output_text (numbered 1 (run g.L.Law.answers (tree_of ((kept.plan ∙ facts.plan) i)) ((kept.base_states ∙ facts.base_states) i) ((kept.batches ∙ facts.batches) i)).outs)),
     )
+
+pub returns-in_err-play-clause-err : goal.returns-in_err-play-clause-err
+returns-in_err-play-clause-err g c =
+    handed_on (λ f. (f ≡ Memory) ⊎ (f ≡ Spent)) c.in_err-play.field-0.0 c.from_residual-in_err-play.result c.from_residual-in_err-play.ensures.1 c.in_err-play.ensures.err
