@@ -13,7 +13,7 @@ use Rattle.td_core.specs.declared.error.HallError.TheVariants as hall
 use Rattle.td_pool.specs.declared.error.PoolError.{PoolError}
 use Rattle.td_pool.specs.declared.error.PoolError.TheVariants as pool
 use Rattle.td_console.specs.declared.faults.Fault.{Fault}
-use Rattle.td_console.specs.declared.faults.Fault.TheVariants.{Keeper}
+use Rattle.td_console.specs.declared.faults.Fault.TheVariants.{Keeper, Memory}
 use Rattle.td_console.specs.Refusals.{keeper_fault}
 use Rattle.td_console.specs.Answer.{lack_fault}
 use Rattle.td_calls.specs.declared.error.CallsError.{CallsError}
@@ -69,7 +69,7 @@ done = Ok tt
 abbrev as_ok : {T : Type 0} → T → Result T Fault
 as_ok x = Ok x
 
-or_false : (b : Bool) → (b || false) ≡ b
+pub or_false : (b : Bool) → (b || false) ≡ b
 or_false true = refl
 or_false false = refl
 
@@ -137,6 +137,13 @@ ended_counts obeyed (Ok done) worked n m ok err counts = subst (λ (r : Result (
 ended_counts obeyed (Err f) worked n m ok err counts =
     ⊎_elim (λ same. subst (λ (r : Result (Unit {0}) Fault). CountsDevice r (Keeper error.Device) n m) same counts)
     (λ other. counts_same (as_err (Unit {0}) f) n m (λ is. worker_no_device other.1.0 (let not_so = is in let said = other.1.2 in cc)) (sym (whole_count obeyed n m counts other.0))) err
+
+-- want of memory is none of the device's, nor is a last epoch
+pub memory_no_device : as_err (Unit {0}) Memory ≡ as_err (Unit {0}) (Keeper error.Device) → ⊥
+memory_no_device is = absurd (let not_so = is in cc)
+
+pub epochs_no_device : as_err (Unit {0}) (Keeper error.Epochs) ≡ as_err (Unit {0}) (Keeper error.Device) → ⊥
+epochs_no_device is = absurd (let not_so = is in cc)
 
 -- which refusal of a keeper's the device's fault is
 pub keeper_device : (e : KeeperError) → keeper_fault e ≡ Keeper error.Device → e ≡ error.Device

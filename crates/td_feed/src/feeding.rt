@@ -139,20 +139,12 @@ fn obey<
     ensures failures { CountsDevice result.1 (Fault.Keeper Device) (D.failures keeper.device) (D.failures result.0.device) }
 {
     match prepared(alloc, &keeper, plan, workers, reader) {
-        Ok((orders, hall, feeding)) => {
+        Ok((orders, hall)) => {
             let blank = Blank::new(u64::from(hall.workers()));
             let orders = Listed(VecDeque::from(orders));
+            let feeding = Feeding::new(&keeper, Pace::AtEnd);
             obey_by_workers::<_, _, _, _, _, Brand, _>(
-                rt,
-                alloc,
-                keeper,
-                hall,
-                blank,
-                feeding,
-                orders,
-                Pace::AtEnd,
-                writer,
-                calls,
+                rt, alloc, keeper, hall, blank, feeding, orders, writer, calls,
             )
         }
         Err(fault) => (keeper, Err(fault)),
@@ -167,7 +159,7 @@ fn prepared<D: Disk, I: Source, L: Law>(
     plan: &Plan,
     workers: u8,
     reader: &mut I,
-) -> Result<(Vec<Order>, Hall<L>, Feeding), Fault>
+) -> Result<(Vec<Order>, Hall<L>), Fault>
     requires some { 1 ≤ workers }
     requires most { workers ≤ 16 }
     ensures orders { IfOk result (λ made. IfSome (I.remaining reader.old) (λ input. orders_of plan.now input ≡ Ok made.0.items)) }
@@ -177,6 +169,6 @@ fn prepared<D: Disk, I: Source, L: Law>(
     let input = read_all(alloc, reader)?;
     let orders = read_orders(alloc, plan, &input)?;
     drop(input);
-    let (hall, feeding) = open(alloc, keeper, plan, workers)?;
-    Ok((orders, hall, feeding))
+    let hall = open(alloc, keeper, plan, workers)?;
+    Ok((orders, hall))
 }

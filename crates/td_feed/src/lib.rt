@@ -4,11 +4,14 @@
 #![tactic(auto)]
 
 mod allowance;
+mod alone;
 mod asking;
 mod at_once;
+mod at_pool;
 mod dumping;
 mod feeding;
 mod formatting;
+mod in_turn;
 pub mod laws;
 mod line_reader;
 mod order;

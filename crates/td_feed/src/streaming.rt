@@ -14,8 +14,9 @@ ghost use Rattle.td_feed.specs.Fed.{EachTellsHistory, EachTellsSome};
 ghost use Rattle.td_feed.specs.Carried.{new_to, Carries, Leaves};
 ghost use Rattle.td_feed.specs.Said.{SaysBy, SaysFed};
 
+use crate::alone::obey_alone;
 use crate::asking::Streamed;
-use crate::under_way::{Pace, open};
+use crate::under_way::{Feeding, Pace, open};
 use crate::workers::obey_by_workers;
 use std::alloc::Global;
 use std::marker::Brand;
@@ -159,6 +160,8 @@ fn obey<
     requires some { 1 ≤ workers }
     requires most { workers ≤ 16 }
     requires whole { keeper.broken ≡ false }
+    requires fits { first_lack (C.has_map calls.now) (C.has_group calls.now) (C.has_fold calls.now) (vertices keeper.plan) ≡ None }
+    requires collected { keeper.collected ≡ keeper.base }
     ensures size { D.capacity result.0.device ≡ D.capacity keeper.device }
     ensures lawful { D.is_lawful keeper.device ↔ D.is_lawful result.0.device }
     ensures sound { OnOk result.1 (IfSome (I.remaining reader) (λ input. (script_of plan.now input).is_sound ≡ true)) }
@@ -170,16 +173,22 @@ fn obey<
         SaysBy D.is_lawful D.state D.failures L.answers result.1 (W.contents writer.old) (W.contents writer.new) keeper result.0 (new_to keeper (submissions (script_of plan.now input).orders))) }
     ensures failures { CountsDevice result.1 (Fault.Keeper Device) (D.failures keeper.device) (D.failures result.0.device) }
 {
+    let feeding = Feeding::new(
+        &keeper,
+        Pace::Live {
+            every: cut_every,
+            most,
+        },
+    );
+    let orders = Streamed::new(alloc, plan, reader);
+    if workers == 1 {
+        return obey_alone(rt, alloc, keeper, feeding, orders, writer, calls);
+    }
     match open(alloc, &keeper, plan, workers) {
-        Ok((hall, feeding)) => {
+        Ok(hall) => {
             let blank = Blank::new(u64::from(hall.workers()));
-            let orders = Streamed::new(alloc, plan, reader);
-            let pace = Pace::Live {
-                every: cut_every,
-                most,
-            };
             obey_by_workers::<_, _, _, _, _, Brand, _>(
-                rt, alloc, keeper, hall, blank, feeding, orders, pace, writer, calls,
+                rt, alloc, keeper, hall, blank, feeding, orders, writer, calls,
             )
         }
         Err(fault) => (keeper, Err(fault)),

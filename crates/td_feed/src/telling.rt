@@ -9,76 +9,62 @@ ghost use Rattle.td_feed.specs.Said.{fault_in, Refuses, SaysBy};
 
 use crate::saying::{request_in, say};
 use std::alloc::Global;
-use std::sync::Wait;
 use td_calls::Law;
 use td_console::{Fault, Sink};
 use td_disk::Disk;
-use td_keeper::laws::{each_is_kept, others_rest};
-use td_keeper::{Command, GroupError, Keeper, Reply};
-use td_pool::{Crew, Pool};
+use td_keeper::laws::others_rest;
+use td_keeper::{Command, GroupError, Obey, Reply, tell_one};
 use td_standing::laws;
 
-/// Tells a keeper one command, and answers its reply. Refusals: the keeper's; and `Memory`, where there was no room for the reply.
-pub(crate) fn tell<D: Disk, L: Law, K: Crew, R: Wait>(
+/// Tells a keeper at work one command, and answers its reply. Refusals: the keeper's.
+pub(crate) fn tell<D: Disk, L: Law, R, E: Obey<D, L, R>>(
     rt: &R,
-    alloc: Global,
-    keeper: &mut Keeper<D, L>,
-    pool: &Pool<K, L>,
+    engine: &mut E,
     command: Command,
 ) -> Result<Reply, Fault>
-    requires whole { keeper.old.broken ≡ false }
-    requires rising { IsRising keeper.old command }
-    ensures obeyed { IfOk result (λ reply. Obeys D.is_lawful D.state D.failures L.answers command reply keeper.old keeper.new) }
-    ensures driven { IfOk result (λ reply. Driven D.is_lawful D.state D.failures L.answers (command ∷ []) (reply ∷ []) keeper.old keeper.new) }
+    requires whole { (E.keeping engine.old).broken ≡ false }
+    requires rising { IsRising (E.keeping engine.old) command }
+    ensures obeyed { IfOk result (λ reply. Obeys D.is_lawful D.state D.failures L.answers command reply (E.keeping engine.old) (E.keeping engine.new)) }
+    ensures driven { IfOk result (λ reply. Driven D.is_lawful D.state D.failures L.answers (command ∷ []) (reply ∷ []) (E.keeping engine.old) (E.keeping engine.new)) }
     ensures done { IfOk result (λ reply. is_refused reply ≡ false) }
-    ensures refused { OnErr result (Refuses D.is_lawful D.state D.failures L.answers command keeper.old keeper.new) }
-    ensures failures { CountsDevice result (Fault.Keeper Device) (D.failures keeper.old.device) (D.failures keeper.new.device) }
-    ensures size { D.capacity keeper.new.device ≡ D.capacity keeper.old.device }
-    ensures lawful { D.is_lawful keeper.old.device ↔ D.is_lawful keeper.new.device }
-    ensures carried { IfOk result (λ reply. Carries L.answers keeper.old keeper.new (submitted_in command reply)) }
-    ensures left { OnErr result (Leaves D.is_lawful D.state L.answers keeper.old keeper.new (new_to keeper.old (batch_in command))) }
-    ensures rests { is_resting command ≡ true → Carries L.answers keeper.old keeper.new [] }
+    ensures refused { OnErr result (Refuses D.is_lawful D.state D.failures L.answers command (E.keeping engine.old) (E.keeping engine.new)) }
+    ensures failures { CountsDevice result (Fault.Keeper Device) (D.failures (E.keeping engine.old).device) (D.failures (E.keeping engine.new).device) }
+    ensures size { D.capacity (E.keeping engine.new).device ≡ D.capacity (E.keeping engine.old).device }
+    ensures lawful { D.is_lawful (E.keeping engine.old).device ↔ D.is_lawful (E.keeping engine.new).device }
+    ensures carried { IfOk result (λ reply. Carries L.answers (E.keeping engine.old) (E.keeping engine.new) (submitted_in command reply)) }
+    ensures left { OnErr result (Leaves D.is_lawful D.state L.answers (E.keeping engine.old) (E.keeping engine.new) (new_to (E.keeping engine.old) (batch_in command))) }
+    ensures rests { is_resting command ≡ true → Carries L.answers (E.keeping engine.old) (E.keeping engine.new) [] }
 {
     laws::advance_stands::<L>();
     laws::standings_advance::<L>();
     others_rest::<D, L>();
-    each_is_kept(keeper);
-    let mut commands = Vec::with_capacity(alloc, 1)?;
-    commands.push_reserved(command);
-    match keeper.drive(rt, pool, commands) {
-        Ok(mut replies) => match replies.pop() {
-            Some(reply) => unless_refused(reply),
-            None => unreachable!(),
-        },
-        Err((_memory, _commands)) => Err(Fault::Memory),
-    }
+    unless_refused(tell_one(rt, engine, command))
 }
 
-/// Tells a keeper one command, and writes the lines of its reply. Refusals: those of `tell`; `Memory`, where there was no room for
+/// Tells a keeper at work one command, and writes the lines of its reply. Refusals: those of `tell`; `Memory`, where there was no room for
 /// the lines; and `Output`.
-pub(crate) fn tell_aloud<D: Disk, L: Law, K: Crew, R: Wait, W: Sink>(
+pub(crate) fn tell_aloud<D: Disk, L: Law, R, E: Obey<D, L, R>, W: Sink>(
     rt: &R,
     alloc: Global,
-    keeper: &mut Keeper<D, L>,
-    pool: &Pool<K, L>,
+    engine: &mut E,
     command: Command,
     writer: &mut W,
 ) -> Result<(), Fault>
-    requires whole { keeper.old.broken ≡ false }
-    requires rising { IsRising keeper.old command }
-    ensures obeyed { OnOk result ((reply : AnyReply) × Obeys D.is_lawful D.state D.failures L.answers command reply keeper.old keeper.new × (is_refused reply ≡ false)) }
-    ensures size { D.capacity keeper.new.device ≡ D.capacity keeper.old.device }
-    ensures lawful { D.is_lawful keeper.old.device ↔ D.is_lawful keeper.new.device }
-    ensures carried { OnOk result (Carries L.answers keeper.old keeper.new (new_to keeper.old (batch_in command))) }
-    ensures left { OnErr result (Leaves D.is_lawful D.state L.answers keeper.old keeper.new (new_to keeper.old (batch_in command))) }
+    requires whole { (E.keeping engine.old).broken ≡ false }
+    requires rising { IsRising (E.keeping engine.old) command }
+    ensures obeyed { OnOk result ((reply : AnyReply) × Obeys D.is_lawful D.state D.failures L.answers command reply (E.keeping engine.old) (E.keeping engine.new) × (is_refused reply ≡ false)) }
+    ensures size { D.capacity (E.keeping engine.new).device ≡ D.capacity (E.keeping engine.old).device }
+    ensures lawful { D.is_lawful (E.keeping engine.old).device ↔ D.is_lawful (E.keeping engine.new).device }
+    ensures carried { OnOk result (Carries L.answers (E.keeping engine.old) (E.keeping engine.new) (new_to (E.keeping engine.old) (batch_in command))) }
+    ensures left { OnErr result (Leaves D.is_lawful D.state L.answers (E.keeping engine.old) (E.keeping engine.new) (new_to (E.keeping engine.old) (batch_in command))) }
 
     // Nothing is written but for a command that was obeyed.
-    ensures acknowledged { (writer.new ≡ writer.old) ⊎ Carries L.answers keeper.old keeper.new (new_to keeper.old (batch_in command)) }
-    ensures said { SaysBy D.is_lawful D.state D.failures L.answers result (W.contents writer.old) (W.contents writer.new) keeper.old keeper.new (new_to keeper.old (batch_in command)) }
-    ensures failures { CountsDevice result (Fault.Keeper Device) (D.failures keeper.old.device) (D.failures keeper.new.device) }
+    ensures acknowledged { (writer.new ≡ writer.old) ⊎ Carries L.answers (E.keeping engine.old) (E.keeping engine.new) (new_to (E.keeping engine.old) (batch_in command)) }
+    ensures said { SaysBy D.is_lawful D.state D.failures L.answers result (W.contents writer.old) (W.contents writer.new) (E.keeping engine.old) (E.keeping engine.new) (new_to (E.keeping engine.old) (batch_in command)) }
+    ensures failures { CountsDevice result (Fault.Keeper Device) (D.failures (E.keeping engine.old).device) (D.failures (E.keeping engine.new).device) }
 {
     let request = request_in(&command);
-    let reply = tell(rt, alloc, keeper, pool, command)?;
+    let reply = tell(rt, engine, command)?;
     say(alloc, request, &reply, writer)
 }
 

@@ -1,5 +1,5 @@
 //! A feed under way.
-ghost use Rattle.std.specs.Prelude.{◌≡◌, ◌⊎◌, ◌↔◌, ◌+◌, ◌^◌, ◌<◌, ◌≤◌, ℕ, List, Option, Some, [], ◌∷◌, false, IfOk, IfErr, IfSome, IfNone, OnOk, OnErr, string_bytes};
+ghost use Rattle.std.specs.Prelude.{◌≡◌, ◌⊎◌, ◌↔◌, ◌+◌, ◌^◌, ◌<◌, ◌≤◌, ℕ, List, Option, Some, [], ◌∷◌, false, IsTrue, IfOk, IfErr, IfSome, IfNone, OnOk, OnErr, string_bytes};
 ghost use Rattle.std.specs.Io.KnownBytes.{Appends};
 ghost use Rattle.td_disk.specs.Disk.{CountsDevice};
 ghost use Rattle.td_standing.specs.declared.error.KeeperError.TheVariants.{Device, Epochs};
@@ -16,16 +16,14 @@ use crate::at_once::Asked;
 use crate::order::Order;
 use crate::telling::{tell, tell_aloud};
 use std::alloc::Global;
-use std::sync::Wait;
 use td_calls::Law;
 use td_console::{Fault, Sink, print_epoch, write_answer};
 use td_core::{Hall, HallError};
 use td_disk::Disk;
 use td_journal::Submitted;
-use td_keeper::laws::each_is_kept;
-use td_keeper::{Command, Keeper};
+use td_keeper::laws::each_at_work_is_kept;
+use td_keeper::{Command, Keeper, Obey};
 use td_plan::Plan;
-use td_pool::{Crew, Pool};
 use td_stamp::{Batch, EPOCHS_END, EpochOut};
 use td_standing::KeeperError;
 
@@ -75,316 +73,318 @@ impl Pace {
 /// open yet.
 #[derive(Drop)]
 pub(crate) struct Feeding {
+    pub(crate) pace: Pace,
     held: u64,
     waiting: u64,
     freed: u64,
 }
 
-/// A hall of so many shards at a keeper's checkpoint, and what it lacks of the keeper's epochs. Refusals: `Memory`; and `Epochs`
-/// of the keeper's, where the checkpoint's epoch is the last that there can be.
+/// A hall of so many shards at a keeper's checkpoint. Refusals: `Memory`; and `Epochs` of the keeper's, where the checkpoint's epoch is the
+/// last that there can be.
 pub(crate) fn open<D: Disk, L: Law>(
     alloc: Global,
     keeper: &Keeper<D, L>,
     plan: &Plan,
     workers: u8,
-) -> Result<(Hall<L>, Feeding), Fault>
+) -> Result<Hall<L>, Fault>
     requires some { 1 ≤ workers }
     requires most { workers ≤ 16 }
-    ensures plan { IfOk result (λ o. o.0.plan ≡ plan.now) }
-    ensures workers { IfOk result (λ o. o.0.workers ≡ workers) }
+    ensures plan { IfOk result (λ hall. hall.plan ≡ plan.now) }
+    ensures workers { IfOk result (λ hall. hall.workers ≡ workers) }
     ensures room { IfOk result (λ _. keeper.now.standing.epoch + 1 < 2 ^ 63) }
     ensures refused { IfErr result (λ f. (f ≡ Fault.Memory) ⊎ ((f ≡ Fault.Keeper Epochs) × (2 ^ 63 ≤ keeper.now.standing.epoch + 1))) }
 {
-    let (epoch, states, batches) = keeper.opening()?;
-    if EPOCHS_END - 1 <= epoch {
+    if is_at_last_number(keeper) {
         return Err(Fault::Keeper(KeeperError::Epochs));
     }
-    let waiting = batches
-        .iter()
-        .fold(0u64, |sum, batch| sum.saturating_add(weight(batch)));
-    drop(batches);
-    let hall = Hall::<L>::open(alloc, plan, states, epoch + 1, workers).map_err(fault_of)?;
-    let feeding = Feeding {
-        held: 0,
-        waiting,
-        freed: 0,
-    };
-    Ok((hall, feeding))
+    let states = keeper.kept_states()?;
+    Hall::<L>::open(alloc, plan, states, keeper.kept() + 1, workers).map_err(fault_of)
+}
+
+/// Whether the checkpoint's epoch is the last that there can be.
+pub(crate) fn is_at_last_number<D: Disk, L: Law>(keeper: &Keeper<D, L>) -> bool
+    ensures { IsTrue result ↔ (2 ^ 63 ≤ keeper.now.standing.epoch + 1) }
+{
+    EPOCHS_END - 1 <= keeper.kept()
 }
 
 impl Feeding {
+    /// Before anything was released into a hall at a keeper's checkpoint.
+    pub(crate) fn new<D: Disk, L: Law>(keeper: &Keeper<D, L>, pace: Pace) -> Feeding {
+        Feeding {
+            pace,
+            held: 0,
+            waiting: keeper.pending(),
+            freed: 0,
+        }
+    }
+
     /// Does what is asked for. Refusals: those of the keeper and of the writer.
-    fn obey<D: Disk, L: Law, K: Crew, R: Wait, W: Sink>(
+    fn obey<D: Disk, L: Law, R, E: Obey<D, L, R>, W: Sink>(
         &mut self,
         rt: &R,
         alloc: Global,
-        keeper: &mut Keeper<D, L>,
-        pool: &Pool<K, L>,
+        engine: &mut E,
         asked: Asked,
         writer: &mut W,
     ) -> Result<(), Fault>
-        requires whole { keeper.old.broken ≡ false }
-        requires rising { MayFollow (last_request keeper.old.standing) (Some asked) }
-        ensures size { D.capacity keeper.new.device ≡ D.capacity keeper.old.device }
-        ensures lawful { D.is_lawful keeper.old.device ↔ D.is_lawful keeper.new.device }
-        ensures carried { OnOk result (Carries L.answers keeper.old keeper.new (new_to keeper.old (asked_for asked))) }
-        ensures left { OnErr result (Leaves D.is_lawful D.state L.answers keeper.old keeper.new (new_to keeper.old (asked_for asked))) }
-        ensures said { SaysBy D.is_lawful D.state D.failures L.answers result (W.contents writer.old) (W.contents writer.new) keeper.old keeper.new (new_to keeper.old (asked_for asked)) }
-        ensures failures { CountsDevice result (Fault.Keeper Device) (D.failures keeper.old.device) (D.failures keeper.new.device) }
+        requires whole { (E.keeping engine.old).broken ≡ false }
+        requires rising { MayFollow (last_request (E.keeping engine.old).standing) (Some asked) }
+        ensures size { D.capacity (E.keeping engine.new).device ≡ D.capacity (E.keeping engine.old).device }
+        ensures lawful { D.is_lawful (E.keeping engine.old).device ↔ D.is_lawful (E.keeping engine.new).device }
+        ensures carried { OnOk result (Carries L.answers (E.keeping engine.old) (E.keeping engine.new) (new_to (E.keeping engine.old) (asked_for asked))) }
+        ensures left { OnErr result (Leaves D.is_lawful D.state L.answers (E.keeping engine.old) (E.keeping engine.new) (new_to (E.keeping engine.old) (asked_for asked))) }
+        ensures said { SaysBy D.is_lawful D.state D.failures L.answers result (W.contents writer.old) (W.contents writer.new) (E.keeping engine.old) (E.keeping engine.new) (new_to (E.keeping engine.old) (asked_for asked)) }
+        ensures failures { CountsDevice result (Fault.Keeper Device) (D.failures (E.keeping engine.old).device) (D.failures (E.keeping engine.new).device) }
     {
         match asked {
             Asked::Epochs(group) => {
                 let weight = weight_of_all(group.as_slice());
                 let command = Command::SubmitAll(group);
-                self.submit(rt, alloc, keeper, pool, command, weight, writer)
+                self.submit(rt, alloc, engine, command, weight, writer)
             }
             Asked::One(order) => match order {
                 Order::Submit(batch) => {
                     let weight = weight(&batch);
                     let command = Command::Submit(batch);
-                    self.submit(rt, alloc, keeper, pool, command, weight, writer)
+                    self.submit(rt, alloc, engine, command, weight, writer)
                 }
                 Order::SubmitAs(request, batch) => {
                     let weight = weight(&batch);
                     let command = Command::SubmitAs(request, batch);
-                    self.submit(rt, alloc, keeper, pool, command, weight, writer)
+                    self.submit(rt, alloc, engine, command, weight, writer)
                 }
-                Order::Cut => self.cut(rt, alloc, keeper, pool, writer),
+                Order::Cut => self.cut(rt, alloc, engine, writer),
             },
         }
     }
 
     /// Tells the keeper a command that submits batches of this weight, and writes its lines, `ack E` or `again Q`; and releases what
     /// the hall lacks, where they are new and it is time.
-    fn submit<D: Disk, L: Law, K: Crew, R: Wait, W: Sink>(
+    fn submit<D: Disk, L: Law, R, E: Obey<D, L, R>, W: Sink>(
         &mut self,
         rt: &R,
         alloc: Global,
-        keeper: &mut Keeper<D, L>,
-        pool: &Pool<K, L>,
+        engine: &mut E,
         command: Command,
         weight: u64,
         writer: &mut W,
     ) -> Result<(), Fault>
-        requires whole { keeper.old.broken ≡ false }
-        requires rising { IsRising keeper.old command }
-        ensures size { D.capacity keeper.new.device ≡ D.capacity keeper.old.device }
-        ensures lawful { D.is_lawful keeper.old.device ↔ D.is_lawful keeper.new.device }
-        ensures carried { OnOk result (Carries L.answers keeper.old keeper.new (new_to keeper.old (batch_in command))) }
+        requires whole { (E.keeping engine.old).broken ≡ false }
+        requires rising { IsRising (E.keeping engine.old) command }
+        ensures size { D.capacity (E.keeping engine.new).device ≡ D.capacity (E.keeping engine.old).device }
+        ensures lawful { D.is_lawful (E.keeping engine.old).device ↔ D.is_lawful (E.keeping engine.new).device }
+        ensures carried { OnOk result (Carries L.answers (E.keeping engine.old) (E.keeping engine.new) (new_to (E.keeping engine.old) (batch_in command))) }
 
         // Nothing is written but for a batch that is on the disk.
-        ensures acknowledged { (writer.new ≡ writer.old) ⊎ Carries L.answers keeper.old keeper.new (new_to keeper.old (batch_in command)) }
-        ensures left { OnErr result (Leaves D.is_lawful D.state L.answers keeper.old keeper.new (new_to keeper.old (batch_in command))) }
-        ensures said { SaysBy D.is_lawful D.state D.failures L.answers result (W.contents writer.old) (W.contents writer.new) keeper.old keeper.new (new_to keeper.old (batch_in command)) }
-        ensures failures { CountsDevice result (Fault.Keeper Device) (D.failures keeper.old.device) (D.failures keeper.new.device) }
+        ensures acknowledged { (writer.new ≡ writer.old) ⊎ Carries L.answers (E.keeping engine.old) (E.keeping engine.new) (new_to (E.keeping engine.old) (batch_in command)) }
+        ensures left { OnErr result (Leaves D.is_lawful D.state L.answers (E.keeping engine.old) (E.keeping engine.new) (new_to (E.keeping engine.old) (batch_in command))) }
+        ensures said { SaysBy D.is_lawful D.state D.failures L.answers result (W.contents writer.old) (W.contents writer.new) (E.keeping engine.old) (E.keeping engine.new) (new_to (E.keeping engine.old) (batch_in command)) }
+        ensures failures { CountsDevice result (Fault.Keeper Device) (D.failures (E.keeping engine.old).device) (D.failures (E.keeping engine.new).device) }
     {
-        let before = keeper.last_epoch();
-        tell_aloud(rt, alloc, keeper, pool, command, writer)?;
-        if keeper.last_epoch() == before {
+        let before = engine.keeper().last_epoch();
+        tell_aloud(rt, alloc, engine, command, writer)?;
+        if engine.keeper().last_epoch() == before {
             return Ok(());
         }
         self.waiting = self.waiting.saturating_add(weight);
-        if self.waiting < self.held {
+        if !self.is_release_due() {
             return Ok(());
         }
-        self.release(rt, alloc, keeper, pool)
+        self.release(rt, engine)
+    }
+
+    /// Whether it is time to release what was submitted, before outputs are due: at a live pace they are due at once, and all is released
+    /// then.
+    fn is_release_due(&self) -> bool {
+        match self.pace {
+            Pace::AtEnd => self.held <= self.waiting,
+            Pace::Live { .. } => false,
+        }
     }
 
     /// Releases the epochs that the hall lacks.
-    fn release<D: Disk, L: Law, K: Crew, R: Wait>(
+    fn release<D: Disk, L: Law, R, E: Obey<D, L, R>>(
         &mut self,
         rt: &R,
-        alloc: Global,
-        keeper: &mut Keeper<D, L>,
-        pool: &Pool<K, L>,
+        engine: &mut E,
     ) -> Result<(), Fault>
-        requires whole { keeper.old.broken ≡ false }
-        ensures size { D.capacity keeper.new.device ≡ D.capacity keeper.old.device }
-        ensures lawful { D.is_lawful keeper.old.device ↔ D.is_lawful keeper.new.device }
-        ensures carried { Carries L.answers keeper.old keeper.new [] }
+        requires whole { (E.keeping engine.old).broken ≡ false }
+        ensures size { D.capacity (E.keeping engine.new).device ≡ D.capacity (E.keeping engine.old).device }
+        ensures lawful { D.is_lawful (E.keeping engine.old).device ↔ D.is_lawful (E.keeping engine.new).device }
+        ensures carried { Carries L.answers (E.keeping engine.old) (E.keeping engine.new) [] }
 
         // Nothing is written, whatever the writer is.
-        ensures said { (held : Option (List ℕ)) → SaysBy D.is_lawful D.state D.failures L.answers result held held keeper.old keeper.new [] }
-        ensures failures { CountsDevice result (Fault.Keeper Device) (D.failures keeper.old.device) (D.failures keeper.new.device) }
+        ensures said { (held : Option (List ℕ)) → SaysBy D.is_lawful D.state D.failures L.answers result held held (E.keeping engine.old) (E.keeping engine.new) [] }
+        ensures failures { CountsDevice result (Fault.Keeper Device) (D.failures (E.keeping engine.old).device) (D.failures (E.keeping engine.new).device) }
     {
-        tell(rt, alloc, keeper, pool, Command::Release)?;
+        tell(rt, engine, Command::Release)?;
         self.held = self.held.saturating_add(self.waiting);
         self.waiting = 0;
         Ok(())
     }
 
     /// Lets all epochs pass, and writes the output lines that were not written before. What the disk has stays.
-    pub(crate) fn settle<D: Disk, L: Law, K: Crew, R: Wait, W: Sink>(
+    pub(crate) fn settle<D: Disk, L: Law, R, E: Obey<D, L, R>, W: Sink>(
         &mut self,
         rt: &R,
         alloc: Global,
-        keeper: &mut Keeper<D, L>,
-        pool: &Pool<K, L>,
+        engine: &mut E,
         writer: &mut W,
     ) -> Result<(), Fault>
-        requires whole { keeper.old.broken ≡ false }
-        ensures size { D.capacity keeper.new.device ≡ D.capacity keeper.old.device }
-        ensures lawful { D.is_lawful keeper.old.device ↔ D.is_lawful keeper.new.device }
-        ensures carried { Carries L.answers keeper.old keeper.new [] }
-        ensures none_left { OnOk result (keeper.new.queue ≡ []) }
-        ensures said { SaysBy D.is_lawful D.state D.failures L.answers result (W.contents writer.old) (W.contents writer.new) keeper.old keeper.new [] }
-        ensures failures { CountsDevice result (Fault.Keeper Device) (D.failures keeper.old.device) (D.failures keeper.new.device) }
+        requires whole { (E.keeping engine.old).broken ≡ false }
+        ensures size { D.capacity (E.keeping engine.new).device ≡ D.capacity (E.keeping engine.old).device }
+        ensures lawful { D.is_lawful (E.keeping engine.old).device ↔ D.is_lawful (E.keeping engine.new).device }
+        ensures carried { Carries L.answers (E.keeping engine.old) (E.keeping engine.new) [] }
+        ensures none_left { OnOk result ((E.keeping engine.new).queue ≡ []) }
+        ensures said { SaysBy D.is_lawful D.state D.failures L.answers result (W.contents writer.old) (W.contents writer.new) (E.keeping engine.old) (E.keeping engine.new) [] }
+        ensures failures { CountsDevice result (Fault.Keeper Device) (D.failures (E.keeping engine.old).device) (D.failures (E.keeping engine.new).device) }
     {
-        self.release(rt, alloc, keeper, pool)?;
-        tell(rt, alloc, keeper, pool, Command::Settle)?;
-        tell(rt, alloc, keeper, pool, Command::Collect)?;
-        write_outs(alloc, keeper, writer)
+        self.release(rt, engine)?;
+        tell(rt, engine, Command::Settle)?;
+        tell(rt, engine, Command::Collect)?;
+        write_outs(alloc, engine, writer)
     }
 
     /// Does what is due before the first order, at this pace: releases the epochs that the hall lacks, or writes their outputs too.
-    pub(crate) fn begin<D: Disk, L: Law, K: Crew, R: Wait, W: Sink>(
+    pub(crate) fn begin<D: Disk, L: Law, R, E: Obey<D, L, R>, W: Sink>(
         &mut self,
         rt: &R,
         alloc: Global,
-        keeper: &mut Keeper<D, L>,
-        pool: &Pool<K, L>,
-        pace: Pace,
+        engine: &mut E,
         writer: &mut W,
     ) -> Result<(), Fault>
-        requires whole { keeper.old.broken ≡ false }
-        ensures size { D.capacity keeper.new.device ≡ D.capacity keeper.old.device }
-        ensures lawful { D.is_lawful keeper.old.device ↔ D.is_lawful keeper.new.device }
-        ensures carried { OnOk result (Carries L.answers keeper.old keeper.new []) }
-        ensures left { OnErr result (Leaves D.is_lawful D.state L.answers keeper.old keeper.new []) }
-        ensures said { SaysBy D.is_lawful D.state D.failures L.answers result (W.contents writer.old) (W.contents writer.new) keeper.old keeper.new [] }
-        ensures failures { CountsDevice result (Fault.Keeper Device) (D.failures keeper.old.device) (D.failures keeper.new.device) }
+        requires whole { (E.keeping engine.old).broken ≡ false }
+        ensures size { D.capacity (E.keeping engine.new).device ≡ D.capacity (E.keeping engine.old).device }
+        ensures lawful { D.is_lawful (E.keeping engine.old).device ↔ D.is_lawful (E.keeping engine.new).device }
+        ensures carried { OnOk result (Carries L.answers (E.keeping engine.old) (E.keeping engine.new) []) }
+        ensures left { OnErr result (Leaves D.is_lawful D.state L.answers (E.keeping engine.old) (E.keeping engine.new) []) }
+        ensures said { SaysBy D.is_lawful D.state D.failures L.answers result (W.contents writer.old) (W.contents writer.new) (E.keeping engine.old) (E.keeping engine.new) [] }
+        ensures failures { CountsDevice result (Fault.Keeper Device) (D.failures (E.keeping engine.old).device) (D.failures (E.keeping engine.new).device) }
     {
-        match pace {
-            Pace::AtEnd => self.release(rt, alloc, keeper, pool),
-            Pace::Live { .. } => self.keep_pace(rt, alloc, keeper, pool, pace, writer),
+        match self.pace {
+            Pace::AtEnd => self.release(rt, engine),
+            Pace::Live { .. } => self.keep_pace(rt, alloc, engine, writer),
         }
     }
 
     /// Does what is asked for, and what is due after it at this pace.
-    pub(crate) fn obey_at_pace<D: Disk, L: Law, K: Crew, R: Wait, W: Sink>(
+    pub(crate) fn obey_at_pace<D: Disk, L: Law, R, E: Obey<D, L, R>, W: Sink>(
         &mut self,
         rt: &R,
         alloc: Global,
-        keeper: &mut Keeper<D, L>,
-        pool: &Pool<K, L>,
+        engine: &mut E,
         asked: Asked,
-        pace: Pace,
         writer: &mut W,
     ) -> Result<(), Fault>
-        requires whole { keeper.old.broken ≡ false }
-        requires rising { MayFollow (last_request keeper.old.standing) (Some asked) }
-        ensures size { D.capacity keeper.new.device ≡ D.capacity keeper.old.device }
-        ensures lawful { D.is_lawful keeper.old.device ↔ D.is_lawful keeper.new.device }
-        ensures carried { OnOk result (Carries L.answers keeper.old keeper.new (new_to keeper.old (asked_for asked))) }
-        ensures left { OnErr result (Leaves D.is_lawful D.state L.answers keeper.old keeper.new (new_to keeper.old (asked_for asked))) }
-        ensures said { SaysBy D.is_lawful D.state D.failures L.answers result (W.contents writer.old) (W.contents writer.new) keeper.old keeper.new (new_to keeper.old (asked_for asked)) }
-        ensures failures { CountsDevice result (Fault.Keeper Device) (D.failures keeper.old.device) (D.failures keeper.new.device) }
+        requires whole { (E.keeping engine.old).broken ≡ false }
+        requires rising { MayFollow (last_request (E.keeping engine.old).standing) (Some asked) }
+        ensures size { D.capacity (E.keeping engine.new).device ≡ D.capacity (E.keeping engine.old).device }
+        ensures lawful { D.is_lawful (E.keeping engine.old).device ↔ D.is_lawful (E.keeping engine.new).device }
+        ensures carried { OnOk result (Carries L.answers (E.keeping engine.old) (E.keeping engine.new) (new_to (E.keeping engine.old) (asked_for asked))) }
+        ensures left { OnErr result (Leaves D.is_lawful D.state L.answers (E.keeping engine.old) (E.keeping engine.new) (new_to (E.keeping engine.old) (asked_for asked))) }
+        ensures said { SaysBy D.is_lawful D.state D.failures L.answers result (W.contents writer.old) (W.contents writer.new) (E.keeping engine.old) (E.keeping engine.new) (new_to (E.keeping engine.old) (asked_for asked)) }
+        ensures failures { CountsDevice result (Fault.Keeper Device) (D.failures (E.keeping engine.old).device) (D.failures (E.keeping engine.new).device) }
     {
-        self.obey(rt, alloc, keeper, pool, asked, writer)?;
-        self.keep_pace(rt, alloc, keeper, pool, pace, writer)
+        self.obey(rt, alloc, engine, asked, writer)?;
+        self.keep_pace(rt, alloc, engine, writer)
     }
 
     /// Does what is due after an order, at this pace: nothing; or settles, and cuts where it is time, and closes the cells that come next.
-    fn keep_pace<D: Disk, L: Law, K: Crew, R: Wait, W: Sink>(
+    fn keep_pace<D: Disk, L: Law, R, E: Obey<D, L, R>, W: Sink>(
         &mut self,
         rt: &R,
         alloc: Global,
-        keeper: &mut Keeper<D, L>,
-        pool: &Pool<K, L>,
-        pace: Pace,
+        engine: &mut E,
         writer: &mut W,
     ) -> Result<(), Fault>
-        requires whole { keeper.old.broken ≡ false }
-        ensures size { D.capacity keeper.new.device ≡ D.capacity keeper.old.device }
-        ensures lawful { D.is_lawful keeper.old.device ↔ D.is_lawful keeper.new.device }
-        ensures carried { OnOk result (Carries L.answers keeper.old keeper.new []) }
-        ensures left { OnErr result (Leaves D.is_lawful D.state L.answers keeper.old keeper.new []) }
-        ensures said { SaysBy D.is_lawful D.state D.failures L.answers result (W.contents writer.old) (W.contents writer.new) keeper.old keeper.new [] }
-        ensures failures { CountsDevice result (Fault.Keeper Device) (D.failures keeper.old.device) (D.failures keeper.new.device) }
+        requires whole { (E.keeping engine.old).broken ≡ false }
+        ensures size { D.capacity (E.keeping engine.new).device ≡ D.capacity (E.keeping engine.old).device }
+        ensures lawful { D.is_lawful (E.keeping engine.old).device ↔ D.is_lawful (E.keeping engine.new).device }
+        ensures carried { OnOk result (Carries L.answers (E.keeping engine.old) (E.keeping engine.new) []) }
+        ensures left { OnErr result (Leaves D.is_lawful D.state L.answers (E.keeping engine.old) (E.keeping engine.new) []) }
+        ensures said { SaysBy D.is_lawful D.state D.failures L.answers result (W.contents writer.old) (W.contents writer.new) (E.keeping engine.old) (E.keeping engine.new) [] }
+        ensures failures { CountsDevice result (Fault.Keeper Device) (D.failures (E.keeping engine.old).device) (D.failures (E.keeping engine.new).device) }
     {
-        match pace {
+        match self.pace {
             Pace::AtEnd => Ok(()),
             Pace::Live { every, .. } => {
-                self.cut_or_settle(rt, alloc, keeper, pool, every, writer)?;
-                self.close_freed(rt, alloc, keeper, pool)
+                self.cut_or_settle(rt, alloc, engine, every, writer)?;
+                self.close_freed(rt, engine)
             }
         }
     }
 
     /// Settles, and cuts where it is time.
-    fn cut_or_settle<D: Disk, L: Law, K: Crew, R: Wait, W: Sink>(
+    fn cut_or_settle<D: Disk, L: Law, R, E: Obey<D, L, R>, W: Sink>(
         &mut self,
         rt: &R,
         alloc: Global,
-        keeper: &mut Keeper<D, L>,
-        pool: &Pool<K, L>,
+        engine: &mut E,
         every: Option<u32>,
         writer: &mut W,
     ) -> Result<(), Fault>
-        requires whole { keeper.old.broken ≡ false }
-        ensures size { D.capacity keeper.new.device ≡ D.capacity keeper.old.device }
-        ensures lawful { D.is_lawful keeper.old.device ↔ D.is_lawful keeper.new.device }
-        ensures carried { OnOk result (Carries L.answers keeper.old keeper.new []) }
-        ensures left { OnErr result (Leaves D.is_lawful D.state L.answers keeper.old keeper.new []) }
-        ensures said { SaysBy D.is_lawful D.state D.failures L.answers result (W.contents writer.old) (W.contents writer.new) keeper.old keeper.new [] }
-        ensures failures { CountsDevice result (Fault.Keeper Device) (D.failures keeper.old.device) (D.failures keeper.new.device) }
+        requires whole { (E.keeping engine.old).broken ≡ false }
+        ensures size { D.capacity (E.keeping engine.new).device ≡ D.capacity (E.keeping engine.old).device }
+        ensures lawful { D.is_lawful (E.keeping engine.old).device ↔ D.is_lawful (E.keeping engine.new).device }
+        ensures carried { OnOk result (Carries L.answers (E.keeping engine.old) (E.keeping engine.new) []) }
+        ensures left { OnErr result (Leaves D.is_lawful D.state L.answers (E.keeping engine.old) (E.keeping engine.new) []) }
+        ensures said { SaysBy D.is_lawful D.state D.failures L.answers result (W.contents writer.old) (W.contents writer.new) (E.keeping engine.old) (E.keeping engine.new) [] }
+        ensures failures { CountsDevice result (Fault.Keeper Device) (D.failures (E.keeping engine.old).device) (D.failures (E.keeping engine.new).device) }
     {
-        if is_cut_due(keeper, every) {
-            self.cut(rt, alloc, keeper, pool, writer)
+        if is_cut_due(engine.keeper(), every) {
+            self.cut(rt, alloc, engine, writer)
         } else {
-            self.settle(rt, alloc, keeper, pool, writer)
+            self.settle(rt, alloc, engine, writer)
         }
     }
 
     /// Closes as many cells as the last cut freed, of those that come next, so that a submit finds its cell closed.
-    fn close_freed<D: Disk, L: Law, K: Crew, R: Wait>(
+    fn close_freed<D: Disk, L: Law, R, E: Obey<D, L, R>>(
         &mut self,
         rt: &R,
-        alloc: Global,
-        keeper: &mut Keeper<D, L>,
-        pool: &Pool<K, L>,
+        engine: &mut E,
     ) -> Result<(), Fault>
-        requires whole { keeper.old.broken ≡ false }
-        ensures size { D.capacity keeper.new.device ≡ D.capacity keeper.old.device }
-        ensures lawful { D.is_lawful keeper.old.device ↔ D.is_lawful keeper.new.device }
-        ensures carried { OnOk result (Carries L.answers keeper.old keeper.new []) }
-        ensures left { OnErr result (Leaves D.is_lawful D.state L.answers keeper.old keeper.new []) }
+        requires whole { (E.keeping engine.old).broken ≡ false }
+        ensures size { D.capacity (E.keeping engine.new).device ≡ D.capacity (E.keeping engine.old).device }
+        ensures lawful { D.is_lawful (E.keeping engine.old).device ↔ D.is_lawful (E.keeping engine.new).device }
+        ensures carried { OnOk result (Carries L.answers (E.keeping engine.old) (E.keeping engine.new) []) }
+        ensures left { OnErr result (Leaves D.is_lawful D.state L.answers (E.keeping engine.old) (E.keeping engine.new) []) }
 
         // Nothing is written, whatever the writer is.
-        ensures said { (held : Option (List ℕ)) → SaysBy D.is_lawful D.state D.failures L.answers result held held keeper.old keeper.new [] }
-        ensures failures { CountsDevice result (Fault.Keeper Device) (D.failures keeper.old.device) (D.failures keeper.new.device) }
+        ensures said { (held : Option (List ℕ)) → SaysBy D.is_lawful D.state D.failures L.answers result held held (E.keeping engine.old) (E.keeping engine.new) [] }
+        ensures failures { CountsDevice result (Fault.Keeper Device) (D.failures (E.keeping engine.old).device) (D.failures (E.keeping engine.new).device) }
     {
         if self.freed == 0 {
             return Ok(());
         }
-        tell(rt, alloc, keeper, pool, Command::CloseFree(self.freed))?;
+        tell(rt, engine, Command::CloseFree(self.freed))?;
         self.freed = 0;
         Ok(())
     }
 
     /// Settles, cuts, writes the cut to the disk, and writes `cut E`. The cells of the epochs up to it are free from then on.
-    fn cut<D: Disk, L: Law, K: Crew, R: Wait, W: Sink>(
+    fn cut<D: Disk, L: Law, R, E: Obey<D, L, R>, W: Sink>(
         &mut self,
         rt: &R,
         alloc: Global,
-        keeper: &mut Keeper<D, L>,
-        pool: &Pool<K, L>,
+        engine: &mut E,
         writer: &mut W,
     ) -> Result<(), Fault>
-        requires whole { keeper.old.broken ≡ false }
-        ensures size { D.capacity keeper.new.device ≡ D.capacity keeper.old.device }
-        ensures lawful { D.is_lawful keeper.old.device ↔ D.is_lawful keeper.new.device }
-        ensures written { OnOk result (keeper.new.waiting ≡ false) }
-        ensures carried { OnOk result (Carries L.answers keeper.old keeper.new []) }
-        ensures left { OnErr result (Leaves D.is_lawful D.state L.answers keeper.old keeper.new []) }
-        ensures said { SaysBy D.is_lawful D.state D.failures L.answers result (W.contents writer.old) (W.contents writer.new) keeper.old keeper.new [] }
-        ensures failures { CountsDevice result (Fault.Keeper Device) (D.failures keeper.old.device) (D.failures keeper.new.device) }
+        requires whole { (E.keeping engine.old).broken ≡ false }
+        ensures size { D.capacity (E.keeping engine.new).device ≡ D.capacity (E.keeping engine.old).device }
+        ensures lawful { D.is_lawful (E.keeping engine.old).device ↔ D.is_lawful (E.keeping engine.new).device }
+        ensures written { OnOk result ((E.keeping engine.new).waiting ≡ false) }
+        ensures carried { OnOk result (Carries L.answers (E.keeping engine.old) (E.keeping engine.new) []) }
+        ensures left { OnErr result (Leaves D.is_lawful D.state L.answers (E.keeping engine.old) (E.keeping engine.new) []) }
+        ensures said { SaysBy D.is_lawful D.state D.failures L.answers result (W.contents writer.old) (W.contents writer.new) (E.keeping engine.old) (E.keeping engine.new) [] }
+        ensures failures { CountsDevice result (Fault.Keeper Device) (D.failures (E.keeping engine.old).device) (D.failures (E.keeping engine.new).device) }
     {
-        self.settle(rt, alloc, keeper, pool, writer)?;
-        tell(rt, alloc, keeper, pool, Command::Cut)?;
+        self.settle(rt, alloc, engine, writer)?;
+        tell(rt, engine, Command::Cut)?;
         self.held = 0;
-        self.freed = open_epochs(keeper);
-        tell_aloud(rt, alloc, keeper, pool, Command::WriteCut, writer)
+        self.freed = open_epochs(engine.keeper());
+        tell_aloud(rt, alloc, engine, Command::WriteCut, writer)
     }
 }
 
@@ -405,21 +405,21 @@ pub(crate) fn open_epochs<D: Disk, L: Law>(keeper: &Keeper<D, L>) -> u64 {
 }
 
 /// Writes the output lines of the epochs that were collected, and lets these go.
-fn write_outs<D: Disk, L: Law, W: Sink>(
+fn write_outs<D: Disk, L: Law, R, E: Obey<D, L, R>, W: Sink>(
     alloc: Global,
-    keeper: &mut Keeper<D, L>,
+    engine: &mut E,
     writer: &mut W,
 ) -> Result<(), Fault>
-    requires whole { keeper.old.broken ≡ false }
-    ensures size { D.capacity keeper.new.device ≡ D.capacity keeper.old.device }
-    ensures lawful { D.is_lawful keeper.old.device ↔ D.is_lawful keeper.new.device }
-    ensures carried { Carries L.answers keeper.old keeper.new [] }
-    ensures none_left { OnOk result (keeper.new.queue ≡ []) }
-    ensures said { SaysBy D.is_lawful D.state D.failures L.answers result (W.contents writer.old) (W.contents writer.new) keeper.old keeper.new [] }
-    ensures failures { CountsDevice result (Fault.Keeper Device) (D.failures keeper.old.device) (D.failures keeper.new.device) }
+    requires whole { (E.keeping engine.old).broken ≡ false }
+    ensures size { D.capacity (E.keeping engine.new).device ≡ D.capacity (E.keeping engine.old).device }
+    ensures lawful { D.is_lawful (E.keeping engine.old).device ↔ D.is_lawful (E.keeping engine.new).device }
+    ensures carried { Carries L.answers (E.keeping engine.old) (E.keeping engine.new) [] }
+    ensures none_left { OnOk result ((E.keeping engine.new).queue ≡ []) }
+    ensures said { SaysBy D.is_lawful D.state D.failures L.answers result (W.contents writer.old) (W.contents writer.new) (E.keeping engine.old) (E.keeping engine.new) [] }
+    ensures failures { CountsDevice result (Fault.Keeper Device) (D.failures (E.keeping engine.old).device) (D.failures (E.keeping engine.new).device) }
 {
     let mut text = String::new(alloc);
-    while let Some(out) = next_out(keeper) {
+    while let Some(out) = next_out(engine) {
         print_epoch(&mut text, &out)?;
         write_piece(writer, &mut text)?;
     }
@@ -444,19 +444,19 @@ fn write_piece<W: Sink>(writer: &mut W, text: &mut String) -> Result<(), Fault>
 }
 
 /// The outputs of the first epoch of those that were collected; None where there is none.
-fn next_out<D: Disk, L: Law>(keeper: &mut Keeper<D, L>) -> Option<EpochOut>
-    requires whole { keeper.old.broken ≡ false }
-    ensures device { keeper.new.device ≡ keeper.old.device }
-    ensures size { D.capacity keeper.new.device ≡ D.capacity keeper.old.device }
-    ensures lawful { D.is_lawful keeper.old.device ↔ D.is_lawful keeper.new.device }
-    ensures failures { D.failures keeper.new.device ≡ D.failures keeper.old.device }
-    ensures carried { Carries L.answers keeper.old keeper.new [] }
-    ensures some { IfSome result (λ out. keeper.old.queue ≡ out ∷ keeper.new.queue) }
-    ensures none { IfNone result (keeper.new.queue ≡ []) }
-    ensures driven { Driven D.is_lawful D.state D.failures L.answers (NextOut ∷ []) (Out result ∷ []) keeper.old keeper.new }
+fn next_out<D: Disk, L: Law, R, E: Obey<D, L, R>>(engine: &mut E) -> Option<EpochOut>
+    requires whole { (E.keeping engine.old).broken ≡ false }
+    ensures device { (E.keeping engine.new).device ≡ (E.keeping engine.old).device }
+    ensures size { D.capacity (E.keeping engine.new).device ≡ D.capacity (E.keeping engine.old).device }
+    ensures lawful { D.is_lawful (E.keeping engine.old).device ↔ D.is_lawful (E.keeping engine.new).device }
+    ensures failures { D.failures (E.keeping engine.new).device ≡ D.failures (E.keeping engine.old).device }
+    ensures carried { Carries L.answers (E.keeping engine.old) (E.keeping engine.new) [] }
+    ensures some { IfSome result (λ out. (E.keeping engine.old).queue ≡ out ∷ (E.keeping engine.new).queue) }
+    ensures none { IfNone result ((E.keeping engine.new).queue ≡ []) }
+    ensures driven { Driven D.is_lawful D.state D.failures L.answers (NextOut ∷ []) (Out result ∷ []) (E.keeping engine.old) (E.keeping engine.new) }
 {
-    let out = keeper.next_out();
-    each_is_kept(keeper);
+    let out = engine.next_out();
+    each_at_work_is_kept(engine);
     out
 }
 

@@ -1,17 +1,16 @@
 //! A feed beside the workers, each in a thread of its own.
-ghost use Rattle.std.specs.Prelude.{◌≡◌, ◌⊎◌, ◌↔◌, ℕ, true, false, Ok, Err, IfErr, IfSome, OnOk, OnErr};
+ghost use Rattle.std.specs.Prelude.{◌≡◌, ◌↔◌, true, false, IfSome, OnOk, OnErr};
 ghost use Rattle.td_disk.specs.Disk.{CountsDevice};
-ghost use Rattle.td_pool.specs.declared.error.PoolError.{PoolError as AnyPoolError};
-ghost use Rattle.td_standing.specs.declared.error.KeeperError.TheVariants.{Device, NotPassed};
+ghost use Rattle.td_standing.specs.declared.error.KeeperError.TheVariants.{Device};
 ghost use Rattle.td_feed.specs.Orders.{submissions};
-ghost use Rattle.td_feed.specs.Fed.{pool_fault};
 ghost use Rattle.td_feed.specs.Carried.{new_to, Carries, Leaves};
 ghost use Rattle.td_feed.specs.Said.{SaysBy};
 
 use crate::allowance::Allowance;
 use crate::asking::Asking;
-use crate::at_once::Room;
-use crate::under_way::{Feeding, Pace, open_epochs};
+use crate::at_pool::AtPool;
+use crate::in_turn::{ended_as, obey_each};
+use crate::under_way::Feeding;
 use std::alloc::Global;
 use std::sync::Wait;
 use std::sync::ledger::Blank;
@@ -19,11 +18,10 @@ use std::thread;
 use std::thread::Threads;
 use td_calls::{Closures, Law};
 use td_console::{Fault, Sink};
-use td_core::{Hall, HallError};
+use td_core::Hall;
 use td_disk::Disk;
 use td_keeper::Keeper;
 use td_pool::{Crew, Pool, PoolError, Seat};
-use td_standing::KeeperError;
 
 /// Obeys orders by a hall on which workers work, at this pace, and settles. Refusals: those of what asks for the orders, of the keeper and of the writer; that of a worker,
 /// in place of epochs that did not pass for it; and `Memory`, also where a thread could not be made.
@@ -43,7 +41,6 @@ pub(crate) fn obey_by_workers<
     blank: Blank,
     feeding: Feeding,
     orders: S,
-    pace: Pace,
     writer: &mut W,
     calls: &C,
 ) -> (Keeper<D, L>, Result<(), Fault>)
@@ -61,7 +58,7 @@ pub(crate) fn obey_by_workers<
 {
     match Pool::<K, L>::new(alloc, hall, blank) {
         Ok((pool, seats)) => beside(
-            rt, alloc, keeper, &pool, seats, feeding, orders, pace, writer, calls,
+            rt, alloc, keeper, &pool, seats, feeding, orders, writer, calls,
         ),
         Err((_memory, _hall)) => (keeper, Err(Fault::Memory)),
     }
@@ -84,7 +81,6 @@ fn beside<
     seats: Vec<Seat<K, L>>,
     feeding: Feeding,
     orders: S,
-    pace: Pace,
     writer: &mut W,
     calls: &C,
 ) -> (Keeper<D, L>, Result<(), Fault>)
@@ -97,7 +93,7 @@ fn beside<
     ensures said { IfSome (S.script orders) (λ script. SaysBy D.is_lawful D.state D.failures L.answers result.1 (W.contents writer.old) (W.contents writer.new) keeper result.0 (new_to keeper (submissions script.orders))) }
     ensures failures { CountsDevice result.1 (Fault.Keeper Device) (D.failures keeper.device) (D.failures result.0.device) }
 {
-    let allowance = Allowance::new(pool, pace.tasks_of_an_epoch());
+    let allowance = Allowance::new(pool, feeding.pace.tasks_of_an_epoch());
     let allowance = &allowance;
     let (ended, _writer) = thread::scope(
         thread::scope_env(),
@@ -114,7 +110,7 @@ fn beside<
             ensures failures { CountsDevice result.0.1 (Fault.Keeper Device) (D.failures keeper.device) (D.failures result.0.0.device) }
         {
             let pool = allowance.pool;
-            let mut keeper = keeper;
+            let mut engine = AtPool { keeper, allowance };
             let mut orders = orders;
             let mut workers = Vec::new(alloc);
             let mut is_refused = false;
@@ -134,13 +130,10 @@ fn beside<
             let obeyed = obey_each(
                 rt,
                 alloc,
-                &mut keeper,
-                pool,
-                allowance,
+                &mut engine,
                 is_refused,
                 feeding,
                 &mut orders,
-                pace,
                 writer,
             );
             pool.stop(rt);
@@ -148,7 +141,7 @@ fn beside<
             for worker in workers {
                 worked = worked.and(worker.join(rt));
             }
-            ((keeper, ended_as(obeyed, worked)), writer)
+            ((engine.keeper, ended_as(obeyed, worked)), writer)
         },
     );
     ended
@@ -168,68 +161,4 @@ fn serve<L: Law, C: Closures<L>, K: Crew, R: Wait>(
         pool.stop(rt);
     }
     worked
-}
-
-/// Does what is asked for in turn, at this pace, and settles. Refusals: `Memory`, before anything else, where a worker was refused a thread;
-/// those of what asks for the orders, of the keeper and of the writer.
-fn obey_each<D: Disk, S: Asking, W: Sink, L: Law, K: Crew, R: Wait>(
-    rt: &R,
-    alloc: Global,
-    keeper: &mut Keeper<D, L>,
-    pool: &Pool<K, L>,
-    allowance: &Allowance<'_, K, L>,
-    is_refused: bool,
-    mut feeding: Feeding,
-    orders: &mut S,
-    pace: Pace,
-    writer: &mut W,
-) -> Result<(), Fault>
-    requires whole { keeper.old.broken ≡ false }
-    ensures size { D.capacity keeper.new.device ≡ D.capacity keeper.old.device }
-    ensures lawful { D.is_lawful keeper.old.device ↔ D.is_lawful keeper.new.device }
-    ensures sound { OnOk result (IfSome (S.script orders.old) (λ script. script.is_sound ≡ true)) }
-    ensures fed { OnOk result (IfSome (S.script orders.old) (λ script. Carries L.answers keeper.old keeper.new (new_to keeper.old (submissions script.orders)))) }
-    ensures left { OnErr result (IfSome (S.script orders.old) (λ script. Leaves D.is_lawful D.state L.answers keeper.old keeper.new (new_to keeper.old (submissions script.orders)))) }
-    ensures said { IfSome (S.script orders.old) (λ script. SaysBy D.is_lawful D.state D.failures L.answers result (W.contents writer.old) (W.contents writer.new) keeper.old keeper.new (new_to keeper.old (submissions script.orders))) }
-    ensures failures { CountsDevice result (Fault.Keeper Device) (D.failures keeper.old.device) (D.failures keeper.new.device) }
-{
-    if is_refused {
-        return Err(Fault::Memory);
-    }
-    allowance.allow(open_epochs(keeper));
-    feeding.begin(rt, alloc, keeper, pool, pace, writer)?;
-    for _asked in rt.forever() {
-        let room = Room::of(keeper, pace.epochs_at_once(keeper));
-        let Some(asked) = orders.next_asked(alloc, &room)? else {
-            return feeding.settle(rt, alloc, keeper, pool, writer);
-        };
-        allowance.allow(asked.epochs());
-        feeding.obey_at_pace(rt, alloc, keeper, pool, asked, pace, writer)?;
-    }
-    unreachable!()
-}
-
-/// How a feed ended: as a worker's refusal says, in place of epochs that did not pass for it.
-fn ended_as(obeyed: Result<(), Fault>, worked: Result<(), PoolError>) -> Result<(), Fault>
-    ensures ok { OnOk result ((obeyed ≡ Ok tt) × (worked ≡ Ok tt)) }
-    ensures err { IfErr result (λ f. (obeyed ≡ Err f) ⊎ (((obeyed ≡ Ok tt) ⊎ ((e : ℕ) × (obeyed ≡ Err (Fault.Keeper (NotPassed e))))) × ((r : AnyPoolError) × (worked ≡ Err r) × (f ≡ pool_fault r)))) }
-{
-    match (obeyed, worked) {
-        (Ok(()) | Err(Fault::Keeper(KeeperError::NotPassed(_))), Err(refusal)) => {
-            Err(fault_of(refusal))
-        }
-        (obeyed, _) => obeyed,
-    }
-}
-
-/// The fault for a worker's refusal.
-fn fault_of(refusal: PoolError) -> Fault
-    ensures { result ≡ pool_fault refusal }
-{
-    match refusal {
-        PoolError::NoCall(vertex, code) => Fault::NoCall(vertex, code),
-        PoolError::Memory | PoolError::Hall(HallError::Memory) => Fault::Memory,
-        PoolError::Hall(HallError::Spent) => Fault::Spent,
-        PoolError::Hall(_) | PoolError::NotAll => Fault::Keeper(KeeperError::Foreign),
-    }
 }

@@ -1,8 +1,11 @@
-use Rattle.std.proofs.Common.{◌≡◌, [], ◌∙◌, refl, subst, inr, None}
+use Rattle.std.proofs.Common.{◌≡◌, [], ◌∙◌, ap, refl, subst, inr, None}
+use Rattle.std.specs.Prelude.{◌↔◌, Err}
 use Rattle.td_console.specs.declared.faults.Fault.{Fault}
 use Rattle.td_feed.specs.Orders.{submissions}
 use Rattle.td_feed.specs.Asked.{Asks, asked_for}
-use Rattle.td_feed.specs.Carried.{new_to}
+use Rattle.td_keeper.specs.Keeping.{Keeping}
+use Rattle.td_feed.specs.Carried.{new_to, Carries, Leaves}
+use Rattle.td_feed.specs.Said.{Says, SaysBy}
 use Rattle.td_feed.proofs.Carrying.{at_err, in_some, unmoved, leaves_none}
 use Rattle.td_feed.proofs.Counting.{same_count}
 use Rattle.td_feed.proofs.Lines.{says_nothing, some_of_all, by_refusal, handed_on}
@@ -23,17 +26,28 @@ pub returns-in_err-begin-clause-left : goal.returns-in_err-begin-clause-left
 returns-in_err-begin-clause-left g c =
     let old = (g.E.Obey.keeping c.args.engine.now) in
     at_err c.from_residual.result
-    (in_some (g.S.Asking.script c.args.orders.now) (λ s. none_left g.D.Disk.is_lawful g.D.Disk.state g.D.Disk.failures g.L.Law.answers old (g.E.Obey.keeping c.begin.new.engine) (new_to old (submissions s.orders)) c.requires.whole c.in_err-begin.ensures.left))
+    (in_some (g.S.Asking.script c.args.orders.now) (λ s. none_left g.D.Disk.is_lawful g.D.Disk.state g.D.Disk.failures g.L.Law.answers old (g.E.Obey.keeping c.begin.new.engine) (new_to old (submissions s.orders)) c.requires.whole
+    (subst (λ (k : Keeping g.row.D.Denot). Leaves g.D.Disk.is_lawful g.D.Disk.state g.L.Law.answers k (g.E.Obey.keeping c.begin.new.engine) []) c.allow.ensures c.in_err-begin.ensures.left)))
 
 pub loop-asked-init : goal.loop-asked-init
-loop-asked-init g c = record {
-  obeyed =
-      none_obeyed g.D.Disk.is_lawful g.D.Disk.state g.D.Disk.failures g.L.Law.answers (g.S.Asking.script c.args.orders.now) (g.W.Sink.contents c.args.writer.now) (g.W.Sink.contents c.begin.new.writer) (g.E.Obey.keeping c.args.engine.now)
-      (g.E.Obey.keeping c.begin.new.engine) c.in_ok-begin.ensures.said c.in_ok-begin.ensures.carried;
-  count = same_count c.in_ok-begin.field-0 _ _ c.in_ok-begin.ensures.failures;
-  size = c.begin.ensures.size;
-  lawful = c.begin.ensures.lawful;
-}
+loop-asked-init g c =
+    let is_lawful = g.D.Disk.is_lawful in
+    let state = g.D.Disk.state in
+    let failures = g.D.Disk.failures in
+    let answers = g.L.Law.answers in
+    let v = g.W.Sink.contents c.args.writer.now in
+    let w = g.W.Sink.contents c.begin.new.writer in
+    let new = g.E.Obey.keeping c.begin.new.engine in
+    let same = c.allow.ensures in
+    record {
+      obeyed =
+          none_obeyed is_lawful state failures answers (g.S.Asking.script c.args.orders.now) v w (g.E.Obey.keeping c.args.engine.now) new
+          (subst (λ (k : Keeping g.row.D.Denot). Says is_lawful state failures answers v w k new []) same c.in_ok-begin.ensures.said)
+          (subst (λ (k : Keeping g.row.D.Denot). Carries answers k new []) same c.in_ok-begin.ensures.carried);
+      count = same_count c.in_ok-begin.field-0 _ _ c.in_ok-begin.ensures.failures ∙ ap (λ (k : Keeping g.row.D.Denot). failures k.device) same;
+      size = c.begin.ensures.size ∙ ap (λ (k : Keeping g.row.D.Denot). g.D.Disk.capacity k.device) same;
+      lawful = subst (λ (k : Keeping g.row.D.Denot). is_lawful k.device ↔ is_lawful new.device) same c.begin.ensures.lawful;
+    }
 
 pub returns-in_err-asked-clause-left : goal.returns-in_err-asked-clause-left
 returns-in_err-asked-clause-left g c =
@@ -74,23 +88,38 @@ returns-in_default-clause-said g c =
     (g.E.Obey.keeping c.loop-asked.engine) c.loop-asked.invariant.obeyed c.settle.result (g.W.Sink.contents c.settle.new.writer) (g.E.Obey.keeping c.settle.new.engine) asks c.settle.ensures.said
 
 pub loop-asked-preserved : goal.loop-asked-preserved
-loop-asked-preserved g c = record {
-  obeyed =
-      some_obeyed g.D.Disk.is_lawful g.D.Disk.state g.D.Disk.failures g.L.Law.answers (g.S.Asking.script c.args.orders.now) (g.S.Asking.script c.loop-asked.orders) (g.S.Asking.script c.next_asked.new.self)
-      (g.W.Sink.contents c.args.writer.now) (g.W.Sink.contents c.loop-asked.writer) (g.W.Sink.contents c.obey_at_pace.new.writer) (g.E.Obey.keeping c.args.engine.now) (g.E.Obey.keeping c.loop-asked.engine) (g.E.Obey.keeping c.obey_at_pace.new.engine) c.in-Some-2.asked c.loop-asked.invariant.obeyed
-      (subst (Asks (g.S.Asking.script c.loop-asked.orders) (g.S.Asking.script c.next_asked.new.self)) c.in-Some-2.is c.in_ok-asked.ensures.asked)
-      c.in_ok-obey_at_pace.ensures.said c.in_ok-obey_at_pace.ensures.carried;
-  count = same_count c.in_ok-obey_at_pace.field-0 _ _ c.in_ok-obey_at_pace.ensures.failures ∙ c.loop-asked.invariant.count;
-  size = c.obey_at_pace.ensures.size ∙ c.loop-asked.invariant.size;
-  lawful = (λ l. c.obey_at_pace.ensures.lawful.0 (c.loop-asked.invariant.lawful.0 l), λ l. c.loop-asked.invariant.lawful.1 (c.obey_at_pace.ensures.lawful.1 l));
-}
+loop-asked-preserved g c =
+    let is_lawful = g.D.Disk.is_lawful in
+    let state = g.D.Disk.state in
+    let failures = g.D.Disk.failures in
+    let answers = g.L.Law.answers in
+    let v = g.W.Sink.contents c.loop-asked.writer in
+    let w = g.W.Sink.contents c.obey_at_pace.new.writer in
+    let there = g.E.Obey.keeping c.loop-asked.engine in
+    let new = g.E.Obey.keeping c.obey_at_pace.new.engine in
+    let asked = c.in-Some-2.asked in
+    let same = c.allow-in-loop-asked.ensures in
+    record {
+      obeyed =
+          some_obeyed is_lawful state failures answers (g.S.Asking.script c.args.orders.now) (g.S.Asking.script c.loop-asked.orders) (g.S.Asking.script c.next_asked.new.self)
+          (g.W.Sink.contents c.args.writer.now) v w (g.E.Obey.keeping c.args.engine.now) there new asked c.loop-asked.invariant.obeyed
+          (subst (Asks (g.S.Asking.script c.loop-asked.orders) (g.S.Asking.script c.next_asked.new.self)) c.in-Some-2.is c.in_ok-asked.ensures.asked)
+          (subst (λ (k : Keeping g.row.D.Denot). Says is_lawful state failures answers v w k new (new_to k (asked_for asked))) same c.in_ok-obey_at_pace.ensures.said)
+          (subst (λ (k : Keeping g.row.D.Denot). Carries answers k new (new_to k (asked_for asked))) same c.in_ok-obey_at_pace.ensures.carried);
+      count = same_count c.in_ok-obey_at_pace.field-0 _ _ c.in_ok-obey_at_pace.ensures.failures ∙ (ap (λ (k : Keeping g.row.D.Denot). failures k.device) same ∙ c.loop-asked.invariant.count);
+      size = c.obey_at_pace.ensures.size ∙ (ap (λ (k : Keeping g.row.D.Denot). g.D.Disk.capacity k.device) same ∙ c.loop-asked.invariant.size);
+      lawful =
+          let on : is_lawful there.device ↔ is_lawful new.device = subst (λ (k : Keeping g.row.D.Denot). is_lawful k.device ↔ is_lawful new.device) same c.obey_at_pace.ensures.lawful in
+          (λ l. on.0 (c.loop-asked.invariant.lawful.0 l), λ l. c.loop-asked.invariant.lawful.1 (on.1 l));
+    }
 
 pub returns-in_err-obey_at_pace-clause-left : goal.returns-in_err-obey_at_pace-clause-left
 returns-in_err-obey_at_pace-clause-left g c =
     at_err c.from_residual-in_err-obey_at_pace.result
     (some_refused g.D.Disk.is_lawful g.D.Disk.state g.D.Disk.failures g.L.Law.answers (g.S.Asking.script c.args.orders.now) (g.S.Asking.script c.loop-asked.orders) (g.S.Asking.script c.next_asked.new.self)
     (g.W.Sink.contents c.args.writer.now) (g.W.Sink.contents c.loop-asked.writer) (g.W.Sink.contents c.obey_at_pace.new.writer) (g.E.Obey.keeping c.args.engine.now) (g.E.Obey.keeping c.loop-asked.engine) (g.E.Obey.keeping c.obey_at_pace.new.engine) c.in-Some-2.asked c.loop-asked.invariant.obeyed
-    (subst (Asks (g.S.Asking.script c.loop-asked.orders) (g.S.Asking.script c.next_asked.new.self)) c.in-Some-2.is c.in_ok-asked.ensures.asked) c.in_err-obey_at_pace.ensures.left)
+    (subst (Asks (g.S.Asking.script c.loop-asked.orders) (g.S.Asking.script c.next_asked.new.self)) c.in-Some-2.is c.in_ok-asked.ensures.asked)
+    (subst (λ (k : Keeping g.row.D.Denot). Leaves g.D.Disk.is_lawful g.D.Disk.state g.L.Law.answers k (g.E.Obey.keeping c.obey_at_pace.new.engine) (new_to k (asked_for c.in-Some-2.asked))) c.allow-in-loop-asked.ensures c.in_err-obey_at_pace.ensures.left))
 
 pub returns-in_err-obey_at_pace-clause-said : goal.returns-in_err-obey_at_pace-clause-said
 returns-in_err-obey_at_pace-clause-said g c =
@@ -103,7 +132,8 @@ returns-in_err-obey_at_pace-clause-said g c =
     in_some (g.S.Asking.script c.args.orders.now)
     (λ s. handed_on is_lawful state failures answers c.from_residual-in_err-obey_at_pace.result c.in_err-obey_at_pace.field-0.0 (g.W.Sink.contents c.args.writer.now) (g.W.Sink.contents c.loop-asked.writer)
     (g.W.Sink.contents c.obey_at_pace.new.writer) old (g.E.Obey.keeping c.loop-asked.engine) (g.E.Obey.keeping c.obey_at_pace.new.engine) (new_to old (submissions so.done)) (new_to (g.E.Obey.keeping c.loop-asked.engine) (asked_for c.in-Some-2.asked)) (new_to old (submissions s.orders))
-    c.from_residual-in_err-obey_at_pace.ensures.1 so.said c.in_err-obey_at_pace.ensures.said)
+    c.from_residual-in_err-obey_at_pace.ensures.1 so.said
+    (subst (λ (k : Keeping g.row.D.Denot). SaysBy is_lawful state failures answers (Err c.in_err-obey_at_pace.field-0.0) (g.W.Sink.contents c.loop-asked.writer) (g.W.Sink.contents c.obey_at_pace.new.writer) k (g.E.Obey.keeping c.obey_at_pace.new.engine) (new_to k (asked_for c.in-Some-2.asked))) c.allow-in-loop-asked.ensures c.in_err-obey_at_pace.ensures.said))
 
 pub returns-then-is_refused-clause-left : goal.returns-then-is_refused-clause-left
 returns-then-is_refused-clause-left g c =

@@ -56,3 +56,36 @@ returns-in-Ok-clause-said g c =
     of_made (script_of c.args.plan.now)
     (λ (asked : Script). SaysBy is_lawful state failures answers ended.1 (g.W.Sink.contents c.args.writer.now) (g.W.Sink.contents c.obey_by_workers.new.writer) c.args.keeper ended.0 (new_to c.args.keeper (submissions asked.orders)))
     (g.I.Source.remaining c.args.reader) _ c.new-orders.ensures c.obey_by_workers.ensures.said
+
+pub returns-then-workers-eq1-clause-sound : goal.returns-then-workers-eq1-clause-sound
+returns-then-workers-eq1-clause-sound g c =
+    on_ok_weaker c.obey_alone.result.1
+    (of_made (script_of c.args.plan.now) (λ (asked : Script). asked.is_sound ≡ true) (g.I.Source.remaining c.args.reader) _ c.new-orders.ensures)
+    c.obey_alone.ensures.sound
+
+pub returns-then-workers-eq1-clause-fed : goal.returns-then-workers-eq1-clause-fed
+returns-then-workers-eq1-clause-fed g c =
+    let answers = g.L.Law.answers in
+    let ended = c.obey_alone.result in
+    on_ok_weaker ended.1
+    (of_made (script_of c.args.plan.now) (λ (asked : Script). Carries answers c.args.keeper ended.0 (new_to c.args.keeper (submissions asked.orders))) (g.I.Source.remaining c.args.reader) _ c.new-orders.ensures)
+    c.obey_alone.ensures.fed
+
+pub returns-then-workers-eq1-clause-left : goal.returns-then-workers-eq1-clause-left
+returns-then-workers-eq1-clause-left g c =
+    let answers = g.L.Law.answers in
+    let ended = c.obey_alone.result in
+    on_err_weaker ended.1
+    (of_made (script_of c.args.plan.now) (λ (asked : Script). Leaves g.D.Disk.is_lawful g.D.Disk.state answers c.args.keeper ended.0 (new_to c.args.keeper (submissions asked.orders))) (g.I.Source.remaining c.args.reader) _ c.new-orders.ensures)
+    c.obey_alone.ensures.left
+
+pub returns-then-workers-eq1-clause-said : goal.returns-then-workers-eq1-clause-said
+returns-then-workers-eq1-clause-said g c =
+    let is_lawful = g.D.Disk.is_lawful in
+    let state = g.D.Disk.state in
+    let failures = g.D.Disk.failures in
+    let answers = g.L.Law.answers in
+    let ended = c.obey_alone.result in
+    of_made (script_of c.args.plan.now)
+    (λ (asked : Script). SaysBy is_lawful state failures answers ended.1 (g.W.Sink.contents c.args.writer.now) (g.W.Sink.contents c.obey_alone.new.writer) c.args.keeper ended.0 (new_to c.args.keeper (submissions asked.orders)))
+    (g.I.Source.remaining c.args.reader) _ c.new-orders.ensures c.obey_alone.ensures.said

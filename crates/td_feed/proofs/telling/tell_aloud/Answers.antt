@@ -18,8 +18,8 @@ returns-in_err-reply-clause-said g c =
     let failures = g.D.Disk.failures in
     let answers = g.L.Law.answers in
     let w = g.W.Sink.contents c.args.writer.now in
-    let old = c.args.keeper.now in
-    then_refused is_lawful state failures answers c.from_residual.result (λ (f : Fault). f ≡ c.in_err-reply.field-0.0) w w c.args.command old old c.tell.new.keeper [] (new_to c.args.keeper.now (batch_in c.args.command))
+    let old = (g.E.Obey.keeping c.args.engine.now) in
+    then_refused is_lawful state failures answers c.from_residual.result (λ (f : Fault). f ≡ c.in_err-reply.field-0.0) w w c.args.command old old (g.E.Obey.keeping c.tell.new.engine) [] (new_to (g.E.Obey.keeping c.args.engine.now) (batch_in c.args.command))
     c.from_residual.ensures.1 (says_nothing is_lawful state failures answers w old) c.in_err-reply.ensures.refused
 
 pub returns-in_err-reply-clause-failures : goal.returns-in_err-reply-clause-failures
@@ -35,8 +35,8 @@ returns-clause-carried g c =
     let state = g.D.Disk.state in
     let failures = g.D.Disk.failures in
     let answers = g.L.Law.answers in
-    let is = submitted_is is_lawful state failures answers c.args.command c.in_ok-reply.reply c.args.keeper.now c.tell.new.keeper c.in_ok-reply.ensures.obeyed c.in_ok-reply.ensures.done c.requires.rising in
-    at_ok c.say.result (subst (λ (x : List Submitted). Carries answers c.args.keeper.now c.tell.new.keeper x) is c.in_ok-reply.ensures.carried)
+    let is = submitted_is is_lawful state failures answers c.args.command c.in_ok-reply.reply (g.E.Obey.keeping c.args.engine.now) (g.E.Obey.keeping c.tell.new.engine) c.in_ok-reply.ensures.obeyed c.in_ok-reply.ensures.done c.requires.rising in
+    at_ok c.say.result (subst (λ (x : List Submitted). Carries answers (g.E.Obey.keeping c.args.engine.now) (g.E.Obey.keeping c.tell.new.engine) x) is c.in_ok-reply.ensures.carried)
 
 pub returns-clause-left : goal.returns-clause-left
 returns-clause-left g c =
@@ -44,10 +44,10 @@ returns-clause-left g c =
     let state = g.D.Disk.state in
     let failures = g.D.Disk.failures in
     let answers = g.L.Law.answers in
-    let is = submitted_is is_lawful state failures answers c.args.command c.in_ok-reply.reply c.args.keeper.now c.tell.new.keeper c.in_ok-reply.ensures.obeyed c.in_ok-reply.ensures.done c.requires.rising in
+    let is = submitted_is is_lawful state failures answers c.args.command c.in_ok-reply.reply (g.E.Obey.keeping c.args.engine.now) (g.E.Obey.keeping c.tell.new.engine) c.in_ok-reply.ensures.obeyed c.in_ok-reply.ensures.done c.requires.rising in
     at_err c.say.result
-    (leaves_all is_lawful state answers c.args.keeper.now c.tell.new.keeper (new_to c.args.keeper.now (batch_in c.args.command))
-    (subst (λ (x : List Submitted). Carries answers c.args.keeper.now c.tell.new.keeper x) is c.in_ok-reply.ensures.carried))
+    (leaves_all is_lawful state answers (g.E.Obey.keeping c.args.engine.now) (g.E.Obey.keeping c.tell.new.engine) (new_to (g.E.Obey.keeping c.args.engine.now) (batch_in c.args.command))
+    (subst (λ (x : List Submitted). Carries answers (g.E.Obey.keeping c.args.engine.now) (g.E.Obey.keeping c.tell.new.engine) x) is c.in_ok-reply.ensures.carried))
 
 pub returns-clause-acknowledged : goal.returns-clause-acknowledged
 returns-clause-acknowledged g c =
@@ -55,8 +55,8 @@ returns-clause-acknowledged g c =
     let state = g.D.Disk.state in
     let failures = g.D.Disk.failures in
     let answers = g.L.Law.answers in
-    let is = submitted_is is_lawful state failures answers c.args.command c.in_ok-reply.reply c.args.keeper.now c.tell.new.keeper c.in_ok-reply.ensures.obeyed c.in_ok-reply.ensures.done c.requires.rising in
-    inr (subst (λ (x : List Submitted). Carries answers c.args.keeper.now c.tell.new.keeper x) is c.in_ok-reply.ensures.carried)
+    let is = submitted_is is_lawful state failures answers c.args.command c.in_ok-reply.reply (g.E.Obey.keeping c.args.engine.now) (g.E.Obey.keeping c.tell.new.engine) c.in_ok-reply.ensures.obeyed c.in_ok-reply.ensures.done c.requires.rising in
+    inr (subst (λ (x : List Submitted). Carries answers (g.E.Obey.keeping c.args.engine.now) (g.E.Obey.keeping c.tell.new.engine) x) is c.in_ok-reply.ensures.carried)
 
 pub returns-clause-said : goal.returns-clause-said
 returns-clause-said g c =
@@ -64,9 +64,9 @@ returns-clause-said g c =
     let state = g.D.Disk.state in
     let failures = g.D.Disk.failures in
     let answers = g.L.Law.answers in
-    let is = submitted_is is_lawful state failures answers c.args.command c.in_ok-reply.reply c.args.keeper.now c.tell.new.keeper c.in_ok-reply.ensures.obeyed c.in_ok-reply.ensures.done c.requires.rising in
-    said_by is_lawful state failures answers c.say.result (g.W.Sink.contents c.args.writer.now) (g.W.Sink.contents c.say.new.writer) c.args.command c.in_ok-reply.reply c.args.keeper.now c.tell.new.keeper
-    (new_to c.args.keeper.now (batch_in c.args.command)) (c.say.new.writer ≡ c.args.writer.now) c.in_ok-reply.ensures.driven is
+    let is = submitted_is is_lawful state failures answers c.args.command c.in_ok-reply.reply (g.E.Obey.keeping c.args.engine.now) (g.E.Obey.keeping c.tell.new.engine) c.in_ok-reply.ensures.obeyed c.in_ok-reply.ensures.done c.requires.rising in
+    said_by is_lawful state failures answers c.say.result (g.W.Sink.contents c.args.writer.now) (g.W.Sink.contents c.say.new.writer) c.args.command c.in_ok-reply.reply (g.E.Obey.keeping c.args.engine.now) (g.E.Obey.keeping c.tell.new.engine)
+    (new_to (g.E.Obey.keeping c.args.engine.now) (batch_in c.args.command)) (c.say.new.writer ≡ c.args.writer.now) c.in_ok-reply.ensures.driven is
     (subst (λ (n : ℕ). OnOk c.say.result (Appends (g.W.Sink.contents c.args.writer.now) (g.W.Sink.contents c.say.new.writer) (line_of n c.in_ok-reply.reply))) c.request_in-request.ensures c.say.ensures.said) c.say.ensures.unsaid (λ same. ap g.W.Sink.contents same)
 
 pub returns-clause-failures : goal.returns-clause-failures

@@ -7,12 +7,12 @@ use Rattle.td_feed.proofs.under_way.write_outs.Given as goal
 -- the keeper has gone on, with nothing submitted, and the lines of its replies are written or held
 abbrev pub invariant-loop-out : goal.invariant-loop-out
 invariant-loop-out g l = record {
-  said : Holding g.D.Disk.is_lawful g.D.Disk.state g.D.Disk.failures g.L.Law.answers (g.W.Sink.contents l.fn.writer) (g.W.Sink.contents l.writer) l.fn.keeper l.keeper (string_bytes l.text);
-  count : g.D.Disk.failures l.keeper.device ≡ g.D.Disk.failures l.fn.keeper.device;
-  carried : Carries g.L.Law.answers l.fn.keeper l.keeper [];
-  size : g.D.Disk.capacity l.keeper.device ≡ g.D.Disk.capacity l.fn.keeper.device;
-  lawful : g.D.Disk.is_lawful l.fn.keeper.device ↔ g.D.Disk.is_lawful l.keeper.device;
+  said : Holding g.D.Disk.is_lawful g.D.Disk.state g.D.Disk.failures g.L.Law.answers (g.W.Sink.contents l.fn.writer) (g.W.Sink.contents l.writer) (g.E.Obey.keeping l.fn.engine) (g.E.Obey.keeping l.engine) (string_bytes l.text);
+  count : g.D.Disk.failures (g.E.Obey.keeping l.engine).device ≡ g.D.Disk.failures (g.E.Obey.keeping l.fn.engine).device;
+  carried : Carries g.L.Law.answers (g.E.Obey.keeping l.fn.engine) (g.E.Obey.keeping l.engine) [];
+  size : g.D.Disk.capacity (g.E.Obey.keeping l.engine).device ≡ g.D.Disk.capacity (g.E.Obey.keeping l.fn.engine).device;
+  lawful : g.D.Disk.is_lawful (g.E.Obey.keeping l.fn.engine).device ↔ g.D.Disk.is_lawful (g.E.Obey.keeping l.engine).device;
 }
 
 abbrev pub decreases-loop-out : goal.decreases-loop-out
-decreases-loop-out g l = length l.keeper.queue
+decreases-loop-out g l = length (g.E.Obey.keeping l.engine).queue

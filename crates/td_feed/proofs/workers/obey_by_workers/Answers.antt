@@ -3,7 +3,7 @@ use Rattle.td_console.specs.declared.faults.Fault.TheVariants.{Memory}
 use Rattle.td_feed.specs.Orders.{submissions}
 use Rattle.td_feed.specs.Carried.{new_to}
 use Rattle.td_feed.proofs.Carrying.{in_some, unmoved, leaves_none}
-use Rattle.td_feed.proofs.Counting.{as_err, counts_same}
+use Rattle.td_feed.proofs.Counting.{as_err, counts_same, memory_no_device}
 use Rattle.td_feed.proofs.Lines.{says_nothing, some_of_all}
 use Rattle.td_feed.proofs.workers.obey_by_workers.Goals as goal
 
@@ -23,4 +23,4 @@ returns-in-Err-clause-said g c =
     in_some (g.S.Asking.script c.args.orders) (λ s. inr (some_of_all is_lawful state failures answers w w old old [] (says_nothing is_lawful state failures answers w old)))
 
 pub returns-in-Err-clause-failures : goal.returns-in-Err-clause-failures
-returns-in-Err-clause-failures g c = counts_same (as_err (Unit {0}) Memory) _ _ (λ is. absurd (let no = is in cc)) refl
+returns-in-Err-clause-failures g c = counts_same (as_err (Unit {0}) Memory) _ _ memory_no_device refl

@@ -13,8 +13,8 @@ returns-in_err-settle-clause-said g c =
     let failures = g.D.Disk.failures in
     let answers = g.L.Law.answers in
     let w = g.W.Sink.contents c.args.writer.now in
-    let old = c.args.keeper.now in
-    handed_on is_lawful state failures answers c.from_residual.result c.in_err-settle.field-0.0 w w (g.W.Sink.contents c.settle.new.writer) old old c.settle.new.keeper [] [] [] c.from_residual.ensures.1
+    let old = (g.E.Obey.keeping c.args.engine.now) in
+    handed_on is_lawful state failures answers c.from_residual.result c.in_err-settle.field-0.0 w w (g.W.Sink.contents c.settle.new.writer) old old (g.E.Obey.keeping c.settle.new.engine) [] [] [] c.from_residual.ensures.1
     (says_nothing is_lawful state failures answers w old) c.in_err-settle.ensures.said
 
 pub returns-in_err-settle-clause-failures : goal.returns-in_err-settle-clause-failures
@@ -28,8 +28,8 @@ returns-in_err-tell-clause-left g c =
     let failures = g.D.Disk.failures in
     let answers = g.L.Law.answers in
     at_err c.from_residual-in_err-tell.result
-    (leaves_none is_lawful state answers c.args.keeper.now c.tell.new.keeper []
-    (carries_after is_lawful state answers c.args.keeper.now c.settle.new.keeper c.tell.new.keeper [] c.settle.ensures.carried (c.in_err-tell.ensures.rests refl)))
+    (leaves_none is_lawful state answers (g.E.Obey.keeping c.args.engine.now) (g.E.Obey.keeping c.tell.new.engine) []
+    (carries_after is_lawful state answers (g.E.Obey.keeping c.args.engine.now) (g.E.Obey.keeping c.settle.new.engine) (g.E.Obey.keeping c.tell.new.engine) [] c.settle.ensures.carried (c.in_err-tell.ensures.rests refl)))
 
 pub returns-in_err-tell-clause-said : goal.returns-in_err-tell-clause-said
 returns-in_err-tell-clause-said g c =
@@ -39,7 +39,7 @@ returns-in_err-tell-clause-said g c =
     let answers = g.L.Law.answers in
     let w = g.W.Sink.contents c.args.writer.now in
     let v = g.W.Sink.contents c.settle.new.writer in
-    then_refused is_lawful state failures answers c.from_residual-in_err-tell.result (λ (f : Fault). f ≡ c.in_err-tell.field-0.0) w v Cut c.args.keeper.now c.settle.new.keeper c.tell.new.keeper [] []
+    then_refused is_lawful state failures answers c.from_residual-in_err-tell.result (λ (f : Fault). f ≡ c.in_err-tell.field-0.0) w v Cut (g.E.Obey.keeping c.args.engine.now) (g.E.Obey.keeping c.settle.new.engine) (g.E.Obey.keeping c.tell.new.engine) [] []
     c.from_residual-in_err-tell.ensures.1 c.in_ok-settle.ensures.said c.in_err-tell.ensures.refused
 
 pub returns-in_err-tell-clause-failures : goal.returns-in_err-tell-clause-failures
@@ -54,8 +54,8 @@ returns-clause-left g c =
     let failures = g.D.Disk.failures in
     let answers = g.L.Law.answers in
     err_weaker _ _ c.tell_aloud.result
-    (λ left. leaves_after is_lawful state answers c.args.keeper.now c.tell.new.keeper c.tell_aloud.new.keeper []
-    (carries_after is_lawful state answers c.args.keeper.now c.settle.new.keeper c.tell.new.keeper [] c.settle.ensures.carried (c.in_ok-tell.ensures.rests refl))
+    (λ left. leaves_after is_lawful state answers (g.E.Obey.keeping c.args.engine.now) (g.E.Obey.keeping c.tell.new.engine) (g.E.Obey.keeping c.tell_aloud.new.engine) []
+    (carries_after is_lawful state answers (g.E.Obey.keeping c.args.engine.now) (g.E.Obey.keeping c.settle.new.engine) (g.E.Obey.keeping c.tell.new.engine) [] c.settle.ensures.carried (c.in_ok-tell.ensures.rests refl))
     left)
     c.tell_aloud.ensures.left
 
@@ -67,9 +67,9 @@ returns-clause-said g c =
     let answers = g.L.Law.answers in
     let w = g.W.Sink.contents c.args.writer.now in
     let v = g.W.Sink.contents c.settle.new.writer in
-    then_by is_lawful state failures answers c.tell_aloud.result w v (g.W.Sink.contents c.tell_aloud.new.writer) c.args.keeper.now c.tell.new.keeper c.tell_aloud.new.keeper [] []
-    (says_then is_lawful state failures answers w v v c.args.keeper.now c.settle.new.keeper c.tell.new.keeper [] [] c.in_ok-settle.ensures.said
-    (quietly is_lawful state failures answers v Cut c.in_ok-tell.field-0 c.settle.new.keeper c.tell.new.keeper refl c.in_ok-tell.ensures.obeyed c.in_ok-tell.ensures.driven))
+    then_by is_lawful state failures answers c.tell_aloud.result w v (g.W.Sink.contents c.tell_aloud.new.writer) (g.E.Obey.keeping c.args.engine.now) (g.E.Obey.keeping c.tell.new.engine) (g.E.Obey.keeping c.tell_aloud.new.engine) [] []
+    (says_then is_lawful state failures answers w v v (g.E.Obey.keeping c.args.engine.now) (g.E.Obey.keeping c.settle.new.engine) (g.E.Obey.keeping c.tell.new.engine) [] [] c.in_ok-settle.ensures.said
+    (quietly is_lawful state failures answers v Cut c.in_ok-tell.field-0 (g.E.Obey.keeping c.settle.new.engine) (g.E.Obey.keeping c.tell.new.engine) refl c.in_ok-tell.ensures.obeyed c.in_ok-tell.ensures.driven))
     c.tell_aloud.ensures.said
 
 pub returns-clause-failures : goal.returns-clause-failures
@@ -80,4 +80,4 @@ returns-clause-failures g c =
 pub returns-in_err-settle-clause-left : goal.returns-in_err-settle-clause-left
 returns-in_err-settle-clause-left g c =
     at_err c.from_residual.result
-    (leaves_none g.D.Disk.is_lawful g.D.Disk.state g.L.Law.answers c.args.keeper.now c.settle.new.keeper [] c.settle.ensures.carried)
+    (leaves_none g.D.Disk.is_lawful g.D.Disk.state g.L.Law.answers (g.E.Obey.keeping c.args.engine.now) (g.E.Obey.keeping c.settle.new.engine) [] c.settle.ensures.carried)

@@ -11,8 +11,8 @@ returns-in_err-tell-clause-said g c = λ w.
     let state = g.D.Disk.state in
     let failures = g.D.Disk.failures in
     let answers = g.L.Law.answers in
-    let old = c.args.keeper.now in
-    then_refused is_lawful state failures answers c.from_residual.result (λ (f : Fault). f ≡ c.in_err-tell.field-0.0) w w Release old old c.tell.new.keeper [] []
+    let old = (g.E.Obey.keeping c.args.engine.now) in
+    then_refused is_lawful state failures answers c.from_residual.result (λ (f : Fault). f ≡ c.in_err-tell.field-0.0) w w Release old old (g.E.Obey.keeping c.tell.new.engine) [] []
     c.from_residual.ensures.1 (says_nothing is_lawful state failures answers w old) c.in_err-tell.ensures.refused
 
 pub returns-in_err-tell-clause-failures : goal.returns-in_err-tell-clause-failures
@@ -25,4 +25,4 @@ returns-clause-said g c = λ w.
     let state = g.D.Disk.state in
     let failures = g.D.Disk.failures in
     let answers = g.L.Law.answers in
-    quietly is_lawful state failures answers w Release c.in_ok-tell.field-0 c.args.keeper.now c.tell.new.keeper refl c.in_ok-tell.ensures.obeyed c.in_ok-tell.ensures.driven
+    quietly is_lawful state failures answers w Release c.in_ok-tell.field-0 (g.E.Obey.keeping c.args.engine.now) (g.E.Obey.keeping c.tell.new.engine) refl c.in_ok-tell.ensures.obeyed c.in_ok-tell.ensures.driven

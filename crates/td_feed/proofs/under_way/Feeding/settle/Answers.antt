@@ -12,8 +12,8 @@ returns-in_err-release-clause-said g c =
     let failures = g.D.Disk.failures in
     let answers = g.L.Law.answers in
     let w = g.W.Sink.contents c.args.writer.now in
-    let old = c.args.keeper.now in
-    handed_on is_lawful state failures answers c.from_residual.result c.in_err-release.field-0.0 w w w old old c.release.new.keeper [] [] [] c.from_residual.ensures.1
+    let old = (g.E.Obey.keeping c.args.engine.now) in
+    handed_on is_lawful state failures answers c.from_residual.result c.in_err-release.field-0.0 w w w old old (g.E.Obey.keeping c.release.new.engine) [] [] [] c.from_residual.ensures.1
     (says_nothing is_lawful state failures answers w old) (c.in_err-release.ensures.said w)
 
 pub returns-in_err-release-clause-failures : goal.returns-in_err-release-clause-failures
@@ -27,8 +27,8 @@ returns-in_err-tell-clause-said g c =
     let failures = g.D.Disk.failures in
     let answers = g.L.Law.answers in
     let w = g.W.Sink.contents c.args.writer.now in
-    let old = c.args.keeper.now in
-    then_refused is_lawful state failures answers c.from_residual-in_err-tell.result (λ (f : Fault). f ≡ c.in_err-tell.field-0.0) w w Settle old c.release.new.keeper c.tell.new.keeper [] []
+    let old = (g.E.Obey.keeping c.args.engine.now) in
+    then_refused is_lawful state failures answers c.from_residual-in_err-tell.result (λ (f : Fault). f ≡ c.in_err-tell.field-0.0) w w Settle old (g.E.Obey.keeping c.release.new.engine) (g.E.Obey.keeping c.tell.new.engine) [] []
     c.from_residual-in_err-tell.ensures.1 (c.in_ok-release.ensures.said w) c.in_err-tell.ensures.refused
 
 pub returns-in_err-tell-clause-failures : goal.returns-in_err-tell-clause-failures
@@ -43,11 +43,11 @@ returns-in_err-tell-2-clause-said g c =
     let failures = g.D.Disk.failures in
     let answers = g.L.Law.answers in
     let w = g.W.Sink.contents c.args.writer.now in
-    let old = c.args.keeper.now in
-    then_refused is_lawful state failures answers c.from_residual-in_err-tell-2.result (λ (f : Fault). f ≡ c.in_err-tell-2.field-0.0) w w Collect old c.tell.new.keeper c.tell-2.new.keeper [] []
+    let old = (g.E.Obey.keeping c.args.engine.now) in
+    then_refused is_lawful state failures answers c.from_residual-in_err-tell-2.result (λ (f : Fault). f ≡ c.in_err-tell-2.field-0.0) w w Collect old (g.E.Obey.keeping c.tell.new.engine) (g.E.Obey.keeping c.tell-2.new.engine) [] []
     c.from_residual-in_err-tell-2.ensures.1
-    (says_then is_lawful state failures answers w w w old c.release.new.keeper c.tell.new.keeper [] [] (c.in_ok-release.ensures.said w)
-    (quietly is_lawful state failures answers w Settle c.in_ok-tell.field-0 c.release.new.keeper c.tell.new.keeper refl c.in_ok-tell.ensures.obeyed c.in_ok-tell.ensures.driven))
+    (says_then is_lawful state failures answers w w w old (g.E.Obey.keeping c.release.new.engine) (g.E.Obey.keeping c.tell.new.engine) [] [] (c.in_ok-release.ensures.said w)
+    (quietly is_lawful state failures answers w Settle c.in_ok-tell.field-0 (g.E.Obey.keeping c.release.new.engine) (g.E.Obey.keeping c.tell.new.engine) refl c.in_ok-tell.ensures.obeyed c.in_ok-tell.ensures.driven))
     c.in_err-tell-2.ensures.refused
 
 pub returns-in_err-tell-2-clause-failures : goal.returns-in_err-tell-2-clause-failures
@@ -62,12 +62,12 @@ returns-clause-said g c =
     let failures = g.D.Disk.failures in
     let answers = g.L.Law.answers in
     let w = g.W.Sink.contents c.args.writer.now in
-    let old = c.args.keeper.now in
-    then_quiet is_lawful state failures answers c.write_outs.result w w (g.W.Sink.contents c.write_outs.new.writer) old c.tell-2.new.keeper c.write_outs.new.keeper []
-    (says_then is_lawful state failures answers w w w old c.tell.new.keeper c.tell-2.new.keeper [] []
-    (says_then is_lawful state failures answers w w w old c.release.new.keeper c.tell.new.keeper [] [] (c.in_ok-release.ensures.said w)
-    (quietly is_lawful state failures answers w Settle c.in_ok-tell.field-0 c.release.new.keeper c.tell.new.keeper refl c.in_ok-tell.ensures.obeyed c.in_ok-tell.ensures.driven))
-    (quietly is_lawful state failures answers w Collect c.in_ok-tell-2.field-0 c.tell.new.keeper c.tell-2.new.keeper refl c.in_ok-tell-2.ensures.obeyed c.in_ok-tell-2.ensures.driven))
+    let old = (g.E.Obey.keeping c.args.engine.now) in
+    then_quiet is_lawful state failures answers c.write_outs.result w w (g.W.Sink.contents c.write_outs.new.writer) old (g.E.Obey.keeping c.tell-2.new.engine) (g.E.Obey.keeping c.write_outs.new.engine) []
+    (says_then is_lawful state failures answers w w w old (g.E.Obey.keeping c.tell.new.engine) (g.E.Obey.keeping c.tell-2.new.engine) [] []
+    (says_then is_lawful state failures answers w w w old (g.E.Obey.keeping c.release.new.engine) (g.E.Obey.keeping c.tell.new.engine) [] [] (c.in_ok-release.ensures.said w)
+    (quietly is_lawful state failures answers w Settle c.in_ok-tell.field-0 (g.E.Obey.keeping c.release.new.engine) (g.E.Obey.keeping c.tell.new.engine) refl c.in_ok-tell.ensures.obeyed c.in_ok-tell.ensures.driven))
+    (quietly is_lawful state failures answers w Collect c.in_ok-tell-2.field-0 (g.E.Obey.keeping c.tell.new.engine) (g.E.Obey.keeping c.tell-2.new.engine) refl c.in_ok-tell-2.ensures.obeyed c.in_ok-tell-2.ensures.driven))
     c.write_outs.ensures.said
 
 pub returns-clause-failures : goal.returns-clause-failures

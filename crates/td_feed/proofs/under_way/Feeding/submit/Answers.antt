@@ -13,9 +13,9 @@ returns-in_err-tell_aloud-clause-said g c =
     let failures = g.D.Disk.failures in
     let answers = g.L.Law.answers in
     let w = g.W.Sink.contents c.args.writer.now in
-    let old = c.args.keeper.now in
-    let x : List Submitted = new_to c.args.keeper.now (batch_in c.args.command) in
-    handed_on is_lawful state failures answers c.from_residual.result c.in_err-tell_aloud.field-0.0 w w (g.W.Sink.contents c.tell_aloud.new.writer) old old c.tell_aloud.new.keeper [] x x c.from_residual.ensures.1
+    let old = (g.E.Obey.keeping c.args.engine.now) in
+    let x : List Submitted = new_to (g.E.Obey.keeping c.args.engine.now) (batch_in c.args.command) in
+    handed_on is_lawful state failures answers c.from_residual.result c.in_err-tell_aloud.field-0.0 w w (g.W.Sink.contents c.tell_aloud.new.writer) old old (g.E.Obey.keeping c.tell_aloud.new.engine) [] x x c.from_residual.ensures.1
     (says_nothing is_lawful state failures answers w old) c.in_err-tell_aloud.ensures.said
 
 pub returns-in_err-tell_aloud-clause-failures : goal.returns-in_err-tell_aloud-clause-failures
@@ -28,10 +28,10 @@ returns-clause-left g c =
     let state = g.D.Disk.state in
     let failures = g.D.Disk.failures in
     let answers = g.L.Law.answers in
-    let x : List Submitted = new_to c.args.keeper.now (batch_in c.args.command) in
+    let x : List Submitted = new_to (g.E.Obey.keeping c.args.engine.now) (batch_in c.args.command) in
     at_err c.release.result
-    (leaves_all is_lawful state answers c.args.keeper.now c.release.new.keeper x
-    (carries_then is_lawful state answers c.args.keeper.now c.tell_aloud.new.keeper c.release.new.keeper x c.in_ok-tell_aloud.ensures.carried c.release.ensures.carried))
+    (leaves_all is_lawful state answers (g.E.Obey.keeping c.args.engine.now) (g.E.Obey.keeping c.release.new.engine) x
+    (carries_then is_lawful state answers (g.E.Obey.keeping c.args.engine.now) (g.E.Obey.keeping c.tell_aloud.new.engine) (g.E.Obey.keeping c.release.new.engine) x c.in_ok-tell_aloud.ensures.carried c.release.ensures.carried))
 
 pub returns-clause-said : goal.returns-clause-said
 returns-clause-said g c =
@@ -41,8 +41,8 @@ returns-clause-said g c =
     let answers = g.L.Law.answers in
     let w = g.W.Sink.contents c.args.writer.now in
     let v = g.W.Sink.contents c.tell_aloud.new.writer in
-    let x : List Submitted = new_to c.args.keeper.now (batch_in c.args.command) in
-    then_quiet is_lawful state failures answers c.release.result w v v c.args.keeper.now c.tell_aloud.new.keeper c.release.new.keeper x c.in_ok-tell_aloud.ensures.said (c.release.ensures.said v)
+    let x : List Submitted = new_to (g.E.Obey.keeping c.args.engine.now) (batch_in c.args.command) in
+    then_quiet is_lawful state failures answers c.release.result w v v (g.E.Obey.keeping c.args.engine.now) (g.E.Obey.keeping c.tell_aloud.new.engine) (g.E.Obey.keeping c.release.new.engine) x c.in_ok-tell_aloud.ensures.said (c.release.ensures.said v)
 
 pub returns-clause-failures : goal.returns-clause-failures
 returns-clause-failures g c =
