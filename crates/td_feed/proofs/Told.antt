@@ -77,29 +77,6 @@ Others-rest {D} is_lawful state failures answers = (command : Command) (reply : 
     → Obeys is_lawful state failures answers command reply old new → Rests old new
 
 module _ {D : Type 0} (is_lawful : D → Type 0) (state : D → DiskState) (failures : D → ℕ) (answers : Answers) where
-  -- one command has one reply
-  pub one_reply : (c : Command) (r : Reply) (rest : List Reply) (old new : Keeping D) → Driven is_lawful state failures answers (c ∷ []) (rest ++ r ∷ []) old new
-      → Obeys is_lawful state failures answers c r old new × (submitted_by (c ∷ []) (rest ++ r ∷ []) ≡ submitted_in c r)
-  one_reply c r [] old new d = (subst (λ (k : Keeping D). Obeys is_lawful state failures answers c r old k) (sym d.3) d.2, append-nil (submitted_in c r))
-  one_reply c r (x ∷ []) old new d = absurd d.3
-  one_reply c r (x ∷ y ∷ ys) old new d = absurd d.3
-
-  pub one_driven : (c : Command) (r : Reply) (rest : List Reply) (old new : Keeping D) → Driven is_lawful state failures answers (c ∷ []) (rest ++ r ∷ []) old new
-      → Driven is_lawful state failures answers (c ∷ []) (r ∷ []) old new
-  one_driven c r [] old new d = d
-  one_driven c r (x ∷ []) old new d = absurd d.3
-  one_driven c r (x ∷ y ∷ ys) old new d = absurd d.3
-
-  -- and it is the one
-  pub one_alone : (c : Command) (r : Reply) (rest : List Reply) (old new : Keeping D) → Driven is_lawful state failures answers (c ∷ []) (rest ++ r ∷ []) old new → rest ≡ []
-  one_alone c r [] old new d = refl
-  one_alone c r (x ∷ []) old new d = absurd d.3
-  one_alone c r (x ∷ y ∷ ys) old new d = absurd d.3
-
-  pub some_reply : (c : Command) (replies : List Reply) (old new : Keeping D) → Driven is_lawful state failures answers (c ∷ []) replies old new → replies ≡ [] → ⊥
-  some_reply c [] old new d is = d
-  some_reply c (r ∷ rs) old new d is = absurd (let no : r ∷ rs ≡ [] = is in cc)
-
   -- a receipt, and what is new
   received_is : (request : ℕ) (batch : List Entry) (receipt : Receipt) (old new : Keeping D) → IsReceived request batch receipt old new → received_in request batch receipt ≡ new_to old (submission request batch ∷ [])
   received_is request batch (New epoch) old new r = sym (new_one (last_request old.standing) (submission request batch) r.0)

@@ -1,8 +1,8 @@
-use Rattle.std.proofs.Common.{◌≡◌, ◌∙◌, true, [], refl, sym, ap, subst, inr}
+use Rattle.std.proofs.Common.{◌≡◌, ◌∙◌, [], refl, sym, ap, subst, inr}
 use Rattle.std.specs.Prelude.{Ok, OnOk, OnErr}
 use Rattle.std.specs.Option.{IfSome}
 use Rattle.std.proofs.lemmas.Option.{IfSome_then}
-use Rattle.td_console.specs.declared.faults.Fault.TheVariants.{Memory, Keeper}
+use Rattle.td_console.specs.declared.faults.Fault.TheVariants.{Keeper}
 use Rattle.td_standing.specs.declared.error.KeeperError.TheVariants.{Epochs}
 use Rattle.td_feed.specs.Orders.{submissions}
 use Rattle.td_disk.specs.Disk.{CountsDevice}
