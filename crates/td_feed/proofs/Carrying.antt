@@ -89,7 +89,7 @@ same_ok : (a b : Standing) → ok_of a ≡ ok_of b → a ≡ b
 same_ok a b e = cc
 
 -- a standing has as many epochs as the history for which it stands
-as_long : (answers : Answers) (plan : List Line) (s : Standing) (history : List Submitted) → Stands (states_by answers plan) s history → length history ≡ last_epoch s
+pub as_long : (answers : Answers) (plan : List Line) (s : Standing) (history : List Submitted) → Stands (states_by answers plan) s history → length history ≡ last_epoch s
 as_long answers plan s history is = omega (arith, ap length is.whole, length-append is.before s.submitted, is.epochs)
 
 -- a beginning that is no shorter

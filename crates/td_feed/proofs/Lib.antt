@@ -16,3 +16,5 @@ pub mod Asked
 pub mod Obeyed
 mod Shown
 pub mod Acknowledged
+pub mod Session
+pub mod Moments

@@ -401,7 +401,7 @@ module _ {D : Type 0} (is_lawful : D → Type 0) (state : D → DiskState) (fail
 
 -- a feed of a disk
 module _ {D : Type 0} (is_lawful : D → Type 0) (state : D → DiskState) (failures : D → ℕ) (answers : Answers) where
-  pub fed_says : (result : Result (Unit {0}) Fault) (plan : List PlanLine) (disk left : D) (before after : Option (List ℕ)) (x : List AnySubmitted)
-      → SaysFrom is_lawful state failures answers result plan disk left before after x → SaysFed is_lawful state failures answers result plan disk left before after x
-  fed_says (Ok done) plan disk left before after x says = says
-  fed_says (Err f) plan disk left before after x says = inr says
+  pub fed_says : (result : Result (Unit {0}) Fault) (plan : List PlanLine) (alone : Bool) (disk left : D) (before after : Option (List ℕ)) (x : List AnySubmitted)
+      → SaysFrom is_lawful state failures answers result plan alone disk left before after x → SaysFed is_lawful state failures answers result plan alone disk left before after x
+  fed_says (Ok done) plan alone disk left before after x says = says
+  fed_says (Err f) plan alone disk left before after x says = inr says

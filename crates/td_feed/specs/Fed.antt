@@ -1,5 +1,5 @@
 -- What a feed leaves on a disk.
-use Rattle.std.specs.Prelude.{◌⊎◌, ℕ, ◌+◌, List, ◌++◌, take, Ok}
+use Rattle.std.specs.Prelude.{◌⊎◌, ℕ, ◌+◌, ◌≤◌, List, ◌++◌, length, take, Ok}
 use Rattle.td_plan.specs.Lines.{Line}
 use Rattle.td_calls.specs.Answers.{Answers}
 use Rattle.td_core.specs.declared.error.HallError.{HallError}
@@ -32,6 +32,12 @@ pub record EachTellsSome (answers : Answers) (plan : List Line) (history more : 
   pub count : ℕ
   pub group : ℕ
   pub each : (c : List ℕ) → state.images c → TellsHistory answers plan (history ++ take count more) c ⊎ TellsHistory answers plan (history ++ take (count + group) more) c
+
+-- AN IMAGE TELLS A HISTORY and a beginning of more batches
+pub record TellsOnward (answers : Answers) (plan : List Line) (history more : List Submitted) (image : List ℕ) : Type 0 where
+  pub count : ℕ
+  pub few : count ≤ length more
+  pub tells : TellsHistory answers plan (history ++ take count more) image
 
 -- the fault for a hall's refusal
 abbrev pub hall_fault : HallError → Fault

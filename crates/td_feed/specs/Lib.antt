@@ -7,3 +7,4 @@ pub mod Carried
 pub mod Said
 pub mod Upgraded
 pub mod Asked
+pub mod Session

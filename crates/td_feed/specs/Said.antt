@@ -1,13 +1,15 @@
 -- What a feed writes: the lines of what its keeper replied.
-use Rattle.std.specs.Prelude.{◌≡◌, ◌⊎◌, ℕ, zero, suc, ◌-◌, true, List, [], ◌∷◌, ◌++◌, codes, All, Option, Some, Result, Ok, Err}
+use Rattle.std.specs.Prelude.{◌≡◌, ◌⊎◌, ℕ, zero, suc, ◌-◌, Bool, true, List, [], ◌∷◌, ◌++◌, codes, All, Option, Some, Result, Ok, Err, OnOk}
 use Rattle.std.specs.Fmt.{decimal}
 use Rattle.std.specs.Io.KnownBytes.{Appends}
 use Rattle.td_plan.specs.Lines.{Line as PlanLine}
 use Rattle.td_calls.specs.Answers.{Answers}
 use Rattle.td_disk.specs.Disk.{DiskState}
+use Rattle.td_gate.specs.CrashSafe.{CrashSafe, Unchanged}
 use Rattle.td_journal.specs.declared.submitted.Submitted.{Submitted as AnySubmitted}
 use Rattle.td_watch.specs.View.{View}
 use Rattle.td_standing.specs.Told.{Told}
+use Rattle.td_standing.specs.Tells.{Keeps}
 use Rattle.td_standing.specs.Standing.{Standing, last_epoch}
 use Rattle.td_standing.specs.Advanced.{HeldWhere}
 use Rattle.td_keeper.specs.declared.command.Command.{Command}
@@ -60,6 +62,11 @@ abbrev pub lines_of : List Command → List Reply → List ℕ
 lines_of (command ∷ commands) (reply ∷ replies) = line_of (request_in command) reply ++ lines_of commands replies
 lines_of _ _ = []
 
+-- ALL OUTPUTS of a keeper's epochs were handed out
+pub record IsAllOut {D : Type 0} (k : Keeping D) : Type 0 where
+  pub collected : k.collected ≡ last_epoch k.standing
+  pub none_left : k.queue ≡ []
+
 -- the fault for a refusal
 abbrev pub fault_in : Reply → Fault
 fault_in (Refused error back) = keeper_fault error
@@ -92,8 +99,8 @@ module _ {D : Type 0} (is_lawful : D → Type 0) (state : D → DiskState) (fail
 
   -- A FEED OF A DISK: its keeper is what the disk tells, perhaps with a watch attached, and what was written are the lines of what
   -- that keeper replied; it was told what submits those of these that are new to it; and the disk that is left holds what the keeper
-  -- stands for in the end, image by image
-  pub record SaysFrom (result : Result (Unit {0}) Fault) (plan : List PlanLine) (disk left : D) (before after : Option (List ℕ)) (x : List AnySubmitted) : Type 0 where
+  -- stands for in the end, image by image. Of a keeper that worked alone, with a hall of its own, all outputs went out by an Ok
+  pub record SaysFrom (result : Result (Unit {0}) Fault) (plan : List PlanLine) (alone : Bool) (disk left : D) (before after : Option (List ℕ)) (x : List AnySubmitted) : Type 0 where
     pub keeper : Keeping D
     pub fresh : IsFreshlyOpened keeper
     pub plan_is : keeper.plan ≡ plan
@@ -101,16 +108,19 @@ module _ {D : Type 0} (is_lawful : D → Type 0) (state : D → DiskState) (fail
     pub watch : Option View
     pub kept : IsKeeping (record keeper { watch = watch }) answers
     pub lawful : is_lawful disk → is_lawful keeper.device
+    pub unwritten : is_lawful disk → CrashSafe Unchanged (state disk) (state keeper.device)
+    pub found : is_lawful disk → Keeps plan keeper.head keeper.side keeper.standing (state keeper.device)
     pub ended : Keeping D
     pub left_is : left ≡ ended.device
     pub lawful_left : is_lawful disk → is_lawful left
     pub holds : is_lawful left → HeldWhere ended.broken answers ended.plan ended.head ended.side ended.standing (state left)
     pub said : SaysBy result before after (record keeper { watch = watch }) ended (new_to keeper x)
+    pub all_out : alone ≡ true → OnOk result (IsAllOut ended)
 
   -- at a refusal before there is a keeper, or before it is told anything, nothing is written
-  abbrev pub SaysFed : Result (Unit {0}) Fault → List PlanLine → D → D → Option (List ℕ) → Option (List ℕ) → List AnySubmitted → Type 0
-  SaysFed (Ok done) plan disk left before after x = SaysFrom (Ok done) plan disk left before after x
-  SaysFed (Err fault) plan disk left before after x = (after ≡ before) ⊎ SaysFrom (Err fault) plan disk left before after x
+  abbrev pub SaysFed : Result (Unit {0}) Fault → List PlanLine → Bool → D → D → Option (List ℕ) → Option (List ℕ) → List AnySubmitted → Type 0
+  SaysFed (Ok done) plan alone disk left before after x = SaysFrom (Ok done) plan alone disk left before after x
+  SaysFed (Err fault) plan alone disk left before after x = (after ≡ before) ⊎ SaysFrom (Err fault) plan alone disk left before after x
 
   -- ONE COMMAND that was refused: by the keeper, or before it was told
   abbrev pub Refuses : Command → Keeping D → Keeping D → Type 0

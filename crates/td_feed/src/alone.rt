@@ -1,12 +1,9 @@
 //! A stream on one thread.
-ghost use Rattle.std.specs.Prelude.{◌≡◌, ◌↔◌, true, false, None, IfSome, OnOk, OnErr};
+ghost use Rattle.std.specs.Prelude.{◌≡◌, false, None, IfSome, OnOk};
 ghost use Rattle.td_plan.specs.Blocks.{vertices};
 ghost use Rattle.td_calls.specs.Fits.{first_lack};
-ghost use Rattle.td_disk.specs.Disk.{CountsDevice};
-ghost use Rattle.td_standing.specs.declared.error.KeeperError.TheVariants.{Device};
-ghost use Rattle.td_feed.specs.Orders.{submissions};
-ghost use Rattle.td_feed.specs.Carried.{new_to, Carries, Leaves};
-ghost use Rattle.td_feed.specs.Said.{SaysBy};
+ghost use Rattle.td_feed.specs.Said.{IsAllOut};
+ghost use Rattle.td_feed.specs.Session.{KeepsDisk, FeedsScript};
 
 use crate::asking::Asking;
 use crate::in_turn::{ended_as, obey_each};
@@ -36,13 +33,9 @@ pub(crate) fn obey_alone<D: Disk, S: Asking + Drop, W: Sink, L: Law, C: Closures
     requires whole { keeper.broken ≡ false }
     requires fits { first_lack (C.has_map calls.now) (C.has_group calls.now) (C.has_fold calls.now) (vertices keeper.plan) ≡ None }
     requires collected { keeper.collected ≡ keeper.base }
-    ensures size { D.capacity result.0.device ≡ D.capacity keeper.device }
-    ensures lawful { D.is_lawful keeper.device ↔ D.is_lawful result.0.device }
-    ensures sound { OnOk result.1 (IfSome (S.script orders) (λ script. script.is_sound ≡ true)) }
-    ensures fed { OnOk result.1 (IfSome (S.script orders) (λ script. Carries L.answers keeper result.0 (new_to keeper (submissions script.orders)))) }
-    ensures left { OnErr result.1 (IfSome (S.script orders) (λ script. Leaves D.is_lawful D.state L.answers keeper result.0 (new_to keeper (submissions script.orders)))) }
-    ensures said { IfSome (S.script orders) (λ script. SaysBy D.is_lawful D.state D.failures L.answers result.1 (W.contents writer.old) (W.contents writer.new) keeper result.0 (new_to keeper (submissions script.orders))) }
-    ensures failures { CountsDevice result.1 (Fault.Keeper Device) (D.failures keeper.device) (D.failures result.0.device) }
+    ensures disk { KeepsDisk D.capacity D.is_lawful D.failures result.1 keeper.device result.0.device }
+    ensures fed { IfSome (S.script orders) (λ script. FeedsScript D.is_lawful D.state D.failures L.answers result.1 (W.contents writer.old) (W.contents writer.new) keeper result.0 script) }
+    ensures all_out { OnOk result.1 (IsAllOut result.0) }
 {
     if is_at_last_number(&keeper) {
         return (keeper, Err(Fault::Keeper(KeeperError::Epochs)));

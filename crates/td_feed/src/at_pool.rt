@@ -1,4 +1,6 @@
 //! A keeper beside the workers of a pool.
+ghost use Rattle.std.specs.Prelude.{false, []};
+ghost use Rattle.td_machine.specs.Steps.{opened};
 
 use crate::allowance::Allowance;
 use std::sync::Wait;
@@ -18,6 +20,10 @@ pub(crate) struct AtPool<'a, 'p, D: Disk, K: Crew, L: Law> {
 
 impl<'a, 'p, D: Disk, K: Crew, L: Law, R: Wait> Obey<D, L, R> for AtPool<'a, 'p, D, K, L> {
     ghost keeping = { λ e. e.keeper };
+
+    ghost alone = { false };
+
+    ghost hall = { λ e. opened [] [] 1 1 };
 
     fn keeper(&self) -> &Keeper<D, L> {
         &self.keeper

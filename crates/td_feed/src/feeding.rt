@@ -1,16 +1,12 @@
 //! Feeding epochs to a disk.
-ghost use Rattle.std.specs.Prelude.{◌≡◌, ◌⊎◌, ◌↔◌, ◌++◌, ◌≤◌, List, false, None, OnOk, OnErr, IfOk, IfErr, IfSome, IsErr, IsErrOf, Ok, Err};
+ghost use Rattle.std.specs.Prelude.{◌≡◌, ◌≤◌, false, None, OnOk, IfOk, IfErr, IfSome, IsErr, IsErrOf, Ok, Err};
 ghost use Rattle.td_plan.specs.Blocks.{vertices};
 ghost use Rattle.td_calls.specs.Fits.{first_lack};
-ghost use Rattle.td_disk.specs.Disk.{CountsDevice, Rises};
 ghost use Rattle.td_standing.specs.declared.error.KeeperError.TheVariants.{Device};
-ghost use Rattle.td_journal.specs.Numbers.{greatest};
-ghost use Rattle.td_journal.specs.declared.submitted.Submitted.{Submitted as AnySubmitted};
 ghost use Rattle.td_console.specs.Answer.{lack_fault};
-ghost use Rattle.td_feed.specs.Orders.{orders_of, submitted_by, new_after};
-ghost use Rattle.td_feed.specs.Fed.{EachTellsHistory, EachTellsSome};
-ghost use Rattle.td_feed.specs.Carried.{new_to, Carries, Leaves};
-ghost use Rattle.td_feed.specs.Said.{SaysBy, SaysFed};
+ghost use Rattle.td_feed.specs.Orders.{orders_of, submitted_by};
+ghost use Rattle.td_feed.specs.Carried.{new_to};
+ghost use Rattle.td_feed.specs.Session.{KeepsDisk, Feeds, FeedsDisk};
 
 use crate::asking::Listed;
 use crate::order::{Order, read_orders};
@@ -60,37 +56,17 @@ pub fn feed<
 ) -> (D, Result<(), Fault>)
     requires some { 1 ≤ workers }
     requires most { workers ≤ 16 }
-    ensures size { D.capacity result.0 ≡ D.capacity disk }
-    ensures lawful { D.is_lawful disk ↔ D.is_lawful result.0 }
+    ensures disk { KeepsDisk D.capacity D.is_lawful D.failures result.1 disk result.0 }
 
     // A missing closure comes first: nothing was read or written.
     ensures lack { IfSome (first_lack (C.has_map calls.now) (C.has_group calls.now) (C.has_fold calls.now) (vertices plan.now)) (λ lack.
         (result.1 ≡ Err (lack_fault lack)) × (result.0 ≡ disk) × (reader.new ≡ reader.old) × (writer.new ≡ writer.old)) }
     ensures fits { OnOk result.1 (first_lack (C.has_map calls.now) (C.has_group calls.now) (C.has_fold calls.now) (vertices plan.now) ≡ None) }
 
-    // An input with a fault answers an error, with nothing written to the writer.
+    // An input with a fault answers an error, with nothing written to the writer; and what it asks for is fed.
     ensures fault { IfSome (I.remaining reader.old) (λ input. IfErr (orders_of plan.now input) (λ _. IsErr result.1 × (writer.new ≡ writer.old))) }
-
-    // A DISK THAT STOOD FOR A HISTORY, whatever a crash had left of it, stands for that and each epoch of the input after it that
-    // is new: has no request number, or one that is above all before; where the answer is Ok.
-    ensures fed { OnOk result.1 (IfSome (I.remaining reader.old) (λ input. D.is_lawful disk → (history : List AnySubmitted)
-        → EachTellsHistory L.answers plan.now history (D.state disk)
-        → EachTellsHistory L.answers plan.now (history ++ new_after (greatest 0 history) (submitted_by (orders_of plan.now input))) (D.state result.0))) }
-
-    // At any answer it stands for that and a beginning of the input's new epochs: whatever a crash leaves, some number of them,
-    // or one more.
-    ensures safe { IfSome (I.remaining reader.old) (λ input. D.is_lawful disk → (history : List AnySubmitted)
-        → EachTellsHistory L.answers plan.now history (D.state disk)
-        → EachTellsSome L.answers plan.now history (new_after (greatest 0 history) (submitted_by (orders_of plan.now input))) (D.state result.0)) }
-
-    // What is written are the lines of what the keeper of the disk replied, one after another: all of them after Ok, and a
-    // beginning of them at a refusal, where the writer did not fail.
-    ensures said { IfSome (I.remaining reader.old) (λ input.
-        SaysFed D.is_lawful D.state D.failures L.answers result.1 plan.now disk result.0 (W.contents writer.old) (W.contents writer.new) (submitted_by (orders_of plan.now input))) }
-
-    // The device is told to have failed only where its count of failures rose, and with any other answer that stays.
-    ensures device { IsErrOf result.1 (Fault.Keeper Device) → Rises (D.failures disk) (D.failures result.0) }
-    ensures stays { IsErrOf result.1 (Fault.Keeper Device) ⊎ (D.failures result.0 ≡ D.failures disk) }
+    ensures fed { IfSome (I.remaining reader.old) (λ input. FeedsDisk D.is_lawful D.state D.failures L.answers result.1 plan.now false disk result.0
+        (W.contents writer.old) (W.contents writer.new) (submitted_by (orders_of plan.now input))) }
 {
     laws::told_in_parts();
     if let Err(lack) = calls.fits(plan) {
@@ -127,16 +103,9 @@ fn obey<
     requires some { 1 ≤ workers }
     requires most { workers ≤ 16 }
     requires whole { keeper.broken ≡ false }
-    ensures size { D.capacity result.0.device ≡ D.capacity keeper.device }
-    ensures lawful { D.is_lawful keeper.device ↔ D.is_lawful result.0.device }
+    ensures disk { KeepsDisk D.capacity D.is_lawful D.failures result.1 keeper.device result.0.device }
     ensures fault { IfSome (I.remaining reader.old) (λ input. IfErr (orders_of plan.now input) (λ _. IsErr result.1 × (writer.new ≡ writer.old))) }
-    ensures fed { OnOk result.1 (IfSome (I.remaining reader.old) (λ input.
-        Carries L.answers keeper result.0 (new_to keeper (submitted_by (orders_of plan.now input))))) }
-    ensures left { OnErr result.1 (IfSome (I.remaining reader.old) (λ input.
-        Leaves D.is_lawful D.state L.answers keeper result.0 (new_to keeper (submitted_by (orders_of plan.now input))))) }
-    ensures said { IfSome (I.remaining reader.old) (λ input.
-        SaysBy D.is_lawful D.state D.failures L.answers result.1 (W.contents writer.old) (W.contents writer.new) keeper result.0 (new_to keeper (submitted_by (orders_of plan.now input)))) }
-    ensures failures { CountsDevice result.1 (Fault.Keeper Device) (D.failures keeper.device) (D.failures result.0.device) }
+    ensures fed { IfSome (I.remaining reader.old) (λ input. Feeds D.is_lawful D.state D.failures L.answers result.1 (W.contents writer.old) (W.contents writer.new) keeper result.0 (new_to keeper (submitted_by (orders_of plan.now input)))) }
 {
     match prepared(alloc, &keeper, plan, workers, reader) {
         Ok((orders, hall)) => {

@@ -1,13 +1,10 @@
 //! What is asked for, in turn.
-ghost use Rattle.std.specs.Prelude.{◌≡◌, ◌↔◌, ℕ, true, false, Ok, Err, IfErr, IfSome, OnOk, OnErr};
-ghost use Rattle.std.specs.Prelude.{◌⊎◌};
-ghost use Rattle.td_disk.specs.Disk.{CountsDevice};
+ghost use Rattle.std.specs.Prelude.{◌≡◌, ℕ, true, false, Ok, Err, IfErr, IfSome, OnOk, ◌⊎◌};
 ghost use Rattle.td_pool.specs.declared.error.PoolError.{PoolError as AnyPoolError};
-ghost use Rattle.td_standing.specs.declared.error.KeeperError.TheVariants.{Device, NotPassed};
-ghost use Rattle.td_feed.specs.Orders.{submissions};
+ghost use Rattle.td_standing.specs.declared.error.KeeperError.TheVariants.{NotPassed};
 ghost use Rattle.td_feed.specs.Fed.{pool_fault};
-ghost use Rattle.td_feed.specs.Carried.{new_to, Carries, Leaves};
-ghost use Rattle.td_feed.specs.Said.{SaysBy};
+ghost use Rattle.td_feed.specs.Said.{IsAllOut};
+ghost use Rattle.td_feed.specs.Session.{KeepsDisk, FeedsScript};
 
 use crate::asking::Asking;
 use crate::at_once::Room;
@@ -34,13 +31,9 @@ pub(crate) fn obey_each<D: Disk, S: Asking, W: Sink, L: Law, R: Wait, E: Obey<D,
     writer: &mut W,
 ) -> Result<(), Fault>
     requires whole { (E.keeping engine.old).broken ≡ false }
-    ensures size { D.capacity (E.keeping engine.new).device ≡ D.capacity (E.keeping engine.old).device }
-    ensures lawful { D.is_lawful (E.keeping engine.old).device ↔ D.is_lawful (E.keeping engine.new).device }
-    ensures sound { OnOk result (IfSome (S.script orders.old) (λ script. script.is_sound ≡ true)) }
-    ensures fed { OnOk result (IfSome (S.script orders.old) (λ script. Carries L.answers (E.keeping engine.old) (E.keeping engine.new) (new_to (E.keeping engine.old) (submissions script.orders)))) }
-    ensures left { OnErr result (IfSome (S.script orders.old) (λ script. Leaves D.is_lawful D.state L.answers (E.keeping engine.old) (E.keeping engine.new) (new_to (E.keeping engine.old) (submissions script.orders)))) }
-    ensures said { IfSome (S.script orders.old) (λ script. SaysBy D.is_lawful D.state D.failures L.answers result (W.contents writer.old) (W.contents writer.new) (E.keeping engine.old) (E.keeping engine.new) (new_to (E.keeping engine.old) (submissions script.orders))) }
-    ensures failures { CountsDevice result (Fault.Keeper Device) (D.failures (E.keeping engine.old).device) (D.failures (E.keeping engine.new).device) }
+    ensures disk { KeepsDisk D.capacity D.is_lawful D.failures result (E.keeping engine.old).device (E.keeping engine.new).device }
+    ensures fed { IfSome (S.script orders.old) (λ script. FeedsScript D.is_lawful D.state D.failures L.answers result (W.contents writer.old) (W.contents writer.new) (E.keeping engine.old) (E.keeping engine.new) script) }
+    ensures all_out { E.alone ≡ true → OnOk result (IsAllOut (E.keeping engine.new)) }
 {
     if is_refused {
         return Err(Fault::Memory);

@@ -1,5 +1,5 @@
 //! Laws of the definitions. Each is the contract of a function that does nothing.
-ghost use Rattle.std.specs.Prelude.{◌≡◌, ◌++◌, List, ℕ, true, Option, Result as AnyResult, Ok};
+ghost use Rattle.std.specs.Prelude.{◌≡◌, ◌++◌, List, ℕ, Bool, true, Option, Result as AnyResult, Ok};
 ghost use Rattle.td_gate.specs.Reading.{Each};
 ghost use Rattle.td_stamp.specs.declared.values.Entry.{Entry as AnyEntry};
 ghost use Rattle.td_stamp.specs.States.{StateList};
@@ -19,7 +19,8 @@ ghost use Rattle.td_feed.specs.Dumped.{dump_text, AsksFor, FitsLines};
 ghost use Rattle.td_console.specs.declared.faults.Fault.{Fault as AnyFault};
 ghost use Rattle.td_keeper.specs.declared.command.Command.{Command as AnyCommand};
 ghost use Rattle.td_keeper.specs.declared.command.Reply.{Reply as AnyReply};
-ghost use Rattle.td_keeper.specs.Driven.{Driven};
+ghost use Rattle.td_keeper.specs.Driven.{submitted_by as submitted_in, Driven};
+ghost use Rattle.td_feed.specs.Fed.{EachTellsHistory, TellsOnward};
 ghost use Rattle.td_feed.specs.Said.{SaysFrom, TellsAcknowledged};
 
 use td_calls::Law;
@@ -51,12 +52,27 @@ pub fn scripts()
 /// EACH EPOCH THAT IS ACKNOWLEDGED IS TOLD. Whatever a feed or a stream came to, and whatever a crash leaves of its disk then, that tells
 /// each epoch for which an `ack` line was written, and each that the keeper acknowledged beside.
 pub fn acknowledged_is_told<D: Disk, L: Law>()
-    ensures { (result : AnyResult (Unit {0}) AnyFault) (plan : List Line) (disk left : D) (before after : Option (List ℕ)) (x : List AnySubmitted)
-        (from : SaysFrom D.is_lawful D.state D.failures L.answers result plan disk left before after x) → D.is_lawful disk
+    ensures { (result : AnyResult (Unit {0}) AnyFault) (plan : List Line) (alone : Bool) (disk left : D) (before after : Option (List ℕ)) (x : List AnySubmitted)
+        (from : SaysFrom D.is_lawful D.state D.failures L.answers result plan alone disk left before after x) → D.is_lawful disk
         → (commands : List AnyCommand) (replies : List AnyReply)
         → Driven D.is_lawful D.state D.failures L.answers commands replies (record from.keeper { watch = from.watch }) from.ended
         → (c : List ℕ) → (D.state left).images c → TellsAcknowledged plan replies c }
 {
     td_standing::laws::told_in_parts();
     td_keeper::laws::acknowledged_is_counted::<D, L>();
+}
+
+/// AT EACH MOMENT of a feed or a stream, in the middle of a write too, and not at its answer alone: of a disk that stood for a history, what
+/// a crash leaves tells that history and a beginning of what the keeper's commands submitted.
+pub fn moments_are_told<D: Disk, L: Law>()
+    ensures { (result : AnyResult (Unit {0}) AnyFault) (plan : List Line) (alone : Bool) (disk left : D) (before after : Option (List ℕ)) (x : List AnySubmitted)
+        (from : SaysFrom D.is_lawful D.state D.failures L.answers result plan alone disk left before after x) → D.is_lawful disk
+        → (commands : List AnyCommand) (replies : List AnyReply)
+        → Driven D.is_lawful D.state D.failures L.answers commands replies (record from.keeper { watch = from.watch }) from.ended
+        → (history : List AnySubmitted) → EachTellsHistory L.answers plan history (D.state disk)
+        → (c : List ℕ) → (D.state left).since (D.state disk).moment c → TellsOnward L.answers plan history (submitted_in commands replies) c }
+{
+    td_standing::laws::told_in_parts();
+    td_standing::laws::advance_stands::<L>();
+    td_keeper::laws::driven_advances::<D, L>();
 }

@@ -1,18 +1,13 @@
 //! Streaming epochs to a disk, line by line.
-ghost use Rattle.std.specs.Prelude.{◌≡◌, ◌⊎◌, ◌↔◌, ◌++◌, ◌≤◌, List, [], ◌∷◌, Option, true, false, None, OnOk, OnErr, IfSome, IsErrOf, Err};
+ghost use Rattle.std.specs.Prelude.{◌≡◌, ◌==◌, ◌≤◌, [], ◌∷◌, Option, true, false, None, OnOk, IfSome, Err};
 ghost use Rattle.td_plan.specs.Blocks.{vertices};
 ghost use Rattle.td_calls.specs.Fits.{first_lack};
-ghost use Rattle.td_disk.specs.Disk.{CountsDevice, Rises};
-ghost use Rattle.td_standing.specs.declared.error.KeeperError.TheVariants.{Device};
 ghost use Rattle.td_watch.specs.View.{View};
-ghost use Rattle.td_journal.specs.Numbers.{greatest};
-ghost use Rattle.td_journal.specs.declared.submitted.Submitted.{Submitted as AnySubmitted};
 ghost use Rattle.td_console.specs.Answer.{lack_fault};
-ghost use Rattle.td_feed.specs.Orders.{submissions, new_after};
+ghost use Rattle.td_feed.specs.Orders.{submissions};
 ghost use Rattle.td_feed.specs.Asked.{script_of};
-ghost use Rattle.td_feed.specs.Fed.{EachTellsHistory, EachTellsSome};
-ghost use Rattle.td_feed.specs.Carried.{new_to, Carries, Leaves};
-ghost use Rattle.td_feed.specs.Said.{SaysBy, SaysFed};
+ghost use Rattle.td_feed.specs.Said.{IsAllOut};
+ghost use Rattle.td_feed.specs.Session.{KeepsDisk, FeedsScript, FeedsDisk};
 
 use crate::alone::obey_alone;
 use crate::asking::Streamed;
@@ -73,35 +68,17 @@ pub fn stream<
     requires some { 1 ≤ workers }
     requires most { workers ≤ 16 }
     requires unpublished { IfSome watch (λ w. w.words ≡ 0 ∷ 0 ∷ 0 ∷ []) }
-    ensures size { D.capacity result.0 ≡ D.capacity disk }
-    ensures lawful { D.is_lawful disk ↔ D.is_lawful result.0 }
+    ensures disk { KeepsDisk D.capacity D.is_lawful D.failures result.1 disk result.0 }
 
     // A missing closure comes first: nothing was written.
     ensures lack { IfSome (first_lack (C.has_map calls.now) (C.has_group calls.now) (C.has_fold calls.now) (vertices plan.now)) (λ lack.
         (result.1 ≡ Err (lack_fault lack)) × (result.0 ≡ disk) × (writer.new ≡ writer.old)) }
     ensures fits { OnOk result.1 (first_lack (C.has_map calls.now) (C.has_group calls.now) (C.has_fold calls.now) (vertices plan.now) ≡ None) }
 
-    // Ok is answered only to an input without a fault.
+    // Ok is answered only to an input without a fault; and what it asks for is fed, by one worker until all outputs went out.
     ensures sound { OnOk result.1 (IfSome (I.remaining reader) (λ input. (script_of plan.now input).is_sound ≡ true)) }
-
-    // A DISK THAT STOOD FOR A HISTORY stands for that and each epoch of the input after it that is new, where the answer is Ok.
-    ensures fed { OnOk result.1 (IfSome (I.remaining reader) (λ input. D.is_lawful disk → (history : List AnySubmitted)
-        → EachTellsHistory L.answers plan.now history (D.state disk)
-        → EachTellsHistory L.answers plan.now (history ++ new_after (greatest 0 history) (submissions (script_of plan.now input).orders)) (D.state result.0))) }
-
-    // At any answer it stands for that and a beginning of the new epochs before the input's first fault.
-    ensures safe { IfSome (I.remaining reader) (λ input. D.is_lawful disk → (history : List AnySubmitted)
-        → EachTellsHistory L.answers plan.now history (D.state disk)
-        → EachTellsSome L.answers plan.now history (new_after (greatest 0 history) (submissions (script_of plan.now input).orders)) (D.state result.0)) }
-
-    // What is written are the lines of what the keeper of the disk replied, one after another: so `ack E` only for an epoch that is
-    // on the disk, and output lines only of such.
-    ensures said { IfSome (I.remaining reader) (λ input.
-        SaysFed D.is_lawful D.state D.failures L.answers result.1 plan.now disk result.0 (W.contents writer.old) (W.contents writer.new) (submissions (script_of plan.now input).orders)) }
-
-    // The device is told to have failed only where its count of failures rose, and with any other answer that stays.
-    ensures device { IsErrOf result.1 (Fault.Keeper Device) → Rises (D.failures disk) (D.failures result.0) }
-    ensures stays { IsErrOf result.1 (Fault.Keeper Device) ⊎ (D.failures result.0 ≡ D.failures disk) }
+    ensures fed { IfSome (I.remaining reader) (λ input. FeedsDisk D.is_lawful D.state D.failures L.answers result.1 plan.now (workers == 1) disk result.0
+        (W.contents writer.old) (W.contents writer.new) (submissions (script_of plan.now input).orders)) }
 {
     laws::told_in_parts();
     if let Err(lack) = calls.fits(plan) {
@@ -162,16 +139,9 @@ fn obey<
     requires whole { keeper.broken ≡ false }
     requires fits { first_lack (C.has_map calls.now) (C.has_group calls.now) (C.has_fold calls.now) (vertices keeper.plan) ≡ None }
     requires collected { keeper.collected ≡ keeper.base }
-    ensures size { D.capacity result.0.device ≡ D.capacity keeper.device }
-    ensures lawful { D.is_lawful keeper.device ↔ D.is_lawful result.0.device }
-    ensures sound { OnOk result.1 (IfSome (I.remaining reader) (λ input. (script_of plan.now input).is_sound ≡ true)) }
-    ensures fed { OnOk result.1 (IfSome (I.remaining reader) (λ input.
-        Carries L.answers keeper result.0 (new_to keeper (submissions (script_of plan.now input).orders)))) }
-    ensures left { OnErr result.1 (IfSome (I.remaining reader) (λ input.
-        Leaves D.is_lawful D.state L.answers keeper result.0 (new_to keeper (submissions (script_of plan.now input).orders)))) }
-    ensures said { IfSome (I.remaining reader) (λ input.
-        SaysBy D.is_lawful D.state D.failures L.answers result.1 (W.contents writer.old) (W.contents writer.new) keeper result.0 (new_to keeper (submissions (script_of plan.now input).orders))) }
-    ensures failures { CountsDevice result.1 (Fault.Keeper Device) (D.failures keeper.device) (D.failures result.0.device) }
+    ensures disk { KeepsDisk D.capacity D.is_lawful D.failures result.1 keeper.device result.0.device }
+    ensures fed { IfSome (I.remaining reader) (λ input. FeedsScript D.is_lawful D.state D.failures L.answers result.1 (W.contents writer.old) (W.contents writer.new) keeper result.0 (script_of plan.now input)) }
+    ensures all_out { workers ≡ 1 → OnOk result.1 (IsAllOut result.0) }
 {
     let feeding = Feeding::new(
         &keeper,

@@ -1,11 +1,10 @@
 //! What a feed tells its keeper beside the workers.
-ghost use Rattle.std.specs.Prelude.{◌≡◌, ◌⊎◌, ◌↔◌, [], ◌∷◌, true, false, IfOk, IfErr, OnOk, OnErr};
-ghost use Rattle.td_disk.specs.Disk.{CountsDevice};
-ghost use Rattle.td_standing.specs.declared.error.KeeperError.TheVariants.{Device};
+ghost use Rattle.std.specs.Prelude.{◌≡◌, ◌⊎◌, [], true, false, IfOk, IfErr, OnOk, OnErr};
 ghost use Rattle.td_keeper.specs.declared.command.Reply.{Reply as AnyReply};
-ghost use Rattle.td_keeper.specs.Driven.{submitted_in, Obeys, Driven};
-ghost use Rattle.td_feed.specs.Carried.{batch_in, new_to, is_refused, is_repeated, is_resting, IsRising, Carries, Leaves};
-ghost use Rattle.td_feed.specs.Said.{fault_in, Refuses, SaysBy};
+ghost use Rattle.td_keeper.specs.Driven.{Obeys, ComesOf};
+ghost use Rattle.td_feed.specs.Carried.{batch_in, new_to, is_refused, is_repeated, is_resting, IsRising, Carries};
+ghost use Rattle.td_feed.specs.Said.{fault_in};
+ghost use Rattle.td_feed.specs.Session.{KeepsDisk, Feeds, IsObeyed, IsNotObeyed};
 
 use crate::saying::{request_in, say};
 use std::alloc::Global;
@@ -24,15 +23,10 @@ pub(crate) fn tell<D: Disk, L: Law, R, E: Obey<D, L, R>>(
 ) -> Result<Reply, Fault>
     requires whole { (E.keeping engine.old).broken ≡ false }
     requires rising { IsRising (E.keeping engine.old) command }
-    ensures obeyed { IfOk result (λ reply. Obeys D.is_lawful D.state D.failures L.answers command reply (E.keeping engine.old) (E.keeping engine.new)) }
-    ensures driven { IfOk result (λ reply. Driven D.is_lawful D.state D.failures L.answers (command ∷ []) (reply ∷ []) (E.keeping engine.old) (E.keeping engine.new)) }
-    ensures done { IfOk result (λ reply. is_refused reply ≡ false) }
-    ensures refused { OnErr result (Refuses D.is_lawful D.state D.failures L.answers command (E.keeping engine.old) (E.keeping engine.new)) }
-    ensures failures { CountsDevice result (Fault.Keeper Device) (D.failures (E.keeping engine.old).device) (D.failures (E.keeping engine.new).device) }
-    ensures size { D.capacity (E.keeping engine.new).device ≡ D.capacity (E.keeping engine.old).device }
-    ensures lawful { D.is_lawful (E.keeping engine.old).device ↔ D.is_lawful (E.keeping engine.new).device }
-    ensures carried { IfOk result (λ reply. Carries L.answers (E.keeping engine.old) (E.keeping engine.new) (submitted_in command reply)) }
-    ensures left { OnErr result (Leaves D.is_lawful D.state L.answers (E.keeping engine.old) (E.keeping engine.new) (new_to (E.keeping engine.old) (batch_in command))) }
+    ensures disk { KeepsDisk D.capacity D.is_lawful D.failures result (E.keeping engine.old).device (E.keeping engine.new).device }
+    ensures obeyed { IfOk result (λ reply. IsObeyed D.is_lawful D.state D.failures L.answers command reply (E.keeping engine.old) (E.keeping engine.new)) }
+    ensures own { E.alone ≡ true → IfOk result (λ reply. ComesOf command reply (E.keeping engine.old) (E.hall engine.old) (E.keeping engine.new) (E.hall engine.new)) }
+    ensures refused { OnErr result (IsNotObeyed D.is_lawful D.state D.failures L.answers command (E.keeping engine.old) (E.keeping engine.new)) }
     ensures rests { is_resting command ≡ true → Carries L.answers (E.keeping engine.old) (E.keeping engine.new) [] }
 {
     laws::advance_stands::<L>();
@@ -52,16 +46,12 @@ pub(crate) fn tell_aloud<D: Disk, L: Law, R, E: Obey<D, L, R>, W: Sink>(
 ) -> Result<(), Fault>
     requires whole { (E.keeping engine.old).broken ≡ false }
     requires rising { IsRising (E.keeping engine.old) command }
+    ensures disk { KeepsDisk D.capacity D.is_lawful D.failures result (E.keeping engine.old).device (E.keeping engine.new).device }
+    ensures fed { Feeds D.is_lawful D.state D.failures L.answers result (W.contents writer.old) (W.contents writer.new) (E.keeping engine.old) (E.keeping engine.new) (new_to (E.keeping engine.old) (batch_in command)) }
     ensures obeyed { OnOk result ((reply : AnyReply) × Obeys D.is_lawful D.state D.failures L.answers command reply (E.keeping engine.old) (E.keeping engine.new) × (is_refused reply ≡ false)) }
-    ensures size { D.capacity (E.keeping engine.new).device ≡ D.capacity (E.keeping engine.old).device }
-    ensures lawful { D.is_lawful (E.keeping engine.old).device ↔ D.is_lawful (E.keeping engine.new).device }
-    ensures carried { OnOk result (Carries L.answers (E.keeping engine.old) (E.keeping engine.new) (new_to (E.keeping engine.old) (batch_in command))) }
-    ensures left { OnErr result (Leaves D.is_lawful D.state L.answers (E.keeping engine.old) (E.keeping engine.new) (new_to (E.keeping engine.old) (batch_in command))) }
 
     // Nothing is written but for a command that was obeyed.
     ensures acknowledged { (writer.new ≡ writer.old) ⊎ Carries L.answers (E.keeping engine.old) (E.keeping engine.new) (new_to (E.keeping engine.old) (batch_in command)) }
-    ensures said { SaysBy D.is_lawful D.state D.failures L.answers result (W.contents writer.old) (W.contents writer.new) (E.keeping engine.old) (E.keeping engine.new) (new_to (E.keeping engine.old) (batch_in command)) }
-    ensures failures { CountsDevice result (Fault.Keeper Device) (D.failures (E.keeping engine.old).device) (D.failures (E.keeping engine.new).device) }
 {
     let request = request_in(&command);
     let reply = tell(rt, engine, command)?;

@@ -1,16 +1,17 @@
 //! A feed under way.
-ghost use Rattle.std.specs.Prelude.{◌≡◌, ◌⊎◌, ◌↔◌, ◌+◌, ◌^◌, ◌<◌, ◌≤◌, ℕ, List, Option, Some, [], ◌∷◌, false, IsTrue, IfOk, IfErr, IfSome, IfNone, OnOk, OnErr, string_bytes};
+ghost use Rattle.std.specs.Prelude.{◌≡◌, ◌⊎◌, ◌↔◌, ◌+◌, ◌^◌, ◌<◌, ◌≤◌, ℕ, List, Option, Some, [], ◌∷◌, true, false, IsTrue, IfOk, IfErr, IfSome, IfNone, OnOk, string_bytes};
 ghost use Rattle.std.specs.Io.KnownBytes.{Appends};
-ghost use Rattle.td_disk.specs.Disk.{CountsDevice};
-ghost use Rattle.td_standing.specs.declared.error.KeeperError.TheVariants.{Device, Epochs};
+ghost use Rattle.td_standing.specs.declared.error.KeeperError.TheVariants.{Epochs};
 ghost use Rattle.td_keeper.specs.declared.command.Command.TheVariants.{NextOut};
 ghost use Rattle.td_keeper.specs.declared.command.Reply.TheVariants.{Out};
 ghost use Rattle.td_keeper.specs.Driven.{Driven};
 ghost use Rattle.td_standing.specs.Standing.{last_request};
 ghost use Rattle.td_feed.specs.Asked.{asked_for, MayFollow};
 ghost use Rattle.td_feed.specs.Fed.{hall_fault};
-ghost use Rattle.td_feed.specs.Carried.{batch_in, new_to, IsRising, Carries, Leaves};
-ghost use Rattle.td_feed.specs.Said.{SaysBy};
+ghost use Rattle.td_feed.specs.Carried.{batch_in, new_to, IsRising, Carries};
+ghost use Rattle.td_feed.specs.Said.{IsAllOut};
+ghost use Rattle.td_feed.specs.Session.{KeepsDisk, Feeds};
+ghost use Rattle.td_keeper.specs.Keeping.{since_base};
 
 use crate::at_once::Asked;
 use crate::order::Order;
@@ -130,12 +131,8 @@ impl Feeding {
     ) -> Result<(), Fault>
         requires whole { (E.keeping engine.old).broken ≡ false }
         requires rising { MayFollow (last_request (E.keeping engine.old).standing) (Some asked) }
-        ensures size { D.capacity (E.keeping engine.new).device ≡ D.capacity (E.keeping engine.old).device }
-        ensures lawful { D.is_lawful (E.keeping engine.old).device ↔ D.is_lawful (E.keeping engine.new).device }
-        ensures carried { OnOk result (Carries L.answers (E.keeping engine.old) (E.keeping engine.new) (new_to (E.keeping engine.old) (asked_for asked))) }
-        ensures left { OnErr result (Leaves D.is_lawful D.state L.answers (E.keeping engine.old) (E.keeping engine.new) (new_to (E.keeping engine.old) (asked_for asked))) }
-        ensures said { SaysBy D.is_lawful D.state D.failures L.answers result (W.contents writer.old) (W.contents writer.new) (E.keeping engine.old) (E.keeping engine.new) (new_to (E.keeping engine.old) (asked_for asked)) }
-        ensures failures { CountsDevice result (Fault.Keeper Device) (D.failures (E.keeping engine.old).device) (D.failures (E.keeping engine.new).device) }
+        ensures disk { KeepsDisk D.capacity D.is_lawful D.failures result (E.keeping engine.old).device (E.keeping engine.new).device }
+        ensures fed { Feeds D.is_lawful D.state D.failures L.answers result (W.contents writer.old) (W.contents writer.new) (E.keeping engine.old) (E.keeping engine.new) (new_to (E.keeping engine.old) (asked_for asked)) }
     {
         match asked {
             Asked::Epochs(group) => {
@@ -172,15 +169,11 @@ impl Feeding {
     ) -> Result<(), Fault>
         requires whole { (E.keeping engine.old).broken ≡ false }
         requires rising { IsRising (E.keeping engine.old) command }
-        ensures size { D.capacity (E.keeping engine.new).device ≡ D.capacity (E.keeping engine.old).device }
-        ensures lawful { D.is_lawful (E.keeping engine.old).device ↔ D.is_lawful (E.keeping engine.new).device }
-        ensures carried { OnOk result (Carries L.answers (E.keeping engine.old) (E.keeping engine.new) (new_to (E.keeping engine.old) (batch_in command))) }
+        ensures disk { KeepsDisk D.capacity D.is_lawful D.failures result (E.keeping engine.old).device (E.keeping engine.new).device }
+        ensures fed { Feeds D.is_lawful D.state D.failures L.answers result (W.contents writer.old) (W.contents writer.new) (E.keeping engine.old) (E.keeping engine.new) (new_to (E.keeping engine.old) (batch_in command)) }
 
         // Nothing is written but for a batch that is on the disk.
         ensures acknowledged { (writer.new ≡ writer.old) ⊎ Carries L.answers (E.keeping engine.old) (E.keeping engine.new) (new_to (E.keeping engine.old) (batch_in command)) }
-        ensures left { OnErr result (Leaves D.is_lawful D.state L.answers (E.keeping engine.old) (E.keeping engine.new) (new_to (E.keeping engine.old) (batch_in command))) }
-        ensures said { SaysBy D.is_lawful D.state D.failures L.answers result (W.contents writer.old) (W.contents writer.new) (E.keeping engine.old) (E.keeping engine.new) (new_to (E.keeping engine.old) (batch_in command)) }
-        ensures failures { CountsDevice result (Fault.Keeper Device) (D.failures (E.keeping engine.old).device) (D.failures (E.keeping engine.new).device) }
     {
         let before = engine.keeper().last_epoch();
         tell_aloud(rt, alloc, engine, command, writer)?;
@@ -210,13 +203,12 @@ impl Feeding {
         engine: &mut E,
     ) -> Result<(), Fault>
         requires whole { (E.keeping engine.old).broken ≡ false }
-        ensures size { D.capacity (E.keeping engine.new).device ≡ D.capacity (E.keeping engine.old).device }
-        ensures lawful { D.is_lawful (E.keeping engine.old).device ↔ D.is_lawful (E.keeping engine.new).device }
-        ensures carried { Carries L.answers (E.keeping engine.old) (E.keeping engine.new) [] }
+        ensures disk { KeepsDisk D.capacity D.is_lawful D.failures result (E.keeping engine.old).device (E.keeping engine.new).device }
 
         // Nothing is written, whatever the writer is.
-        ensures said { (held : Option (List ℕ)) → SaysBy D.is_lawful D.state D.failures L.answers result held held (E.keeping engine.old) (E.keeping engine.new) [] }
-        ensures failures { CountsDevice result (Fault.Keeper Device) (D.failures (E.keeping engine.old).device) (D.failures (E.keeping engine.new).device) }
+        ensures fed { (held : Option (List ℕ)) → Feeds D.is_lawful D.state D.failures L.answers result held held (E.keeping engine.old) (E.keeping engine.new) [] }
+        ensures rests { Carries L.answers (E.keeping engine.old) (E.keeping engine.new) [] }
+        ensures own { E.alone ≡ true → OnOk result ((E.hall engine.new).batches ≡ since_base (E.keeping engine.new)) }
     {
         tell(rt, engine, Command::Release)?;
         self.held = self.held.saturating_add(self.waiting);
@@ -233,12 +225,11 @@ impl Feeding {
         writer: &mut W,
     ) -> Result<(), Fault>
         requires whole { (E.keeping engine.old).broken ≡ false }
-        ensures size { D.capacity (E.keeping engine.new).device ≡ D.capacity (E.keeping engine.old).device }
-        ensures lawful { D.is_lawful (E.keeping engine.old).device ↔ D.is_lawful (E.keeping engine.new).device }
-        ensures carried { Carries L.answers (E.keeping engine.old) (E.keeping engine.new) [] }
+        ensures disk { KeepsDisk D.capacity D.is_lawful D.failures result (E.keeping engine.old).device (E.keeping engine.new).device }
+        ensures fed { Feeds D.is_lawful D.state D.failures L.answers result (W.contents writer.old) (W.contents writer.new) (E.keeping engine.old) (E.keeping engine.new) [] }
+        ensures rests { Carries L.answers (E.keeping engine.old) (E.keeping engine.new) [] }
         ensures none_left { OnOk result ((E.keeping engine.new).queue ≡ []) }
-        ensures said { SaysBy D.is_lawful D.state D.failures L.answers result (W.contents writer.old) (W.contents writer.new) (E.keeping engine.old) (E.keeping engine.new) [] }
-        ensures failures { CountsDevice result (Fault.Keeper Device) (D.failures (E.keeping engine.old).device) (D.failures (E.keeping engine.new).device) }
+        ensures all_out { E.alone ≡ true → OnOk result (IsAllOut (E.keeping engine.new)) }
     {
         self.release(rt, engine)?;
         tell(rt, engine, Command::Settle)?;
@@ -255,12 +246,8 @@ impl Feeding {
         writer: &mut W,
     ) -> Result<(), Fault>
         requires whole { (E.keeping engine.old).broken ≡ false }
-        ensures size { D.capacity (E.keeping engine.new).device ≡ D.capacity (E.keeping engine.old).device }
-        ensures lawful { D.is_lawful (E.keeping engine.old).device ↔ D.is_lawful (E.keeping engine.new).device }
-        ensures carried { OnOk result (Carries L.answers (E.keeping engine.old) (E.keeping engine.new) []) }
-        ensures left { OnErr result (Leaves D.is_lawful D.state L.answers (E.keeping engine.old) (E.keeping engine.new) []) }
-        ensures said { SaysBy D.is_lawful D.state D.failures L.answers result (W.contents writer.old) (W.contents writer.new) (E.keeping engine.old) (E.keeping engine.new) [] }
-        ensures failures { CountsDevice result (Fault.Keeper Device) (D.failures (E.keeping engine.old).device) (D.failures (E.keeping engine.new).device) }
+        ensures disk { KeepsDisk D.capacity D.is_lawful D.failures result (E.keeping engine.old).device (E.keeping engine.new).device }
+        ensures fed { Feeds D.is_lawful D.state D.failures L.answers result (W.contents writer.old) (W.contents writer.new) (E.keeping engine.old) (E.keeping engine.new) [] }
     {
         match self.pace {
             Pace::AtEnd => self.release(rt, engine),
@@ -279,12 +266,8 @@ impl Feeding {
     ) -> Result<(), Fault>
         requires whole { (E.keeping engine.old).broken ≡ false }
         requires rising { MayFollow (last_request (E.keeping engine.old).standing) (Some asked) }
-        ensures size { D.capacity (E.keeping engine.new).device ≡ D.capacity (E.keeping engine.old).device }
-        ensures lawful { D.is_lawful (E.keeping engine.old).device ↔ D.is_lawful (E.keeping engine.new).device }
-        ensures carried { OnOk result (Carries L.answers (E.keeping engine.old) (E.keeping engine.new) (new_to (E.keeping engine.old) (asked_for asked))) }
-        ensures left { OnErr result (Leaves D.is_lawful D.state L.answers (E.keeping engine.old) (E.keeping engine.new) (new_to (E.keeping engine.old) (asked_for asked))) }
-        ensures said { SaysBy D.is_lawful D.state D.failures L.answers result (W.contents writer.old) (W.contents writer.new) (E.keeping engine.old) (E.keeping engine.new) (new_to (E.keeping engine.old) (asked_for asked)) }
-        ensures failures { CountsDevice result (Fault.Keeper Device) (D.failures (E.keeping engine.old).device) (D.failures (E.keeping engine.new).device) }
+        ensures disk { KeepsDisk D.capacity D.is_lawful D.failures result (E.keeping engine.old).device (E.keeping engine.new).device }
+        ensures fed { Feeds D.is_lawful D.state D.failures L.answers result (W.contents writer.old) (W.contents writer.new) (E.keeping engine.old) (E.keeping engine.new) (new_to (E.keeping engine.old) (asked_for asked)) }
     {
         self.obey(rt, alloc, engine, asked, writer)?;
         self.keep_pace(rt, alloc, engine, writer)
@@ -299,12 +282,8 @@ impl Feeding {
         writer: &mut W,
     ) -> Result<(), Fault>
         requires whole { (E.keeping engine.old).broken ≡ false }
-        ensures size { D.capacity (E.keeping engine.new).device ≡ D.capacity (E.keeping engine.old).device }
-        ensures lawful { D.is_lawful (E.keeping engine.old).device ↔ D.is_lawful (E.keeping engine.new).device }
-        ensures carried { OnOk result (Carries L.answers (E.keeping engine.old) (E.keeping engine.new) []) }
-        ensures left { OnErr result (Leaves D.is_lawful D.state L.answers (E.keeping engine.old) (E.keeping engine.new) []) }
-        ensures said { SaysBy D.is_lawful D.state D.failures L.answers result (W.contents writer.old) (W.contents writer.new) (E.keeping engine.old) (E.keeping engine.new) [] }
-        ensures failures { CountsDevice result (Fault.Keeper Device) (D.failures (E.keeping engine.old).device) (D.failures (E.keeping engine.new).device) }
+        ensures disk { KeepsDisk D.capacity D.is_lawful D.failures result (E.keeping engine.old).device (E.keeping engine.new).device }
+        ensures fed { Feeds D.is_lawful D.state D.failures L.answers result (W.contents writer.old) (W.contents writer.new) (E.keeping engine.old) (E.keeping engine.new) [] }
     {
         match self.pace {
             Pace::AtEnd => Ok(()),
@@ -325,12 +304,8 @@ impl Feeding {
         writer: &mut W,
     ) -> Result<(), Fault>
         requires whole { (E.keeping engine.old).broken ≡ false }
-        ensures size { D.capacity (E.keeping engine.new).device ≡ D.capacity (E.keeping engine.old).device }
-        ensures lawful { D.is_lawful (E.keeping engine.old).device ↔ D.is_lawful (E.keeping engine.new).device }
-        ensures carried { OnOk result (Carries L.answers (E.keeping engine.old) (E.keeping engine.new) []) }
-        ensures left { OnErr result (Leaves D.is_lawful D.state L.answers (E.keeping engine.old) (E.keeping engine.new) []) }
-        ensures said { SaysBy D.is_lawful D.state D.failures L.answers result (W.contents writer.old) (W.contents writer.new) (E.keeping engine.old) (E.keeping engine.new) [] }
-        ensures failures { CountsDevice result (Fault.Keeper Device) (D.failures (E.keeping engine.old).device) (D.failures (E.keeping engine.new).device) }
+        ensures disk { KeepsDisk D.capacity D.is_lawful D.failures result (E.keeping engine.old).device (E.keeping engine.new).device }
+        ensures fed { Feeds D.is_lawful D.state D.failures L.answers result (W.contents writer.old) (W.contents writer.new) (E.keeping engine.old) (E.keeping engine.new) [] }
     {
         if is_cut_due(engine.keeper(), every) {
             self.cut(rt, alloc, engine, writer)
@@ -346,14 +321,10 @@ impl Feeding {
         engine: &mut E,
     ) -> Result<(), Fault>
         requires whole { (E.keeping engine.old).broken ≡ false }
-        ensures size { D.capacity (E.keeping engine.new).device ≡ D.capacity (E.keeping engine.old).device }
-        ensures lawful { D.is_lawful (E.keeping engine.old).device ↔ D.is_lawful (E.keeping engine.new).device }
-        ensures carried { OnOk result (Carries L.answers (E.keeping engine.old) (E.keeping engine.new) []) }
-        ensures left { OnErr result (Leaves D.is_lawful D.state L.answers (E.keeping engine.old) (E.keeping engine.new) []) }
+        ensures disk { KeepsDisk D.capacity D.is_lawful D.failures result (E.keeping engine.old).device (E.keeping engine.new).device }
 
         // Nothing is written, whatever the writer is.
-        ensures said { (held : Option (List ℕ)) → SaysBy D.is_lawful D.state D.failures L.answers result held held (E.keeping engine.old) (E.keeping engine.new) [] }
-        ensures failures { CountsDevice result (Fault.Keeper Device) (D.failures (E.keeping engine.old).device) (D.failures (E.keeping engine.new).device) }
+        ensures fed { (held : Option (List ℕ)) → Feeds D.is_lawful D.state D.failures L.answers result held held (E.keeping engine.old) (E.keeping engine.new) [] }
     {
         if self.freed == 0 {
             return Ok(());
@@ -372,13 +343,9 @@ impl Feeding {
         writer: &mut W,
     ) -> Result<(), Fault>
         requires whole { (E.keeping engine.old).broken ≡ false }
-        ensures size { D.capacity (E.keeping engine.new).device ≡ D.capacity (E.keeping engine.old).device }
-        ensures lawful { D.is_lawful (E.keeping engine.old).device ↔ D.is_lawful (E.keeping engine.new).device }
+        ensures disk { KeepsDisk D.capacity D.is_lawful D.failures result (E.keeping engine.old).device (E.keeping engine.new).device }
+        ensures fed { Feeds D.is_lawful D.state D.failures L.answers result (W.contents writer.old) (W.contents writer.new) (E.keeping engine.old) (E.keeping engine.new) [] }
         ensures written { OnOk result ((E.keeping engine.new).waiting ≡ false) }
-        ensures carried { OnOk result (Carries L.answers (E.keeping engine.old) (E.keeping engine.new) []) }
-        ensures left { OnErr result (Leaves D.is_lawful D.state L.answers (E.keeping engine.old) (E.keeping engine.new) []) }
-        ensures said { SaysBy D.is_lawful D.state D.failures L.answers result (W.contents writer.old) (W.contents writer.new) (E.keeping engine.old) (E.keeping engine.new) [] }
-        ensures failures { CountsDevice result (Fault.Keeper Device) (D.failures (E.keeping engine.old).device) (D.failures (E.keeping engine.new).device) }
     {
         self.settle(rt, alloc, engine, writer)?;
         tell(rt, engine, Command::Cut)?;
@@ -411,12 +378,11 @@ fn write_outs<D: Disk, L: Law, R, E: Obey<D, L, R>, W: Sink>(
     writer: &mut W,
 ) -> Result<(), Fault>
     requires whole { (E.keeping engine.old).broken ≡ false }
-    ensures size { D.capacity (E.keeping engine.new).device ≡ D.capacity (E.keeping engine.old).device }
-    ensures lawful { D.is_lawful (E.keeping engine.old).device ↔ D.is_lawful (E.keeping engine.new).device }
-    ensures carried { Carries L.answers (E.keeping engine.old) (E.keeping engine.new) [] }
+    ensures disk { KeepsDisk D.capacity D.is_lawful D.failures result (E.keeping engine.old).device (E.keeping engine.new).device }
+    ensures fed { Feeds D.is_lawful D.state D.failures L.answers result (W.contents writer.old) (W.contents writer.new) (E.keeping engine.old) (E.keeping engine.new) [] }
+    ensures rests { Carries L.answers (E.keeping engine.old) (E.keeping engine.new) [] }
     ensures none_left { OnOk result ((E.keeping engine.new).queue ≡ []) }
-    ensures said { SaysBy D.is_lawful D.state D.failures L.answers result (W.contents writer.old) (W.contents writer.new) (E.keeping engine.old) (E.keeping engine.new) [] }
-    ensures failures { CountsDevice result (Fault.Keeper Device) (D.failures (E.keeping engine.old).device) (D.failures (E.keeping engine.new).device) }
+    ensures stands { ((E.keeping engine.new).standing ≡ (E.keeping engine.old).standing) × ((E.keeping engine.new).collected ≡ (E.keeping engine.old).collected) }
 {
     let mut text = String::new(alloc);
     while let Some(out) = next_out(engine) {
@@ -447,9 +413,7 @@ fn write_piece<W: Sink>(writer: &mut W, text: &mut String) -> Result<(), Fault>
 fn next_out<D: Disk, L: Law, R, E: Obey<D, L, R>>(engine: &mut E) -> Option<EpochOut>
     requires whole { (E.keeping engine.old).broken ≡ false }
     ensures device { (E.keeping engine.new).device ≡ (E.keeping engine.old).device }
-    ensures size { D.capacity (E.keeping engine.new).device ≡ D.capacity (E.keeping engine.old).device }
-    ensures lawful { D.is_lawful (E.keeping engine.old).device ↔ D.is_lawful (E.keeping engine.new).device }
-    ensures failures { D.failures (E.keeping engine.new).device ≡ D.failures (E.keeping engine.old).device }
+    ensures stands { ((E.keeping engine.new).standing ≡ (E.keeping engine.old).standing) × ((E.keeping engine.new).collected ≡ (E.keeping engine.old).collected) }
     ensures carried { Carries L.answers (E.keeping engine.old) (E.keeping engine.new) [] }
     ensures some { IfSome result (λ out. (E.keeping engine.old).queue ≡ out ∷ (E.keeping engine.new).queue) }
     ensures none { IfNone result ((E.keeping engine.new).queue ≡ []) }

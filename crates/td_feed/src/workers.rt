@@ -1,10 +1,6 @@
 //! A feed beside the workers, each in a thread of its own.
-ghost use Rattle.std.specs.Prelude.{◌≡◌, ◌↔◌, true, false, IfSome, OnOk, OnErr};
-ghost use Rattle.td_disk.specs.Disk.{CountsDevice};
-ghost use Rattle.td_standing.specs.declared.error.KeeperError.TheVariants.{Device};
-ghost use Rattle.td_feed.specs.Orders.{submissions};
-ghost use Rattle.td_feed.specs.Carried.{new_to, Carries, Leaves};
-ghost use Rattle.td_feed.specs.Said.{SaysBy};
+ghost use Rattle.std.specs.Prelude.{◌≡◌, false, IfSome};
+ghost use Rattle.td_feed.specs.Session.{KeepsDisk, FeedsScript};
 
 use crate::allowance::Allowance;
 use crate::asking::Asking;
@@ -48,13 +44,8 @@ pub(crate) fn obey_by_workers<
     requires parts { (blank.parts ≡ K.parts) × (K.parts ≡ K.shards) }
     requires hall { (hall.workers ≡ K.shards) × (hall.given ≡ K.start) }
     requires whole { keeper.broken ≡ false }
-    ensures size { D.capacity result.0.device ≡ D.capacity keeper.device }
-    ensures lawful { D.is_lawful keeper.device ↔ D.is_lawful result.0.device }
-    ensures sound { OnOk result.1 (IfSome (S.script orders) (λ script. script.is_sound ≡ true)) }
-    ensures fed { OnOk result.1 (IfSome (S.script orders) (λ script. Carries L.answers keeper result.0 (new_to keeper (submissions script.orders)))) }
-    ensures left { OnErr result.1 (IfSome (S.script orders) (λ script. Leaves D.is_lawful D.state L.answers keeper result.0 (new_to keeper (submissions script.orders)))) }
-    ensures said { IfSome (S.script orders) (λ script. SaysBy D.is_lawful D.state D.failures L.answers result.1 (W.contents writer.old) (W.contents writer.new) keeper result.0 (new_to keeper (submissions script.orders))) }
-    ensures failures { CountsDevice result.1 (Fault.Keeper Device) (D.failures keeper.device) (D.failures result.0.device) }
+    ensures disk { KeepsDisk D.capacity D.is_lawful D.failures result.1 keeper.device result.0.device }
+    ensures fed { IfSome (S.script orders) (λ script. FeedsScript D.is_lawful D.state D.failures L.answers result.1 (W.contents writer.old) (W.contents writer.new) keeper result.0 script) }
 {
     match Pool::<K, L>::new(alloc, hall, blank) {
         Ok((pool, seats)) => beside(
@@ -85,13 +76,8 @@ fn beside<
     calls: &C,
 ) -> (Keeper<D, L>, Result<(), Fault>)
     requires whole { keeper.broken ≡ false }
-    ensures size { D.capacity result.0.device ≡ D.capacity keeper.device }
-    ensures lawful { D.is_lawful keeper.device ↔ D.is_lawful result.0.device }
-    ensures sound { OnOk result.1 (IfSome (S.script orders) (λ script. script.is_sound ≡ true)) }
-    ensures fed { OnOk result.1 (IfSome (S.script orders) (λ script. Carries L.answers keeper result.0 (new_to keeper (submissions script.orders)))) }
-    ensures left { OnErr result.1 (IfSome (S.script orders) (λ script. Leaves D.is_lawful D.state L.answers keeper result.0 (new_to keeper (submissions script.orders)))) }
-    ensures said { IfSome (S.script orders) (λ script. SaysBy D.is_lawful D.state D.failures L.answers result.1 (W.contents writer.old) (W.contents writer.new) keeper result.0 (new_to keeper (submissions script.orders))) }
-    ensures failures { CountsDevice result.1 (Fault.Keeper Device) (D.failures keeper.device) (D.failures result.0.device) }
+    ensures disk { KeepsDisk D.capacity D.is_lawful D.failures result.1 keeper.device result.0.device }
+    ensures fed { IfSome (S.script orders) (λ script. FeedsScript D.is_lawful D.state D.failures L.answers result.1 (W.contents writer.old) (W.contents writer.new) keeper result.0 script) }
 {
     let allowance = Allowance::new(pool, feeding.pace.tasks_of_an_epoch());
     let allowance = &allowance;
@@ -101,13 +87,8 @@ fn beside<
         move |scope| -> ((Keeper<D, L>, Result<(), Fault>), &mut W)
             requires { keeper.broken ≡ false }
             ensures same_writer { result.1.ghost_name ≡ writer.entry.ghost_name }
-            ensures size { D.capacity result.0.0.device ≡ D.capacity keeper.device }
-            ensures lawful { D.is_lawful keeper.device ↔ D.is_lawful result.0.0.device }
-            ensures sound { OnOk result.0.1 (IfSome (S.script orders) (λ script. script.is_sound ≡ true)) }
-            ensures fed { OnOk result.0.1 (IfSome (S.script orders) (λ script. Carries L.answers keeper result.0.0 (new_to keeper (submissions script.orders)))) }
-            ensures left { OnErr result.0.1 (IfSome (S.script orders) (λ script. Leaves D.is_lawful D.state L.answers keeper result.0.0 (new_to keeper (submissions script.orders)))) }
-            ensures said { IfSome (S.script orders) (λ script. SaysBy D.is_lawful D.state D.failures L.answers result.0.1 (W.contents writer.entry.now) (W.contents result.1.now) keeper result.0.0 (new_to keeper (submissions script.orders))) }
-            ensures failures { CountsDevice result.0.1 (Fault.Keeper Device) (D.failures keeper.device) (D.failures result.0.0.device) }
+            ensures disk { KeepsDisk D.capacity D.is_lawful D.failures result.0.1 keeper.device result.0.0.device }
+            ensures fed { IfSome (S.script orders) (λ script. FeedsScript D.is_lawful D.state D.failures L.answers result.0.1 (W.contents writer.entry.now) (W.contents result.1.now) keeper result.0.0 script) }
         {
             let pool = allowance.pool;
             let mut engine = AtPool { keeper, allowance };

@@ -16,9 +16,9 @@ use Rattle.td_machine.specs.State.{states_at}
 use Rattle.td_machine.specs.Steps.{Answer, collect_step, to_collect, outputs_at, cut_at_by, cut_to}
 use Rattle.td_machine.specs.Steps.Answer.{has_collected, has_cut}
 use Rattle.td_machine.specs.Sound.{Sound, run_states, outs_by}
-use Rattle.td_standing.specs.Standing.{batches_of}
+use Rattle.td_standing.specs.Standing.{batches_of, last_epoch}
 use Rattle.td_keeper.specs.Keeping.{Keeping, IsKeeping, words_at}
-use Rattle.td_keeper.specs.Halls.{IsOwn, meant_outs, with_collected, collected_hall, last_passed}
+use Rattle.td_keeper.specs.Halls.{IsOwn, IsDone, meant_outs, with_collected, collected_hall, last_passed, before_unpassed}
 use Rattle.td_keeper.proofs.Kept.{now_published}
 use Rattle.td_keeper.proofs.Rows.{Falls, IsLast, row, passes, at_most, at_least, last_is}
 use Rattle.td_keeper.proofs.Runs.{out_at, in_a_row, length_outs, outs_at, states_on}
@@ -131,6 +131,22 @@ module _ {D : Type 0} (answers : Answers) (states_join : StatesJoin answers) (ou
       let least = at_least (has_passed S) (S.collected + 1) (S.next - (S.collected + 1)) (last - S.collected) (omega (arith, is.before))
       (λ i l. is.passed (S.collected + 1 + i) (omega (arith, own.collected, own.base, keeping.collected)) (omega (arith, l))) in
       omega (arith, least)
+
+  -- of a hall that is done the last epoch that has passed is the last that the keeper stands for, and so far all is collected then
+  pub passed_to_the_end : IsDone k S → last_passed S ≡ last_epoch k.standing
+  passed_to_the_end done =
+      let at : last_passed S ≡ S.next - 1 = ap (before_unpassed S.next) done.passed in
+      let some = ap length done.all in
+      let left = length-drop (k.base - k.standing.epoch) (batches_of k.standing.submitted) in
+      let all = many in
+      omega (arith, at, some, left, all, sound.released, own.base, keeping.from_checkpoint, keeping.released)
+
+  pub collected_to_the_end : IsDone k S → (collect_step S).1.collected ≡ last_epoch k.standing
+  collected_to_the_end done =
+      let far = collected_up_to (last_passed S) (last_is (has_passed S) S.base S.next (omega (arith, sound.released)) (unpassed S) refl) in
+      let end = passed_to_the_end done in
+      let most : S.collected + length (to_collect S) ≤ last_epoch k.standing = still.done in
+      omega (arith, far, end, most)
 
   -- A CUT that has the batch meaning's states is one of what the keeper stands for
   pub cut_meaning : (e : ℕ) → S.base ≤ e → e < S.next → (states : StateList) → states ≡ run_states answers S e

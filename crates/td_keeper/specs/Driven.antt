@@ -30,7 +30,7 @@ use Rattle.td_keeper.specs.Keeping.{Keeping, IsKeeping, since_base, with_batch, 
 use Rattle.td_keeper.specs.Refused.{is_new, submit_refusal, submit_as_refusal, group_refusal, write_refusal, close_refusal, cut_refusal}
 use Rattle.td_keeper.specs.Received.{IsReceived, received_in}
 use Rattle.td_keeper.specs.Grouped.{AllOrNone}
-use Rattle.td_keeper.specs.Halls.{IsOwn, lacking, with_released, with_collected, with_cut, collected_hall, cut_hall, last_passed, meant_outs}
+use Rattle.td_keeper.specs.Halls.{IsOwn, IsDone, lacking, with_released, with_collected, with_cut, collected_hall, cut_hall, last_passed, meant_outs}
 
 -- the replies of the calls that work on a pool's hall
 abbrev pub released : Result ℕ KeeperError → Reply
@@ -340,6 +340,15 @@ module _ {D : Type 0} (is_lawful : D → Type 0) (state : D → DiskState) (fail
     pub further : is_lawful old.device → old.broken ≡ false → Advances old new (submitted_in command reply)
     pub images : is_lawful old.device → old.broken ≡ false
         → SinceAdvance answers old.plan old.standing (submitted_in command reply) (last_epoch old.standing) (state old.device).moment (state new.device)
+
+-- WHAT COMES OF A HALL OF ITS OWN at a command, by its reply: a release leaves it with all batches since the base; to settle keeps these and
+-- lets each epoch pass; and of a hall that was done all is collected, and is cut
+abbrev pub ComesOf : {D : Type 0} → Command → Reply → Keeping D → HallState → Keeping D → HallState → Type 0
+ComesOf Release (Released n) k S l T = T.batches ≡ since_base l
+ComesOf Settle Settled k S l T = (T.batches ≡ S.batches) × (unpassed T ≡ None)
+ComesOf Collect (Collected n) k S l T = IsDone k S → l.collected ≡ last_epoch l.standing
+ComesOf Cut (CutTaken e) k S l T = IsDone k S → e ≡ last_epoch l.standing
+ComesOf command reply k S l T = Unit {0}
 
 -- A REPLY ACKNOWLEDGES no epoch beyond the n-th
 abbrev pub AcknowledgesUpTo : ℕ → Reply → Type 0

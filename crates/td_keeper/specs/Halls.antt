@@ -33,6 +33,11 @@ module _ {D : Type 0} (k : Keeping D) where
     pub workers : T.workers ≡ S.workers
     pub out : T.out ≡ S.out
 
+  -- IT IS DONE: it has all batches of the keeper's since the base, and each of their epochs has passed
+  pub record IsDone (S : HallState) : Type 0 where
+    pub all : S.batches ≡ since_base k
+    pub passed : unpassed S ≡ None
+
   -- the batches that such a hall lacks
   abbrev pub lacking : HallState → List (List Entry)
   lacking S = drop (length S.batches) (since_base k)
@@ -73,6 +78,11 @@ last_passed S = before_unpassed S.next (unpassed S)
 -- a hall after it was cut there
 abbrev pub cut_hall : HallState → HallState
 cut_hall S = (cut_at_by S (has_passed S (last_passed S)) (last_passed S)).1
+
+-- A KEEPER WITH A HALL OF ITS OWN
+pub record KeeperAndHall (D : Type 0) : Type 0 where
+  pub keeping : Keeping D
+  pub hall : HallState
 
 -- AN ENGINE'S HALL: the keeper's own, open, with one shard, and no task of it is out
 pub record IsAtHome {D : Type 0} (k : Keeping D) (S : HallState) : Type 0 where

@@ -1,8 +1,9 @@
 //! A keeper and a hall of its own, as one value.
-ghost use Rattle.std.specs.Prelude.{◌≡◌, ◌+◌, None, IfOk, IfErr};
+ghost use Rattle.std.specs.Prelude.{◌≡◌, ◌+◌, true, None, IfOk, IfErr};
 ghost use Rattle.td_plan.specs.Blocks.{vertices};
 ghost use Rattle.td_calls.specs.Fits.{first_lack};
 ghost use Rattle.td_machine.specs.Steps.{opened};
+ghost use Rattle.td_core.specs.Drained.{IsKept};
 ghost use Rattle.td_keeper.specs.Driven.{Releases, Settles, Collects, Cuts, released, settled, collected, cut};
 ghost use Rattle.td_standing.specs.declared.error.KeeperError.TheVariants.{Memory};
 
@@ -12,6 +13,7 @@ use crate::laws::each_is_kept;
 use crate::obey::Obey;
 use std::alloc::Global;
 use std::marker::Model;
+use td_batch::laws::run_joins;
 use td_calls::{Closures, Law};
 use td_core::{Hall, HallError};
 use td_disk::Disk;
@@ -19,11 +21,11 @@ use td_stamp::EpochOut;
 use td_standing::KeeperError;
 
 /// A keeper with a hall of its own, and the closures by which the hall's tasks are run, in whatever thread calls it. Contracts see
-/// the keeper.
+/// the keeper and the hall.
 ///
 /// By its type the hall is the keeper's: its plan, its base and what was collected are the keeper's, and its batches are a beginning
-/// of the keeper's since that base. So nothing is compared: a release, a collect and a cut cost what is new, however many states and
-/// epochs there are.
+/// of the keeper's since that base. So nothing is compared: a release and a collect cost what is new, however many states and epochs
+/// there are. A cut copies the kept states.
 #[derive(Drop)]
 pub struct Engine<'a, D: Disk, L: Law, C: Closures<L>> {
     keeper: Keeper<D, L>,
@@ -40,12 +42,11 @@ impl<'a, D: Disk, L: Law, C: Closures<L>> Model for Engine<'a, D, L, C> {
     ghost use Rattle.std.specs.Prelude.{◌≡◌, None};
     ghost use Rattle.td_plan.specs.Blocks.{vertices};
     ghost use Rattle.td_calls.specs.Fits.{first_lack};
-    ghost use Rattle.td_keeper.specs.Keeping.{Keeping};
-    ghost use Rattle.td_keeper.specs.Halls.{IsAtHome};
+    ghost use Rattle.td_keeper.specs.Halls.{KeeperAndHall, IsAtHome};
 
-    ghost Value = { Keeping D };
+    ghost Value = { KeeperAndHall D };
 
-    ghost view = { λ e. e.keeper };
+    ghost view = { λ e. record { keeping = e.keeper; hall = e.hall } };
 
     ghost invariant = { λ e. IsAtHome e.keeper e.hall
         × (first_lack (C.has_map e.calls.now) (C.has_group e.calls.now) (C.has_fold e.calls.now) (vertices e.keeper.plan) ≡ None) };
@@ -62,7 +63,8 @@ impl<'a, D: Disk, L: Law, C: Closures<L>> Engine<'a, D, L, C> {
     ) -> Result<Engine<'a, D, L, C>, (KeeperError, Keeper<D, L>)>
         requires fits { first_lack (C.has_map calls.now) (C.has_group calls.now) (C.has_fold calls.now) (vertices keeper.plan) ≡ None }
         requires collected { keeper.collected ≡ keeper.base }
-        ensures same { IfOk result (λ engine. engine ≡ keeper) }
+        ensures same { IfOk result (λ engine. engine.keeping ≡ keeper) }
+        ensures opened { IfOk result (λ engine. engine.hall ≡ opened keeper.plan keeper.base_states (keeper.base + 1) 1) }
         ensures refused { IfErr result (λ e. (e.0 ≡ Memory) × (e.1 ≡ keeper)) }
     {
         match keeper.hall_at_base(alloc) {
@@ -80,7 +82,7 @@ impl<'a, D: Disk, L: Law, C: Closures<L>> Engine<'a, D, L, C> {
 
     /// The keeper, and why a task was not run, where one was refused.
     pub fn into_keeper(self) -> (Keeper<D, L>, Option<HallError>)
-        ensures { result.0 ≡ self.entry }
+        ensures { result.0 ≡ self.entry.keeping }
     {
         let Engine {
             keeper,
@@ -95,7 +97,8 @@ impl<'a, D: Disk, L: Law, C: Closures<L>> Engine<'a, D, L, C> {
 
     /// Runs tasks of the hall, one after another, until none is left, as many were taken as may be, or one is refused.
     fn run_tasks(&mut self)
-        ensures { self.new ≡ self.old }
+        ensures same { self.new.keeping ≡ self.old.keeping }
+        ensures kept { IsKept self.old.hall self.new.hall }
     {
         for _task in self.hall.taken()..self.up_to {
             match self.hall.run_one(self.calls, 0) {
@@ -111,7 +114,11 @@ impl<'a, D: Disk, L: Law, C: Closures<L>> Engine<'a, D, L, C> {
 }
 
 impl<'a, D: Disk, L: Law, C: Closures<L>, R> Obey<D, L, R> for Engine<'a, D, L, C> {
-    ghost keeping = { λ e. e };
+    ghost keeping = { λ e. e.keeping };
+
+    ghost alone = { true };
+
+    ghost hall = { λ e. e.hall };
 
     fn keeper(&self) -> &Keeper<D, L> {
         &self.keeper
@@ -137,11 +144,15 @@ impl<'a, D: Disk, L: Law, C: Closures<L>, R> Obey<D, L, R> for Engine<'a, D, L, 
     }
 
     fn collect(&mut self, _rt: &R) -> Result<u64, KeeperError> {
+        run_joins::<L>();
+        each_is_kept(&self.keeper);
         td_core::laws::each_is_sound(&self.hall);
         self.keeper.bring_in(&mut self.hall)
     }
 
     fn cut(&mut self, _rt: &R) -> Result<u64, KeeperError> {
+        run_joins::<L>();
+        each_is_kept(&self.keeper);
         td_core::laws::each_is_sound(&self.hall);
         self.keeper.cut_own(&mut self.hall)
     }

@@ -145,6 +145,7 @@ impl<D: Disk, L: Law> Keeper<D, L> {
         // A call of the disk that failed is never told as want of memory: with another answer the count of failures stays.
         ensures stays { IfOk result (λ k. D.failures k.device ≡ D.failures disk) }
         ensures stays_back { IfErr result (λ e. (e.0 ≡ KeeperError.Device) ⊎ (D.failures e.1 ≡ D.failures disk)) }
+        ensures later_back { IfErr result (λ e. D.failures disk ≤ D.failures e.1) }
 
         // What a crash may leave since the start of the call, it might have left then.
         ensures crash_safe { IfOk result (λ k. D.is_lawful disk

@@ -1,8 +1,10 @@
 //! A keeper at work: with a hall of its own, or beside the workers of a pool.
-ghost use Rattle.std.specs.Prelude.{◌≡◌, ◌↔◌, false};
+ghost use Rattle.std.specs.Prelude.{◌≡◌, ◌↔◌, Bool, true, false};
+ghost use Rattle.td_machine.specs.State.{HallState};
 ghost use Rattle.td_keeper.specs.Keeping.{Keeping};
+ghost use Rattle.td_keeper.specs.declared.command.Command.TheVariants.{Release, Settle, Collect, Cut};
 ghost use Rattle.td_keeper.specs.declared.command.Reply.TheVariants.{Out};
-ghost use Rattle.td_keeper.specs.Driven.{needs_hall, Releases, Settles, Collects, HandsOut, Cuts, Obeys, IsTold, released, settled, collected, cut};
+ghost use Rattle.td_keeper.specs.Driven.{needs_hall, Releases, Settles, Collects, HandsOut, Cuts, Obeys, IsTold, ComesOf, released, settled, collected, cut};
 
 use crate::command::{Command, Reply};
 use crate::keeper::Keeper;
@@ -18,6 +20,11 @@ pub trait Obey<D: Disk, L: Law, R> {
     /// What contracts see of the keeper.
     ghost keeping: { Self → Keeping D };
 
+    /// Whether the hall is its own; and that hall, where it is.
+    ghost alone: { Bool };
+
+    ghost hall: { Self → HallState };
+
     /// The keeper, to read.
     fn keeper(&self) -> &Keeper<D, L>
         ensures { result.now ≡ keeping self.now };
@@ -28,19 +35,23 @@ pub trait Obey<D: Disk, L: Law, R> {
 
     /// Releases into the hall the epochs on the journal that it lacks, and answers how many these are.
     fn release(&mut self, rt: &R) -> Result<u64, KeeperError>
-        ensures { Releases D.is_lawful D.state D.failures L.answers (released result) (keeping self.old) (keeping self.new) };
+        ensures released { Releases D.is_lawful D.state D.failures L.answers (released result) (keeping self.old) (keeping self.new) }
+        ensures own { alone ≡ true → ComesOf Release (released result) (keeping self.old) (hall self.old) (keeping self.new) (hall self.new) };
 
     /// Lets every epoch pass that was released. Refusal: `NotPassed` of the first that has not, where no more tasks are run.
     fn settle(&mut self, rt: &R) -> Result<(), KeeperError>
-        ensures { Settles D.is_lawful D.state D.failures L.answers (settled result) (keeping self.old) (keeping self.new) };
+        ensures settled { Settles D.is_lawful D.state D.failures L.answers (settled result) (keeping self.old) (keeping self.new) }
+        ensures own { alone ≡ true → ComesOf Settle (settled result) (keeping self.old) (hall self.old) (keeping self.new) (hall self.new) };
 
     /// Brings into the queue what has come to the outputs of the hall for epochs that have passed, and answers for how many epochs.
     fn collect(&mut self, rt: &R) -> Result<u64, KeeperError>
-        ensures { Collects D.is_lawful D.state D.failures L.answers (collected result) (keeping self.old) (keeping self.new) };
+        ensures collected { Collects D.is_lawful D.state D.failures L.answers (collected result) (keeping self.old) (keeping self.new) }
+        ensures own { alone ≡ true → ComesOf Collect (collected result) (keeping self.old) (hall self.old) (keeping self.new) (hall self.new) };
 
     /// Cuts the hall, and answers at which epoch: the cut waits to be written.
     fn cut(&mut self, rt: &R) -> Result<u64, KeeperError>
-        ensures { Cuts D.is_lawful D.state D.failures L.answers (cut result) (keeping self.old) (keeping self.new) };
+        ensures cut { Cuts D.is_lawful D.state D.failures L.answers (cut result) (keeping self.old) (keeping self.new) }
+        ensures own { alone ≡ true → ComesOf Cut (cut result) (keeping self.old) (hall self.old) (keeping self.new) (hall self.new) };
 
     /// Hands out the outputs of the first epoch of those that were collected and not yet handed out; None where there is none.
     fn next_out(&mut self) -> Option<EpochOut>
@@ -56,6 +67,7 @@ pub trait Obey<D: Disk, L: Law, R> {
     /// Obeys one command.
     final fn obey(&mut self, rt: &R, command: Command) -> Reply
         ensures obeyed { Obeys D.is_lawful D.state D.failures L.answers command result (keeping self.old) (keeping self.new) }
+        ensures own { alone ≡ true → ComesOf command result (keeping self.old) (hall self.old) (keeping self.new) (hall self.new) }
         ensures size { D.capacity (keeping self.new).device ≡ D.capacity (keeping self.old).device }
         ensures lawful { D.is_lawful (keeping self.old).device ↔ D.is_lawful (keeping self.new).device }
     {
@@ -76,6 +88,7 @@ pub fn tell_one<D: Disk, L: Law, R, E: Obey<D, L, R>>(
     command: Command,
 ) -> Reply
     ensures told { IsTold D.is_lawful D.state D.failures L.answers command result (E.keeping engine.old) (E.keeping engine.new) }
+    ensures own { E.alone ≡ true → ComesOf command result (E.keeping engine.old) (E.hall engine.old) (E.keeping engine.new) (E.hall engine.new) }
     ensures size { D.capacity (E.keeping engine.new).device ≡ D.capacity (E.keeping engine.old).device }
     ensures lawful { D.is_lawful (E.keeping engine.old).device ↔ D.is_lawful (E.keeping engine.new).device }
 {

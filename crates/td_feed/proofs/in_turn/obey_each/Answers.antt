@@ -1,33 +1,51 @@
-use Rattle.std.proofs.Common.{◌≡◌, [], ◌∙◌, ap, refl, subst, inr, None}
-use Rattle.std.specs.Prelude.{◌↔◌, Err}
+use Rattle.std.proofs.Common.{◌≡◌, [], true, refl, sym, ap, ◌∙◌, subst, inr, None}
+use Rattle.std.specs.Prelude.{Err}
 use Rattle.td_console.specs.declared.faults.Fault.{Fault}
+use Rattle.td_console.specs.declared.faults.Fault.TheVariants.{Keeper}
+use Rattle.td_standing.specs.declared.error.KeeperError.TheVariants.{Device}
 use Rattle.td_feed.specs.Orders.{submissions}
-use Rattle.td_feed.specs.Asked.{Asks, asked_for}
+use Rattle.td_feed.specs.Asked.{Asks, asked_for, is_of_reader}
 use Rattle.td_keeper.specs.Keeping.{Keeping}
 use Rattle.td_feed.specs.Carried.{new_to, Carries, Leaves}
 use Rattle.td_feed.specs.Said.{Says, SaysBy}
-use Rattle.td_feed.proofs.Carrying.{at_err, in_some, unmoved, leaves_none}
-use Rattle.td_feed.proofs.Counting.{same_count}
+use Rattle.td_feed.specs.Session.{KeepsDisk}
+use Rattle.td_feed.proofs.Carrying.{at_ok, at_err}
+use Rattle.td_feed.proofs.Counting.{as_err, other_fault, memory_no_device}
 use Rattle.td_feed.proofs.Lines.{says_nothing, some_of_all, by_refusal, handed_on}
-use Rattle.td_feed.proofs.Obeyed.{none_obeyed, some_obeyed, some_refused, left_there, at_end_left, at_end_said, none_left, none_of}
+use Rattle.td_feed.proofs.Obeyed.{none_obeyed, some_obeyed, some_refused, left_there, is_sound, at_end_carried, at_end_left, at_end_said, none_left, none_of}
+use Rattle.td_feed.proofs.Session.{done, known, in_some_is, disk_same, disk_then, disk_handed, none_fed, err_fed}
 use Rattle.td_feed.proofs.in_turn.obey_each.Goals as goal
 
-pub returns-then-is_refused-clause-said : goal.returns-then-is_refused-clause-said
-returns-then-is_refused-clause-said g c =
+not_read : (f : Fault) → is_of_reader f ≡ true → f ≡ Keeper Device → ⊥
+not_read f of_reader is = absurd (let no : is_of_reader (Keeper Device) ≡ true = ap is_of_reader (sym is) ∙ of_reader in cc)
+
+pub returns-then-is_refused-clause-disk : goal.returns-then-is_refused-clause-disk
+returns-then-is_refused-clause-disk g c = disk_same _ refl memory_no_device
+
+pub returns-then-is_refused-clause-fed : goal.returns-then-is_refused-clause-fed
+returns-then-is_refused-clause-fed g c = in_some_is (g.S.Asking.script c.args.orders.now) (λ s is. none_fed _ c.requires.whole)
+
+pub returns-in_err-begin-clause-disk : goal.returns-in_err-begin-clause-disk
+returns-in_err-begin-clause-disk g c =
+    disk_handed c.from_residual.result c.from_residual.ensures.1
+    (subst (λ (k : Keeping g.row.D.Denot). KeepsDisk g.D.Disk.capacity g.D.Disk.is_lawful g.D.Disk.failures (as_err (Unit {0}) c.in_err-begin.field-0.0) k.device (g.E.Obey.keeping c.begin.new.engine).device) c.allow.ensures c.in_err-begin.ensures.disk)
+
+pub returns-in_err-begin-clause-fed : goal.returns-in_err-begin-clause-fed
+returns-in_err-begin-clause-fed g c =
     let is_lawful = g.D.Disk.is_lawful in
     let state = g.D.Disk.state in
     let failures = g.D.Disk.failures in
     let answers = g.L.Law.answers in
-    let w = g.W.Sink.contents c.args.writer.now in
-    let old = (g.E.Obey.keeping c.args.engine.now) in
-    in_some (g.S.Asking.script c.args.orders.now) (λ s. inr (some_of_all is_lawful state failures answers w w old old [] (says_nothing is_lawful state failures answers w old)))
-
-pub returns-in_err-begin-clause-left : goal.returns-in_err-begin-clause-left
-returns-in_err-begin-clause-left g c =
-    let old = (g.E.Obey.keeping c.args.engine.now) in
-    at_err c.from_residual.result
-    (in_some (g.S.Asking.script c.args.orders.now) (λ s. none_left g.D.Disk.is_lawful g.D.Disk.state g.D.Disk.failures g.L.Law.answers old (g.E.Obey.keeping c.begin.new.engine) (new_to old (submissions s.orders)) c.requires.whole
-    (subst (λ (k : Keeping g.row.D.Denot). Leaves g.D.Disk.is_lawful g.D.Disk.state g.L.Law.answers k (g.E.Obey.keeping c.begin.new.engine) []) c.allow.ensures c.in_err-begin.ensures.left)))
+    let u = g.W.Sink.contents c.args.writer.now in
+    let w = g.W.Sink.contents c.begin.new.writer in
+    let old = g.E.Obey.keeping c.args.engine.now in
+    let new = g.E.Obey.keeping c.begin.new.engine in
+    let fed = c.in_err-begin.ensures.fed in
+    in_some_is (g.S.Asking.script c.args.orders.now)
+    (λ s is. err_fed _ c.from_residual.result c.from_residual.ensures.1
+    (none_left is_lawful state failures answers old new (new_to old (submissions s.orders)) c.requires.whole (subst (λ (k : Keeping g.row.D.Denot). Leaves is_lawful state answers k new []) c.allow.ensures fed.left))
+    (handed_on is_lawful state failures answers c.from_residual.result c.in_err-begin.field-0.0 u u w old old new [] [] (new_to old (submissions s.orders)) c.from_residual.ensures.1 (says_nothing is_lawful state failures answers u old)
+    (subst (λ (k : Keeping g.row.D.Denot). SaysBy is_lawful state failures answers (Err c.in_err-begin.field-0.0) u w k new []) c.allow.ensures fed.said)))
 
 pub loop-asked-init : goal.loop-asked-init
 loop-asked-init g c =
@@ -39,53 +57,71 @@ loop-asked-init g c =
     let w = g.W.Sink.contents c.begin.new.writer in
     let new = g.E.Obey.keeping c.begin.new.engine in
     let same = c.allow.ensures in
+    let fed = c.in_ok-begin.ensures.fed in
     record {
       obeyed =
           none_obeyed is_lawful state failures answers (g.S.Asking.script c.args.orders.now) v w (g.E.Obey.keeping c.args.engine.now) new
-          (subst (λ (k : Keeping g.row.D.Denot). Says is_lawful state failures answers v w k new []) same c.in_ok-begin.ensures.said)
-          (subst (λ (k : Keeping g.row.D.Denot). Carries answers k new []) same c.in_ok-begin.ensures.carried);
-      count = same_count c.in_ok-begin.field-0 _ _ c.in_ok-begin.ensures.failures ∙ ap (λ (k : Keeping g.row.D.Denot). failures k.device) same;
-      size = c.begin.ensures.size ∙ ap (λ (k : Keeping g.row.D.Denot). g.D.Disk.capacity k.device) same;
-      lawful = subst (λ (k : Keeping g.row.D.Denot). is_lawful k.device ↔ is_lawful new.device) same c.begin.ensures.lawful;
+          (subst (λ (k : Keeping g.row.D.Denot). Says is_lawful state failures answers v w k new []) same fed.said)
+          (subst (λ (k : Keeping g.row.D.Denot). Carries answers k new []) same fed.carried);
+      disk = subst (λ (k : Keeping g.row.D.Denot). KeepsDisk g.D.Disk.capacity is_lawful failures done k.device new.device) same c.in_ok-begin.ensures.disk;
     }
 
-pub returns-in_err-asked-clause-left : goal.returns-in_err-asked-clause-left
-returns-in_err-asked-clause-left g c =
-    at_err c.from_residual-in_err-asked.result
-    (left_there g.D.Disk.is_lawful g.D.Disk.state g.D.Disk.failures g.L.Law.answers (g.S.Asking.script c.args.orders.now) (g.S.Asking.script c.loop-asked.orders) (g.S.Asking.script c.loop-asked.orders) (g.W.Sink.contents c.args.writer.now)
-    (g.W.Sink.contents c.loop-asked.writer) (g.E.Obey.keeping c.args.engine.now) (g.E.Obey.keeping c.loop-asked.engine) c.loop-asked.invariant.obeyed)
+pub returns-in_err-asked-clause-disk : goal.returns-in_err-asked-clause-disk
+returns-in_err-asked-clause-disk g c =
+    disk_then c.loop-asked.invariant.disk
+    (disk_same c.from_residual-in_err-asked.result refl
+    (other_fault c.from_residual-in_err-asked.result (λ (f : Fault). f ≡ c.in_err-asked.field-0.0) c.from_residual-in_err-asked.ensures.1 (λ is. not_read c.in_err-asked.field-0.0 c.in_err-asked.ensures.err (sym is))))
 
-pub returns-in_err-asked-clause-said : goal.returns-in_err-asked-clause-said
-returns-in_err-asked-clause-said g c =
+pub returns-in_err-asked-clause-fed : goal.returns-in_err-asked-clause-fed
+returns-in_err-asked-clause-fed g c =
     let is_lawful = g.D.Disk.is_lawful in
     let state = g.D.Disk.state in
     let failures = g.D.Disk.failures in
     let answers = g.L.Law.answers in
+    let script = g.S.Asking.script c.args.orders.now in
+    let left = g.S.Asking.script c.loop-asked.orders in
     let u = g.W.Sink.contents c.args.writer.now in
     let v = g.W.Sink.contents c.loop-asked.writer in
-    let old = (g.E.Obey.keeping c.args.engine.now) in
-    let there = (g.E.Obey.keeping c.loop-asked.engine) in
+    let old = g.E.Obey.keeping c.args.engine.now in
+    let there = g.E.Obey.keeping c.loop-asked.engine in
     let so = c.loop-asked.invariant.obeyed in
-    in_some (g.S.Asking.script c.args.orders.now)
-    (λ s. by_refusal is_lawful state failures answers c.from_residual-in_err-asked.result (λ (f : Fault). f ≡ c.in_err-asked.field-0.0) u v old there (new_to old (submissions s.orders)) c.from_residual-in_err-asked.ensures.1
-    (λ f is. inr (some_of_all is_lawful state failures answers u v old there (new_to old (submissions so.done)) so.said)))
+    let r = c.from_residual-in_err-asked.result in
+    in_some_is script
+    (λ s is. err_fed _ r c.from_residual-in_err-asked.ensures.1
+    (known _ script s is (left_there is_lawful state failures answers script left left u v old there so))
+    (by_refusal is_lawful state failures answers r (λ (f : Fault). f ≡ c.in_err-asked.field-0.0) u v old there (new_to old (submissions s.orders)) c.from_residual-in_err-asked.ensures.1
+    (λ f is. inr (some_of_all is_lawful state failures answers u v old there (new_to old (submissions so.done)) so.said))))
 
-pub returns-in_default-clause-left : goal.returns-in_default-clause-left
-returns-in_default-clause-left g c =
+pub returns-in_default-clause-disk : goal.returns-in_default-clause-disk
+returns-in_default-clause-disk g c = disk_then c.loop-asked.invariant.disk c.settle.ensures.disk
+
+pub returns-in_default-clause-fed : goal.returns-in_default-clause-fed
+returns-in_default-clause-fed g c =
+    let is_lawful = g.D.Disk.is_lawful in
+    let state = g.D.Disk.state in
+    let failures = g.D.Disk.failures in
+    let answers = g.L.Law.answers in
+    let script = g.S.Asking.script c.args.orders.now in
     let left = g.S.Asking.script c.loop-asked.orders in
     let next = g.S.Asking.script c.next_asked.new.self in
+    let u = g.W.Sink.contents c.args.writer.now in
+    let v = g.W.Sink.contents c.loop-asked.writer in
+    let old = g.E.Obey.keeping c.args.engine.now in
+    let there = g.E.Obey.keeping c.loop-asked.engine in
+    let so = c.loop-asked.invariant.obeyed in
+    let w = g.W.Sink.contents c.settle.new.writer in
+    let new = g.E.Obey.keeping c.settle.new.engine in
+    let r = c.settle.result in
     let asks : Asks left next None = subst (Asks left next) (none_of c.in_ok-asked.field-0 c.in_default.not-Some) c.in_ok-asked.ensures.asked in
-    at_err c.settle.result
-    (at_end_left g.D.Disk.is_lawful g.D.Disk.state g.D.Disk.failures g.L.Law.answers (g.S.Asking.script c.args.orders.now) left next (g.W.Sink.contents c.args.writer.now) (g.W.Sink.contents c.loop-asked.writer) (g.E.Obey.keeping c.args.engine.now)
-    (g.E.Obey.keeping c.loop-asked.engine) c.loop-asked.invariant.obeyed (g.E.Obey.keeping c.settle.new.engine) asks c.settle.ensures.carried)
-
-pub returns-in_default-clause-said : goal.returns-in_default-clause-said
-returns-in_default-clause-said g c =
-    let left = g.S.Asking.script c.loop-asked.orders in
-    let next = g.S.Asking.script c.next_asked.new.self in
-    let asks : Asks left next None = subst (Asks left next) (none_of c.in_ok-asked.field-0 c.in_default.not-Some) c.in_ok-asked.ensures.asked in
-    at_end_said g.D.Disk.is_lawful g.D.Disk.state g.D.Disk.failures g.L.Law.answers (g.S.Asking.script c.args.orders.now) left next (g.W.Sink.contents c.args.writer.now) (g.W.Sink.contents c.loop-asked.writer) (g.E.Obey.keeping c.args.engine.now)
-    (g.E.Obey.keeping c.loop-asked.engine) c.loop-asked.invariant.obeyed c.settle.result (g.W.Sink.contents c.settle.new.writer) (g.E.Obey.keeping c.settle.new.engine) asks c.settle.ensures.said
+    in_some_is script
+    (λ s is. record {
+      sound = at_ok r (known _ script s is (is_sound is_lawful state failures answers script left next u v old there so asks));
+      fed = record {
+        carried = at_ok r (known _ script s is (at_end_carried is_lawful state failures answers script left next u v old there so new asks c.settle.ensures.rests));
+        left = at_err r (known _ script s is (at_end_left is_lawful state failures answers script left next u v old there so new asks c.settle.ensures.rests));
+        said = known _ script s is (at_end_said is_lawful state failures answers script left next u v old there so r w new asks c.settle.ensures.fed.said);
+      };
+    })
 
 pub loop-asked-preserved : goal.loop-asked-preserved
 loop-asked-preserved g c =
@@ -93,52 +129,57 @@ loop-asked-preserved g c =
     let state = g.D.Disk.state in
     let failures = g.D.Disk.failures in
     let answers = g.L.Law.answers in
+    let script = g.S.Asking.script c.args.orders.now in
+    let left = g.S.Asking.script c.loop-asked.orders in
+    let next = g.S.Asking.script c.next_asked.new.self in
+    let u = g.W.Sink.contents c.args.writer.now in
     let v = g.W.Sink.contents c.loop-asked.writer in
-    let w = g.W.Sink.contents c.obey_at_pace.new.writer in
+    let old = g.E.Obey.keeping c.args.engine.now in
     let there = g.E.Obey.keeping c.loop-asked.engine in
+    let so = c.loop-asked.invariant.obeyed in
+    let w = g.W.Sink.contents c.obey_at_pace.new.writer in
     let new = g.E.Obey.keeping c.obey_at_pace.new.engine in
     let asked = c.in-Some-2.asked in
     let same = c.allow-in-loop-asked.ensures in
+    let fed = c.in_ok-obey_at_pace.ensures.fed in
     record {
       obeyed =
-          some_obeyed is_lawful state failures answers (g.S.Asking.script c.args.orders.now) (g.S.Asking.script c.loop-asked.orders) (g.S.Asking.script c.next_asked.new.self)
-          (g.W.Sink.contents c.args.writer.now) v w (g.E.Obey.keeping c.args.engine.now) there new asked c.loop-asked.invariant.obeyed
-          (subst (Asks (g.S.Asking.script c.loop-asked.orders) (g.S.Asking.script c.next_asked.new.self)) c.in-Some-2.is c.in_ok-asked.ensures.asked)
-          (subst (λ (k : Keeping g.row.D.Denot). Says is_lawful state failures answers v w k new (new_to k (asked_for asked))) same c.in_ok-obey_at_pace.ensures.said)
-          (subst (λ (k : Keeping g.row.D.Denot). Carries answers k new (new_to k (asked_for asked))) same c.in_ok-obey_at_pace.ensures.carried);
-      count = same_count c.in_ok-obey_at_pace.field-0 _ _ c.in_ok-obey_at_pace.ensures.failures ∙ (ap (λ (k : Keeping g.row.D.Denot). failures k.device) same ∙ c.loop-asked.invariant.count);
-      size = c.obey_at_pace.ensures.size ∙ (ap (λ (k : Keeping g.row.D.Denot). g.D.Disk.capacity k.device) same ∙ c.loop-asked.invariant.size);
-      lawful =
-          let on : is_lawful there.device ↔ is_lawful new.device = subst (λ (k : Keeping g.row.D.Denot). is_lawful k.device ↔ is_lawful new.device) same c.obey_at_pace.ensures.lawful in
-          (λ l. on.0 (c.loop-asked.invariant.lawful.0 l), λ l. c.loop-asked.invariant.lawful.1 (on.1 l));
+          some_obeyed is_lawful state failures answers script left next u v w old there new asked so (subst (Asks left next) c.in-Some-2.is c.in_ok-asked.ensures.asked)
+          (subst (λ (k : Keeping g.row.D.Denot). Says is_lawful state failures answers v w k new (new_to k (asked_for asked))) same fed.said)
+          (subst (λ (k : Keeping g.row.D.Denot). Carries answers k new (new_to k (asked_for asked))) same fed.carried);
+      disk = disk_then c.loop-asked.invariant.disk (subst (λ (k : Keeping g.row.D.Denot). KeepsDisk g.D.Disk.capacity is_lawful failures done k.device new.device) same c.in_ok-obey_at_pace.ensures.disk);
     }
 
-pub returns-in_err-obey_at_pace-clause-left : goal.returns-in_err-obey_at_pace-clause-left
-returns-in_err-obey_at_pace-clause-left g c =
-    at_err c.from_residual-in_err-obey_at_pace.result
-    (some_refused g.D.Disk.is_lawful g.D.Disk.state g.D.Disk.failures g.L.Law.answers (g.S.Asking.script c.args.orders.now) (g.S.Asking.script c.loop-asked.orders) (g.S.Asking.script c.next_asked.new.self)
-    (g.W.Sink.contents c.args.writer.now) (g.W.Sink.contents c.loop-asked.writer) (g.W.Sink.contents c.obey_at_pace.new.writer) (g.E.Obey.keeping c.args.engine.now) (g.E.Obey.keeping c.loop-asked.engine) (g.E.Obey.keeping c.obey_at_pace.new.engine) c.in-Some-2.asked c.loop-asked.invariant.obeyed
-    (subst (Asks (g.S.Asking.script c.loop-asked.orders) (g.S.Asking.script c.next_asked.new.self)) c.in-Some-2.is c.in_ok-asked.ensures.asked)
-    (subst (λ (k : Keeping g.row.D.Denot). Leaves g.D.Disk.is_lawful g.D.Disk.state g.L.Law.answers k (g.E.Obey.keeping c.obey_at_pace.new.engine) (new_to k (asked_for c.in-Some-2.asked))) c.allow-in-loop-asked.ensures c.in_err-obey_at_pace.ensures.left))
+pub returns-in_err-obey_at_pace-clause-disk : goal.returns-in_err-obey_at_pace-clause-disk
+returns-in_err-obey_at_pace-clause-disk g c =
+    disk_then c.loop-asked.invariant.disk
+    (disk_handed c.from_residual-in_err-obey_at_pace.result c.from_residual-in_err-obey_at_pace.ensures.1
+    (subst (λ (k : Keeping g.row.D.Denot). KeepsDisk g.D.Disk.capacity g.D.Disk.is_lawful g.D.Disk.failures (as_err (Unit {0}) c.in_err-obey_at_pace.field-0.0) k.device (g.E.Obey.keeping c.obey_at_pace.new.engine).device) c.allow-in-loop-asked.ensures c.in_err-obey_at_pace.ensures.disk))
 
-pub returns-in_err-obey_at_pace-clause-said : goal.returns-in_err-obey_at_pace-clause-said
-returns-in_err-obey_at_pace-clause-said g c =
+pub returns-in_err-obey_at_pace-clause-fed : goal.returns-in_err-obey_at_pace-clause-fed
+returns-in_err-obey_at_pace-clause-fed g c =
     let is_lawful = g.D.Disk.is_lawful in
     let state = g.D.Disk.state in
     let failures = g.D.Disk.failures in
     let answers = g.L.Law.answers in
-    let old = (g.E.Obey.keeping c.args.engine.now) in
+    let script = g.S.Asking.script c.args.orders.now in
+    let left = g.S.Asking.script c.loop-asked.orders in
+    let next = g.S.Asking.script c.next_asked.new.self in
+    let u = g.W.Sink.contents c.args.writer.now in
+    let v = g.W.Sink.contents c.loop-asked.writer in
+    let old = g.E.Obey.keeping c.args.engine.now in
+    let there = g.E.Obey.keeping c.loop-asked.engine in
     let so = c.loop-asked.invariant.obeyed in
-    in_some (g.S.Asking.script c.args.orders.now)
-    (λ s. handed_on is_lawful state failures answers c.from_residual-in_err-obey_at_pace.result c.in_err-obey_at_pace.field-0.0 (g.W.Sink.contents c.args.writer.now) (g.W.Sink.contents c.loop-asked.writer)
-    (g.W.Sink.contents c.obey_at_pace.new.writer) old (g.E.Obey.keeping c.loop-asked.engine) (g.E.Obey.keeping c.obey_at_pace.new.engine) (new_to old (submissions so.done)) (new_to (g.E.Obey.keeping c.loop-asked.engine) (asked_for c.in-Some-2.asked)) (new_to old (submissions s.orders))
-    c.from_residual-in_err-obey_at_pace.ensures.1 so.said
-    (subst (λ (k : Keeping g.row.D.Denot). SaysBy is_lawful state failures answers (Err c.in_err-obey_at_pace.field-0.0) (g.W.Sink.contents c.loop-asked.writer) (g.W.Sink.contents c.obey_at_pace.new.writer) k (g.E.Obey.keeping c.obey_at_pace.new.engine) (new_to k (asked_for c.in-Some-2.asked))) c.allow-in-loop-asked.ensures c.in_err-obey_at_pace.ensures.said))
-
-pub returns-then-is_refused-clause-left : goal.returns-then-is_refused-clause-left
-returns-then-is_refused-clause-left g c =
-    let old = (g.E.Obey.keeping c.args.engine.now) in
-    in_some (g.S.Asking.script c.args.orders.now)
-    (λ s.
-    leaves_none g.D.Disk.is_lawful g.D.Disk.state g.L.Law.answers old old (new_to old (submissions s.orders))
-    (unmoved g.L.Law.answers old old refl refl c.requires.whole))
+    let w = g.W.Sink.contents c.obey_at_pace.new.writer in
+    let new = g.E.Obey.keeping c.obey_at_pace.new.engine in
+    let asked = c.in-Some-2.asked in
+    let same = c.allow-in-loop-asked.ensures in
+    let r = c.from_residual-in_err-obey_at_pace.result in
+    let e = c.in_err-obey_at_pace.field-0.0 in
+    let fed = c.in_err-obey_at_pace.ensures.fed in
+    in_some_is script
+    (λ s is. err_fed _ r c.from_residual-in_err-obey_at_pace.ensures.1
+    (known _ script s is (some_refused is_lawful state failures answers script left next u v w old there new asked so (subst (Asks left next) c.in-Some-2.is c.in_ok-asked.ensures.asked)
+    (subst (λ (k : Keeping g.row.D.Denot). Leaves is_lawful state answers k new (new_to k (asked_for asked))) same fed.left)))
+    (handed_on is_lawful state failures answers r e u v w old there new (new_to old (submissions so.done)) (new_to there (asked_for asked)) (new_to old (submissions s.orders)) c.from_residual-in_err-obey_at_pace.ensures.1 so.said
+    (subst (λ (k : Keeping g.row.D.Denot). SaysBy is_lawful state failures answers (Err e) v w k new (new_to k (asked_for asked))) same fed.said)))

@@ -1,13 +1,11 @@
-use Rattle.std.proofs.Common.{◌≡◌}
-use Rattle.std.specs.Prelude.{◌↔◌}
+use Rattle.td_feed.specs.Session.{KeepsDisk}
 use Rattle.td_feed.proofs.Obeyed.{HasObeyed}
+use Rattle.td_feed.proofs.Session.{done}
 use Rattle.td_feed.proofs.in_turn.obey_each.Given as goal
 
--- the keeper has gone on with what the orders so far submit
+-- the keeper has gone on with what the orders so far submit, and the disk is kept
 abbrev pub invariant-loop-asked : goal.invariant-loop-asked
 invariant-loop-asked g l = record {
   obeyed : HasObeyed g.D.Disk.is_lawful g.D.Disk.state g.D.Disk.failures g.L.Law.answers (g.S.Asking.script l.fn.orders) (g.S.Asking.script l.orders) (g.W.Sink.contents l.fn.writer) (g.W.Sink.contents l.writer) (g.E.Obey.keeping l.fn.engine) (g.E.Obey.keeping l.engine);
-  count : g.D.Disk.failures (g.E.Obey.keeping l.engine).device ≡ g.D.Disk.failures (g.E.Obey.keeping l.fn.engine).device;
-  size : g.D.Disk.capacity (g.E.Obey.keeping l.engine).device ≡ g.D.Disk.capacity (g.E.Obey.keeping l.fn.engine).device;
-  lawful : g.D.Disk.is_lawful (g.E.Obey.keeping l.fn.engine).device ↔ g.D.Disk.is_lawful (g.E.Obey.keeping l.engine).device;
+  disk : KeepsDisk g.D.Disk.capacity g.D.Disk.is_lawful g.D.Disk.failures done (g.E.Obey.keeping l.fn.engine).device (g.E.Obey.keeping l.engine).device;
 }

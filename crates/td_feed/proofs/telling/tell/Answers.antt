@@ -1,9 +1,9 @@
-use Rattle.std.proofs.Common.{◌≡◌, [], ◌∷◌, false, sym, ◌∙◌, inr}
+use Rattle.std.proofs.Common.{◌≡◌, false, sym, ◌∙◌, inr}
 use Rattle.td_keeper.specs.declared.command.Command.{Command}
 use Rattle.td_keeper.specs.declared.command.Reply.{Reply}
-use Rattle.td_keeper.specs.Driven.{submitted_in, is_failed, Obeys, Driven}
-use Rattle.td_feed.specs.Carried.{batch_in, new_to, is_refused, Carries, Leaves}
-use Rattle.td_feed.specs.Said.{fault_in, Refuses}
+use Rattle.td_keeper.specs.Driven.{is_failed, ComesOf}
+use Rattle.td_feed.specs.Said.{fault_in}
+use Rattle.td_feed.specs.Session.{IsObeyed, IsNotObeyed}
 use Rattle.td_feed.proofs.Told.{carry, refused_any, rest, not_repeated, ok_of, err_of}
 use Rattle.td_feed.proofs.Counting.{counts_told, or_false}
 use Rattle.td_feed.proofs.telling.tell.Goals as goal
@@ -12,45 +12,44 @@ pub unless_refused-requires : goal.unless_refused-requires
 unless_refused-requires g c =
     record { new = not_repeated g.D.Disk.is_lawful g.D.Disk.state g.D.Disk.failures g.L.Law.answers c.args.command c.tell_one.result (g.E.Obey.keeping c.args.engine.now) (g.E.Obey.keeping c.tell_one.new.engine) c.tell_one.ensures.told.obeyed c.requires.rising }
 
-pub returns-clause-obeyed : goal.returns-clause-obeyed
-returns-clause-obeyed g c =
-    ok_of c.unless_refused.result c.tell_one.result (λ (r : Reply). Obeys g.D.Disk.is_lawful g.D.Disk.state g.D.Disk.failures g.L.Law.answers c.args.command r (g.E.Obey.keeping c.args.engine.now) (g.E.Obey.keeping c.tell_one.new.engine))
-    c.unless_refused.ensures.ok (λ none. c.tell_one.ensures.told.obeyed)
-
-pub returns-clause-driven : goal.returns-clause-driven
-returns-clause-driven g c =
-    ok_of c.unless_refused.result c.tell_one.result
-    (λ (r : Reply). Driven g.D.Disk.is_lawful g.D.Disk.state g.D.Disk.failures g.L.Law.answers (c.args.command ∷ []) (r ∷ []) (g.E.Obey.keeping c.args.engine.now) (g.E.Obey.keeping c.tell_one.new.engine))
-    c.unless_refused.ensures.ok (λ none. c.tell_one.ensures.told.driven)
-
-pub returns-clause-done : goal.returns-clause-done
-returns-clause-done g c = ok_of c.unless_refused.result c.tell_one.result (λ (r : Reply). is_refused r ≡ false) c.unless_refused.ensures.ok (λ none. none)
-
-pub returns-clause-refused : goal.returns-clause-refused
-returns-clause-refused g c =
-    let reply : Reply = c.tell_one.result in
-    err_of c.unless_refused.result reply (Refuses g.D.Disk.is_lawful g.D.Disk.state g.D.Disk.failures g.L.Law.answers c.args.command (g.E.Obey.keeping c.args.engine.now) (g.E.Obey.keeping c.tell_one.new.engine)) (λ f. f ≡ fault_in reply)
-    c.unless_refused.ensures.refused (λ is. inr (reply, is, c.tell_one.ensures.told.driven))
-
-pub returns-clause-failures : goal.returns-clause-failures
-returns-clause-failures g c =
+pub returns-clause-disk : goal.returns-clause-disk
+returns-clause-disk g c =
     let told = c.tell_one.ensures.told in
     let reply : Reply = c.tell_one.result in
-    counts_told c.unless_refused.result reply (g.D.Disk.failures (g.E.Obey.keeping c.args.engine.now).device) (g.D.Disk.failures (g.E.Obey.keeping c.tell_one.new.engine).device) c.unless_refused.ensures.ok c.unless_refused.ensures.refused told.counted
-    (λ is. (told.fails (sym (or_false (is_failed reply)) ∙ is)).risen)
-    (λ none. (told.whole (sym (or_false (is_failed reply)) ∙ none)).1)
+    record {
+      size = c.tell_one.ensures.size;
+      lawful = c.tell_one.ensures.lawful;
+      counts =
+          counts_told c.unless_refused.result reply (g.D.Disk.failures (g.E.Obey.keeping c.args.engine.now).device) (g.D.Disk.failures (g.E.Obey.keeping c.tell_one.new.engine).device) c.unless_refused.ensures.ok c.unless_refused.ensures.refused told.counted
+          (λ is. (told.fails (sym (or_false (is_failed reply)) ∙ is)).risen)
+          (λ none. (told.whole (sym (or_false (is_failed reply)) ∙ none)).1);
+    }
 
-pub returns-clause-carried : goal.returns-clause-carried
-returns-clause-carried g c =
+pub returns-clause-obeyed : goal.returns-clause-obeyed
+returns-clause-obeyed g c =
+    let is_lawful = g.D.Disk.is_lawful in
+    let state = g.D.Disk.state in
+    let failures = g.D.Disk.failures in
     let answers = g.L.Law.answers in
     let old = g.E.Obey.keeping c.args.engine.now in
     let new = g.E.Obey.keeping c.tell_one.new.engine in
     let told = c.tell_one.ensures.told in
-    ok_of c.unless_refused.result c.tell_one.result (λ (r : Reply). Carries answers old new (submitted_in c.args.command r)) c.unless_refused.ensures.ok
-    (λ none. carry g.D.Disk.is_lawful g.D.Disk.state g.D.Disk.failures answers c.others_rest.ensures c.advance_stands.ensures.each c.standings_advance.ensures.cut c.args.command c.tell_one.result old new told.kept told.obeyed c.requires.whole none)
+    ok_of c.unless_refused.result c.tell_one.result (λ (r : Reply). IsObeyed is_lawful state failures answers c.args.command r old new) c.unless_refused.ensures.ok
+    (λ none. record {
+      obeyed = told.obeyed;
+      driven = told.driven;
+      done = none;
+      carried = carry is_lawful state failures answers c.others_rest.ensures c.advance_stands.ensures.each c.standings_advance.ensures.cut c.args.command c.tell_one.result old new told.kept told.obeyed c.requires.whole none;
+    })
 
-pub returns-clause-left : goal.returns-clause-left
-returns-clause-left g c =
+pub returns-clause-own : goal.returns-clause-own
+returns-clause-own g c = λ alone.
+    ok_of c.unless_refused.result c.tell_one.result
+    (λ (r : Reply). ComesOf c.args.command r (g.E.Obey.keeping c.args.engine.now) (g.E.Obey.hall c.args.engine.now) (g.E.Obey.keeping c.tell_one.new.engine) (g.E.Obey.hall c.tell_one.new.engine))
+    c.unless_refused.ensures.ok (λ none. c.tell_one.ensures.own alone)
+
+pub returns-clause-refused : goal.returns-clause-refused
+returns-clause-refused g c =
     let is_lawful = g.D.Disk.is_lawful in
     let state = g.D.Disk.state in
     let failures = g.D.Disk.failures in
@@ -61,12 +60,15 @@ returns-clause-left g c =
     let new = g.E.Obey.keeping c.tell_one.new.engine in
     let told = c.tell_one.ensures.told in
     let lawful_back = c.tell_one.ensures.lawful.1 in
-    err_of c.unless_refused.result reply (Leaves is_lawful state answers old new (new_to old (batch_in command))) (λ f. f ≡ fault_in reply) c.unless_refused.ensures.refused
-    (λ is.
-    refused_any is_lawful state failures answers c.advance_stands.ensures.each old new c.requires.whole lawful_back
-    (λ lawful i image. g.met.D.Disk.counts_now new.device (state old.device).moment i lawful (told.further (lawful_back lawful) c.requires.whole).later image)
-    c.others_rest.ensures command reply is told.obeyed c.requires.rising
-    (λ lawful. told.images lawful c.requires.whole))
+    err_of c.unless_refused.result reply (IsNotObeyed is_lawful state failures answers command old new) (λ f. f ≡ fault_in reply) c.unless_refused.ensures.refused
+    (λ is. record {
+      refused = inr (reply, is, told.driven);
+      left =
+          refused_any is_lawful state failures answers c.advance_stands.ensures.each old new c.requires.whole lawful_back
+          (λ lawful i image. g.met.D.Disk.counts_now new.device (state old.device).moment i lawful (told.further (lawful_back lawful) c.requires.whole).later image)
+          c.others_rest.ensures command reply is told.obeyed c.requires.rising
+          (λ lawful. told.images lawful c.requires.whole);
+    })
 
 pub returns-clause-rests : goal.returns-clause-rests
 returns-clause-rests g c =

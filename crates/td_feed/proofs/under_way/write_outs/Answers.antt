@@ -7,8 +7,9 @@ use Rattle.td_keeper.specs.declared.command.Reply.TheVariants.{Out}
 use Rattle.td_console.specs.declared.faults.Fault.{Fault}
 use Rattle.td_feed.specs.Said.{line_of}
 use Rattle.td_feed.proofs.Carrying.{unmoved, carries_after}
-use Rattle.td_feed.proofs.Counting.{other_fault, counts_same}
+use Rattle.td_feed.proofs.Counting.{other_fault}
 use Rattle.td_feed.proofs.Lines.{by_refusal, output_no_device, holding_nothing, holding_more, holding_piece, none_out, all_written, last_written}
+use Rattle.td_feed.proofs.Session.{ok_no_device, disk_same, fed_quiet}
 use Rattle.td_feed.proofs.under_way.write_outs.Goals as goal
 
 -- a list without members
@@ -19,10 +20,10 @@ nil_of (x ∷ l) n is many = absurd (let none : n ≡ 0 = eqb-true n 0 is in ome
 pub loop-out-init : goal.loop-out-init
 loop-out-init g c = record {
   said = holding_nothing g.D.Disk.is_lawful g.D.Disk.state g.D.Disk.failures g.L.Law.answers (g.W.Sink.contents c.args.writer.now) (g.E.Obey.keeping c.args.engine.now) (string_bytes c.new-text.result) c.new-text.ensures.bytes;
-  count = refl;
   carried = unmoved g.L.Law.answers (g.E.Obey.keeping c.args.engine.now) (g.E.Obey.keeping c.args.engine.now) refl refl c.requires.whole;
-  size = refl;
-  lawful = (λ l. l, λ l. l);
+  device = refl;
+  standing = refl;
+  collected = refl;
 }
 
 pub loop-out-preserved : goal.loop-out-preserved
@@ -40,21 +41,20 @@ loop-out-preserved g c =
     let so_far = c.loop-out.invariant in
     let o : Option EpochOut = c.next_out.result in
     let more = holding_more is_lawful state failures answers u v old there new o held (held ++ line_of 0 (Out o)) so_far.said c.next_out.ensures.driven refl in
-    let count = c.next_out.ensures.failures ∙ c.loop-out.invariant.count in
     let printed : string_bytes c.print_epoch.new.text ≡ held ++ line_of 0 (Out (Some c.in-Some.out)) =
     c.in_ok-print_epoch.ensures.ok ∙ ap (λ (l : List ℕ). held ++ l) (sym (append-nil _)) in
     let is : held ++ line_of 0 (Out o) ≡ string_bytes c.print_epoch.new.text = ap (λ (p : Option EpochOut). held ++ line_of 0 (Out p)) c.in-Some.is ∙ sym printed in
     record {
       said = holding_piece is_lawful state failures answers g.W.Sink.contents string_bytes u c.loop-out.writer c.write_piece.new.writer old new c.print_epoch.new.text c.write_piece.new.text
           (holding_more is_lawful state failures answers u v old there new o held (string_bytes c.print_epoch.new.text) so_far.said c.next_out.ensures.driven (sym is)) c.in_ok-write_piece.ensures.ok;
-      count = count;
       carried = carries_after is_lawful state answers old there new [] so_far.carried c.next_out.ensures.carried;
-      size = c.next_out.ensures.size ∙ so_far.size;
-      lawful = (λ l. c.next_out.ensures.lawful.0 (so_far.lawful.0 l), λ l. so_far.lawful.1 (c.next_out.ensures.lawful.1 l));
+      device = c.next_out.ensures.device ∙ so_far.device;
+      standing = c.next_out.ensures.stands.0 ∙ so_far.standing;
+      collected = c.next_out.ensures.stands.1 ∙ so_far.collected;
     }
 
-pub returns-in_err-print_epoch-clause-said : goal.returns-in_err-print_epoch-clause-said
-returns-in_err-print_epoch-clause-said g c =
+pub returns-in_err-print_epoch-clause-fed : goal.returns-in_err-print_epoch-clause-fed
+returns-in_err-print_epoch-clause-fed g c =
     let is_lawful = g.D.Disk.is_lawful in
     let state = g.D.Disk.state in
     let failures = g.D.Disk.failures in
@@ -68,19 +68,17 @@ returns-in_err-print_epoch-clause-said g c =
     let so_far = c.loop-out.invariant in
     let o : Option EpochOut = c.next_out.result in
     let more = holding_more is_lawful state failures answers u v old there new o held (held ++ line_of 0 (Out o)) so_far.said c.next_out.ensures.driven refl in
-    by_refusal is_lawful state failures answers c.from_residual.result (λ (f : Fault). f ≡ c.in_err-print_epoch.field-0.0) u v old new [] c.from_residual.ensures.1
-    (λ f is. inr more.some)
+    fed_quiet c.from_residual.result (carries_after g.D.Disk.is_lawful g.D.Disk.state g.L.Law.answers (g.E.Obey.keeping c.args.engine.now) (g.E.Obey.keeping c.loop-out.engine) (g.E.Obey.keeping c.next_out.new.engine) [] c.loop-out.invariant.carried c.next_out.ensures.carried)
+    (by_refusal is_lawful state failures answers c.from_residual.result (λ (f : Fault). f ≡ c.in_err-print_epoch.field-0.0) u v old new [] c.from_residual.ensures.1
+    (λ f is. inr more.some))
 
-pub returns-in_err-print_epoch-clause-failures : goal.returns-in_err-print_epoch-clause-failures
-returns-in_err-print_epoch-clause-failures g c =
-    let count = c.next_out.ensures.failures ∙ c.loop-out.invariant.count in
-    counts_same c.from_residual.result _ _
-    (other_fault c.from_residual.result (λ (f : Fault). f ≡ c.in_err-print_epoch.field-0.0) c.from_residual.ensures.1
-    (λ is. let memory = c.in_err-print_epoch.ensures.err in let other = is in cc))
-    (sym count)
+pub returns-in_err-print_epoch-clause-disk : goal.returns-in_err-print_epoch-clause-disk
+returns-in_err-print_epoch-clause-disk g c =
+    disk_same c.from_residual.result (c.next_out.ensures.device ∙ c.loop-out.invariant.device)
+    (other_fault c.from_residual.result (λ (f : Fault). f ≡ c.in_err-print_epoch.field-0.0) c.from_residual.ensures.1 (λ is. let memory = c.in_err-print_epoch.ensures.err in let other = is in cc))
 
-pub returns-in_err-write_piece-clause-said : goal.returns-in_err-write_piece-clause-said
-returns-in_err-write_piece-clause-said g c =
+pub returns-in_err-write_piece-clause-fed : goal.returns-in_err-write_piece-clause-fed
+returns-in_err-write_piece-clause-fed g c =
     let is_lawful = g.D.Disk.is_lawful in
     let state = g.D.Disk.state in
     let failures = g.D.Disk.failures in
@@ -92,19 +90,17 @@ returns-in_err-write_piece-clause-said g c =
     let new = (g.E.Obey.keeping c.next_out.new.engine) in
     let held = string_bytes c.loop-out.text in
     let so_far = c.loop-out.invariant in
-    by_refusal is_lawful state failures answers c.from_residual-in_err-write_piece.result (λ (f : Fault). f ≡ c.in_err-write_piece.field-0.0) u (g.W.Sink.contents c.write_piece.new.writer) old new []
-    c.from_residual-in_err-write_piece.ensures.1 (λ f is. inl (is ∙ c.in_err-write_piece.ensures.err))
+    fed_quiet c.from_residual-in_err-write_piece.result (carries_after g.D.Disk.is_lawful g.D.Disk.state g.L.Law.answers (g.E.Obey.keeping c.args.engine.now) (g.E.Obey.keeping c.loop-out.engine) (g.E.Obey.keeping c.next_out.new.engine) [] c.loop-out.invariant.carried c.next_out.ensures.carried)
+    (by_refusal is_lawful state failures answers c.from_residual-in_err-write_piece.result (λ (f : Fault). f ≡ c.in_err-write_piece.field-0.0) u (g.W.Sink.contents c.write_piece.new.writer) old new []
+    c.from_residual-in_err-write_piece.ensures.1 (λ f is. inl (is ∙ c.in_err-write_piece.ensures.err)))
 
-pub returns-in_err-write_piece-clause-failures : goal.returns-in_err-write_piece-clause-failures
-returns-in_err-write_piece-clause-failures g c =
-    let count = c.next_out.ensures.failures ∙ c.loop-out.invariant.count in
-    counts_same c.from_residual-in_err-write_piece.result _ _
-    (other_fault c.from_residual-in_err-write_piece.result (λ (f : Fault). f ≡ c.in_err-write_piece.field-0.0) c.from_residual-in_err-write_piece.ensures.1
-    (λ is. let output = c.in_err-write_piece.ensures.err in let other = is in cc))
-    (sym count)
+pub returns-in_err-write_piece-clause-disk : goal.returns-in_err-write_piece-clause-disk
+returns-in_err-write_piece-clause-disk g c =
+    disk_same c.from_residual-in_err-write_piece.result (c.next_out.ensures.device ∙ c.loop-out.invariant.device)
+    (other_fault c.from_residual-in_err-write_piece.result (λ (f : Fault). f ≡ c.in_err-write_piece.field-0.0) c.from_residual-in_err-write_piece.ensures.1 (λ is. let output = c.in_err-write_piece.ensures.err in let other = is in cc))
 
-pub returns-then-is_empty-clause-said : goal.returns-then-is_empty-clause-said
-returns-then-is_empty-clause-said g c =
+pub returns-then-is_empty-clause-fed : goal.returns-then-is_empty-clause-fed
+returns-then-is_empty-clause-fed g c =
     let is_lawful = g.D.Disk.is_lawful in
     let state = g.D.Disk.state in
     let failures = g.D.Disk.failures in
@@ -120,14 +116,13 @@ returns-then-is_empty-clause-said g c =
     let more = holding_more is_lawful state failures answers u v old there new o held (held ++ line_of 0 (Out o)) so_far.said c.next_out.ensures.driven refl in
     let line = none_out is_lawful state failures answers o c.in_default.not-Some in
     let empty : held ≡ [] = nil_of held (string_len c.loop-out.text) (sym c.is_empty.ensures ∙ c.if-is_empty.true) c.loop-out.text.bytes.ok.0 in
-    all_written is_lawful state failures answers u v old new (held ++ line_of 0 (Out o)) more (ap (λ (l : List ℕ). l ++ line_of 0 (Out o)) empty ∙ line)
+    record { carried = (carries_after g.D.Disk.is_lawful g.D.Disk.state g.L.Law.answers (g.E.Obey.keeping c.args.engine.now) (g.E.Obey.keeping c.loop-out.engine) (g.E.Obey.keeping c.next_out.new.engine) [] c.loop-out.invariant.carried c.next_out.ensures.carried); left = tt; said = all_written is_lawful state failures answers u v old new (held ++ line_of 0 (Out o)) more (ap (λ (l : List ℕ). l ++ line_of 0 (Out o)) empty ∙ line) }
 
-pub returns-then-is_empty-clause-failures : goal.returns-then-is_empty-clause-failures
-returns-then-is_empty-clause-failures g c =
-    counts_same _ _ _ (λ is. let other = is in cc) (sym (c.next_out.ensures.failures ∙ c.loop-out.invariant.count))
+pub returns-then-is_empty-clause-disk : goal.returns-then-is_empty-clause-disk
+returns-then-is_empty-clause-disk g c = disk_same _ (c.next_out.ensures.device ∙ c.loop-out.invariant.device) (ok_no_device tt)
 
-pub returns-clause-said : goal.returns-clause-said
-returns-clause-said g c =
+pub returns-clause-fed : goal.returns-clause-fed
+returns-clause-fed g c =
     let is_lawful = g.D.Disk.is_lawful in
     let state = g.D.Disk.state in
     let failures = g.D.Disk.failures in
@@ -144,10 +139,33 @@ returns-clause-said g c =
     let w = g.W.Sink.contents c.write_answer.new.writer in
     let line = none_out is_lawful state failures answers o c.in_default.not-Some in
     let is : c.as_str.result.now ≡ held ++ line_of 0 (Out o) = c.as_str.ensures.value ∙ sym (append-nil held) ∙ ap (λ (l : List ℕ). held ++ l) (sym line) in
-    last_written is_lawful state failures answers c.write_answer.result u v w old new (held ++ line_of 0 (Out o)) more
-    (subst (λ (t : List ℕ). OnOk c.write_answer.result (Appends v w t)) is c.write_answer.ensures.written) c.write_answer.ensures.err
+    fed_quiet c.write_answer.result (carries_after g.D.Disk.is_lawful g.D.Disk.state g.L.Law.answers (g.E.Obey.keeping c.args.engine.now) (g.E.Obey.keeping c.loop-out.engine) (g.E.Obey.keeping c.next_out.new.engine) [] c.loop-out.invariant.carried c.next_out.ensures.carried)
+    (last_written is_lawful state failures answers c.write_answer.result u v w old new (held ++ line_of 0 (Out o)) more
+    (subst (λ (t : List ℕ). OnOk c.write_answer.result (Appends v w t)) is c.write_answer.ensures.written) c.write_answer.ensures.err)
 
-pub returns-clause-failures : goal.returns-clause-failures
-returns-clause-failures g c =
-    let count = c.next_out.ensures.failures ∙ c.loop-out.invariant.count in
-    counts_same c.write_answer.result _ _ (output_no_device c.write_answer.result c.write_answer.ensures.err) (sym count)
+pub returns-clause-disk : goal.returns-clause-disk
+returns-clause-disk g c = disk_same c.write_answer.result (c.next_out.ensures.device ∙ c.loop-out.invariant.device) (output_no_device c.write_answer.result c.write_answer.ensures.err)
+
+pub returns-in_err-print_epoch-clause-rests : goal.returns-in_err-print_epoch-clause-rests
+returns-in_err-print_epoch-clause-rests g c = carries_after g.D.Disk.is_lawful g.D.Disk.state g.L.Law.answers (g.E.Obey.keeping c.args.engine.now) (g.E.Obey.keeping c.loop-out.engine) (g.E.Obey.keeping c.next_out.new.engine) [] c.loop-out.invariant.carried c.next_out.ensures.carried
+
+pub returns-in_err-print_epoch-clause-stands : goal.returns-in_err-print_epoch-clause-stands
+returns-in_err-print_epoch-clause-stands g c = (c.next_out.ensures.stands.0 ∙ c.loop-out.invariant.standing, c.next_out.ensures.stands.1 ∙ c.loop-out.invariant.collected)
+
+pub returns-in_err-write_piece-clause-rests : goal.returns-in_err-write_piece-clause-rests
+returns-in_err-write_piece-clause-rests g c = carries_after g.D.Disk.is_lawful g.D.Disk.state g.L.Law.answers (g.E.Obey.keeping c.args.engine.now) (g.E.Obey.keeping c.loop-out.engine) (g.E.Obey.keeping c.next_out.new.engine) [] c.loop-out.invariant.carried c.next_out.ensures.carried
+
+pub returns-in_err-write_piece-clause-stands : goal.returns-in_err-write_piece-clause-stands
+returns-in_err-write_piece-clause-stands g c = (c.next_out.ensures.stands.0 ∙ c.loop-out.invariant.standing, c.next_out.ensures.stands.1 ∙ c.loop-out.invariant.collected)
+
+pub returns-then-is_empty-clause-rests : goal.returns-then-is_empty-clause-rests
+returns-then-is_empty-clause-rests g c = carries_after g.D.Disk.is_lawful g.D.Disk.state g.L.Law.answers (g.E.Obey.keeping c.args.engine.now) (g.E.Obey.keeping c.loop-out.engine) (g.E.Obey.keeping c.next_out.new.engine) [] c.loop-out.invariant.carried c.next_out.ensures.carried
+
+pub returns-then-is_empty-clause-stands : goal.returns-then-is_empty-clause-stands
+returns-then-is_empty-clause-stands g c = (c.next_out.ensures.stands.0 ∙ c.loop-out.invariant.standing, c.next_out.ensures.stands.1 ∙ c.loop-out.invariant.collected)
+
+pub returns-clause-rests : goal.returns-clause-rests
+returns-clause-rests g c = carries_after g.D.Disk.is_lawful g.D.Disk.state g.L.Law.answers (g.E.Obey.keeping c.args.engine.now) (g.E.Obey.keeping c.loop-out.engine) (g.E.Obey.keeping c.next_out.new.engine) [] c.loop-out.invariant.carried c.next_out.ensures.carried
+
+pub returns-clause-stands : goal.returns-clause-stands
+returns-clause-stands g c = (c.next_out.ensures.stands.0 ∙ c.loop-out.invariant.standing, c.next_out.ensures.stands.1 ∙ c.loop-out.invariant.collected)

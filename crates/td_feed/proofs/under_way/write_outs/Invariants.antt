@@ -1,5 +1,5 @@
 use Rattle.std.proofs.Common.{◌≡◌, [], length}
-use Rattle.std.specs.Prelude.{◌↔◌, string_bytes}
+use Rattle.std.specs.Prelude.{string_bytes}
 use Rattle.td_feed.specs.Carried.{Carries}
 use Rattle.td_feed.proofs.Lines.{Holding}
 use Rattle.td_feed.proofs.under_way.write_outs.Given as goal
@@ -8,10 +8,10 @@ use Rattle.td_feed.proofs.under_way.write_outs.Given as goal
 abbrev pub invariant-loop-out : goal.invariant-loop-out
 invariant-loop-out g l = record {
   said : Holding g.D.Disk.is_lawful g.D.Disk.state g.D.Disk.failures g.L.Law.answers (g.W.Sink.contents l.fn.writer) (g.W.Sink.contents l.writer) (g.E.Obey.keeping l.fn.engine) (g.E.Obey.keeping l.engine) (string_bytes l.text);
-  count : g.D.Disk.failures (g.E.Obey.keeping l.engine).device ≡ g.D.Disk.failures (g.E.Obey.keeping l.fn.engine).device;
   carried : Carries g.L.Law.answers (g.E.Obey.keeping l.fn.engine) (g.E.Obey.keeping l.engine) [];
-  size : g.D.Disk.capacity (g.E.Obey.keeping l.engine).device ≡ g.D.Disk.capacity (g.E.Obey.keeping l.fn.engine).device;
-  lawful : g.D.Disk.is_lawful (g.E.Obey.keeping l.fn.engine).device ↔ g.D.Disk.is_lawful (g.E.Obey.keeping l.engine).device;
+  device : (g.E.Obey.keeping l.engine).device ≡ (g.E.Obey.keeping l.fn.engine).device;
+  standing : (g.E.Obey.keeping l.engine).standing ≡ (g.E.Obey.keeping l.fn.engine).standing;
+  collected : (g.E.Obey.keeping l.engine).collected ≡ (g.E.Obey.keeping l.fn.engine).collected;
 }
 
 abbrev pub decreases-loop-out : goal.decreases-loop-out

@@ -1,31 +1,22 @@
-use Rattle.std.proofs.Common.{◌≡◌, [], refl}
+use Rattle.std.proofs.Common.{refl}
 use Rattle.td_keeper.specs.declared.command.Command.TheVariants.{CloseFree}
-use Rattle.td_console.specs.declared.faults.Fault.{Fault}
-use Rattle.td_feed.proofs.Counting.{counts_handed}
-use Rattle.td_feed.proofs.Lines.{says_nothing, then_refused, quietly}
+use Rattle.td_feed.proofs.Session.{ok_no_device, disk_same, disk_handed, disk_ok, fed_nothing, fed_refused, fed_quietly}
 use Rattle.td_feed.proofs.under_way.Feeding.close_freed.Goals as goal
 
-pub returns-in_err-tell-clause-said : goal.returns-in_err-tell-clause-said
-returns-in_err-tell-clause-said g c = λ w.
-    let is_lawful = g.D.Disk.is_lawful in
-    let state = g.D.Disk.state in
-    let failures = g.D.Disk.failures in
-    let answers = g.L.Law.answers in
-    let old = (g.E.Obey.keeping c.args.engine.now) in
-    then_refused is_lawful state failures answers c.from_residual.result (λ (f : Fault). f ≡ c.in_err-tell.field-0.0) w w (CloseFree c.args.self.now.freed) old old (g.E.Obey.keeping c.tell.new.engine) [] []
-    c.from_residual.ensures.1 (says_nothing is_lawful state failures answers w old) c.in_err-tell.ensures.refused
+pub returns-then-self-eq0-clause-disk : goal.returns-then-self-eq0-clause-disk
+returns-then-self-eq0-clause-disk g c = disk_same _ refl (ok_no_device tt)
 
-pub returns-in_err-tell-clause-failures : goal.returns-in_err-tell-clause-failures
-returns-in_err-tell-clause-failures g c =
-    counts_handed c.from_residual.result c.in_err-tell.field-0.0 _ _ c.from_residual.ensures.1 c.in_err-tell.ensures.failures
+pub returns-then-self-eq0-clause-fed : goal.returns-then-self-eq0-clause-fed
+returns-then-self-eq0-clause-fed g c = λ w. fed_nothing c.requires.whole
 
-pub returns-clause-said : goal.returns-clause-said
-returns-clause-said g c = λ w.
-    let is_lawful = g.D.Disk.is_lawful in
-    let state = g.D.Disk.state in
-    let failures = g.D.Disk.failures in
-    let answers = g.L.Law.answers in
-    quietly is_lawful state failures answers w (CloseFree c.args.self.now.freed) c.in_ok-tell.field-0 (g.E.Obey.keeping c.args.engine.now) (g.E.Obey.keeping c.tell.new.engine) refl c.in_ok-tell.ensures.obeyed c.in_ok-tell.ensures.driven
+pub returns-in_err-tell-clause-disk : goal.returns-in_err-tell-clause-disk
+returns-in_err-tell-clause-disk g c = disk_handed c.from_residual.result c.from_residual.ensures.1 c.in_err-tell.ensures.disk
 
-pub returns-then-self-eq0-clause-said : goal.returns-then-self-eq0-clause-said
-returns-then-self-eq0-clause-said g c = λ w. says_nothing g.D.Disk.is_lawful g.D.Disk.state g.D.Disk.failures g.L.Law.answers w (g.E.Obey.keeping c.args.engine.now)
+pub returns-in_err-tell-clause-fed : goal.returns-in_err-tell-clause-fed
+returns-in_err-tell-clause-fed g c = λ w. fed_refused _ c.from_residual.result (CloseFree c.args.self.now.freed) c.from_residual.ensures.1 refl c.in_err-tell.ensures.refused
+
+pub returns-clause-disk : goal.returns-clause-disk
+returns-clause-disk g c = disk_ok c.in_ok-tell.ensures.disk
+
+pub returns-clause-fed : goal.returns-clause-fed
+returns-clause-fed g c = λ w. fed_quietly (CloseFree c.args.self.now.freed) c.in_ok-tell.field-0 refl c.in_ok-tell.ensures.obeyed.carried c.in_ok-tell.ensures.obeyed

@@ -1,28 +1,25 @@
-use Rattle.std.proofs.Common.{◌≡◌, [], refl}
+use Rattle.std.proofs.Common.{refl}
 use Rattle.td_keeper.specs.declared.command.Command.TheVariants.{Release}
-use Rattle.td_console.specs.declared.faults.Fault.{Fault}
-use Rattle.td_feed.proofs.Counting.{counts_handed}
-use Rattle.td_feed.proofs.Lines.{says_nothing, then_refused, quietly}
+use Rattle.td_feed.proofs.Session.{disk_handed, disk_ok, fed_refused, fed_quietly, all_released}
 use Rattle.td_feed.proofs.under_way.Feeding.release.Goals as goal
 
-pub returns-in_err-tell-clause-said : goal.returns-in_err-tell-clause-said
-returns-in_err-tell-clause-said g c = λ w.
-    let is_lawful = g.D.Disk.is_lawful in
-    let state = g.D.Disk.state in
-    let failures = g.D.Disk.failures in
-    let answers = g.L.Law.answers in
-    let old = (g.E.Obey.keeping c.args.engine.now) in
-    then_refused is_lawful state failures answers c.from_residual.result (λ (f : Fault). f ≡ c.in_err-tell.field-0.0) w w Release old old (g.E.Obey.keeping c.tell.new.engine) [] []
-    c.from_residual.ensures.1 (says_nothing is_lawful state failures answers w old) c.in_err-tell.ensures.refused
+pub returns-in_err-tell-clause-disk : goal.returns-in_err-tell-clause-disk
+returns-in_err-tell-clause-disk g c = disk_handed c.from_residual.result c.from_residual.ensures.1 c.in_err-tell.ensures.disk
 
-pub returns-in_err-tell-clause-failures : goal.returns-in_err-tell-clause-failures
-returns-in_err-tell-clause-failures g c =
-    counts_handed c.from_residual.result c.in_err-tell.field-0.0 _ _ c.from_residual.ensures.1 c.in_err-tell.ensures.failures
+pub returns-in_err-tell-clause-fed : goal.returns-in_err-tell-clause-fed
+returns-in_err-tell-clause-fed g c = λ w. fed_refused _ c.from_residual.result Release c.from_residual.ensures.1 refl c.in_err-tell.ensures.refused
 
-pub returns-clause-said : goal.returns-clause-said
-returns-clause-said g c = λ w.
-    let is_lawful = g.D.Disk.is_lawful in
-    let state = g.D.Disk.state in
-    let failures = g.D.Disk.failures in
-    let answers = g.L.Law.answers in
-    quietly is_lawful state failures answers w Release c.in_ok-tell.field-0 (g.E.Obey.keeping c.args.engine.now) (g.E.Obey.keeping c.tell.new.engine) refl c.in_ok-tell.ensures.obeyed c.in_ok-tell.ensures.driven
+pub returns-in_err-tell-clause-rests : goal.returns-in_err-tell-clause-rests
+returns-in_err-tell-clause-rests g c = c.tell.ensures.rests refl
+
+pub returns-clause-disk : goal.returns-clause-disk
+returns-clause-disk g c = disk_ok c.in_ok-tell.ensures.disk
+
+pub returns-clause-fed : goal.returns-clause-fed
+returns-clause-fed g c = λ w. fed_quietly Release c.in_ok-tell.field-0 refl (c.tell.ensures.rests refl) c.in_ok-tell.ensures.obeyed
+
+pub returns-clause-rests : goal.returns-clause-rests
+returns-clause-rests g c = c.tell.ensures.rests refl
+
+pub returns-clause-own : goal.returns-clause-own
+returns-clause-own g c = λ alone. all_released c.in_ok-tell.field-0 (g.E.Obey.hall c.args.engine.now) (g.E.Obey.hall c.tell.new.engine) c.in_ok-tell.ensures.obeyed (c.in_ok-tell.ensures.own alone)

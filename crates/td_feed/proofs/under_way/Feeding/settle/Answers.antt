@@ -1,77 +1,56 @@
-use Rattle.std.proofs.Common.{◌≡◌, ◌∙◌, [], refl}
+use Rattle.std.proofs.Common.{refl, ap, sym, ◌∙◌}
+use Rattle.td_standing.specs.Standing.{last_epoch}
 use Rattle.td_keeper.specs.declared.command.Command.TheVariants.{Settle, Collect}
-use Rattle.td_console.specs.declared.faults.Fault.{Fault}
-use Rattle.td_feed.proofs.Counting.{counts_handed, counts_after, same_count}
-use Rattle.td_feed.proofs.Lines.{says_nothing, says_then, handed_on, then_refused, then_quiet, quietly}
+use Rattle.std.proofs.lemmas.Result.{on_ok_weaker}
+use Rattle.td_feed.proofs.Session.{disk_then, disk_handed, fed_after, fed_handed, fed_refused, fed_quietly, went_on, to_the_end}
 use Rattle.td_feed.proofs.under_way.Feeding.settle.Goals as goal
 
-pub returns-in_err-release-clause-said : goal.returns-in_err-release-clause-said
-returns-in_err-release-clause-said g c =
-    let is_lawful = g.D.Disk.is_lawful in
-    let state = g.D.Disk.state in
-    let failures = g.D.Disk.failures in
-    let answers = g.L.Law.answers in
-    let w = g.W.Sink.contents c.args.writer.now in
-    let old = (g.E.Obey.keeping c.args.engine.now) in
-    handed_on is_lawful state failures answers c.from_residual.result c.in_err-release.field-0.0 w w w old old (g.E.Obey.keeping c.release.new.engine) [] [] [] c.from_residual.ensures.1
-    (says_nothing is_lawful state failures answers w old) (c.in_err-release.ensures.said w)
+pub returns-in_err-release-clause-disk : goal.returns-in_err-release-clause-disk
+returns-in_err-release-clause-disk g c = disk_handed c.from_residual.result c.from_residual.ensures.1 c.in_err-release.ensures.disk
 
-pub returns-in_err-release-clause-failures : goal.returns-in_err-release-clause-failures
-returns-in_err-release-clause-failures g c =
-    counts_handed c.from_residual.result c.in_err-release.field-0.0 _ _ c.from_residual.ensures.1 c.in_err-release.ensures.failures
+pub returns-in_err-release-clause-fed : goal.returns-in_err-release-clause-fed
+returns-in_err-release-clause-fed g c = fed_handed c.from_residual.result c.from_residual.ensures.1 (c.in_err-release.ensures.fed (g.W.Sink.contents c.args.writer.now))
 
-pub returns-in_err-tell-clause-said : goal.returns-in_err-tell-clause-said
-returns-in_err-tell-clause-said g c =
-    let is_lawful = g.D.Disk.is_lawful in
-    let state = g.D.Disk.state in
-    let failures = g.D.Disk.failures in
-    let answers = g.L.Law.answers in
-    let w = g.W.Sink.contents c.args.writer.now in
-    let old = (g.E.Obey.keeping c.args.engine.now) in
-    then_refused is_lawful state failures answers c.from_residual-in_err-tell.result (λ (f : Fault). f ≡ c.in_err-tell.field-0.0) w w Settle old (g.E.Obey.keeping c.release.new.engine) (g.E.Obey.keeping c.tell.new.engine) [] []
-    c.from_residual-in_err-tell.ensures.1 (c.in_ok-release.ensures.said w) c.in_err-tell.ensures.refused
+pub returns-in_err-release-clause-rests : goal.returns-in_err-release-clause-rests
+returns-in_err-release-clause-rests g c = c.release.ensures.rests
 
-pub returns-in_err-tell-clause-failures : goal.returns-in_err-tell-clause-failures
-returns-in_err-tell-clause-failures g c =
-    counts_after c.from_residual-in_err-tell.result _ _ _ (same_count c.in_ok-release.field-0 _ _ c.in_ok-release.ensures.failures)
-    (counts_handed c.from_residual-in_err-tell.result c.in_err-tell.field-0.0 _ _ c.from_residual-in_err-tell.ensures.1 c.in_err-tell.ensures.failures)
+pub returns-in_err-tell-clause-disk : goal.returns-in_err-tell-clause-disk
+returns-in_err-tell-clause-disk g c = disk_then c.in_ok-release.ensures.disk (disk_handed c.from_residual-in_err-tell.result c.from_residual-in_err-tell.ensures.1 c.in_err-tell.ensures.disk)
 
-pub returns-in_err-tell-2-clause-said : goal.returns-in_err-tell-2-clause-said
-returns-in_err-tell-2-clause-said g c =
-    let is_lawful = g.D.Disk.is_lawful in
-    let state = g.D.Disk.state in
-    let failures = g.D.Disk.failures in
-    let answers = g.L.Law.answers in
-    let w = g.W.Sink.contents c.args.writer.now in
-    let old = (g.E.Obey.keeping c.args.engine.now) in
-    then_refused is_lawful state failures answers c.from_residual-in_err-tell-2.result (λ (f : Fault). f ≡ c.in_err-tell-2.field-0.0) w w Collect old (g.E.Obey.keeping c.tell.new.engine) (g.E.Obey.keeping c.tell-2.new.engine) [] []
-    c.from_residual-in_err-tell-2.ensures.1
-    (says_then is_lawful state failures answers w w w old (g.E.Obey.keeping c.release.new.engine) (g.E.Obey.keeping c.tell.new.engine) [] [] (c.in_ok-release.ensures.said w)
-    (quietly is_lawful state failures answers w Settle c.in_ok-tell.field-0 (g.E.Obey.keeping c.release.new.engine) (g.E.Obey.keeping c.tell.new.engine) refl c.in_ok-tell.ensures.obeyed c.in_ok-tell.ensures.driven))
-    c.in_err-tell-2.ensures.refused
+pub returns-in_err-tell-clause-fed : goal.returns-in_err-tell-clause-fed
+returns-in_err-tell-clause-fed g c = fed_after (c.in_ok-release.ensures.fed (g.W.Sink.contents c.args.writer.now)) (fed_refused _ c.from_residual-in_err-tell.result Settle c.from_residual-in_err-tell.ensures.1 refl c.in_err-tell.ensures.refused)
 
-pub returns-in_err-tell-2-clause-failures : goal.returns-in_err-tell-2-clause-failures
-returns-in_err-tell-2-clause-failures g c =
-    counts_after c.from_residual-in_err-tell-2.result _ _ _ (same_count c.in_ok-tell.field-0 _ _ c.in_ok-tell.ensures.failures ∙ same_count c.in_ok-release.field-0 _ _ c.in_ok-release.ensures.failures)
-    (counts_handed c.from_residual-in_err-tell-2.result c.in_err-tell-2.field-0.0 _ _ c.from_residual-in_err-tell-2.ensures.1 c.in_err-tell-2.ensures.failures)
+pub returns-in_err-tell-clause-rests : goal.returns-in_err-tell-clause-rests
+returns-in_err-tell-clause-rests g c = went_on c.release.ensures.rests (c.tell.ensures.rests refl)
 
-pub returns-clause-said : goal.returns-clause-said
-returns-clause-said g c =
-    let is_lawful = g.D.Disk.is_lawful in
-    let state = g.D.Disk.state in
-    let failures = g.D.Disk.failures in
-    let answers = g.L.Law.answers in
-    let w = g.W.Sink.contents c.args.writer.now in
-    let old = (g.E.Obey.keeping c.args.engine.now) in
-    then_quiet is_lawful state failures answers c.write_outs.result w w (g.W.Sink.contents c.write_outs.new.writer) old (g.E.Obey.keeping c.tell-2.new.engine) (g.E.Obey.keeping c.write_outs.new.engine) []
-    (says_then is_lawful state failures answers w w w old (g.E.Obey.keeping c.tell.new.engine) (g.E.Obey.keeping c.tell-2.new.engine) [] []
-    (says_then is_lawful state failures answers w w w old (g.E.Obey.keeping c.release.new.engine) (g.E.Obey.keeping c.tell.new.engine) [] [] (c.in_ok-release.ensures.said w)
-    (quietly is_lawful state failures answers w Settle c.in_ok-tell.field-0 (g.E.Obey.keeping c.release.new.engine) (g.E.Obey.keeping c.tell.new.engine) refl c.in_ok-tell.ensures.obeyed c.in_ok-tell.ensures.driven))
-    (quietly is_lawful state failures answers w Collect c.in_ok-tell-2.field-0 (g.E.Obey.keeping c.tell.new.engine) (g.E.Obey.keeping c.tell-2.new.engine) refl c.in_ok-tell-2.ensures.obeyed c.in_ok-tell-2.ensures.driven))
-    c.write_outs.ensures.said
+pub returns-in_err-tell-2-clause-disk : goal.returns-in_err-tell-2-clause-disk
+returns-in_err-tell-2-clause-disk g c = disk_then c.in_ok-release.ensures.disk (disk_then c.in_ok-tell.ensures.disk (disk_handed c.from_residual-in_err-tell-2.result c.from_residual-in_err-tell-2.ensures.1 c.in_err-tell-2.ensures.disk))
 
-pub returns-clause-failures : goal.returns-clause-failures
-returns-clause-failures g c =
-    counts_after c.write_outs.result _ _ _
-    (same_count c.in_ok-tell-2.field-0 _ _ c.in_ok-tell-2.ensures.failures ∙ same_count c.in_ok-tell.field-0 _ _ c.in_ok-tell.ensures.failures ∙ same_count c.in_ok-release.field-0 _ _ c.in_ok-release.ensures.failures)
-    c.write_outs.ensures.failures
+pub returns-in_err-tell-2-clause-fed : goal.returns-in_err-tell-2-clause-fed
+returns-in_err-tell-2-clause-fed g c =
+    fed_after (c.in_ok-release.ensures.fed (g.W.Sink.contents c.args.writer.now)) (fed_after (fed_quietly Settle c.in_ok-tell.field-0 refl (c.tell.ensures.rests refl) c.in_ok-tell.ensures.obeyed)
+    (fed_refused _ c.from_residual-in_err-tell-2.result Collect c.from_residual-in_err-tell-2.ensures.1 refl c.in_err-tell-2.ensures.refused))
+
+pub returns-in_err-tell-2-clause-rests : goal.returns-in_err-tell-2-clause-rests
+returns-in_err-tell-2-clause-rests g c = went_on c.release.ensures.rests (went_on (c.tell.ensures.rests refl) (c.tell-2.ensures.rests refl))
+
+pub returns-clause-disk : goal.returns-clause-disk
+returns-clause-disk g c = disk_then c.in_ok-release.ensures.disk (disk_then c.in_ok-tell.ensures.disk (disk_then c.in_ok-tell-2.ensures.disk c.write_outs.ensures.disk))
+
+pub returns-clause-fed : goal.returns-clause-fed
+returns-clause-fed g c =
+    fed_after (c.in_ok-release.ensures.fed (g.W.Sink.contents c.args.writer.now)) (fed_after (fed_quietly Settle c.in_ok-tell.field-0 refl (c.tell.ensures.rests refl) c.in_ok-tell.ensures.obeyed)
+    (fed_after (fed_quietly Collect c.in_ok-tell-2.field-0 refl (c.tell-2.ensures.rests refl) c.in_ok-tell-2.ensures.obeyed) c.write_outs.ensures.fed))
+
+pub returns-clause-rests : goal.returns-clause-rests
+returns-clause-rests g c = went_on c.release.ensures.rests (went_on (c.tell.ensures.rests refl) (went_on (c.tell-2.ensures.rests refl) c.write_outs.ensures.rests))
+
+pub returns-clause-all_out : goal.returns-clause-all_out
+returns-clause-all_out g c = λ alone.
+    on_ok_weaker c.write_outs.result (λ none. record {
+      collected = c.write_outs.ensures.stands.1
+          ∙ (to_the_end c.in_ok-tell.field-0 c.in_ok-tell-2.field-0 (g.E.Obey.hall c.release.new.engine) (g.E.Obey.hall c.tell.new.engine) (g.E.Obey.hall c.tell-2.new.engine) (c.in_ok-release.ensures.own alone)
+          c.in_ok-tell.ensures.obeyed (c.in_ok-tell.ensures.own alone) c.in_ok-tell-2.ensures.obeyed (c.in_ok-tell-2.ensures.own alone)
+          ∙ ap last_epoch (sym c.write_outs.ensures.stands.0));
+      none_left = none;
+    }) c.write_outs.ensures.none_left

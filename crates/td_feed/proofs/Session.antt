@@ -1,0 +1,223 @@
+-- How calls of a feed come together, one after another.
+use Rattle.std.proofs.Common.{◌≡◌, ◌⊎◌, inl, inr, ℕ, Bool, true, false, List, [], ◌∷◌, ◌++◌, refl, sym, ap, ◌∙◌, subst, append-nil}
+use Rattle.std.specs.Prelude.{◌↔◌, Option, Some, None, Result, Ok, Err, OnOk, OnErr, IfOk, IfErr, IfSome}
+use Rattle.std.specs.Result.{IsErrAnd}
+use Rattle.std.proofs.lemmas.Result.{on_ok_weaker, on_err_weaker}
+use Rattle.td_calls.specs.Answers.{Answers}
+use Rattle.td_disk.specs.Disk.{DiskState, CountsDevice}
+use Rattle.td_journal.specs.declared.submitted.Submitted.{Submitted}
+use Rattle.td_machine.specs.State.{HallState}
+use Rattle.td_machine.specs.Active.{unpassed}
+use Rattle.td_standing.specs.declared.error.KeeperError.TheVariants as error
+use Rattle.td_standing.specs.Standing.{last_epoch}
+use Rattle.td_keeper.specs.declared.command.Command.{Command}
+use Rattle.td_keeper.specs.declared.command.Command.TheVariants.{Release, Settle, Collect, Cut, CloseFree}
+use Rattle.td_keeper.specs.declared.command.Reply.{Reply}
+use Rattle.td_keeper.specs.declared.command.Reply.TheVariants.{Submitted as AsSubmitted, SubmittedAs, SubmittedAll, Released, Settled, Collected, Out, CutTaken, Written, Closed, Refused, RefusedAll}
+use Rattle.td_keeper.specs.Keeping.{Keeping, since_base}
+use Rattle.td_keeper.specs.Driven.{Obeys, ComesOf, submitted_in}
+use Rattle.td_pool.specs.declared.error.PoolError.{PoolError}
+use Rattle.td_console.specs.declared.faults.Fault.{Fault}
+use Rattle.td_console.specs.declared.faults.Fault.TheVariants.{Keeper}
+use Rattle.td_feed.specs.Carried.{batch_in, new_to, is_refused, Carries, Leaves}
+use Rattle.td_feed.specs.Said.{Says, SaysBy}
+use Rattle.td_feed.specs.Orders.{submissions}
+use Rattle.td_feed.specs.Asked.{Script}
+use Rattle.td_feed.specs.Session.{KeepsDisk, Feeds, FeedsScript, IsObeyed, IsNotObeyed}
+use Rattle.td_feed.proofs.Carrying.{at_err, at_ok, ok_only, ended_ok, ended_err, unmoved, then_carries, carries_then, carries_after, leaves_none, leaves_all, leaves_then, leaves_after}
+use Rattle.td_feed.proofs.Counting.{counts_same, counts_handed, counts_after, same_count, ended_counts}
+use Rattle.td_feed.proofs.Lines.{EndedAs, is_quiet, says_nothing, then_quiet, then_by, quietly, some_of_all, refused_some, ended_says}
+
+-- what holds of the value, where it is known
+pub known : {A : Type 0} (P : A → Type 0) (o : Option A) (a : A) → o ≡ Some a → IfSome o P → P a
+known P o a is p = subst (λ (q : Option _). IfSome q P) is p
+
+pub in_some_is : {A : Type 0} {P : A → Type 0} (o : Option A) → ((a : A) → o ≡ Some a → P a) → IfSome o P
+in_some_is (Some a) f = f a refl
+in_some_is None f = tt
+
+-- no refusal is none of the device's
+abbrev as_ok : {T : Type 0} → T → Result T Fault
+as_ok x = Ok x
+
+pub ok_no_device : {T : Type 0} (x : T) → as_ok x ≡ Err (Keeper error.Device) → ⊥
+ok_no_device x is = absurd (let not_so = is in cc)
+
+abbrev pub done : Result (Unit {0}) Fault
+done = Ok tt
+
+-- THE DISK
+module _ {D : Type 0} {capacity : D → ℕ} {is_lawful : D → Type 0} {failures : D → ℕ} where
+  -- nothing was done with it
+  pub disk_same : {T : Type 0} {a b : D} (r : Result T Fault) → b ≡ a → (r ≡ Err (Keeper error.Device) → ⊥) → KeepsDisk capacity is_lawful failures r a b
+  disk_same {a = a} {b = b} r is no_device = subst (λ (d : D). KeepsDisk capacity is_lawful failures r a d) (sym is)
+      (record { size = refl; lawful = (λ l. l, λ l. l); counts = counts_same r (failures a) (failures a) no_device refl })
+
+  -- one call after another, of which the first did not fail
+  pub disk_then : {S T : Type 0} {x : S} {r : Result T Fault} {a b c : D} → KeepsDisk capacity is_lawful failures (Ok x) a b → KeepsDisk capacity is_lawful failures r b c
+      → KeepsDisk capacity is_lawful failures r a c
+  disk_then {x = x} {r = r} {a = a} {b = b} {c = c} first next = record {
+    size = next.size ∙ first.size;
+    lawful = (λ l. next.lawful.0 (first.lawful.0 l), λ l. first.lawful.1 (next.lawful.1 l));
+    counts = counts_after r (failures a) (failures b) (failures c) (same_count x (failures a) (failures b) first.counts) next.counts;
+  }
+
+  -- a disk that was recovered
+  pub disk_recovered : {a b : D} → capacity b ≡ capacity a → (is_lawful a ↔ is_lawful b) → failures b ≡ failures a → KeepsDisk capacity is_lawful failures done a b
+  disk_recovered {a = a} {b = b} size lawful same = record { size = size; lawful = lawful; counts = counts_same done (failures a) (failures b) (ok_no_device tt) (sym same) }
+
+  -- the same fault is handed on
+  pub disk_handed : {S T : Type 0} {e : Fault} {a b : D} (r : Result T Fault) → IsErrAnd r (λ f. f ≡ e) → KeepsDisk {T = S} capacity is_lawful failures (Err e) a b → KeepsDisk capacity is_lawful failures r a b
+  disk_handed {S = S} {e = e} {a = a} {b = b} r is kept = record { size = kept.size; lawful = kept.lawful; counts = counts_handed {S = S} r e (failures a) (failures b) is kept.counts }
+
+  -- another answer, that is no refusal
+  pub disk_ok : {S T : Type 0} {x : S} {y : T} {a b : D} → KeepsDisk {T = S} capacity is_lawful failures (Ok x) a b → KeepsDisk {T = T} capacity is_lawful failures (Ok y) a b
+  disk_ok {x = x} {y = y} {a = a} {b = b} kept = record {
+    size = kept.size;
+    lawful = kept.lawful;
+    counts = counts_same (as_ok y) (failures a) (failures b) (ok_no_device y) (sym (same_count x (failures a) (failures b) kept.counts));
+  }
+
+  -- how a feed ended, where what hindered a task may stand in place of what did not pass
+  pub disk_ended : {a b : D} (obeyed r : Result (Unit {0}) Fault) (worked : Result (Unit {0}) PoolError) → OnOk r ((obeyed ≡ Ok tt) × (worked ≡ Ok tt)) → IfErr r (EndedAs obeyed worked)
+      → KeepsDisk capacity is_lawful failures obeyed a b → KeepsDisk capacity is_lawful failures r a b
+  disk_ended {a = a} {b = b} obeyed r worked ok err kept =
+      record { size = kept.size; lawful = kept.lawful; counts = ended_counts obeyed r worked (failures a) (failures b) ok err kept.counts }
+
+-- a keeper went on twice, with nothing submitted
+pub went_on : {D : Type 0} {answers : Answers} {a b c : Keeping D} → Carries answers a b [] → Carries answers b c [] → Carries answers a c []
+went_on {answers = answers} {a = a} {b = b} {c = c} first next = then_carries answers a b c [] [] first next
+
+-- WHAT IS FED
+module _ {D : Type 0} {is_lawful : D → Type 0} {state : D → DiskState} {failures : D → ℕ} {answers : Answers} where
+  pub fed_nothing : {w : Option (List ℕ)} {k : Keeping D} → k.broken ≡ false → Feeds is_lawful state failures answers (Ok tt) w w k k []
+  fed_nothing {w = w} {k = k} whole = record { carried = unmoved answers k k refl refl whole; left = tt; said = says_nothing is_lawful state failures answers w k }
+
+  -- and then nothing more
+  pub fed_then : {d : Unit {0}} {r : Result (Unit {0}) Fault} {u v w : Option (List ℕ)} {a b c : Keeping D} {x : List Submitted} → Feeds is_lawful state failures answers (Ok d) u v a b x
+      → Feeds is_lawful state failures answers r v w b c [] → Feeds is_lawful state failures answers r u w a c x
+  fed_then {r = r} {u = u} {v = v} {w = w} {a = a} {b = b} {c = c} {x = x} first next = record {
+    carried = on_ok_weaker r (λ more. carries_then is_lawful state answers a b c x first.carried more) next.carried;
+    left = on_err_weaker r (λ more. leaves_then is_lawful state answers a b c x first.carried more) next.left;
+    said = then_quiet is_lawful state failures answers r u v w a b c x first.said next.said;
+  }
+
+  -- nothing, and then these
+  pub fed_after : {d : Unit {0}} {r : Result (Unit {0}) Fault} {u v w : Option (List ℕ)} {a b c : Keeping D} {x : List Submitted} → Feeds is_lawful state failures answers (Ok d) u v a b []
+      → Feeds is_lawful state failures answers r v w b c x → Feeds is_lawful state failures answers r u w a c x
+  fed_after {r = r} {u = u} {v = v} {w = w} {a = a} {b = b} {c = c} {x = x} first next = record {
+    carried = on_ok_weaker r (λ more. carries_after is_lawful state answers a b c x first.carried more) next.carried;
+    left = on_err_weaker r (λ more. leaves_after is_lawful state answers a b c x first.carried more) next.left;
+    said = then_by is_lawful state failures answers r u v w a b c [] x first.said next.said;
+  }
+
+  -- the same fault is handed on
+  pub fed_handed : {e : Fault} {u v : Option (List ℕ)} {a b : Keeping D} {x : List Submitted} (r : Result (Unit {0}) Fault) → IsErrAnd r (λ f. f ≡ e)
+      → Feeds is_lawful state failures answers (Err e) u v a b x → Feeds is_lawful state failures answers r u v a b x
+  fed_handed (Ok d) none fed = absurd none
+  fed_handed {u = u} {v = v} {a = a} {b = b} {x = x} (Err f) is fed =
+      subst (λ (g : Fault). Feeds is_lawful state failures answers (Err g) u v a b x) (sym is) fed
+
+  -- a command whose reply has no line was obeyed
+  pub fed_quietly : {w : Option (List ℕ)} {a b : Keeping D} (command : Command) (reply : Reply) → is_quiet command ≡ true → Carries answers a b [] → IsObeyed is_lawful state failures answers command reply a b
+      → Feeds is_lawful state failures answers (Ok tt) w w a b []
+  fed_quietly {w = w} {a = a} {b = b} command reply quiet carried is =
+      record { carried = carried; left = tt; said = quietly is_lawful state failures answers w command reply a b quiet is.obeyed is.driven }
+
+  -- nothing was submitted, at whatever answer
+  pub fed_quiet : {u v : Option (List ℕ)} {a b : Keeping D} (r : Result (Unit {0}) Fault) → Carries answers a b [] → SaysBy is_lawful state failures answers r u v a b []
+      → Feeds is_lawful state failures answers r u v a b []
+  fed_quiet {a = a} {b = b} r carried said = record { carried = at_ok r carried; left = at_err r (leaves_none is_lawful state answers a b [] carried); said = said }
+
+  -- a command was refused
+  pub fed_refused : {w : Option (List ℕ)} {a b : Keeping D} {x : List Submitted} (P : Fault → Type 0) (r : Result (Unit {0}) Fault) (command : Command) → IsErrAnd r P → new_to a (batch_in command) ≡ x
+      → IsNotObeyed is_lawful state failures answers command a b → Feeds is_lawful state failures answers r w w a b x
+  fed_refused P (Ok d) command none is refused = absurd none
+  fed_refused {w = w} {a = a} {b = b} P (Err f) command holds is refused = record {
+    carried = tt;
+    left = subst (λ (l : List Submitted). Leaves is_lawful state answers a b l) is refused.left;
+    said = inr (refused_some is_lawful state failures answers w command a b refused.refused);
+  }
+
+  -- nothing was done
+  pub unfed : {w : Option (List ℕ)} {k : Keeping D} {x : List Submitted} (f : Fault) → k.broken ≡ false → Feeds is_lawful state failures answers (Err f) w w k k x
+  unfed {w = w} {k = k} {x = x} f whole = record {
+    carried = tt;
+    left = leaves_none is_lawful state answers k k x (unmoved answers k k refl refl whole);
+    said = inr (some_of_all is_lawful state failures answers w w k k [] (says_nothing is_lawful state failures answers w k));
+  }
+
+  pub none_fed : {w : Option (List ℕ)} {k : Keeping D} {s : Script} (f : Fault) → k.broken ≡ false → FeedsScript is_lawful state failures answers (Err f) w w k k s
+  none_fed f whole = record { sound = tt; fed = unfed f whole }
+
+  -- what is left at any answer
+  pub left_of : {u v : Option (List ℕ)} {a b : Keeping D} {x : List Submitted} (r : Result (Unit {0}) Fault) → Feeds is_lawful state failures answers r u v a b x → Leaves is_lawful state answers a b x
+  left_of {a = a} {b = b} {x = x} (Ok d) fed = leaves_all is_lawful state answers a b x fed.carried
+  left_of (Err f) fed = fed.left
+
+  -- how a feed of a script ended
+  pub fed_ended : {u v : Option (List ℕ)} {a b : Keeping D} {s : Script} (obeyed r : Result (Unit {0}) Fault) (worked : Result (Unit {0}) PoolError) → OnOk r ((obeyed ≡ Ok tt) × (worked ≡ Ok tt)) → IfErr r (EndedAs obeyed worked)
+      → FeedsScript is_lawful state failures answers obeyed u v a b s → FeedsScript is_lawful state failures answers r u v a b s
+  fed_ended {u = u} {v = v} {a = a} {b = b} {s = s} obeyed r worked ok err fed =
+      let x : List Submitted = new_to a (submissions s.orders) in
+      let same = ok_only (obeyed ≡ Ok tt) (worked ≡ Ok tt) r ok in record {
+        sound = ended_ok (s.is_sound ≡ true) tt obeyed r same fed.sound;
+        fed = record {
+          carried = ended_ok (Carries answers a b x) tt obeyed r same fed.fed.carried;
+          left = ended_err (Carries answers a b x) (Leaves is_lawful state answers a b x) obeyed r (λ whole. leaves_all is_lawful state answers a b x whole) fed.fed.carried fed.fed.left;
+          said = ended_says is_lawful state failures answers u v a b x obeyed r worked ok err fed.fed.said;
+        };
+      }
+
+  -- a script was refused
+  pub err_fed : {u v : Option (List ℕ)} {a b : Keeping D} {s : Script} (P : Fault → Type 0) (r : Result (Unit {0}) Fault) → IsErrAnd r P → Leaves is_lawful state answers a b (new_to a (submissions s.orders))
+      → SaysBy is_lawful state failures answers r u v a b (new_to a (submissions s.orders)) → FeedsScript is_lawful state failures answers r u v a b s
+  err_fed P (Ok d) none left said = absurd none
+  err_fed P (Err f) holds left said = record { sound = tt; fed = record { carried = tt; left = left; said = said } }
+
+  -- a hall of its own was released into: it has all batches
+  pub all_released : {a b : Keeping D} (r : Reply) (S T : HallState) → IsObeyed is_lawful state failures answers Release r a b → ComesOf Release r a S b T → T.batches ≡ since_base b
+  all_released (Refused e back) S T released comes = absurd (let no : true ≡ false = released.done in cc)
+  all_released (RefusedAll e back) S T released comes = absurd released.obeyed
+  all_released (AsSubmitted n) S T released comes = absurd released.obeyed
+  all_released (SubmittedAs n) S T released comes = absurd released.obeyed
+  all_released (SubmittedAll n m) S T released comes = absurd released.obeyed
+  all_released (Released n) S T released comes = comes
+  all_released Settled S T released comes = absurd released.obeyed
+  all_released (Collected n) S T released comes = absurd released.obeyed
+  all_released (Out o) S T released comes = absurd released.obeyed
+  all_released (CutTaken n) S T released comes = absurd released.obeyed
+  all_released (Written w) S T released comes = absurd released.obeyed
+  all_released Closed S T released comes = absurd released.obeyed
+
+  -- it was settled, and collected: all is
+  all_collected : {a b : Keeping D} (r : Reply) (S T : HallState) → S.batches ≡ since_base a → unpassed S ≡ None → IsObeyed is_lawful state failures answers Collect r a b → ComesOf Collect r a S b T
+      → b.collected ≡ last_epoch b.standing
+  all_collected (Refused e back) S T all passed collected comes = absurd (let no : true ≡ false = collected.done in cc)
+  all_collected (RefusedAll e back) S T all passed collected comes = absurd collected.obeyed
+  all_collected (AsSubmitted n) S T all passed collected comes = absurd collected.obeyed
+  all_collected (SubmittedAs n) S T all passed collected comes = absurd collected.obeyed
+  all_collected (SubmittedAll n m) S T all passed collected comes = absurd collected.obeyed
+  all_collected (Released n) S T all passed collected comes = absurd collected.obeyed
+  all_collected Settled S T all passed collected comes = absurd collected.obeyed
+  all_collected (Collected n) S T all passed collected comes = comes (record { all = all; passed = passed })
+  all_collected (Out o) S T all passed collected comes = absurd collected.obeyed
+  all_collected (CutTaken n) S T all passed collected comes = absurd collected.obeyed
+  all_collected (Written w) S T all passed collected comes = absurd collected.obeyed
+  all_collected Closed S T all passed collected comes = absurd collected.obeyed
+
+  pub to_the_end : {a b c : Keeping D} (r s : Reply) (S T U : HallState) → S.batches ≡ since_base a → IsObeyed is_lawful state failures answers Settle r a b → ComesOf Settle r a S b T
+      → IsObeyed is_lawful state failures answers Collect s b c → ComesOf Collect s b T c U → c.collected ≡ last_epoch c.standing
+  to_the_end (Refused e back) s S T U all settled passed collected comes = absurd (let no : true ≡ false = settled.done in cc)
+  to_the_end (RefusedAll e back) s S T U all settled passed collected comes = absurd settled.obeyed
+  to_the_end (AsSubmitted n) s S T U all settled passed collected comes = absurd settled.obeyed
+  to_the_end (SubmittedAs n) s S T U all settled passed collected comes = absurd settled.obeyed
+  to_the_end (SubmittedAll n m) s S T U all settled passed collected comes = absurd settled.obeyed
+  to_the_end (Released n) s S T U all settled passed collected comes = absurd settled.obeyed
+  to_the_end Settled s S T U all settled passed collected comes =
+      all_collected s T U (passed.0 ∙ (all ∙ ap (λ (k : Keeping D). since_base k) (sym settled.obeyed.same))) passed.1 collected comes
+  to_the_end (Collected n) s S T U all settled passed collected comes = absurd settled.obeyed
+  to_the_end (Out o) s S T U all settled passed collected comes = absurd settled.obeyed
+  to_the_end (CutTaken n) s S T U all settled passed collected comes = absurd settled.obeyed
+  to_the_end (Written w) s S T U all settled passed collected comes = absurd settled.obeyed
+  to_the_end Closed s S T U all settled passed collected comes = absurd settled.obeyed

@@ -1,0 +1,62 @@
+-- What a call does with a disk, with a keeper at work and with a writer, by its answer.
+use Rattle.std.specs.Prelude.{◌≡◌, ◌↔◌, ℕ, Bool, false, true, List, [], ◌∷◌, ◌++◌, Option, Result, OnOk, OnErr}
+use Rattle.td_plan.specs.Lines.{Line as PlanLine}
+use Rattle.td_calls.specs.Answers.{Answers}
+use Rattle.td_disk.specs.Disk.{DiskState, CountsDevice}
+use Rattle.td_journal.specs.declared.submitted.Submitted.{Submitted as AnySubmitted}
+use Rattle.td_journal.specs.Numbers.{greatest}
+use Rattle.td_standing.specs.declared.error.KeeperError.TheVariants.{Device}
+use Rattle.td_keeper.specs.declared.command.Command.{Command}
+use Rattle.td_keeper.specs.declared.command.Reply.{Reply}
+use Rattle.td_keeper.specs.Keeping.{Keeping}
+use Rattle.td_keeper.specs.Driven.{submitted_in, Obeys, Driven}
+use Rattle.td_console.specs.declared.faults.Fault.{Fault}
+use Rattle.td_console.specs.declared.faults.Fault.TheVariants.{Keeper}
+use Rattle.td_feed.specs.Orders.{submissions, new_after}
+use Rattle.td_feed.specs.Asked.{Script}
+use Rattle.td_feed.specs.Fed.{EachTellsHistory, EachTellsSome}
+use Rattle.td_feed.specs.Carried.{batch_in, new_to, is_refused, Carries, Leaves}
+use Rattle.td_feed.specs.Said.{SaysBy, SaysFed, Refuses}
+
+-- THE DISK IS KEPT: it is as large as it was, and as lawful; and its device is told to have failed exactly where it did
+pub record KeepsDisk {D T : Type 0} (capacity : D → ℕ) (is_lawful : D → Type 0) (failures : D → ℕ) (result : Result T Fault) (old new : D) : Type 0 where
+  pub size : capacity new ≡ capacity old
+  pub lawful : is_lawful old ↔ is_lawful new
+  pub counts : CountsDevice result (Keeper Device) (failures old) (failures new)
+
+module _ {D : Type 0} (is_lawful : D → Type 0) (state : D → DiskState) (failures : D → ℕ) (answers : Answers) where
+  -- THESE ARE FED: after Ok the keeper goes on with all of them, after a refusal with some; and what was written are the lines of its replies
+  pub record Feeds (result : Result (Unit {0}) Fault) (before after : Option (List ℕ)) (old new : Keeping D) (x : List AnySubmitted) : Type 0 where
+    pub carried : OnOk result (Carries answers old new x)
+    pub left : OnErr result (Leaves is_lawful state answers old new x)
+    pub said : SaysBy is_lawful state failures answers result before after old new x
+
+  -- A SCRIPT IS FED, those of its batches that are new to the keeper; and Ok is answered only to one without a fault
+  pub record FeedsScript (result : Result (Unit {0}) Fault) (before after : Option (List ℕ)) (old new : Keeping D) (script : Script) : Type 0 where
+    pub sound : OnOk result (script.is_sound ≡ true)
+    pub fed : Feeds result before after old new (new_to old (submissions script.orders))
+
+  -- ONE COMMAND WAS OBEYED: the reply is no refusal, and the keeper goes on with what it submitted
+  pub record IsObeyed (command : Command) (reply : Reply) (old new : Keeping D) : Type 0 where
+    pub obeyed : Obeys is_lawful state failures answers command reply old new
+    pub driven : Driven is_lawful state failures answers (command ∷ []) (reply ∷ []) old new
+    pub done : is_refused reply ≡ false
+    pub carried : Carries answers old new (submitted_in command reply)
+
+  -- or it was refused
+  pub record IsNotObeyed (command : Command) (old new : Keeping D) : Type 0 where
+    pub refused : Refuses is_lawful state failures answers command old new
+    pub left : Leaves is_lawful state answers old new (new_to old (batch_in command))
+
+  -- A DISK IS FED, of an input that asks for these
+  pub record FeedsDisk (result : Result (Unit {0}) Fault) (plan : List PlanLine) (alone : Bool) (disk left : D) (before after : Option (List ℕ)) (x : List AnySubmitted) : Type 0 where
+    -- one that stood for a history, whatever a crash had left of it, stands after Ok for that and each of these that is new: has no
+    -- request number, or one that is above all before
+    pub fed : OnOk result (is_lawful disk → (history : List AnySubmitted) → EachTellsHistory answers plan history (state disk)
+        → EachTellsHistory answers plan (history ++ new_after (greatest 0 history) x) (state left))
+    -- at any answer it stands for that and a beginning of them: some number of them, or with these the whole group that came next
+    pub safe : is_lawful disk → (history : List AnySubmitted) → EachTellsHistory answers plan history (state disk)
+        → EachTellsSome answers plan history (new_after (greatest 0 history) x) (state left)
+    -- what is written are the lines of what the keeper of the disk replied, one after another: all of them after Ok, and a beginning of
+    -- them at a refusal, where the writer did not fail
+    pub said : SaysFed is_lawful state failures answers result plan alone disk left before after x
