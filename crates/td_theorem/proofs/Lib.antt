@@ -1,0 +1,9 @@
+mod Broken
+mod Replies
+mod Numbers
+mod Histories
+mod Below
+mod Stints
+mod Plays
+mod Engines
+mod Lives

@@ -1,0 +1,49 @@
+//! Laws of lives. Each is the contract of a function that does nothing, or calls the laws that it follows from.
+ghost use Rattle.std.specs.Prelude.{◌≡◌, List, ℕ};
+ghost use Rattle.td_plan.specs.Lines.{Line};
+ghost use Rattle.td_gate.specs.CrashSafe.{CrashSafe, Unchanged};
+ghost use Rattle.td_standing.specs.Standing.{Standing};
+ghost use Rattle.td_standing.specs.Told.{Told};
+ghost use Rattle.td_standing.specs.Read.{Stood};
+ghost use Rattle.td_theorem.specs.Life.{TellsAs};
+ghost use Rattle.td_theorem.specs.Holds.{TheTheorem};
+
+use td_calls::Law;
+use td_disk::Disk;
+use td_keeper::laws;
+
+/// THE THEOREM. Format a disk. Let any number of keepers stand on it, one after another, each told anything beside any workers, each stopped
+/// anywhere, in the middle of a write too. What is then on the disk tells a history. It is made of what was submitted, in order. Every
+/// batch that was acknowledged stands at its place there. Every output that went out is that history's. No request number stands
+/// twice. And an engine that is opened there comes to the rest of the batch meaning of that history, in whatever order its tasks
+/// are taken and given.
+pub fn the_theorem<D: Disk, L: Law>()
+    ensures { TheTheorem D.is_lawful D.state D.failures L.answers }
+{
+    laws::others_rest::<D, L>();
+    laws::driven_acknowledges::<D, L>();
+    laws::driven_advances::<D, L>();
+    laws::driven_hands_on::<D, L>();
+    td_standing::laws::advance_stands::<L>();
+    td_standing::laws::standings_advance::<L>();
+    td_standing::laws::told_in_parts();
+    td_journal::laws::numbers();
+    td_slots::laws::states_are_in_order();
+    td_batch::laws::run_joins::<L>();
+    td_machine::laws::plays_join::<L>();
+    td_machine::laws::confluence::<L>();
+    td_machine::laws::never_stuck::<L>();
+}
+
+/// A LIFE GOES ON where a disk has just the bytes that were left; and where it tells the standing that they tell, whatever a crash leaves
+/// of it, so on a copy of the disk, or on the disk with a raised head. And a keeper that is found on its own disk, as a formatted one is,
+/// found it as it was.
+pub fn lives_go_on<D: Disk>()
+    ensures same { (plan : List Line) (image : List ℕ) (disk : D) → ((c : List ℕ) → (D.state disk).images c → c ≡ image)
+        → TellsAs plan image (D.state disk) }
+    ensures told { (plan : List Line) (image : List ℕ) (disk : D) (s : Standing) → Told plan image (Stood s)
+        → ((c : List ℕ) → (D.state disk).images c → Told plan c (Stood s)) → TellsAs plan image (D.state disk) }
+    ensures own { (disk : D) → D.is_lawful disk → CrashSafe Unchanged (D.state disk) (D.state disk) }
+{
+    td_standing::laws::told_in_parts();
+}
