@@ -28,6 +28,20 @@ pub record Stint (D : Type 0) : Type 0 where
   pub ended : Keeping D
   pub left : List ℕ
 
+-- of its parts
+abbrev pub stint_of : {D : Type 0} → D → Keeping D → List Command → List Reply → Keeping D → List Command → List Reply → Keeping D → List ℕ → Stint D
+stint_of disk found commands replies stood more unseen ended left = record {
+  disk = disk;
+  found = found;
+  commands = commands;
+  replies = replies;
+  stood = stood;
+  more = more;
+  unseen = unseen;
+  ended = ended;
+  left = left;
+}
+
 -- what it submitted, also by those commands whose replies nobody may have seen
 abbrev pub submitted_in_stint : {D : Type 0} → Stint D → List Submitted
 submitted_in_stint s = submitted_by s.commands s.replies ++ submitted_by s.more s.unseen
