@@ -16,7 +16,7 @@ import re
 import sys
 
 ROOT = pathlib.Path(__file__).resolve().parent.parent
-PAGES = [ROOT / "README.md", *sorted(ROOT.glob("docs/*.md")), *sorted(ROOT.glob("*/README.md"))]
+PAGES = [ROOT / "README.md", ROOT / "CHANGELOG.md", *sorted(ROOT.glob("docs/*.md")), *sorted(ROOT.glob("*/README.md"))]
 WALKS = {"docs/CLOSURES.md": "example_closures", "docs/SERVICE.md": "example_service"}
 # A drawing in a page begins so.
 DRAWN = ("producer ──", "(thread)", "release_in     publishes", "▼", "pool: the hall", "▲", "workers (a thread")
@@ -121,8 +121,10 @@ class Sources:
                 self.has[crate, place].add(function.name)
 
     def cited(self, path, here):
-        """The functions that a path may name, of these crates; of all where there are none of these, or the path says of what it is."""
+        """The functions that a path may name, of these crates, or of the crate that it begins with; of all where there are none of these, or the path says of what it is."""
         *places, name = path.split("::")
+        if places and places[0] in self.crates:
+            here, places = {places[0]}, places[1:]
         all_of_it = [it for it in self.functions[name] if not places or places[-1] in it.places]
         return [it for it in all_of_it if it.crate in here] or (all_of_it if places or not here else [])
 
