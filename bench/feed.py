@@ -24,17 +24,17 @@ import argparse
 import itertools
 import os
 import pathlib
-import shutil
 import sqlite3
 import statistics
 import subprocess
 import sys
-import tempfile
 import time
 
-ROOT = pathlib.Path(__file__).resolve().parent.parent
-TD = ROOT / "crates/td/out/td"
-TOTAL = "0 input\n1 fold 40 0\n2 output 1\n"
+sys.dont_write_bytecode = True
+sys.path.insert(0, str(pathlib.Path(__file__).resolve().parent.parent / "tests"))
+import lib
+from lib import TD, TOTAL
+
 KEYS = 100
 CUT_EVERY = 1000
 SIZES = (1, 10, 1000)
@@ -65,7 +65,7 @@ def run(*words, **streams):
     _, status, usage = os.wait4(process.pid, 0)
     process.returncode = os.waitstatus_to_exitcode(status)
     if process.returncode != 0:
-        sys.exit(f"{words} ended with status {process.returncode}")
+        lib.fail(f"{words} ended with status {process.returncode}")
     return time.monotonic() - begin, usage.ru_maxrss * 1024
 
 
@@ -176,22 +176,18 @@ def main():
     words.add_argument("--sync", choices=("fsync", "fdatasync"), default="fsync", help="what the limit syncs with, as td does")
     words.add_argument("folder", nargs="?")
     given = words.parse_args()
-    if not TD.exists():
-        sys.exit(f"{TD} is not there: cd crates/td && rt run")
-    compiler = next(filter(None, map(shutil.which, ("cc", "gcc", "clang"))), None)
-    if compiler is None:
-        print("skipped: no C compiler is here")
-        return
-    with tempfile.TemporaryDirectory(dir=given.folder) as name:
-        folder = pathlib.Path(name)
-        limit = folder / "feed_limit"
-        subprocess.run([compiler, "-O2", f"-DSYNC={given.sync}", "-o", limit, ROOT / "bench/feed_limit.c"], check=True)
+    lib.built(TD)
+    with lib.folder(within=given.folder) as folder:
+        limit = lib.compiled(lib.ROOT / "bench/feed_limit.c", folder / "feed_limit", f"-DSYNC={given.sync}")
+        if limit is None:
+            return lib.skip("no C compiler is here")
         if not given.recovery_only and not given.numbers_only:
             compare(folder, limit, given.epochs)
         if not given.recovery_only:
             compare_numbers(folder, given.epochs)
         if not given.numbers_only:
             compare_recovery(folder, limit)
+    return None
 
 
 if __name__ == "__main__":

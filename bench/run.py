@@ -10,13 +10,14 @@ import pathlib
 import random
 import subprocess
 import sys
-import tempfile
 
-ROOT = pathlib.Path(__file__).resolve().parent.parent
-TD = ROOT / "crates/td/out/td"
+sys.dont_write_bytecode = True
+sys.path.insert(0, str(pathlib.Path(__file__).resolve().parent.parent / "tests"))
+import lib
+from lib import ROOT, TD, TOTAL
+
 COUNT = "0 input\n1 group 20 0\n2 output 1\n"
 SUM = "0 input\n1 group 21 0\n2 output 1\n"
-TOTAL = "0 input\n1 fold 40 0\n2 output 1\n"
 BOTH = "0 input\n1 input\n2 group 24 0 1\n3 output 2\n"
 UNREAD = COUNT + "".join(f"{3 + number} map 1 0\n" for number in range(20))
 LOOP = """0 input
@@ -106,7 +107,7 @@ def build_td():
     with open(folder / "stdin") as given:
         done = subprocess.run(["rt", "run", "--", "batch"], cwd=folder, stdin=given, capture_output=True, text=True)
     if done.returncode != 0:
-        sys.exit(done.stderr)
+        lib.fail(done.stderr)
 
 
 class Best:
@@ -133,14 +134,13 @@ def measure(name, programs, text, place):
         for who, command in programs.items():
             best[who].add(*run(command, text, place / f"{who}.out"))
     if len({(place / f"{who}.out").read_bytes() for who in programs}) > 1:
-        sys.exit(f"{name}: the outputs differ")
+        lib.fail(f"{name}: the outputs differ")
     return best
 
 
 def main():
     build_td()
-    with tempfile.TemporaryDirectory() as folder:
-        place = pathlib.Path(folder)
+    with lib.folder() as place:
         plain = place / "plain"
         subprocess.run(["rustc", "--edition", "2021", "-O", "-o", plain, ROOT / "bench/plain.rs"], check=True)
         print("| Case | batch, s | MB | plain, s | MB | ratio | MB | run, s | MB | ratio to batch | MB | run of 4, s | MB | ratio to batch | MB |")

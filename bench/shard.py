@@ -9,35 +9,17 @@ are posted one by one, each on another edge; `seen first` for one that a distinc
 that it has; `states` for a state of a fold that is looked up and left anew, in epochs that are not let go. `left` is 0."""
 
 import pathlib
-import shutil
 import subprocess
 import sys
-import tempfile
 
-ROOT = pathlib.Path(__file__).resolve().parent.parent
-BELOW = ["td_stamp", "td_plan", "td_reach", "td_calls", "td_batch", "td_machine", "td_shard"]
-
-
-def build(folder):
-    """The program's path, in a repository of its own: copies of the crates and of what earlier checks kept."""
-    for crate in BELOW:
-        shutil.copytree(ROOT / "crates" / crate, folder / "crates" / crate, ignore=shutil.ignore_patterns("edit_times"))
-    source = folder / "crates/shard/src"
-    source.mkdir(parents=True)
-    shutil.copy(ROOT / "bench/shard.rattle", source / "main.rt")
-    lines = [line for line in (ROOT / "crates.txt").read_text().splitlines() if line.split(":")[0] in BELOW]
-    (folder / "crates.txt").write_text("\n".join([*lines, "shard: td_shard td_machine td_stamp", ""]))
-    shutil.copy(ROOT / "HANDLES", folder / "HANDLES")
-    subprocess.run(["git", "init", "-q", folder], check=True)
-    done = subprocess.run(["rt", "run"], cwd=source.parent, capture_output=True, text=True)
-    if done.returncode != 0:
-        sys.exit(done.stdout + done.stderr)
-    return source.parent / "out/shard"
+sys.dont_write_bytecode = True
+sys.path.insert(0, str(pathlib.Path(__file__).resolve().parent.parent / "tests"))
+import lib
 
 
 def main():
-    with tempfile.TemporaryDirectory() as folder:
-        program = build(pathlib.Path(folder))
+    with lib.folder() as folder:
+        program = lib.build_beside("td_shard", lib.ROOT / "bench/shard.rattle", folder)
         print(subprocess.run([program], capture_output=True, text=True, check=True).stdout, end="")
 
 

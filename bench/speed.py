@@ -12,10 +12,10 @@ import pathlib
 import statistics
 import subprocess
 import sys
-import tempfile
 
+sys.dont_write_bytecode = True
 sys.path.insert(0, str(pathlib.Path(__file__).resolve().parent))
-from run import COUNT, RING, ROOT, TD, TOTAL, UNREAD, records
+from run import COUNT, RING, ROOT, TD, TOTAL, UNREAD, lib, records
 
 CASES = [
     ("COUNT, 1,000,000 records, 100,000 keys, 1 epoch", "count", COUNT, 1),
@@ -58,7 +58,7 @@ def measure(name, programs, text, place, rounds):
             met[who].append(run(command, text, place / "out"))
             said = (place / "out").read_bytes()
             if output not in (None, said):
-                sys.exit(f"{name}: {who} writes something else")
+                lib.fail(f"{name}: {who} writes something else")
             output = said
     return medians_of(met)
 
@@ -81,8 +81,7 @@ def main():
     words.add_argument("tds", nargs="*", metavar="TD", type=pathlib.Path)
     given = words.parse_args()
     tds = [td.resolve() for td in given.tds] or [TD]
-    with tempfile.TemporaryDirectory() as folder:
-        place = pathlib.Path(folder)
+    with lib.folder() as place:
         subprocess.run(["rustc", "--edition", "2021", "-O", "-o", place / "tuned", ROOT / "bench/tuned.rs"], check=True)
         print("| Case | Program | s | times tuned | MB | times tuned |\n|---|---|---|---|---|---|")
         for name, job, plan, epochs in CASES:

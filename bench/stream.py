@@ -18,11 +18,14 @@ import pathlib
 import sqlite3
 import statistics
 import subprocess
-import tempfile
+import sys
 import time
 
-ROOT = pathlib.Path(__file__).resolve().parent.parent
-TOTAL = "0 input\n1 fold 40 0\n2 output 1\n"
+sys.dont_write_bytecode = True
+sys.path.insert(0, str(pathlib.Path(__file__).resolve().parent.parent / "tests"))
+import lib
+from lib import TOTAL
+
 # The records of a batch that fills a disk, and the epochs that are timed.
 BATCH = 1000
 TIMED = 500
@@ -35,7 +38,7 @@ def fill(td, disk, plan, keys):
             feed.stdin.write("".join(f"0 {key} 1\n" for key in range(begin, min(begin + BATCH, keys))) + ".\n")
         feed.stdin.write("cut\n")
     if feed.returncode != 0:
-        raise SystemExit(f"td feed ended with status {feed.returncode}")
+        lib.fail(f"td feed ended with status {feed.returncode}")
 
 
 class Stream:
@@ -64,7 +67,7 @@ class Stream:
         self.child.stdin.close()
         self.child.stdout.read()
         if self.child.wait() != 0:
-            raise SystemExit(f"td stream ended with status {self.child.returncode}")
+            lib.fail(f"td stream ended with status {self.child.returncode}")
 
 
 def time_keys(td, folder, keys):
@@ -129,11 +132,11 @@ def time_sqlite(folder, keys):
 def main():
     words = argparse.ArgumentParser(description=__doc__, formatter_class=argparse.RawDescriptionHelpFormatter)
     words.add_argument("--keys", default="10,1000,100000,1000000")
-    words.add_argument("--td", default=ROOT / "crates/td/out/td")
+    words.add_argument("--td", default=lib.TD, type=pathlib.Path)
     words.add_argument("folder", nargs="?")
     given = words.parse_args()
-    with tempfile.TemporaryDirectory(prefix="td-stream-", dir=given.folder) as name:
-        folder = pathlib.Path(name)
+    lib.built(given.td)
+    with lib.folder(within=given.folder) as folder:
         fewest = None
         for keys in map(int, given.keys.split(",")):
             first, each, memory = time_keys(given.td, folder, keys)

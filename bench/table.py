@@ -18,30 +18,12 @@ places and counters that have active ones are its chains; the first epoch has on
   all that are before it in each chain."""
 
 import pathlib
-import shutil
 import subprocess
 import sys
-import tempfile
 
-ROOT = pathlib.Path(__file__).resolve().parent.parent
-BELOW = ["td_stamp", "td_plan", "td_reach", "td_progress"]
-
-
-def build(folder):
-    """The program's path, in a repository of its own: copies of the crates and of what earlier checks kept."""
-    for crate in BELOW:
-        shutil.copytree(ROOT / "crates" / crate, folder / "crates" / crate, ignore=shutil.ignore_patterns("edit_times"))
-    source = folder / "crates/table/src"
-    source.mkdir(parents=True)
-    shutil.copy(ROOT / "bench/table.rattle", source / "main.rt")
-    lines = [line for line in (ROOT / "crates.txt").read_text().splitlines() if line.split(":")[0] in BELOW]
-    (folder / "crates.txt").write_text("\n".join([*lines, "table: td_progress td_reach td_plan td_stamp", ""]))
-    shutil.copy(ROOT / "HANDLES", folder / "HANDLES")
-    subprocess.run(["git", "init", "-q", folder], check=True)
-    done = subprocess.run(["rt", "run"], cwd=source.parent, capture_output=True, text=True)
-    if done.returncode != 0:
-        sys.exit(done.stdout + done.stderr)
-    return source.parent / "out/table"
+sys.dont_write_bytecode = True
+sys.path.insert(0, str(pathlib.Path(__file__).resolve().parent.parent / "tests"))
+import lib
 
 
 def times(program):
@@ -56,8 +38,8 @@ def times(program):
 
 
 def main():
-    with tempfile.TemporaryDirectory() as folder:
-        program = build(pathlib.Path(folder))
+    with lib.folder() as folder:
+        program = lib.build_beside("td_progress", lib.ROOT / "bench/table.rattle", folder)
         print("| Call | 10 epochs, ns | 10,000 epochs, ns | times |\n|---|---|---|---|")
         for call, taken in times(program).items():
             few, many = taken[10], taken[10_000]

@@ -13,13 +13,12 @@ has asked for notifications of every open epoch, and the first task of another s
 Wanted: the same with both, that is at most 1.5 times as long with 5,000 epochs."""
 
 import pathlib
-import shutil
 import subprocess
 import sys
-import tempfile
 
-ROOT = pathlib.Path(__file__).resolve().parent.parent
-ABOVE = "td_core"
+sys.dont_write_bytecode = True
+sys.path.insert(0, str(pathlib.Path(__file__).resolve().parent.parent / "tests"))
+import lib
 
 # Which closures the program has.
 CODES = """-- Which closures there are, by code.
@@ -38,27 +37,6 @@ has_fold c code = false
 """
 
 
-def build(folder):
-    """The program's path, in a repository of its own: copies of the crates and of what earlier checks kept."""
-    lines = {line.split(":")[0].split()[0]: line for line in (ROOT / "crates.txt").read_text().splitlines() if ":" in line}
-    libraries = lines[ABOVE].split(":")[1].split()
-    below = [name for name in lines if name == ABOVE or name in libraries]
-    for crate in below:
-        shutil.copytree(ROOT / "crates" / crate, folder / "crates" / crate, ignore=shutil.ignore_patterns("edit_times"))
-    crate = folder / "crates/takes"
-    for part, text in (("src/main.rt", (ROOT / "bench/take.rattle").read_text()), ("specs/Codes.antt", CODES),
-                       ("specs/Lib.antt", "pub mod Codes\n")):
-        (crate / part).parent.mkdir(parents=True, exist_ok=True)
-        (crate / part).write_text(text)
-    (folder / "crates.txt").write_text("\n".join([*(lines[name] for name in below), f"takes: {ABOVE} {' '.join(libraries)}", ""]))
-    shutil.copy(ROOT / "HANDLES", folder / "HANDLES")
-    subprocess.run(["git", "init", "-q", folder], check=True)
-    done = subprocess.run(["rt", "run"], cwd=crate, capture_output=True, text=True)
-    if done.returncode != 0:
-        sys.exit(done.stdout + done.stderr)
-    return crate / "out/takes"
-
-
 def times(program):
     """The best of five rounds, in nanoseconds, by plan and then by how many epochs are open."""
     best = {}
@@ -71,8 +49,9 @@ def times(program):
 
 
 def main():
-    with tempfile.TemporaryDirectory() as folder:
-        program = build(pathlib.Path(folder))
+    with lib.folder() as folder:
+        parts = (("specs/Codes.antt", CODES), ("specs/Lib.antt", "pub mod Codes\n"))
+        program = lib.build_beside("td_core", lib.ROOT / "bench/take.rattle", folder, name="takes", parts=parts)
         print("| Plan | 5 epochs, ns | 5,000 epochs, ns | times |\n|---|---|---|---|")
         for plan, taken in times(program).items():
             few, many = taken[5], taken[5_000]

@@ -13,16 +13,15 @@ with four cuts. What is written must be the same."""
 
 import pathlib
 import re
-import shutil
 import subprocess
 import sys
-import tempfile
 import time
 
-ROOT = pathlib.Path(__file__).resolve().parent.parent
-TD = ROOT / "crates/td/out/td"
-ABOVE = "td_pool"
-PLANS = {"TOTAL": "0 input\n1 fold 40 0\n2 output 1\n", "COUNT": "0 input\n1 group 20 0\n2 output 1\n"}
+sys.dont_write_bytecode = True
+sys.path.insert(0, str(pathlib.Path(__file__).resolve().parent.parent / "tests"))
+import lib
+
+PLANS = {"TOTAL": lib.TOTAL, "COUNT": "0 input\n1 group 20 0\n2 output 1\n"}
 WORKERS = (1, 2, 4)
 
 # Which closures the program has, and the names of its pools.
@@ -51,24 +50,9 @@ ghosts-worked-K-Crew g a = record { shards = a.blank.parts; start = a.hall.given
 
 
 def build(folder):
-    """The program's path, in a repository of its own: copies of the crates below it."""
-    lines = {line.split(":")[0].split()[0]: line for line in (ROOT / "crates.txt").read_text().splitlines() if ":" in line}
-    libraries = lines[ABOVE].split(":")[1].split()
-    below = [name for name in lines if name == ABOVE or name in libraries]
-    for crate in below:
-        shutil.copytree(ROOT / "crates" / crate, folder / "crates" / crate, ignore=shutil.ignore_patterns("edit_times"))
-    crate = folder / "crates/workers"
-    for part, text in (("src/main.rt", (ROOT / "bench/workers.rattle").read_text()), ("specs/Codes.antt", CODES),
-                       ("specs/Lib.antt", "pub mod Codes\n"), ("proofs/passed/Invariants.antt", NAMES)):
-        (crate / part).parent.mkdir(parents=True, exist_ok=True)
-        (crate / part).write_text(text)
-    (folder / "crates.txt").write_text("\n".join([*(lines[name] for name in below), f"workers: {ABOVE} {' '.join(libraries)}", ""]))
-    shutil.copy(ROOT / "HANDLES", folder / "HANDLES")
-    subprocess.run(["git", "init", "-q", folder], check=True)
-    done = subprocess.run(["rt", "run"], cwd=crate, capture_output=True, text=True)
-    if done.returncode != 0:
-        sys.exit(done.stdout + done.stderr)
-    return crate / "out/workers"
+    """The program's path, in a repository of its own."""
+    parts = (("specs/Codes.antt", CODES), ("specs/Lib.antt", "pub mod Codes\n"), ("proofs/passed/Invariants.antt", NAMES))
+    return lib.build_beside("td_pool", lib.ROOT / "bench/workers.rattle", folder, parts=parts)
 
 
 def time_hall(program):
@@ -97,22 +81,20 @@ def time_feeds(folder):
             (folder / "plan").write_text(plan)
             best, first = {}, None
             for workers in WORKERS * 3:
-                subprocess.run([TD, "format", "disk", "plan", "1000", "4096", "2000"], cwd=folder, check=True)
+                subprocess.run([lib.TD, "format", "disk", "plan", "1000", "4096", "2000"], cwd=folder, check=True)
                 start = time.monotonic()
                 with open(folder / "input", "rb") as given:
-                    out = subprocess.run([TD, "feed", "disk", "plan", "--workers", str(workers)], cwd=folder, stdin=given, check=True, capture_output=True).stdout
+                    out = subprocess.run([lib.TD, "feed", "disk", "plan", "--workers", str(workers)], cwd=folder, stdin=given, check=True, capture_output=True).stdout
                 best[workers] = min(best.get(workers, 1e9), time.monotonic() - start)
                 first = first or out
                 if out != first:
-                    sys.exit(f"{name} by {workers} workers writes other lines")
+                    lib.fail(f"{name} by {workers} workers writes other lines")
             print(f"td feed, {name}, {epochs} epochs of {records}:", ", ".join(f"{best[workers]:.2f} s by {workers}" for workers in WORKERS))
 
 
 def main():
-    if not TD.exists():
-        sys.exit(f"{TD} is not there: cd {TD.parent.parent} && rt run")
-    with tempfile.TemporaryDirectory() as name:
-        folder = pathlib.Path(name)
+    lib.built(lib.TD)
+    with lib.folder() as folder:
         time_feeds(folder)
         time_hall(build(folder))
 

@@ -1,16 +1,17 @@
 #!/usr/bin/env python3
 """Compares the pictures of docs/ with their sources, and those of plans with the plans.
 
-    bench/pictures.py [TD]      by the program TD; needs crates/td/out/td where none is given
+    tests/pictures.py [TD]      by the program TD; needs crates/td/out/td where none is given
 
 Each docs/NAME.svg is what docs/draw.py makes of docs/NAME.dot or docs/NAME.txt, byte by byte; where there is an examples/NAME.td,
 docs/NAME.dot is what `td plan examples/NAME.td --dot` writes; and each picture stands in a page."""
 
-import pathlib
 import subprocess
 import sys
 
-ROOT = pathlib.Path(__file__).resolve().parent.parent
+import lib
+from lib import ROOT
+
 sys.dont_write_bytecode = True
 sys.path.insert(0, str(ROOT / "docs"))
 import draw
@@ -47,10 +48,9 @@ def mistakes_of_plans(td):
 
 
 def main():
-    td = sys.argv[1] if len(sys.argv) > 1 else ROOT / "crates/td/out/td"
-    wrong = [*mistakes_of_pictures(), *mistakes_of_plans(td)]
+    wrong = [*mistakes_of_pictures(), *mistakes_of_plans(lib.asked_td())]
     if wrong:
-        sys.exit("\n".join(wrong))
+        lib.fail("\n".join(wrong))
     print(f"{len(draw.sources())} pictures, {len(plans())} of them of plans, as their sources say")
 
 

@@ -1,7 +1,7 @@
 #!/usr/bin/env python3
 """Compares the pages with what they speak of: needs nothing but the files.
 
-    bench/pages.py
+    tests/pages.py
 
 Each link of a page leads to a file, and to a heading of it where it names one. Each indented line of docs/CLOSURES.md and docs/SERVICE.md is a line of
 the crate that the page walks through (of its sources, its definitions, or what it prints); `..` stands for lines that are left out.
@@ -11,9 +11,7 @@ of; each word of code with `_` or a capital inside; each file. In docs/GUARANTEE
 behind a function, as `Plan::read` (`ok`), are clauses of its contract, or definitions of its crate."""
 
 import collections
-import pathlib
 import re
-import sys
 
 ROOT = pathlib.Path(__file__).resolve().parent.parent
 PAGES = [ROOT / "README.md", ROOT / "CHANGELOG.md", *sorted(ROOT.glob("docs/*.md")), *sorted(ROOT.glob("*/README.md"))]
@@ -26,7 +24,7 @@ DRAWN = ("producer ──", "(thread)", "release_in     publishes", "▼", "pool
 OUTSIDE = {"f64::total_cmp", "fmt::Error", "Iterator::any", "thread::scope", "Display", "Result", "Clone", "Send", "sync_data", "RandomState", "posix_fadvise",
            "FILE_FUNCTION_MISTAKE"}
 # The files whose words code on a page may be, beside sources and definitions.
-SOURCES = ("crates/*/proofs/**/*.antt", "bench/*", "rows/*", "examples/*", "check", "edits.py", "build",
+SOURCES = ("crates/*/proofs/**/*.antt", "bench/*", "tests/*", "rows/*", "examples/*", "check", "build",
            "crates.txt", "docs/draw.py")
 # Where the files stand that a page names without their folder.
 FOLDERS = ("", "crates/", "docs/", "crates/*/")
@@ -185,7 +183,7 @@ def main():
     sources = Sources()
     wrong = [*mistakes_of_links(), *mistakes_of_walks(), *mistakes_of_names(sources), *mistakes_of_contracts(sources)]
     if wrong:
-        sys.exit("\n".join(wrong))
+        fail("\n".join(wrong))
     print(f"{len(PAGES)} pages: links lead somewhere, what is quoted of crates stands there, and each name, clause and file that is cited is there")
 
 

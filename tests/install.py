@@ -1,7 +1,7 @@
 #!/usr/bin/env python3
 """Installs the program into a folder of its own, and looks at what ./install made there.
 
-    bench/install.py [TD]       of the program TD; of crates/td/out/td where none is given
+    tests/install.py [TD]       of the program TD; of crates/td/out/td where none is given
 
 The program answers from its new place; the man page has each command and is set by `man` without a warning; bash completes commands,
 options and files, and zsh reads its file, where they are there."""
@@ -11,9 +11,9 @@ import re
 import shutil
 import subprocess
 import sys
-import tempfile
 
-ROOT = pathlib.Path(__file__).resolve().parent.parent
+import lib
+
 # Words of a command line, the last of which is completed, and some of what must come.
 COMPLETIONS = [
     (["td", "st"], ["stream"]),
@@ -81,17 +81,16 @@ def mistakes_of_zsh(file):
 
 
 def main():
-    td = pathlib.Path(sys.argv[1] if len(sys.argv) > 1 else ROOT / "crates/td/out/td").resolve()
-    with tempfile.TemporaryDirectory(prefix="td-install-") as folder:
-        folder = pathlib.Path(folder)
-        done = run([sys.executable, "-B", ROOT / "install", folder / "prefix", td])
+    td = lib.asked_td()
+    with lib.folder() as folder:
+        done = run([sys.executable, "-B", lib.ROOT / "install", folder / "prefix", td])
         if done.returncode != 0 or len(done.stdout.splitlines()) != 4:
-            sys.exit(f"./install: {done.stdout}{done.stderr}")
+            lib.fail(f"./install: {done.stdout}{done.stderr}")
         program, page, bash, zsh = map(pathlib.Path, done.stdout.splitlines())
         commands = commands_of(program)
         wrong = [*mistakes_of_page(page, commands), *mistakes_of_bash(bash, folder), *mistakes_of_zsh(zsh)]
     if any(not it.startswith("skipped: ") for it in wrong):
-        sys.exit("\n".join(wrong))
+        lib.fail("\n".join(wrong))
     print("\n".join(wrong) or f"installed: {len(commands)} commands in the man page, {len(COMPLETIONS)} completions")
 
 

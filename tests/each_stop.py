@@ -1,7 +1,7 @@
 #!/usr/bin/env python3
 """Stops four feeds and three streams at each of their writes and syncs, and crashes them in five ways, the streams in seven.
 
-    bench/each_stop.py          needs crates/td/out/td and crates/engine_steps/out/engine_steps (see the README), and for the streams
+    tests/each_stop.py          needs crates/td/out/td and crates/engine_steps/out/engine_steps (see the README), and for the streams
                                 strace; without it says so, and stops the feeds alone
 
 The feeds are `engine_steps`' on a disk in memory. One has 40 epochs: a plan with two folds and a group, small batches, a ring
@@ -45,22 +45,15 @@ and the records."""
 
 import collections
 import concurrent.futures
-import os
-import pathlib
 import random
 import re
-import shutil
 import subprocess
-import sys
-import tempfile
 
-ROOT = pathlib.Path(__file__).resolve().parent.parent
-TD = ROOT / "crates/td/out/td"
-STEPS = ROOT / "crates/engine_steps/out/engine_steps"
+import lib
+from lib import STEPS, TD, TOTAL, td
 
 FOLDS = "0 input\n1 fold 40 0\n2 fold 41 0\n3 group 20 1 2\n4 output 1\n5 output 2\n6 output 3\n"
 EPOCHS, NUMBERED_EPOCHS, STREAM_EPOCHS, RECORDS, KEYS = 40, 9, 12, 3, 3
-TOTAL = "0 input\n1 fold 40 0\n2 output 1\n"
 TOTAL_EPOCHS = [([(7, 5)], False), ([(7, -2), (8, 1)], True)]
 TOTAL_STATES = ["state 1 7 3 2", "state 1 8 1 1"]
 FILLS = ("old", "new", "00", "a5", "ff")
@@ -71,8 +64,6 @@ STOPS_OF_A_RUN = 40
 # What strace tells, and a sync in a list of calls, beside the writes, each with its place and its bytes.
 TRACED = "pwrite64,fsync"
 SYNC = None
-# A file system in memory, if there is one: what a crash leaves is made here, and no device is waited for.
-MEMORY = "/dev/shm"
 
 
 def made_epochs(count):
@@ -108,13 +99,6 @@ def orders_of(lines):
 
 def text_of(lines):
     return "".join(f"{line}\n" for line in lines)
-
-
-def td(*words, text=""):
-    done = subprocess.run([TD, *words], input=text, capture_output=True, text=True)
-    if done.returncode != 0:
-        sys.exit(f"td {' '.join(map(str, words))}: status {done.returncode}: {done.stderr}")
-    return done.stdout.splitlines()
 
 
 def numbers_after(word, lines):
@@ -244,7 +228,7 @@ class Feed:
         done = subprocess.run([STEPS], input=text, capture_output=True, text=True)
         answers = re.split(r"(?m)^shards 1, .*\n", done.stdout)
         if done.returncode != 0 or len(answers) != len(parts) + 1 or answers[-1]:
-            sys.exit(f"engine_steps ended with {done.returncode}: {done.stderr} {done.stdout[-1000:]}")
+            lib.fail(f"engine_steps ended with {done.returncode}: {done.stderr} {done.stdout[-1000:]}")
         return [answer.splitlines() for answer in answers[:-1]]
 
 
@@ -299,7 +283,7 @@ class OnFile(Feed):
         run = subprocess.run([*strace, TD, *self.words(disk, 2, self.every)], input=text_of(self.input_after(0)), capture_output=True, text=True)
         is_told = run.returncode > 0 and run.stderr.startswith("td: device")
         if not is_told and (run.returncode, run.stderr) != (0, ""):
-            sys.exit(f"a {self.kind} that was traced ended with {run.returncode}: {run.stderr}")
+            lib.fail(f"a {self.kind} that was traced ended with {run.returncode}: {run.stderr}")
         return run.stdout.splitlines() + ["refused: device"] * is_told, calls_of(calls.read_text())
 
 
@@ -382,10 +366,10 @@ def calls_of(trace):
     calls, has_failed = [], False
     for line in trace.splitlines():
         if has_failed:
-            sys.exit(f"a call that failed was not the last: {line}")
+            lib.fail(f"a call that failed was not the last: {line}")
         call = re.fullmatch(r'(?:fsync\(\d+\)|pwrite64\(\d+, "((?:\\x[0-9a-f]{2})+)", (\d+), (\d+)\)) += (-?\d+).*', line)
         if not call:
-            sys.exit(f"strace told another call than a write or a sync: {line}")
+            lib.fail(f"strace told another call than a write or a sync: {line}")
         calls.append((int(call[3]), bytes.fromhex(call[1].replace("\\x", ""))) if call[1] else SYNC)
         has_failed = call[4] != (call[2] or "0")
     return calls
@@ -426,13 +410,13 @@ def read_stop(name, feed, answer):
     counts = [line for line in shown if line.startswith("epoch ")]
     wanted = [f"epoch {number} {len(feed.epochs[number - 1][0])}" for number in range(kept + 1, told + 1)]
     if before != whole[:len(before)] or (not is_met and before != whole):
-        sys.exit(f"{name}: what was written is no beginning of the whole: {written}")
+        lib.fail(f"{name}: what was written is no beginning of the whole: {written}")
     last = [line for line in shown if line.startswith("last ")]
     ends = feed.ends()
     is_group_next = any(line.startswith("ack ") for line in whole[len(before):][:1])
     lawful = ends[ends.index(acknowledged):][:1 + is_group_next] if acknowledged in ends else []
     if told not in lawful or counts != wanted or last != feed.last(told):
-        sys.exit(f"{name}: {acknowledged} epochs were acknowledged, and this is told: {shown}")
+        lib.fail(f"{name}: {acknowledged} epochs were acknowledged, and this is told: {shown}")
     return is_met, kept, told
 
 
@@ -443,7 +427,7 @@ def check_rest(name, feed, kept, told, answer):
     rest = answer[last:]
     wanted = feed.written(kept, told) + feed.shown()
     if rest != wanted:
-        sys.exit(f"{name}: fed after epoch {told} was told, with a checkpoint at {kept}: {rest}, and not {wanted}")
+        lib.fail(f"{name}: fed after epoch {told} was told, with a checkpoint at {kept}: {rest}, and not {wanted}")
 
 
 def stop_some(feed, fill, first):
@@ -474,9 +458,9 @@ def read_whole(stream, image, disk):
     written, calls = stream.traced(disk)
     shown = stream.show(disk)
     if (written, shown) != (stream.whole(), stream.shown()):
-        sys.exit(f"a stream that was not stopped wrote {written}, and not {stream.whole()}, and left {shown}")
+        lib.fail(f"a stream that was not stopped wrote {written}, and not {stream.whole()}, and left {shown}")
     if disk.read_bytes() != made(image, calls):
-        sys.exit("strace did not tell all that was written to a disk")
+        lib.fail("strace did not tell all that was written to a disk")
     return calls
 
 
@@ -485,7 +469,7 @@ def fail_once(feed, image, calls, disk):
     disk.write_bytes(image)
     written, found = feed.traced(disk, failing=calls)
     if found != calls or written[-1:] != ["refused: device"]:
-        sys.exit(f"the call {len(calls)} of a {feed.kind} failed alone, and it made the calls {found[-3:]} and wrote {written}")
+        lib.fail(f"the call {len(calls)} of a {feed.kind} failed alone, and it made the calls {found[-3:]} and wrote {written}")
     return written
 
 
@@ -495,9 +479,9 @@ def stop_stream(stream, image, calls, disk):
     disk.write_bytes(image)
     written, found = stream.traced(disk, calls[:-1])
     if written != once:
-        sys.exit(f"stop {len(calls)}: where this call alone fails, a stream writes {once}, and else {written}")
+        lib.fail(f"stop {len(calls)}: where this call alone fails, a stream writes {once}, and else {written}")
     if found != calls or disk.read_bytes() != made(image, calls[:-1]):
-        sys.exit(f"stop {len(calls)}: the disk got other calls than without a stop, or others than strace tells: {found[-3:]}")
+        lib.fail(f"stop {len(calls)}: the disk got other calls than without a stop, or others than strace tells: {found[-3:]}")
     return written
 
 
@@ -517,13 +501,13 @@ def play_stops(stream, folder):
 
 def stop_each_of_stream(stream):
     """Plays all stops of a stream with all fills: how many were met, and which last epochs were told."""
-    with tempfile.TemporaryDirectory(prefix="td-stop-", dir=MEMORY if os.access(MEMORY, os.W_OK) else None) as folder:
-        played = play_stops(stream, pathlib.Path(folder))
+    with lib.folder(in_memory=True) as folder:
+        played = play_stops(stream, folder)
     numbers = set()
     for (stop, fill), (written, shown, rest) in played.items():
         is_met, kept, told = read_stop(f"stop {stop}, {fill}", stream, written + shown)
         if not is_met or kept < max(numbers_after("cut ", written), default=0):
-            sys.exit(f"stop {stop}, {fill}: a stream did not tell that its disk failed, or a cut is not told: {written}, {shown}")
+            lib.fail(f"stop {stop}, {fill}: a stream did not tell that its disk failed, or a cut is not told: {written}, {shown}")
         check_rest(f"stop {stop}, {fill}", stream, kept, told, shown + rest)
         numbers.add(told)
     return [(len(played), numbers)]
@@ -531,12 +515,12 @@ def stop_each_of_stream(stream):
 
 def fail_each_once(feed):
     """Each call of a feed on a file fails alone: how many there are."""
-    with tempfile.TemporaryDirectory(prefix="td-fail-", dir=MEMORY if os.access(MEMORY, os.W_OK) else None) as folder:
-        image = feed.formatted(pathlib.Path(folder) / "fresh")
-        calls = read_whole(feed, image, pathlib.Path(folder) / "fresh")
+    with lib.folder(in_memory=True) as folder:
+        image = feed.formatted(folder / "fresh")
+        calls = read_whole(feed, image, folder / "fresh")
 
         def fail(count):
-            disk = pathlib.Path(folder) / f"failed{count}"
+            disk = folder / f"failed{count}"
             written = fail_once(feed, image, calls[:count], disk)
             read_stop(f"the call {count} alone", feed, written + feed.show(disk))
 
@@ -562,20 +546,20 @@ def read_once(feed, words, disk):
     want = run()
     count = len(calls.read_text().splitlines())
     if want[0] != 0 or count < 3 or want[3] != (whole if words[0] == "copy" else []):
-        sys.exit(f"td {' '.join(map(str, words))} made {count} reads and ended so: {want}")
+        lib.fail(f"td {' '.join(map(str, words))} made {count} reads and ended so: {want}")
     for number in range(1, count + 1):
         status, output, errors, made = run("-e", f"inject=pread64:error=EIO:when={number}")
         is_refused = status > 0 and errors.startswith("td: ") and want[1].startswith(output) and made in ([], whole)
         if (status, output, errors, made) != want and not is_refused or feed.show(disk) != whole:
-            sys.exit(f"td {' '.join(map(str, words))}, with its read {number} of {count} failing alone: {status}, {errors}, {output}, {made}")
+            lib.fail(f"td {' '.join(map(str, words))}, with its read {number} of {count} failing alone: {status}, {errors}, {output}, {made}")
     return count
 
 
 def read_each_once():
     """Each command that reads a disk, on one that is greater than what is read ahead, with epochs in its last cell."""
     feed = OnFile(FOLDS, "1000 7 6", [(records, number == 2) for number, (records, _) in enumerate(made_epochs(8), 1)])
-    with tempfile.TemporaryDirectory(prefix="td-read-", dir=MEMORY if os.access(MEMORY, os.W_OK) else None) as folder:
-        disk = pathlib.Path(folder) / "disk"
+    with lib.folder(in_memory=True) as folder:
+        disk = folder / "disk"
         feed.formatted(disk)
         td(*feed.words(disk), text=text_of(feed.input_after(0)))
         new = [disk.with_name("new"), "1000", "8", "6"]
@@ -599,7 +583,7 @@ def see_doctored():
             calls_of(trace)
         except SystemExit:
             continue
-        sys.exit(f"each_stop.py does not see what it is for: a call that failed was made again: {trace}")
+        lib.fail(f"each_stop.py does not see what it is for: a call that failed was made again: {trace}")
 
 
 def tell(feed, runs):
@@ -607,25 +591,19 @@ def tell(feed, runs):
     met = sum(met for met, _ in runs)
     told, ends = set().union(*[told for _, told in runs]), feed.ends()
     if told != set(ends):
-        sys.exit(f"some ends of groups were never told: {set(ends) - told}")
+        lib.fail(f"some ends of groups were never told: {set(ends) - told}")
     print(f"a {feed.kind} of {len(feed.epochs)} epochs in {len(ends) - 1} groups stopped at each of its {met // len(feed.fills)} writes and syncs, "
           f"{met} crashes: nothing acknowledged was lost, and {feed.goes_on}")
 
 
-def is_traced():
-    """Whether there is a strace that may trace here."""
-    return bool(shutil.which("strace")) and subprocess.run(["strace", "-o", os.devnull, "true"], capture_output=True).returncode == 0
-
-
 def main():
     for program in (TD, STEPS):
-        if not program.exists():
-            sys.exit(f"{program} is not there: cd {program.parent.parent} && rt run")
+        lib.built(program)
     for feed in (Feed(FOLDS, "3 3 6", made_epochs(EPOCHS)), Feed(TOTAL, "4 2 3", TOTAL_EPOCHS, TOTAL_STATES),
                  NumberedFeed(FOLDS, "3 3 6", made_epochs(NUMBERED_EPOCHS)), NumberedFeed(TOTAL, "4 2 3", TOTAL_EPOCHS, TOTAL_STATES)):
         tell(feed, stop_each(feed))
-    if not is_traced():
-        return print("skipped: the streams of each_stop, since there is no strace that may trace here")
+    if not lib.is_traced():
+        return lib.skip("the streams of each_stop, since there is no strace that may trace here")
     see_doctored()
     for feed in (OnFile(FOLDS, "3 3 6", made_epochs(STREAM_EPOCHS)), NumberedOnFile(FOLDS, "3 3 6", made_epochs(NUMBERED_EPOCHS))):
         print(f"a {feed.kind} of {len(feed.epochs)} epochs, each of its {fail_each_once(feed)} writes and syncs failing alone: none was made again")

@@ -1,7 +1,7 @@
 #!/usr/bin/env python3
 """Counts, by `strace`, the calls that td_gate makes of the system for its puts into a region of a real file.
 
-    bench/put_calls.py       needs `rt`, strace and the tests that `rt ci` or `rt test` left; without them it says so, and that is no failure
+    tests/put_calls.py       needs `rt`, strace and the tests that `rt ci` or `rt test` left; without them it says so, and that is no failure
 
 No contract counts a disk's calls, or says that a file's sync reaches the system. The program is td_tests' tests as they were
 proved and built, and what is counted is the file of the test `a_region_of_a_file`: its making, a put into the closed
@@ -15,9 +15,10 @@ import shutil
 import signal
 import subprocess
 import sys
-import tempfile
 
-PROGRAM = pathlib.Path(__file__).resolve().parent.parent / "crates/td_tests/out/td_tests_tests"
+import lib
+
+PROGRAM = lib.ROOT / "crates/td_tests/out/td_tests_tests"
 TEST = "a_region_of_a_file"
 SECONDS = 60
 TRACED = "openat,ftruncate,flock,pread64,read,pwrite64,pwritev,write,fsync,fdatasync,sync_file_range,msync"
@@ -36,11 +37,6 @@ WANTED = {
 }
 
 
-def is_traced():
-    """Whether there is a strace that may trace here."""
-    return bool(shutil.which("strace")) and subprocess.run(["strace", "-o", os.devnull, "true"], capture_output=True).returncode == 0
-
-
 def trace(folder):
     """Runs the test, each process's calls into a file of its own."""
     runner = pathlib.Path(shutil.which("rt")).resolve().parent / "rattle-test"
@@ -51,10 +47,10 @@ def trace(folder):
             status = ran.wait(SECONDS)
         except subprocess.TimeoutExpired:
             os.killpg(ran.pid, signal.SIGKILL)
-            sys.exit(f"the test {TEST} did not end within {SECONDS} seconds")
+            lib.fail(f"the test {TEST} did not end within {SECONDS} seconds")
         if status != 0:
             said.seek(0)
-            sys.exit(f"the test {TEST} ended with {status}:\n{said.read()[-4000:]}")
+            lib.fail(f"the test {TEST} ended with {status}:\n{said.read()[-4000:]}")
 
 
 def disk_calls(folder):
@@ -64,7 +60,7 @@ def disk_calls(folder):
         made = re.search(r'"(/\S*/td_gate-\d+)", O_RDWR\|O_CREAT', text)
         if made:
             return [it for it in map(lambda line: call_of(line, made[1]), text[made.end():].splitlines()) if it]
-    sys.exit("no test made a file td_gate-N: the tests have changed, and this script did not")
+    return lib.fail("no test made a file td_gate-N: the tests have changed, and this script did not")
 
 
 def call_of(line, path):
@@ -100,15 +96,15 @@ def cases(calls):
 
 
 def main():
-    if not is_traced():
-        print("skipped: put_calls, since there is no strace that may trace here")
+    if not lib.is_traced():
+        lib.skip("put_calls, since there is no strace that may trace here")
         return 0
     if not PROGRAM.is_file():
-        print(f"skipped: put_calls, since {PROGRAM.name} is not there: `rt ci` builds it, and so does `rt test` in crates/td_tests")
+        lib.skip(f"put_calls, since {PROGRAM.name} is not there: `rt ci` builds it, and so does `rt test` in crates/td_tests")
         return 0
-    with tempfile.TemporaryDirectory() as folder:
-        trace(pathlib.Path(folder))
-        found = cases(disk_calls(pathlib.Path(folder)))
+    with lib.folder() as folder:
+        trace(folder)
+        found = cases(disk_calls(folder))
     wrong = len(found) != len(WANTED)
     if wrong:
         print(f"{len(WANTED)} steps were to write or sync, and {len(found)} did: {found}")

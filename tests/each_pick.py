@@ -1,22 +1,17 @@
 #!/usr/bin/env python3
 """Runs `td sim` with 1, 2, 3 and 16 shards and fifty lists of picks: whatever is picked, the output lines are the same.
 
-    bench/each_pick.py          needs crates/td/out/td (see the README)
+    tests/each_pick.py          needs crates/td/out/td (see the README)
 
 The inputs are rows of rows/hall.txt: a nest of two loops, a ring of four keys and a join of two inputs, each with the output
 lines that its row has. The lines of notifications may differ."""
 
 import concurrent.futures
-import importlib.machinery
-import importlib.util
-import pathlib
 import subprocess
-import sys
 
-sys.dont_write_bytecode = True
+import lib
+import rows
 
-ROOT = pathlib.Path(__file__).resolve().parent.parent
-TD = ROOT / "crates/td/out/td"
 WORKERS = (1, 2, 3, 16)
 PICKS = [f"{i},{i + 1},{2 * i}" for i in range(50)]
 
@@ -24,12 +19,9 @@ PICKS = [f"{i},{i + 1},{2 * i}" for i in range(50)]
 ROWS = ("sim: nested loops, the first of each", "sim: a ring, whatever is picked", "run: two inputs are joined")
 
 
-def rows():
+def rows_of_hall():
     """The rows, read as the gate reads them."""
-    loader = importlib.machinery.SourceFileLoader("check", str(ROOT / "check"))
-    check = importlib.util.module_from_spec(importlib.util.spec_from_loader("check", loader))
-    loader.exec_module(check)
-    found = {row.title: row.commands()[0] for row in check.read_rows(ROOT / "rows/hall.txt")}
+    found = {row.title: row.commands()[0] for row in rows.read_rows(lib.ROOT / "rows/hall.txt")}
     return [(title, found[title]) for title in ROWS]
 
 
@@ -40,19 +32,18 @@ def without_notes(text):
 
 def answer(text, workers, picks):
     """Status, output lines without those of notifications, and errors of one run."""
-    done = subprocess.run([TD, "sim", "--workers", str(workers), "--picks", picks], input=text, capture_output=True)
+    done = subprocess.run([lib.TD, "sim", "--workers", str(workers), "--picks", picks], input=text, capture_output=True)
     return done.returncode, without_notes(done.stdout), done.stderr
 
 
 def main():
-    if not TD.exists():
-        sys.exit(f"{TD} is not there: cd crates/td && rt run")
-    runs = [(row, workers, picks) for row in rows() for workers in WORKERS for picks in PICKS]
+    lib.built(lib.TD)
+    runs = [(row, workers, picks) for row in rows_of_hall() for workers in WORKERS for picks in PICKS]
     with concurrent.futures.ThreadPoolExecutor() as pool:
-        answers = list(pool.map(lambda run: answer(run[0][1].text["<"], *run[1:]), runs))
+        answers = list(pool.map(lambda run: answer(run[0][1].given, *run[1:]), runs))
     for ((title, command), workers, picks), got in zip(runs, answers):
-        if got != (0, without_notes(command.text[">"]), b""):
-            sys.exit(f"{title}: {workers} shards, picks {picks}: {got}")
+        if got != (0, without_notes(command.output()), b""):
+            lib.fail(f"{title}: {workers} shards, picks {picks}: {got}")
     print(f"{len(runs)} runs of td sim, the same output lines whatever was picked")
 
 

@@ -1,19 +1,20 @@
 #!/usr/bin/env python3
 """Computes what five of the examples must print, by SQL or a few lines of Python that know nothing of plans.
 
-    bench/tasks.py          compares examples/NAME.out with it, for each of the five tasks; status 1 where one differs
-    bench/tasks.py NAME     prints the expected output of one
+    tests/tasks.py          compares examples/NAME.out with it, for each of the five tasks; status 1 where one differs
+    tests/tasks.py NAME     prints the expected output of one
 
 Of examples/NAME.td the records alone are read, epoch by epoch; of its plan a task knows the numbers of its inputs and outputs. Of
 `components` it is compared too how many turns are needed, and how many its loop may have. examples/README.md says what each task is."""
 
 import collections
-import pathlib
 import re
 import sqlite3
 import sys
 
-EXAMPLES = pathlib.Path(__file__).resolve().parent.parent / "examples"
+import lib
+
+EXAMPLES = lib.ROOT / "examples"
 
 
 def records_of(name):
@@ -121,13 +122,13 @@ def main():
         if len(sys.argv) != 2 or sys.argv[1] not in tasks:
             sys.exit(__doc__)
         return sys.stdout.write(text_of(tasks[sys.argv[1]]))
-    wrong = [f"examples/{name}.out is not what bench/tasks.py {name} prints" for name, task in tasks.items()
+    wrong = [f"examples/{name}.out is not what tests/tasks.py {name} prints" for name, task in tasks.items()
              if (EXAMPLES / f"{name}.out").read_text() != text_of(task)]
     needed, bound = turns_of_components()
     if needed > bound:
         wrong.append(f"the loop of examples/components.td has {bound} turns, and {needed} are needed")
     if wrong:
-        sys.exit("\n".join(wrong))
+        lib.fail("\n".join(wrong))
     print(f"{len(tasks)} tasks, their outputs as computed; components needs {needed} turns of {bound}")
 
 

@@ -1,7 +1,7 @@
 #!/usr/bin/env python3
 """Counts the instructions and the syncs of an epoch, since no contract speaks of cost, and a clock says something else each day.
 
-    bench/counts.py [--all] [TD]        needs crates/td/out/td (see the README), or the program that is named; valgrind, or a `perf` that
+    tests/counts.py [--all] [TD]        needs crates/td/out/td (see the README), or the program that is named; valgrind, or a `perf` that
                                         counts instructions; and strace. What the machine lacks is said, and is no failure
 
 What an epoch costs is the difference of two runs, one of as many epochs as stand below and one of twice as many: so what a start, a recovery and an end cost
@@ -21,17 +21,13 @@ import resource
 import shutil
 import subprocess
 import sys
-import tempfile
 import threading
 from typing import NamedTuple
 
-ROOT = pathlib.Path(__file__).resolve().parent.parent
-TD = ROOT / "crates/td/out/td"
-SECONDS = 300
-# A file system in memory, if there is one: no device is waited for.
-MEMORY = "/dev/shm"
+import lib
+from lib import TOTAL
 
-TOTAL = "0 input\n1 fold 40 0\n2 output 1\n"
+SECONDS = 300
 EPOCH = "0 7 1\n.\n"
 
 
@@ -129,7 +125,7 @@ def run(command, talk):
     error = child.communicate()[1]
     limit.cancel()
     if child.returncode != 0 or not is_whole:
-        sys.exit(f"{' '.join(map(str, command))} ended with status {child.returncode}: {error.decode(errors='replace')[-500:]}")
+        lib.fail(f"{' '.join(map(str, command))} ended with status {child.returncode}: {error.decode(errors='replace')[-500:]}")
 
 
 class Counter(NamedTuple):
@@ -146,18 +142,13 @@ class Counter(NamedTuple):
 
     def is_here(self):
         """Whether it counts anything on this machine."""
-        with place() as folder:
-            return bool(shutil.which(self.words[0])) and self.count(["true"], give(""), pathlib.Path(folder)) > 0
+        with lib.folder(in_memory=True) as folder:
+            return bool(shutil.which(self.words[0])) and self.count(["true"], give(""), folder) > 0
 
 
 VALGRIND = Counter(("valgrind", "--tool=cachegrind", "--cache-sim=no", "--cachegrind-out-file=/dev/null", "--log-file=FILE"), r"I +refs: +([\d,]+)")
 PERF = Counter(("perf", "stat", "-x", ";", "-o", "FILE", "-e", "instructions:u"), r"^(\d+);")
 STRACE = ["strace", "-f", "-qq", "-e", "signal=none", "-e", "trace=fsync,fdatasync", "-o"]
-
-
-def is_traced():
-    """Whether there is a strace that may trace here."""
-    return bool(shutil.which("strace")) and subprocess.run(["strace", "-o", os.devnull, "true"], capture_output=True).returncode == 0
 
 
 def wait_for_each(count):
@@ -190,11 +181,6 @@ def give(text):
     return talk
 
 
-def place():
-    """A folder for disks and figures."""
-    return tempfile.TemporaryDirectory(prefix="td-counts-", dir=MEMORY if os.access(MEMORY, os.W_OK) else None)
-
-
 def command_of(td, work, count, folder):
     """The command of so many epochs, with its disk made where it has one, and what talks to it."""
     if isinstance(work, Piped):
@@ -210,15 +196,13 @@ def command_of(td, work, count, folder):
 
 def instructions(counter, td, work, count):
     """The instructions of so many epochs, with all that is before and behind them."""
-    with place() as folder:
-        folder = pathlib.Path(folder)
+    with lib.folder(in_memory=True) as folder:
         return counter.count(*command_of(td, work, count, folder), folder)
 
 
 def syncs(td, work, count):
     """The syncs of so many epochs, with those before and behind them."""
-    with place() as folder:
-        folder = pathlib.Path(folder)
+    with lib.folder(in_memory=True) as folder:
         command, talk = command_of(td, work, count, folder)
         run([*STRACE, folder / "calls", *command], talk)
         return len(re.findall(r"\bf(?:data)?sync\(", (folder / "calls").read_text()))
@@ -234,7 +218,7 @@ def count_instructions(td, names, pool):
     """Counts an epoch of each input of the cases, writes a line for each, and answers how many are above their bound."""
     counter = next((it for it in (VALGRIND, PERF) if it.is_here()), None)
     if counter is None:
-        print("skipped: the instructions of counts, since there is no valgrind, and no perf that counts them")
+        lib.skip("the instructions of counts, since there is no valgrind, and no perf that counts them")
         return 0
     wrong = 0
     found = {name: [difference(pool, lambda *run: instructions(counter, td, *run), work) for work in CASES[name][:2]] for name in names}
@@ -248,8 +232,8 @@ def count_instructions(td, names, pool):
 
 def count_syncs(td, names, pool):
     """Counts the syncs, writes a line for each case, and answers in how many they are others."""
-    if not is_traced():
-        print("skipped: the syncs of counts, since there is no strace that may trace here")
+    if not lib.is_traced():
+        lib.skip("the syncs of counts, since there is no strace that may trace here")
         return 0
     wrong = 0
     found = {name: difference(pool, lambda *run: syncs(td, *run), SYNCS[name][0]) for name in names}
@@ -262,9 +246,7 @@ def count_syncs(td, names, pool):
 
 def main():
     words = [word for word in sys.argv[1:] if word != "--all"]
-    td = pathlib.Path(words[0]).resolve() if words else TD
-    if not td.is_file():
-        sys.exit(f"{td} is not there: cd crates/td && rt run")
+    td = lib.built(pathlib.Path(words[0]).resolve() if words else lib.TD)
     waiting = set() if "--all" in sys.argv[1:] else NOT_YET_HELD
     with concurrent.futures.ThreadPoolExecutor(len(os.sched_getaffinity(0))) as pool:
         wrong = count_syncs(td, [name for name in SYNCS if name not in waiting], pool)

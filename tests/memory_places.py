@@ -1,8 +1,8 @@
 #!/usr/bin/env python3
 """Lists where the code refuses for want of memory, and compares that with what stands here: needs nothing but the files.
 
-    bench/memory_places.py            compares
-    bench/memory_places.py --list     prints the places that it finds
+    tests/memory_places.py            compares
+    tests/memory_places.py --list     prints the places that it finds
 
 No contract says that `Memory` is told only where a growth was refused, and with ample memory no run shows one that is told on a rare way. So each
 place in crates/*/src that makes such a refusal is one of these:
@@ -14,11 +14,11 @@ place in crates/*/src that makes such a refusal is one of these:
 A new place fails, and one that is gone; so does one whose condition calls something else, or compares anything. The tests' crate is left out."""
 
 import collections
-import pathlib
 import re
 import sys
 
-ROOT = pathlib.Path(__file__).resolve().parent.parent
+from lib import ROOT, fail
+
 LEFT_OUT = {"td_tests"}
 # The refusals that have no other case.
 MEMORY_ALONE = {"StampError", "ReachError", "ProgressError", "ShardError", "BatchError", "WatchError"}
@@ -178,10 +178,10 @@ def main():
         sys.exit(__doc__)
     wanted = collections.Counter(place for places in PLACES.values() for place in places)
     there = collections.Counter(place.key() for place in found)
-    wrong = [f"{place.file}:{place.number}: no reason stands in bench/memory_places.py for this refusal: {place.key()}" for place in found if there[place.key()] > wanted[place.key()]]
-    wrong += [f"bench/memory_places.py has a place that is gone: {key}" for key in wanted if wanted[key] > there[key]]
+    wrong = [f"{place.file}:{place.number}: no reason stands in tests/memory_places.py for this refusal: {place.key()}" for place in found if there[place.key()] > wanted[place.key()]]
+    wrong += [f"tests/memory_places.py has a place that is gone: {key}" for key in wanted if wanted[key] > there[key]]
     if wrong:
-        sys.exit("\n".join(wrong))
+        fail("\n".join(wrong))
     print(f"{len(found)} places refuse for want of memory beside those that pass a refusal on, each with its reason")
 
 

@@ -1,7 +1,7 @@
 #!/usr/bin/env python3
 """Looks at the greatest memory in use as epochs go by, since no contract speaks of memory that is let go.
 
-    bench/peak_memory.py [TD]       needs crates/td/out/td (see the README), or the program that is named, and a system with /proc
+    tests/peak_memory.py [TD]       needs crates/td/out/td (see the README), or the program that is named, and a system with /proc
 
 TOTAL, one record an epoch, of one key, as many epochs as stand below, and some times as many. Between the two each command may take only so much
 more for each epoch, in bytes: `td stream --cut-every 1000`, with one shard and with four, next to nothing, since what a cut lets go is used again;
@@ -12,13 +12,11 @@ import os
 import pathlib
 import re
 import subprocess
-import sys
-import tempfile
 import time
 
-ROOT = pathlib.Path(__file__).resolve().parent.parent
-TD = ROOT / "crates/td/out/td"
-TOTAL = "0 input\n1 fold 40 0\n2 output 1\n"
+import lib
+from lib import TOTAL
+
 EPOCH = "0 7 1\n.\n"
 CUT_EVERY = 1_000
 # Each command: its words, the file that is its input, how many epochs and how many more, and how many bytes an epoch may cost.
@@ -32,8 +30,6 @@ COMMANDS = {
 }
 # And by how many bytes an epoch `td run` may be above `td batch`.
 HALL = 8
-# A file system in memory, if there is one: no device is waited for.
-MEMORY = "/dev/shm"
 SECONDS = 120
 
 
@@ -45,7 +41,7 @@ def greatest(td, words, given, folder):
     while run.poll() is None:
         if time.monotonic() > until:
             run.kill()
-            sys.exit(f"td {' '.join(words)} did not end within {SECONDS} seconds")
+            lib.fail(f"td {' '.join(words)} did not end within {SECONDS} seconds")
         try:
             used = re.search(r"VmHWM:\s+(\d+) kB", pathlib.Path(f"/proc/{run.pid}/status").read_text())
             most = max(most, int(used[1]) * 1024 if used else 0)
@@ -53,7 +49,7 @@ def greatest(td, words, given, folder):
             pass
         time.sleep(0.002)
     if run.returncode != 0 or most == 0:
-        sys.exit(f"td {' '.join(words)} ended with status {run.returncode}, and had {most} bytes in use")
+        lib.fail(f"td {' '.join(words)} ended with status {run.returncode}, and had {most} bytes in use")
     return most
 
 
@@ -68,22 +64,20 @@ def used_of(td, folder, name, epochs):
 
 
 def main():
-    td = pathlib.Path(sys.argv[1]).resolve() if sys.argv[1:] else TD
-    if not td.is_file():
-        sys.exit(f"{td} is not there: cd crates/td && rt run")
+    td = lib.asked_td()
     if not os.path.exists("/proc/self/status"):
-        print("skipped: peak_memory, since this system has no /proc")
-        return
-    with tempfile.TemporaryDirectory(prefix="td-memory-", dir=MEMORY if os.access(MEMORY, os.W_OK) else None) as folder:
-        used = {name: [used_of(td, pathlib.Path(folder), name, epochs) for epochs in COMMANDS[name][2:4]] for name in COMMANDS}
+        return lib.skip("peak_memory, since this system has no /proc")
+    with lib.folder(in_memory=True) as folder:
+        used = {name: [used_of(td, folder, name, epochs) for epochs in COMMANDS[name][2:4]] for name in COMMANDS}
     each = {name: (many - few) / (COMMANDS[name][3] - COMMANDS[name][2]) for name, (few, many) in used.items()}
     wrong = [f"{name} takes {each[name]:.0f} bytes for each epoch, and may take {COMMANDS[name][4]}" for name in COMMANDS if each[name] > COMMANDS[name][4]]
     if each["td run"] - each["td batch"] > HALL:
         wrong.append(f"td run takes {each['td run'] - each['td batch']:.0f} bytes more for each epoch than td batch, and may take {HALL}")
     said = ", ".join(f"{name} {each[name]:.0f}" for name in COMMANDS)
     if wrong:
-        sys.exit("\n".join([*wrong, said]))
+        lib.fail("\n".join([*wrong, said]))
     print(f"bytes for each epoch more: {said}; in use at most {max(max(each) for each in used.values()) / 1e6:.1f} MB")
+    return None
 
 
 if __name__ == "__main__":

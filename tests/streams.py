@@ -1,7 +1,7 @@
 #!/usr/bin/env python3
 """Runs `td` on standard streams as other programs leave them: non-blocking, slow, and unread.
 
-    bench/streams.py [PROGRAM]      needs crates/td/out/td (see the README), or the program named
+    tests/streams.py [PROGRAM]      needs crates/td/out/td (see the README), or the program named
 
 - A pipe for standard input that is non-blocking, and empty at first: the stream waits for its lines.
 - A pipe for standard output that is non-blocking, and read slowly: all lines of the answer come, in order.
@@ -9,14 +9,13 @@
 
 import fcntl
 import os
-import pathlib
 import subprocess
 import sys
-import tempfile
 import time
 
-TD = pathlib.Path(sys.argv[1] if len(sys.argv) > 1 else pathlib.Path(__file__).resolve().parent.parent / "crates/td/out/td").resolve()
-PLAN = "0 input\n1 fold 40 0\n2 output 1\n"
+import lib
+
+TD = lib.asked_td()
 SECONDS = 30
 # A pipe's least size, and how many lines there are of an answer that is many times as long.
 PIPE, LINES = 4096, 20_000
@@ -34,7 +33,7 @@ def small_pipe(non_blocking):
 
 def formatted(folder):
     """A fresh disk and its plan."""
-    (folder / "plan").write_text(PLAN)
+    (folder / "plan").write_text(lib.TOTAL)
     subprocess.run([TD, "format", folder / "disk", folder / "plan", "4", "64", "3"], check=True)
     return [folder / "disk", folder / "plan"]
 
@@ -92,8 +91,8 @@ def progress_that_nobody_reads(folder):
 def main():
     wrong = 0
     for case in (input_that_comes_late, output_that_is_read_slowly, progress_that_nobody_reads):
-        with tempfile.TemporaryDirectory() as folder:
-            found = case(pathlib.Path(folder))
+        with lib.folder() as folder:
+            found = case(folder)
         print(f"{case.__name__.replace('_', ' ')}: {'as it should be' if found is True else f'WRONG: {found}'}")
         wrong += found is not True
     return 1 if wrong else 0

@@ -1,7 +1,7 @@
 #!/usr/bin/env python3
 """Runs `td` with each of its allocations refused in turn, alone and with all that follow.
 
-    bench/each_allocation.py [FILE..]       needs crates/td/out/td (see the README) and a C compiler
+    tests/each_allocation.py [FILE..]       needs crates/td/out/td (see the README) and a C compiler
 
 It runs `td batch`, `run` and `sim` on the files, by default on the small examples, and then `td help` and words that do not parse.
 Each run must answer as with ample memory, or write nothing to standard output, `td: memory` to standard error, and end with
@@ -26,22 +26,18 @@ A feed that was refused must have written a beginning of what it writes otherwis
 may be smaller; nothing stands behind its refusal, and the recovery tells what it acknowledged, handed out and cut. What no feed may write stands in
 this script too, and each run of it first sees that these doctored feeds are refused."""
 
-import argparse
 import concurrent.futures
 import functools
-import importlib.machinery
-import importlib.util
 import os
 import pathlib
 import re
-import shutil
 import subprocess
 import sys
-import tempfile
 
-ROOT = pathlib.Path(__file__).resolve().parent.parent
-TD = ROOT / "crates/td/out/td"
-STEPS = ROOT / "crates/engine_steps/out/engine_steps"
+import lib
+import rows
+from lib import ROOT, STEPS, TD
+
 ROWS = ("rows/steps.txt", "rows/pointstamps.txt", "rows/keeper.txt", "rows/groups.txt", "rows/requests.txt", "rows/threads.txt")
 # (a larger one makes thousands of allocations, and as many runs)
 EXAMPLES = [file for file in sorted((ROOT / "examples").glob("*.td")) if file.stat().st_size < 1000]
@@ -68,7 +64,7 @@ SAID = (b"ack ", b"again ", b"cut ")
 # Those that two recoveries follow, of which one may be refused, in rows with workers.
 FOLLOWED = (*WITH_WORKERS, b"recover\n")
 # The plans of the commands on files: a running total, and one with a loop.
-TOTAL = b"0 input\n1 fold 40 0\n2 output 1\n"
+TOTAL = lib.TOTAL.encode()
 LOOP = b"# a countdown\n0 input\nloop 3\n1 enter 0\n2 feedback 3\n3 map 2 1 2\n4 leave 3\nend\n5 output 4\n"
 # How their disk is made, one command after another.
 MADE = [
@@ -91,8 +87,6 @@ ON_FILES = [
 ]
 # Those of them that may change the disk though they are refused, but not what it tells, but to what they would make of it.
 WRITE = ("format", "upgrade")
-# A file system in memory, if there is one: no device is waited for.
-MEMORY = "/dev/shm"
 # The allocations of reading the input hang on its length, so each is filled up to so many bytes more.
 ROOM = 64
 # So many runs in a row that meet no refusal end the count.
@@ -124,9 +118,9 @@ def refuse_each(library, name, words, text):
                 refused += 1
                 untouched = 0
             elif got != whole:
-                sys.exit(f"{name}: with allocation {number} refused: {got}")
+                lib.fail(f"{name}: with allocation {number} refused: {got}")
     if refused == 0:
-        sys.exit(f"{name}: no run was refused")
+        lib.fail(f"{name}: no run was refused")
     print(f"{name}: {number - UNTOUCHED} allocations, {refused} runs refused, no other answer")
 
 
@@ -142,7 +136,7 @@ class OnFiles:
         for each, given in MADE[:made]:
             done = subprocess.run([TD, *each.split()], input=given, capture_output=True, cwd=folder)
             if done.returncode != 0:
-                sys.exit(f"td {each} ended with {done.returncode}: {done.stderr}")
+                lib.fail(f"td {each} ended with {done.returncode}: {done.stderr}")
         self.image = (folder / "disk").read_bytes() if made else None
         self.before = self.shown("disk")
         self.want = self.run()
@@ -194,19 +188,19 @@ class OnFiles:
                 if got == self.want and (self.shown("disk") == self.after if self.feeds else self.bytes_of("disk") == self.left) and self.shown("new") == self.new:
                     continue
                 if got == self.want or not self.is_well_refused(*got):
-                    sys.exit(f"td {' '.join(self.words)}: with allocation {number} refused{' and all that follow' * bool(more)}: {got}, and "
+                    lib.fail(f"td {' '.join(self.words)}: with allocation {number} refused{' and all that follow' * bool(more)}: {got}, and "
                              f"the disk tells {self.shown('disk')}")
                 refused += 1
                 untouched = 0
         if refused == 0:
-            sys.exit(f"td {' '.join(self.words)}: no run was refused")
+            lib.fail(f"td {' '.join(self.words)}: no run was refused")
         return number - UNTOUCHED, refused
 
 
 def refuse_all_on_files(library):
     """Prints for each command on files how many runs were refused."""
-    with tempfile.TemporaryDirectory(dir=MEMORY if os.access(MEMORY, os.W_OK) else None) as folder, concurrent.futures.ThreadPoolExecutor() as pool:
-        folders = [pathlib.Path(folder) / str(at) for at in range(len(ON_FILES))]
+    with lib.folder(in_memory=True) as folder, concurrent.futures.ThreadPoolExecutor() as pool:
+        folders = [folder / str(at) for at in range(len(ON_FILES))]
         for each in folders:
             each.mkdir()
         played = pool.map(lambda folder, command: OnFiles(library, folder, command).refuse_each(), folders, ON_FILES)
@@ -216,11 +210,8 @@ def refuse_all_on_files(library):
 
 def rows_of_steps():
     """The rows of `engine_steps`, read as ./check reads them: their titles, and their commands."""
-    loader = importlib.machinery.SourceFileLoader("check", str(ROOT / "check"))
-    check = importlib.util.module_from_spec(importlib.util.spec_from_loader("check", loader))
-    loader.exec_module(check)
-    rows = [row for file in ROWS for row in check.read_rows(ROOT / file)]
-    return [(row.title, row.commands()[0]) for row in rows if not LEFT_OUT.search(row.commands()[0].text["<"])]
+    found = [row for file in ROWS for row in rows.read_rows(ROOT / file)]
+    return [(row.title, row.commands()[0]) for row in found if not LEFT_OUT.search(row.commands()[0].given)]
 
 
 def filled(text, length):
@@ -271,14 +262,14 @@ class Played:
     def __init__(self, library, row):
         self.library = library
         self.title, command = row
-        self.text = command.text["<"]
+        self.text = command.given
         self.plan, self.steps = steps_in(self.text)
         self.has_workers = any(step.startswith(WITH_WORKERS) for step in self.steps)
         if self.has_workers:
             self.steps = [made for step in self.steps for made in [step, *[b"recover\n"] * 2 * step.startswith(FOLLOWED)]]
             self.text = self.plan + b"".join(self.steps)
         self.length = len(self.text) + ROOM
-        self.want = command.status, command.text[">"].splitlines(), command.text["!"]
+        self.want = command.status, command.output().splitlines(), command.errors
         if self.has_workers:
             self.want = self.run(self.text)
 
@@ -379,7 +370,7 @@ class Played:
             elif self.is_well_refused(status, lines, errors, number):
                 failed += 1
             elif (status, b"".join(lines), errors) != BEFORE:
-                sys.exit(f"{self.title}: with allocation {number} refused: {status, lines, errors}")
+                lib.fail(f"{self.title}: with allocation {number} refused: {status, lines, errors}")
         return number - UNTOUCHED, again, failed
 
 
@@ -441,41 +432,36 @@ class Written(Played):
 
 def see_doctored():
     """The script ends where it takes what no feed may write for what a refused feed writes, or the other way round."""
-    command = argparse.Namespace(status=0, text={"<": b"0 input\n--\n" + b"".join(step for step, _ in WRITTEN if step != b"recover\n"), ">": b"", "!": b""})
+    command = rows.Command("engine_steps")
+    command.given = b"0 input\n--\n" + b"".join(step for step, _ in WRITTEN if step != b"recover\n")
     row = Written(None, ("a feed that stands in this script", command))
     for may, table in ((True, LAWFUL), (False, DOCTORED)):
         for name, feed in table.items():
             if row.accepts(*feed) != may:
-                sys.exit(f"each_allocation.py does not see what it is for: {name} is {'refused' if may else 'accepted'}")
+                lib.fail(f"each_allocation.py does not see what it is for: {name} is {'refused' if may else 'accepted'}")
     print(f"of feeds written by hand {len(LAWFUL)} accepted and {len(DOCTORED)} doctored ones refused, as they should be")
 
 
 def refuse_all_steps(library):
     """Prints how many calls were made again over all rows of `engine_steps`."""
-    if not STEPS.exists():
-        sys.exit(f"{STEPS} is not there: cd crates/engine_steps && rt run")
+    lib.built(STEPS)
     see_doctored()
-    rows = rows_of_steps()
+    played = rows_of_steps()
     with concurrent.futures.ThreadPoolExecutor() as pool:
-        counts = list(pool.map(lambda row: Played(library, row).refuse_each(), rows))
+        counts = list(pool.map(lambda row: Played(library, row).refuse_each(), played))
     numbers, again, failed = map(sum, zip(*counts))
     if again == 0 or failed == 0:
-        sys.exit(f"engine_steps: {again} calls were refused, and {failed} disks failed")
-    print(f"{len(rows)} rows of engine_steps: {numbers} allocations, {again} calls made again, "
+        lib.fail(f"engine_steps: {again} calls were refused, and {failed} disks failed")
+    print(f"{len(played)} rows of engine_steps: {numbers} allocations, {again} calls made again, "
           f"{failed} disks failed or feeds and drives refused, no other answer")
 
 
 def main():
-    if not TD.exists():
-        sys.exit(f"{TD} is not there: cd crates/td && rt run")
-    compiler = next(filter(None, map(shutil.which, ("cc", "gcc", "clang"))), None)
-    if compiler is None:
-        print("skipped: no C compiler is here")
-        return
-    with tempfile.TemporaryDirectory() as folder:
-        library = pathlib.Path(folder) / "refuse.so"
-        source = ROOT / "bench/refuse_allocation.c"
-        subprocess.run([compiler, "-O2", "-shared", "-fPIC", "-o", library, source], check=True)
+    lib.built(TD)
+    with lib.folder() as folder:
+        library = lib.library("refuse_allocation", folder)
+        if library is None:
+            return lib.skip("no C compiler is here")
         for file in [pathlib.Path(name) for name in sys.argv[1:]] or EXAMPLES:
             for words in (["batch"], ["run", "--workers", "3"], ["sim", "--workers", "2", "--picks", "0,1"]):
                 refuse_each(library, f"{file.name}, td {' '.join(words)}", words, file.read_bytes())
@@ -484,6 +470,7 @@ def main():
         if not sys.argv[1:]:
             refuse_all_on_files(library)
             refuse_all_steps(library)
+    return None
 
 
 if __name__ == "__main__":

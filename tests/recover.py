@@ -1,10 +1,10 @@
 #!/usr/bin/env python3
 """Asks td_keeper what it recovers of many disks, and compares each answer with a reading of the format in this file.
 
-    bench/recover.py [PROGRAM]          needs the kit, or a PROGRAM that an earlier run built
-    bench/recover.py --steps            needs crates/engine_steps/out/engine_steps (see the README)
+    tests/recover.py [PROGRAM]          needs the kit, or a PROGRAM that an earlier run built
+    tests/recover.py --steps            needs crates/engine_steps/out/engine_steps (see the README)
 
-It builds bench/recover.rattle in a copy of the repository's crates below it, which is proved on the way: that takes minutes,
+It builds tests/recover.rattle in a copy of the repository's crates below it, which is proved on the way: that takes minutes,
 and all that comes after it half a minute. With `--keep FOLDER` the copy is made there and stays. The reading shares nothing
 with the crates. The disks are:
 
@@ -26,22 +26,19 @@ import os
 import pathlib
 import random
 import re
-import shutil
 import struct
 import subprocess
 import sys
-import tempfile
 import time
 
-ROOT = pathlib.Path(__file__).resolve().parent.parent
-CRATE = "td_keeper"
-TOTAL = b"0 input\n1 fold 40 0\n2 output 1\n"
+import lib
+
+TOTAL = lib.TOTAL.encode()
 COUNT = b"0 input\n1 group 20 0\n2 output 1\n"
 M, N, K = 4, 2, 3
 OPEN = 0xA5
 CHANGED = (0x00, 0x01, 0x5A, 0xA5, 0xFF)
 CRAFTED = 4000
-STEPS = ROOT / "crates/engine_steps/out/engine_steps"
 CRAFTED_BY_STEPS = 500
 TOP = 1 << 63
 # So many runs in a row that meet no refusal end the count.
@@ -115,7 +112,7 @@ def is_canonical(text):
         return True
     if not text.endswith(b"\n") or any(chr(byte) not in "\n abcdefghijklmnopqrstuvwxyz0123456789" for byte in text):
         return False
-    sys.exit(f"is this a plan? {text}")
+    lib.fail(f"is this a plan? {text}")
 
 
 def read_head(image):
@@ -272,7 +269,7 @@ def place(disk, at, length, printed):
 
 def same_bytes(disk, same):
     if disk.bytes != same.bytes:
-        sys.exit("this file writes other bytes than are printed")
+        lib.fail("this file writes other bytes than are printed")
     return bytes(disk.bytes)
 
 
@@ -354,33 +351,9 @@ def crafted(seed):
 # The program
 
 
-def crates_below():
-    below, todo = {}, [CRATE]
-    lines = dict(line.split(":", 1) for line in (ROOT / "crates.txt").read_text().splitlines() if ":" in line and line[0] != "#")
-    lines = {words.split()[0]: (words, needs) for words, needs in lines.items()}
-    while todo:
-        name = todo.pop()
-        if name in lines and name not in below:
-            below[name] = "{}:{}".format(*lines[name])
-            todo += lines[name][1].split()
-    return below
-
-
 def build(folder):
-    """The program's path, in a repository of its own: copies of the crates and of what earlier checks kept."""
-    below = crates_below()
-    for crate in below:
-        shutil.copytree(ROOT / "crates" / crate, folder / "crates" / crate, ignore=shutil.ignore_patterns("edit_times"))
-    source = folder / "crates/recover/src"
-    source.mkdir(parents=True)
-    shutil.copy(ROOT / "bench/recover.rattle", source / "main.rt")
-    (folder / "crates.txt").write_text("\n".join([*below.values(), f"recover: {' '.join(below)} hex", ""]))
-    shutil.copy(ROOT / "HANDLES", folder / "HANDLES")
-    subprocess.run(["git", "init", "-q", folder], check=True)
-    done = subprocess.run(["rt", "run"], cwd=source.parent, input="", capture_output=True, text=True)
-    if done.returncode != 0:
-        sys.exit(done.stdout + done.stderr)
-    return source.parent / "out/recover"
+    """The program's path, in a repository of its own."""
+    return lib.build_beside("td_keeper", lib.ROOT / "tests/recover.rattle", folder, more=["hex"])
 
 
 def asked(program, lines):
@@ -393,10 +366,10 @@ def compare(program, name, lines, images):
     wanted = [told(image) for image in images]
     got = asked(program, lines)
     if len(got) != len(wanted):
-        sys.exit(f"{name}: {len(got)} answers to {len(wanted)} images")
+        lib.fail(f"{name}: {len(got)} answers to {len(wanted)} images")
     for line, mine, theirs in zip(lines[-len(wanted):], wanted, got):
         if mine != theirs:
-            sys.exit(f"{name}: {line[:60]}: told {mine}, and td_keeper answers {theirs}")
+            lib.fail(f"{name}: {line[:60]}: told {mine}, and td_keeper answers {theirs}")
     return print_compared(name, wanted)
 
 
@@ -438,24 +411,21 @@ def compare_steps(name, images):
         commands += steps_to(image, before)
         before = image
     text = TOTAL.decode() + "--\n" + "\n".join(commands) + "\n"
-    done = subprocess.run([STEPS], input=text, capture_output=True, text=True)
-    answers = re.split(r"\n(?=kept |refused: )", done.stdout.removesuffix("\n"))
-    if done.returncode != 0 or len(answers) != len(images):
-        sys.exit(f"{name}: status {done.returncode}, {len(answers)} answers to {len(images)} images: {done.stderr}")
+    status, output, errors = lib.steps(text)
+    answers = re.split(r"\n(?=kept |refused: )", output.removesuffix("\n"))
+    if status != 0 or len(answers) != len(images):
+        lib.fail(f"{name}: status {status}, {len(answers)} answers to {len(images)} images: {errors}")
     for number, (mine, theirs) in enumerate(zip(wanted, answers)):
         if "\n".join(as_steps(mine)) != theirs:
-            sys.exit(f"{name}: image {number}: told {mine}, and td_keeper answers {theirs}")
+            lib.fail(f"{name}: image {number}: told {mine}, and td_keeper answers {theirs}")
     return print_compared(name, wanted)
 
 
 def library_of(folder, source):
     """A library to stand before the C library's calls, or None where no compiler is."""
-    compiler = next(filter(None, map(shutil.which, ("cc", "gcc", "clang"))), None)
-    if compiler is None:
+    library = lib.library(source, folder)
+    if library is None:
         print(f"{source}: skipped, no C compiler is here")
-        return None
-    library = folder / f"{source}.so"
-    subprocess.run([compiler, "-O2", "-shared", "-fPIC", "-o", library, ROOT / f"bench/{source}.c"], check=True)
     return library
 
 
@@ -473,7 +443,7 @@ def refuse_each(program, folder, image):
             if done.returncode != 0 or done.stdout == "memory\n":
                 refused, untouched = refused + (done.returncode == 0), 0
             elif done.stdout != wanted:
-                sys.exit(f"with allocation {number} refused: {done.stdout}")
+                lib.fail(f"with allocation {number} refused: {done.stdout}")
     print(f"allocations: {number - UNTOUCHED}, {refused} runs answered memory, no other answer")
     return number - UNTOUCHED
 
@@ -493,11 +463,11 @@ def fail_each(program, folder, image):
             said = ask_file(program, words, file, {"LD_PRELOAD": str(library), "FAILED": str(number)})
             # After a sync that failed each later call of the disk fails, and a call that comes late is one of the second answer.
             if said not in (f"device, {wanted}", "device, device", f"{wanted}, device"):
-                sys.exit(f"{words} with call {number} failed: {said}")
+                lib.fail(f"{words} with call {number} failed: {said}")
             failed, final = failed + said.startswith("device"), final + (said == "device, device")
             found = ask_file(program, "recover", file, {})
             if words == "recover" and found != f"{after}, {after}" or said == f"device, {wanted}" and found != f"{after}, {after}":
-                sys.exit(f"{words} with call {number} failed: the disk tells {found}")
+                lib.fail(f"{words} with call {number} failed: the disk tells {found}")
     print(f"calls on a file: {failed} failed in turn, each answered device; the disk that came back was of use but for {final} syncs")
     return failed
 
@@ -526,8 +496,7 @@ def compare_all(program):
 
 def compare_by_steps():
     """Compares fewer images by `engine_steps`."""
-    if not STEPS.exists():
-        sys.exit(f"{STEPS} is not there: cd crates/engine_steps && rt run")
+    lib.built(lib.STEPS)
     images = compare_steps("named", [image for _, image, _ in named_cases()])
     for version in (1, 2):
         full, _ = disks(version)
@@ -542,25 +511,25 @@ def compare_by_steps():
 def main():
     for name, image, wanted in named_cases():
         if told(image) != wanted:
-            sys.exit(f"{name}: wanted {wanted}, and this file tells {told(image)}")
+            lib.fail(f"{name}: wanted {wanted}, and this file tells {told(image)}")
     words = sys.argv[1:]
     if words == ["--steps"]:
         return compare_by_steps()
     if len(words) > 2 or words[:1] == ["--keep"] and len(words) != 2:
         sys.exit(__doc__)
-    with tempfile.TemporaryDirectory() as folder:
+    with lib.folder() as folder:
         if words[:1] == ["--keep"]:
             program = build(pathlib.Path(words[1]))
         else:
-            program = pathlib.Path(words[0]).resolve() if words else build(pathlib.Path(folder))
+            program = pathlib.Path(words[0]).resolve() if words else build(folder)
         start = time.monotonic()
         full, _ = disks(2)
         made = asked(program, ["make"])
         if made != [bytes(full.bytes).hex()]:
-            sys.exit("the keeper writes other bytes")
+            lib.fail("the keeper writes other bytes")
         images = compare_all(program)
         image = bytes(disks(2)[0].bytes)
-        refused, failed = refuse_each(program, pathlib.Path(folder), image), fail_each(program, pathlib.Path(folder), image)
+        refused, failed = refuse_each(program, folder, image), fail_each(program, folder, image)
         print(f"{images} images read alike; {refused} allocations refused and {failed} calls failed in turn; "
               f"{time.monotonic() - start:.0f} s after the build")
 

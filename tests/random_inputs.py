@@ -1,7 +1,7 @@
 #!/usr/bin/env python3
 """Compares `td batch` with a reading of docs/FORMATS.md in Python, on random inputs, most of them with a mistake in them.
 
-    bench/random_inputs.py [--every-plan] [--hall] [--feeds] [COUNT [SEED]]     needs crates/td/out/td (see the README);
+    tests/random_inputs.py [--every-plan] [--hall] [--feeds] [COUNT [SEED]]     needs crates/td/out/td (see the README);
                                                                                 by default 2000 inputs
 
 The reading shares nothing with the program. Status, output and error text must be equal; the first input at which one
@@ -15,14 +15,13 @@ raised to version 2; and after each command `td show` must tell what the reading
 fed to a fresh disk."""
 
 import collections
-import pathlib
 import random
 import re
 import subprocess
 import sys
-import tempfile
 
-TD = pathlib.Path(__file__).resolve().parent.parent / "crates/td/out/td"
+import lib
+
 HALF = 2**63
 # So many records on one edge are enough: a random loop may double them at each turn.
 ENOUGH = 500
@@ -807,7 +806,7 @@ def expect(said, text, want):
     """The script ends where a command on a disk answers otherwise."""
     got = answered(said, text)
     if got != want:
-        sys.exit(f"td {' '.join(map(str, said))}\n{text!r}\nwanted {want}\n   got {got}")
+        lib.fail(f"td {' '.join(map(str, said))}\n{text!r}\nwanted {want}\n   got {got}")
 
 
 def lines_as(lines, fault=None):
@@ -819,7 +818,7 @@ def lines_as(lines, fault=None):
 def feed_random_disk(rng, every_plan, folder, met):
     """Makes a disk, and feeds and raises it at random."""
     text, inputs, disk = random_disk(rng, every_plan)
-    plan, file = pathlib.Path(folder) / "plan", pathlib.Path(folder) / "disk"
+    plan, file = folder / "plan", folder / "disk"
     plan.write_bytes(text)
     expect(["format", file, plan, *map(str, disk.shape)], b"", lines_as([]))
     if disk.version == 1:
@@ -843,21 +842,21 @@ def feed_random_disk(rng, every_plan, folder, met):
 
 def feed_dumped(disk, plan, folder):
     """Feeds what was dumped of a disk to a fresh one of its shape."""
-    file, twin = pathlib.Path(folder) / "twin", Disk(disk.plan, disk.shape, 2)
+    file, twin = folder / "twin", Disk(disk.plan, disk.shape, 2)
     _, dumped, _ = lines_as(disk.dump())
     written, fault = twin.feed(dumped)
     expect(["format", file, plan, *map(str, disk.shape)], b"", lines_as([]))
     expect(["feed", file, plan], dumped, lines_as(written, fault))
     expect(["show", file, plan], b"", lines_as(twin.show()))
     if disk.kept == 0 and twin.show() != disk.show():
-        sys.exit(f"{dumped!r}\nof {disk.show()}\nfed {twin.show()}")
+        lib.fail(f"{dumped!r}\nof {disk.show()}\nfed {twin.show()}")
 
 
 def feed_disks(rng, every_plan, count):
     """Feeds so many disks; a plan whose answer takes long is left out."""
     met = collections.Counter()
     for _ in range(count):
-        with tempfile.TemporaryDirectory(prefix="td-feeds-") as folder:
+        with lib.folder() as folder:
             try:
                 feed_random_disk(rng, every_plan, folder, met)
             except TooLarge:
@@ -878,7 +877,7 @@ def commands(rng, hall):
 
 def answered(said, text):
     """Status, output without the lines of notifications, and error text."""
-    done = subprocess.run([TD, *said], input=text, capture_output=True)
+    done = subprocess.run([lib.TD, *said], input=text, capture_output=True)
     lines = done.stdout.splitlines(keepends=True)
     return done.returncode, b"".join(line for line in lines if not line.startswith(b"note ")), done.stderr
 
@@ -891,8 +890,7 @@ def main():
     given = [word for word in given if not word.startswith("--")]
     count = int(given[0]) if given else 2000
     rng = random.Random(given[1] if len(given) > 1 else "td")
-    if not TD.exists():
-        sys.exit(f"{TD} is not there: cd crates/td && rt run")
+    lib.built(lib.TD)
     met = collections.Counter()
     while sum(met.values()) < count:
         text = with_mistakes(rng, random_input(rng, every_plan))
@@ -903,7 +901,7 @@ def main():
         for said in commands(rng, hall):
             got = answered(said, text)
             if got != want:
-                sys.exit(f"td {' '.join(said)}\n{text!r}\nwanted {want}\n   got {got}")
+                lib.fail(f"td {' '.join(said)}\n{text!r}\nwanted {want}\n   got {got}")
         met[re.sub(r"\d+", "N", want[2].decode().strip()) or "no fault"] += 1
     print(f"{count} inputs, all answered alike:")
     for what, times in met.most_common():

@@ -1,7 +1,7 @@
 #!/usr/bin/env python3
 """Follows a stream that goes on: what `td stream --progress` writes to standard error second by second, in lines and on a terminal.
 
-    bench/progress.py       needs crates/td/out/td (see the README)
+    tests/progress.py       needs crates/td/out/td (see the README)
 
 A producer sends an epoch, and waits until it is told as done; sends another and a cut, and waits until that is told as kept; waits on,
 while nothing more may be written; and ends. Each time what is written must be words none of which falls, and no two the same: in
@@ -9,17 +9,16 @@ a pipe a line for each, and on a terminal one line, written over from its beginn
 the end. A run whose input ends at once must not wait for the second to be over."""
 
 import os
-import pathlib
 import re
 import select
 import subprocess
 import sys
-import tempfile
 import time
 import tty
 
-TD = pathlib.Path(__file__).resolve().parent.parent / "crates/td/out/td"
-PLAN = "0 input\n1 fold 40 0\n2 output 1\n"
+import lib
+
+TD = lib.built(lib.TD)
 WORDS = re.compile(r"acked (\d+) done (\d+) kept (\d+)")
 # Seconds in which words must be told, and in which nothing may be written where nothing came.
 SECONDS = 30
@@ -101,9 +100,8 @@ def short_run(folder):
 
 def main():
     for name, is_terminal in ("lines", False), ("a terminal", True):
-        with tempfile.TemporaryDirectory() as folder:
-            folder = pathlib.Path(folder)
-            (folder / "plan").write_text(PLAN)
+        with lib.folder() as folder:
+            (folder / "plan").write_text(lib.TOTAL)
             subprocess.run([TD, "format", folder / "disk", folder / "plan", "4", "8", "3"], check=True)
             try:
                 check(follow(folder, is_terminal), is_terminal)

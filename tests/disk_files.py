@@ -1,7 +1,7 @@
 #!/usr/bin/env python3
 """Looks at the files of disks: what `td copy` leaves where its new file cannot be written, whether a copy has all its room, and a pipe for a disk.
 
-    bench/disk_files.py [TD]        needs crates/td/out/td (see the README), or the program that is named, and strace; without it says so
+    tests/disk_files.py [TD]        needs crates/td/out/td (see the README), or the program that is named, and strace; without it says so
 
 - Each write and each sync of NEW of a copy fails in turn, alone, and with all that follow, as on a full device. The copy is then refused with NEW's path,
   and with the cause where a second look meets it too; NEW is not there any more, and DISK is as it was, byte for byte.
@@ -9,24 +9,16 @@
 - A pipe is no disk: each command refuses it at once, by the words for files, and it stays."""
 
 import os
-import pathlib
 import re
-import shutil
 import subprocess
-import sys
-import tempfile
 
-TD = pathlib.Path(sys.argv[1] if len(sys.argv) > 1 else pathlib.Path(__file__).resolve().parent.parent / "crates/td/out/td").resolve()
-PLAN = "0 input\n1 fold 40 0\n2 output 1\n"
+import lib
+
+TD = lib.asked_td()
 FED = "0 7 5\n.\ncut\nreq 1\n0 7 1\n0 8 2\n.\n"
 SHAPE = ("4", "64", "1000")
 SECONDS = 10
 CALLS = {"pwrite64": ("write", "ENOSPC", "no space left on device"), "fsync": ("sync", "EIO", "input/output error")}
-
-
-def is_traced():
-    """Whether there is a strace that may trace here."""
-    return bool(shutil.which("strace")) and subprocess.run(["strace", "-o", os.devnull, "true"], capture_output=True).returncode == 0
 
 
 def copy(folder, *inject):
@@ -39,7 +31,7 @@ def copy(folder, *inject):
 
 def made(folder):
     """A disk with a checkpoint and an epoch after it."""
-    (folder / "plan").write_text(PLAN)
+    (folder / "plan").write_text(lib.TOTAL)
     subprocess.run([TD, "format", folder / "disk", folder / "plan", "4", "3", "3"], check=True)
     subprocess.run([TD, "feed", folder / "disk", folder / "plan"], input=FED, text=True, stdout=subprocess.DEVNULL, check=True)
     return (folder / "disk").read_bytes()
@@ -59,7 +51,7 @@ def copy_whole(folder):
     subprocess.run([TD, "format", folder / "formatted", folder / "plan", *SHAPE], check=True)
     room, wanted_room = ((folder / name).stat().st_blocks for name in ("new", "formatted"))
     if status != 0 or min(counts.values()) < 2 or room < wanted_room:
-        sys.exit(f"a copy ended with status {status}, after {counts}, and takes {room} blocks; a formatted disk takes {wanted_room}")
+        lib.fail(f"a copy ended with status {status}, after {counts}, and takes {room} blocks; a formatted disk takes {wanted_room}")
     return counts
 
 
@@ -70,7 +62,7 @@ def fail_each(folder, image, counts):
         new.unlink(missing_ok=True)
         *found, _ = copy(folder, "-e", f"inject={call}:error={CALLS[call][1]}:when={number}{'' if is_alone else '+'}")
         if tuple(found) != wanted(folder, call, number, is_alone) or new.exists() or (folder / "disk").read_bytes() != image:
-            sys.exit(f"{call} {number} of NEW failed{' alone' if is_alone else ''}: {found}, and NEW is {'' if new.exists() else 'not '}there")
+            lib.fail(f"{call} {number} of NEW failed{' alone' if is_alone else ''}: {found}, and NEW is {'' if new.exists() else 'not '}there")
 
 
 def take_pipe(folder):
@@ -82,19 +74,16 @@ def take_pipe(folder):
                                     ("upgrade", (), (1, "td: file\n")), ("stream", (), told), ("dump", (), told), ("copy", (folder / "other", *SHAPE), told)):
         done = subprocess.run([TD, name, pipe, plan, *words], input="", capture_output=True, text=True, timeout=SECONDS)
         if (done.returncode, done.stderr) != wanted_end or done.stdout or not pipe.is_fifo() or (folder / "other").exists():
-            sys.exit(f"td {name} of a pipe for a disk: {done}")
+            lib.fail(f"td {name} of a pipe for a disk: {done}")
 
 
 def main():
-    if not TD.is_file():
-        sys.exit(f"{TD} is not there: cd crates/td && rt run")
-    with tempfile.TemporaryDirectory(prefix="td-files-") as name:
-        folder = pathlib.Path(name).resolve()
+    with lib.folder() as folder:
         image = made(folder)
         take_pipe(folder)
         print("a pipe for a disk is refused by each command")
-        if not is_traced():
-            return print("skipped: the copies of disk_files, since there is no strace that may trace here")
+        if not lib.is_traced():
+            return lib.skip("the copies of disk_files, since there is no strace that may trace here")
         counts = copy_whole(folder)
         fail_each(folder, image, counts)
     print(f"a copy whose {counts['pwrite64']} writes and {counts['fsync']} syncs of NEW fail in turn is refused with NEW's path, and NEW is gone; a copy has all its room")

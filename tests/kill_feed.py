@@ -2,7 +2,7 @@
 """Kills `td feed` on a real file at 300 random moments, and `td stream` at 300 more, and goes on each time: nothing acknowledged is
 lost, and nothing doubled.
 
-    bench/kill_feed.py [SEED]       needs crates/td/out/td (see the README)
+    tests/kill_feed.py [SEED]       needs crates/td/out/td (see the README)
 
 The file is formatted for a plan with two folds and a group. Each feed has epochs of a few records, with a cut after each fifth, so that
 the epochs up to one are put on the disk as a group; it
@@ -53,8 +53,8 @@ import tempfile
 import threading
 import time
 
-ROOT = pathlib.Path(__file__).resolve().parent.parent
-TD = ROOT / "crates/td/out/td"
+import lib
+from lib import TD, td
 
 PLAN = "0 input\n1 fold 40 0\n2 fold 41 0\n3 group 20 1 2\n4 output 1\n5 output 2\n6 output 3\n"
 SHAPE = ("4", "16", "16")
@@ -68,13 +68,6 @@ MOST_ACKS = 12
 SECONDS_OF_A_WAIT = 30
 # A kill comes at most so long after the answers that it waits for: what `measure` finds.
 seconds_after = 0.01
-
-
-def td(*words, text=""):
-    done = subprocess.run([TD, *words], input=text, capture_output=True, text=True)
-    if done.returncode != 0:
-        sys.exit(f"td {' '.join(map(str, words))}: status {done.returncode}: {done.stderr}")
-    return done.stdout.splitlines()
 
 
 def measure(folder):
@@ -163,7 +156,7 @@ def shown(disk, plan, epochs):
     counts = [line for line in lines if line.startswith("epoch ")]
     wanted = [f"epoch {number} {len(records)}" for number, records in enumerate(epochs.upto(told)[kept:], kept + 1)]
     if counts != wanted:
-        sys.exit(f"told is {counts}, and not {wanted}")
+        lib.fail(f"told is {counts}, and not {wanted}")
     return kept, told, [line for line in lines if line.startswith("state ")]
 
 
@@ -199,11 +192,11 @@ def check_feed(written, first, told, kill):
     """How many epochs a feed acknowledged; the script ends where they are not told, or others than those of the next group are."""
     acknowledged = numbers_after("ack ", written)
     if acknowledged != list(range(first, first + len(acknowledged))):
-        sys.exit(f"kill {kill}: {acknowledged} were acknowledged by a feed of the epochs from {first} on")
+        lib.fail(f"kill {kill}: {acknowledged} were acknowledged by a feed of the epochs from {first} on")
     known = first - 1 + len(acknowledged)
     lawful = lawful_ends(known) if f"cut {known}" in written else lawful_ends(known)[:1]
     if told not in lawful:
-        sys.exit(f"kill {kill}: {acknowledged} were acknowledged by a feed of the epochs from {first} on, and {told} is told: {written[-3:]}")
+        lib.fail(f"kill {kill}: {acknowledged} were acknowledged by a feed of the epochs from {first} on, and {told} is told: {written[-3:]}")
     return len(acknowledged)
 
 
@@ -234,13 +227,13 @@ def check_outputs(feeds, epochs, states):
         begin = next((at for at, number in enumerate(numbers) if number > kept), len(whole))
         lines = [line for line in written if line[0].isdigit()]
         if lines != whole[begin:begin + len(lines)]:
-            sys.exit(f"kill {kill}: with a checkpoint at {kept} a feed wrote {lines}, and not {whole[begin:begin + len(lines)]}")
+            lib.fail(f"kill {kill}: with a checkpoint at {kept} a feed wrote {lines}, and not {whole[begin:begin + len(lines)]}")
     outputs = {}
     for line in whole:
         number, *rest = map(int, line.split())
         outputs.setdefault(number, []).append(rest)
     if states != states_after(epochs, outputs):
-        sys.exit(f"the states are {states}, and not {states_after(epochs, outputs)}")
+        lib.fail(f"the states are {states}, and not {states_after(epochs, outputs)}")
 
 
 def kill_half(made, folder):
@@ -264,7 +257,7 @@ def kill_half(made, folder):
     last = told + 1
     kept, told, states = shown(disk, plan, epochs)
     if (kept, told) != (last, last) or written[-1] != f"cut {last}":
-        sys.exit(f"a feed that was let end: {kept} is kept and {told} told, and not {last}: {written}")
+        lib.fail(f"a feed that was let end: {kept} is kept and {told} told, and not {last}: {written}")
     check_outputs(feeds, epochs.upto(told), states)
     return inside, beyond, told
 
@@ -280,7 +273,7 @@ def check_again(written, first, last, known, kill):
     told = first - 1 + again
     is_told = len(answers) > again or len(answers) == last - first + 1
     if answers != wanted or len(answers) > last - first + 1 or told > lawful[-1] or (is_told and told not in lawful):
-        sys.exit(f"kill {kill}: {known} epochs were known to be on the disk, and a feed of {first} to {last} wrote {written}")
+        lib.fail(f"kill {kill}: {known} epochs were known to be on the disk, and a feed of {first} to {last} wrote {written}")
     return len(answers), told > known
 
 
@@ -318,7 +311,7 @@ def check_once(disk, once, plan, epochs, feeds, last):
     """The script ends where a disk of feeds that were killed does not tell the same as one of feeds that were not."""
     told = [td("show", file, plan) for file in (disk, once)]
     if told[0] != told[1] or told[0][:3] != [f"kept {last}", f"told {last}", f"last {request(last)}"]:
-        sys.exit(f"what was killed left {told[0]}, and what was not {told[1]}")
+        lib.fail(f"what was killed left {told[0]}, and what was not {told[1]}")
     check_outputs(feeds, epochs.upto(last), told[0][3:])
 
 
@@ -435,7 +428,7 @@ def killed_stream(disk, plan, every, pieces, wanted, made):
         run.send_signal(signal.SIGKILL)
         producer.join()
     if not have_come:
-        sys.exit(f"a producer waited {SECONDS_OF_A_WAIT} s for {wanted} lines, and got {producer.lines()}")
+        lib.fail(f"a producer waited {SECONDS_OF_A_WAIT} s for {wanted} lines, and got {producer.lines()}")
     return producer.lines(), producer.given, status
 
 
@@ -443,9 +436,9 @@ def check_stream(written, status, said, first, pieces, kept, told, was_told, kil
     """How many epochs a stream answered; the script ends where its lines are others, or where what it acknowledged or cut is not told."""
     lawful = {max(was_told, first - 2 + parts) for parts in told_after(written, said, first, pieces)}
     if status not in (None, 0) or not lawful or (status == 0 and len(written) != counts_before(said)[-1]):
-        sys.exit(f"kill {kill}: a stream of status {status} was given {first} to {pieces}, and wrote {written}, and not {said}")
+        lib.fail(f"kill {kill}: a stream of status {status} was given {first} to {pieces}, and wrote {written}, and not {said}")
     if told not in lawful or kept < max(numbers_after("cut ", written), default=0):
-        sys.exit(f"kill {kill}: the checkpoint {kept} and the last epoch {told}, and not one of {lawful}, are told after {written}")
+        lib.fail(f"kill {kill}: the checkpoint {kept} and the last epoch {told}, and not one of {lawful}, are told after {written}")
     return len([line for line in written if line.startswith(("ack ", "again "))])
 
 
@@ -486,15 +479,14 @@ def stream_all(disk, once, plan, epochs, kept, told):
         written = td("stream", file, plan, text=epochs.streamed_text(1, last) + "cut\n")
         said = said_of(epochs, 1, last, kept, told, CELLS)
         if written[-1:] != [f"cut {last}"] or told_after(written[:-1], said, 1, [last]) != {len(said)}:
-            sys.exit(f"a stream that was let end, with a checkpoint at {kept} and {told} told, wrote {written}, and not {said}, and a cut")
+            lib.fail(f"a stream that was let end, with a checkpoint at {kept} and {told} told, wrote {written}, and not {said}, and a cut")
 
 
 def main():
-    if not TD.exists():
-        sys.exit(f"{TD} is not there: cd crates/td && rt run")
+    lib.built(TD)
     seed = int(sys.argv[1]) if sys.argv[1:] else 1
     made = random.Random(seed)
-    with tempfile.TemporaryDirectory(prefix="td-kill-") as folder:
+    with lib.folder() as folder:
         pathlib.Path(f"{folder}/plan").write_text(PLAN)
         measure(folder)
         ways = [(KILLS_OF_A_HALF, "feeds", "fed on where the disk ended", kill_half(made, folder)),
@@ -502,7 +494,7 @@ def main():
                 (KILLS_OF_STREAMS, "streams", "sent again by a producer that waits for answers", kill_streams(made, folder))]
     for kills, what, way, (inside, beyond, told) in ways:
         if 2 * inside < kills:
-            sys.exit(f"{way}: {inside} of {kills} kills alone came between two epochs")
+            lib.fail(f"{way}: {inside} of {kills} kills alone came between two epochs")
         print(f"{kills} {what} killed, and {way}: {inside} of them between two epochs, and {beyond} told epochs that were "
               f"not yet acknowledged: {told} epochs, none lost and none twice (seed {seed})")
 

@@ -1,10 +1,10 @@
 #!/usr/bin/env python3
 """Asks td_reach all that there is to ask of some plans, compares the answers with a search over paths, and takes its time.
 
-    bench/could.py [PLANS [SEED]]       needs the kit; by default 20 random plans of 64 vertices beside LOOP, NEST and RING
-    bench/could.py --steps              needs crates/engine_steps/out/engine_steps (see the README)
+    tests/could.py [PLANS [SEED]]       needs the kit; by default 20 random plans of 64 vertices beside LOOP, NEST and RING
+    tests/could.py --steps              needs crates/engine_steps/out/engine_steps (see the README)
 
-It builds bench/could.rattle in a copy of the repository's crates below it, which is proved on the way. The search shares
+It builds tests/could.rattle in a copy of the repository's crates below it, which is proved on the way. The search shares
 nothing with td_reach: it goes along edges and keeps the earliest time at each place. Of each plan it compares every pair of
 places, at each time of epoch 1 whose counters are 0, 1 or 2. Last come the times: nanoseconds for the table of a plan, and
 for one answer, the mean over all pairs of places and times, ten rounds.
@@ -13,16 +13,12 @@ With `--steps` no program is built, and no time taken: `engine_steps`, which mak
 NEST, RING and 20 random plans of 16 vertices, at most a thousand pairs of each, drawn from all."""
 
 import itertools
-import pathlib
 import random
-import shutil
 import subprocess
 import sys
-import tempfile
 
-ROOT = pathlib.Path(__file__).resolve().parent.parent
-BELOW = ["td_stamp", "td_plan", "td_reach"]
-STEPS = ROOT / "crates/engine_steps/out/engine_steps"
+import lib
+
 PAIRS_BY_STEPS = 1000
 LOOP = "0 input\nloop 3\n1 enter 0\n2 feedback 3\n3 map 2 1 2\n4 leave 3\nend\n5 output 4\n"
 NEST = ("0 input\nloop 2\n1 enter 0\n2 feedback 7\n3 map 1 1 2\nloop 2\n4 enter 3\n5 feedback 6\n6 group 21 4 5\n"
@@ -156,23 +152,6 @@ class Search:
 # The program
 
 
-def build(folder):
-    """The program's path, in a repository of its own: copies of the crates and of what earlier checks kept."""
-    for crate in BELOW:
-        shutil.copytree(ROOT / "crates" / crate, folder / "crates" / crate, ignore=shutil.ignore_patterns("edit_times"))
-    source = folder / "crates/could/src"
-    source.mkdir(parents=True)
-    shutil.copy(ROOT / "bench/could.rattle", source / "main.rt")
-    lines = [line for line in (ROOT / "crates.txt").read_text().splitlines() if line.split(":")[0] in BELOW]
-    (folder / "crates.txt").write_text("\n".join([*lines, "could: td_reach td_plan td_stamp", ""]))
-    shutil.copy(ROOT / "HANDLES", folder / "HANDLES")
-    subprocess.run(["git", "init", "-q", folder], check=True)
-    done = subprocess.run(["rt", "run"], cwd=source.parent, input=LOOP, capture_output=True, text=True)
-    if done.returncode != 0:
-        sys.exit(done.stdout + done.stderr)
-    return source.parent / "out/could"
-
-
 def run(program, text, *words):
     return subprocess.run([program, *words], input=text, capture_output=True, text=True, check=True).stdout
 
@@ -182,12 +161,12 @@ def compare(program, name, text):
     got = run(program, text).splitlines()
     stamps = search.stamps()
     if len(got) != len(stamps):
-        sys.exit(f"{name}: {len(got)} lines for {len(stamps)} pointstamps\n{text}{got[:1]}")
+        lib.fail(f"{name}: {len(got)} lines for {len(stamps)} pointstamps\n{text}{got[:1]}")
     yes = 0
     for (place, time), line, wanted in zip(stamps, got, search.answers()):
         if line != wanted:
             to = next(i for i, (a, b) in enumerate(zip(line, wanted)) if a != b)
-            sys.exit(f"{name}: from {place} {time} to {stamps[to]}: td_reach {line[to]}, the search {wanted[to]}\n{text}")
+            lib.fail(f"{name}: from {place} {time} to {stamps[to]}: td_reach {line[to]}, the search {wanted[to]}\n{text}")
         yes += line.count("1")
     print(f"{name}: {len(search.vertices)} vertices, {len(search.edges)} edges, {len(stamps) ** 2} pairs, {yes} yes, no difference")
 
@@ -212,27 +191,26 @@ def compare_steps(name, text, rng):
     search = Search(text)
     pairs = drawn_pairs(rng, search.stamps())
     commands = "".join(f"could {worded(one)} to {worded(other)}\n" for one, other in pairs)
-    done = subprocess.run([STEPS], input=f"{text}--\n{commands}", capture_output=True, text=True)
-    got = done.stdout.splitlines()
-    if done.returncode != 0 or len(got) != len(pairs):
-        sys.exit(f"{name}: status {done.returncode}, {len(got)} answers to {len(pairs)} pairs: {done.stderr}\n{text}")
+    status, output, errors = lib.steps(f"{text}--\n{commands}")
+    got = output.splitlines()
+    if status != 0 or len(got) != len(pairs):
+        lib.fail(f"{name}: status {status}, {len(got)} answers to {len(pairs)} pairs: {errors}\n{text}")
     for (one, other), answer in zip(pairs, got):
         wanted = {"0": "no", "1": "yes"}[search.answers_from(one, [other])]
         if answer != wanted:
-            sys.exit(f"{name}: from {one} to {other}: td_reach {answer}, the search {wanted}\n{text}")
+            lib.fail(f"{name}: from {one} to {other}: td_reach {answer}, the search {wanted}\n{text}")
     return len(pairs), got.count("yes")
 
 
 def compare_by_steps():
-    if not STEPS.exists():
-        sys.exit(f"{STEPS} is not there: cd crates/engine_steps && rt run")
+    lib.built(lib.STEPS)
     rng = random.Random(1)
     plans = [("LOOP", LOOP), ("NEST", NEST), ("RING", RING)]
     plans += [(f"random {i}", RandomPlan(rng, 16, 32).text) for i in range(1, 21)]
     counts = [compare_steps(name, text, rng) for name, text in plans]
     asked, yes = map(sum, zip(*counts))
     if yes in (0, asked):
-        sys.exit(f"all {asked} answers are alike")
+        lib.fail(f"all {asked} answers are alike")
     print(f"{len(plans)} plans, {asked} pairs asked of engine_steps, {yes} yes, no difference")
 
 
@@ -243,8 +221,8 @@ def main():
     rng = random.Random(int(sys.argv[2]) if len(sys.argv) > 2 else 1)
     plans = [("LOOP", LOOP), ("NEST", NEST), ("RING", RING)]
     plans += [(f"random {i}", RandomPlan(rng, 64, 128).text) for i in range(1, count + 1)]
-    with tempfile.TemporaryDirectory() as folder:
-        program = build(pathlib.Path(folder))
+    with lib.folder() as folder:
+        program = lib.build_beside("td_reach", lib.ROOT / "tests/could.rattle", folder, given=LOOP)
         for name, text in plans:
             compare(program, name, text)
         for name, text in plans:

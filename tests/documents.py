@@ -1,0 +1,66 @@
+"""The commands of documents, run as they stand: what they print is what stands below them."""
+
+import os
+import pathlib
+import subprocess
+import tempfile
+
+from gate import shown
+from lib import ROOT
+
+# The documents whose commands are run.
+DOCUMENTS = ("README.md", "examples/README.md", "docs/TUTORIAL.md", "docs/FORMATS.md", "docs/FAULTS.md")
+# Seconds for one command.
+SECONDS_OF_A_COMMAND = 90
+
+
+def commands_in(file):
+    """The commands of a document, `$ ..` in its indented blocks, each with the lines below it in its block: what it is to print.
+    Where a command ends with `<<END`, the lines up to one `END` are of it."""
+    found, is_open, is_text = [], False, False
+    for line in file.read_text(encoding="utf-8").split("\n"):
+        if is_text:
+            found[-1] = (f"{found[-1][0]}\n{line.removeprefix('    ')}", [])
+            is_text = line != "    END"
+        elif line.startswith("    $ "):
+            found.append((line[6:], []))
+            is_open, is_text = True, line.endswith("<<END")
+        elif line.startswith("    ") and is_open:
+            found[-1][1].append(line[4:])
+        else:
+            is_open = False
+    return found
+
+
+def printed_by(command, program, folder, seconds):
+    """What a command prints, with a program as `td`."""
+    try:
+        done = subprocess.run(["sh", "-c", command], stdin=subprocess.DEVNULL, stdout=subprocess.PIPE,
+                              stderr=subprocess.STDOUT, cwd=folder, timeout=seconds,
+                              env={"PATH": f"{program.parent}:{os.defpath}", "LANG": "C.UTF-8"})
+    except subprocess.TimeoutExpired:
+        return "nothing more within its time"
+    return done.stdout.decode(errors="replace")
+
+
+def run_document(tally, file, programs):
+    """Runs the commands of a document one after another, with each build of the program as `td` in a folder of its own with the examples
+    in it, and compares what they print."""
+    commands, wrong = commands_in(file), set()
+    for program in programs:
+        with tempfile.TemporaryDirectory(prefix="td-document-") as folder:
+            (pathlib.Path(folder) / "examples").symlink_to(ROOT / "examples")
+            for number, (command, lines) in enumerate(commands):
+                wanted = "".join(f"{line}\n" for line in lines)
+                printed = printed_by(command, program, folder, tally.seconds(SECONDS_OF_A_COMMAND))
+                if printed != wanted and number not in wrong:
+                    wrong.add(number)
+                    tally.fail(f"{file.relative_to(ROOT)}: {command}", f"built {program.parent.name}: it prints {shown(printed)}, and not {shown(wanted)}")
+    well = len(commands) - len(wrong)
+    tally.passed += well
+    print(f"check: {file.relative_to(ROOT)}: {well} of {len(commands)} commands as they should be", flush=True)
+
+
+def run_documents(tally, programs):
+    for name in DOCUMENTS:
+        run_document(tally, ROOT / name, programs)

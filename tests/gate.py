@@ -1,0 +1,89 @@
+"""What the parts of ./check share: what was counted, the builds of a program, and a script's run."""
+
+import os
+import pathlib
+import re
+import shutil
+import subprocess
+import sys
+import time
+
+from lib import ROOT
+
+# The programs that rows may name.
+PROGRAMS = ("td", "engine_steps")
+# Seconds for all that comes after `rt ci`.
+SECONDS = 1200
+
+
+class Tally:
+    """What passed, what failed and what was skipped."""
+
+    def __init__(self):
+        self.passed = 0
+        self.failed = 0
+        self.skipped = 0
+        self.deadline = time.monotonic() + SECONDS
+
+    def start_clock(self):
+        """From here on counts the time for all that comes after `rt ci`."""
+        self.deadline = time.monotonic() + SECONDS
+
+    def fail(self, what, why):
+        self.failed += 1
+        print(f"check: FAILED: {what}: {why}", flush=True)
+
+    def skip(self, what, why):
+        self.skipped += 1
+        print(f"check: skipped: {what}: {why}", flush=True)
+
+    def seconds(self, most):
+        """So many, or what is left of them all."""
+        return max(0.1, min(most, self.deadline - time.monotonic()))
+
+
+def program_of(name):
+    """Where a program of the repository is built."""
+    return ROOT / "crates" / name / "out" / name
+
+
+def copies_of_builds(folder, name):
+    """The builds of a program, LLVM's and, where it is of the same run, that of Rattle's own compiler: a copy of each, of its name."""
+    build = program_of(name)
+    other = build.with_name(f"{name}.by-rattle")
+    builds = {"by LLVM": build}
+    if other.is_file() and other.stat().st_mtime >= build.stat().st_mtime:
+        builds["by Rattle's own compiler"] = other
+    copies = []
+    for way, file in builds.items():
+        place = pathlib.Path(folder) / way
+        place.mkdir(exist_ok=True)
+        copies.append(pathlib.Path(shutil.copy(file, place / name)))
+    return copies
+
+
+def run_script(tally, name, *words):
+    """Runs a script of tests/: its status says whether it passed, and a line `skipped: ..` what this machine lacks."""
+    try:
+        done = subprocess.run([sys.executable, "-B", ROOT / name, *words], stdin=subprocess.DEVNULL, stdout=subprocess.PIPE,
+                              stderr=subprocess.STDOUT, timeout=tally.seconds(SECONDS))
+    except subprocess.TimeoutExpired:
+        return tally.fail(name, "it did not end in time")
+    said = done.stdout.decode(errors="replace").strip()
+    lacks = re.search(r"(?m)^skipped: (.*)", said)
+    if done.returncode != 0:
+        return tally.fail(name, f"status {done.returncode}: {said[-2000:]}")
+    if lacks:
+        return tally.skip(name, lacks[1])
+    tally.passed += 1
+    print("\n".join(f"check: {name}: {line}" for line in said.splitlines() or ["passed"]), flush=True)
+
+
+def shown(value):
+    """A value as a line of the gate shows it."""
+    text = repr(value.decode(errors="backslashreplace")) if isinstance(value, bytes) else str(value)
+    return text if len(text) < 1000 else f"{text[:1000]}.."
+
+
+def processors():
+    return len(os.sched_getaffinity(0))

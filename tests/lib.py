@@ -1,0 +1,112 @@
+"""What the scripts of tests/ and bench/ share: places, the programs, how a script ends, temporary folders, and programs that are built beside a crate."""
+
+import contextlib
+import os
+import pathlib
+import shutil
+import subprocess
+import sys
+import tempfile
+
+ROOT = pathlib.Path(__file__).resolve().parent.parent
+TD = ROOT / "crates/td/out/td"
+STEPS = ROOT / "crates/engine_steps/out/engine_steps"
+# A file system in memory, if there is one: no device is waited for.
+MEMORY = "/dev/shm"
+# A running total of each key.
+TOTAL = "0 input\n1 fold 40 0\n2 output 1\n"
+
+
+def fail(why):
+    """Ends the script with status 1: something is not as it must be."""
+    sys.exit(str(why))
+
+
+def skip(why):
+    """Says what this machine lacks: ./check counts it, and it is no failure."""
+    print(f"skipped: {why}")
+
+
+# The programs
+
+
+def built(program):
+    """The path of a program; the script ends where it is not built."""
+    if not program.is_file():
+        fail(f"{program} is not there: cd {program.parent.parent} && rt run")
+    return program
+
+
+def asked_td():
+    """The program that the script's first word names, or `td` as it was built."""
+    return built(pathlib.Path(sys.argv[1]).resolve() if sys.argv[1:] else TD)
+
+
+def td(*words, text=""):
+    """The lines that `td` prints; the script ends where it is refused."""
+    done = subprocess.run([TD, *words], input=text, capture_output=True, text=True)
+    if done.returncode != 0:
+        fail(f"td {' '.join(map(str, words))}: status {done.returncode}: {done.stderr}")
+    return done.stdout.splitlines()
+
+
+def steps(text):
+    """Status, output and error text of `engine_steps` for a plan and commands."""
+    done = subprocess.run([STEPS], input=text, capture_output=True, text=True)
+    return done.returncode, done.stdout, done.stderr
+
+
+def is_traced():
+    """Whether there is a strace that may trace here."""
+    return bool(shutil.which("strace")) and subprocess.run(["strace", "-o", os.devnull, "true"], capture_output=True).returncode == 0
+
+
+# Folders, and programs that are built
+
+
+@contextlib.contextmanager
+def folder(in_memory=False, within=None):
+    """A folder that is there for a while: in memory, where there is a file system of that kind, or in another folder."""
+    with tempfile.TemporaryDirectory(prefix="td-", dir=MEMORY if in_memory and os.access(MEMORY, os.W_OK) else within) as name:
+        yield pathlib.Path(name).resolve()
+
+
+def compiled(source, program, *words):
+    """The program that a C compiler makes of a file; None where there is no compiler."""
+    compiler = next(filter(None, map(shutil.which, ("cc", "gcc", "clang"))), None)
+    if compiler is None:
+        return None
+    subprocess.run([compiler, "-O2", *words, "-o", program, source], check=True)
+    return program
+
+
+def library(name, place):
+    """The library that tests/NAME.c makes, to stand before the C library's calls; None where there is no compiler."""
+    return compiled(ROOT / f"tests/{name}.c", place / f"{name}.so", "-shared", "-fPIC")
+
+
+def libraries_of(crate):
+    """The libraries that a crate uses, by its line in crates.txt, and the lines of those of this repository, with its own."""
+    lines = {line.split(":")[0].split()[0]: line for line in (ROOT / "crates.txt").read_text().splitlines() if ":" in line and line[0] != "#"}
+    used = lines[crate].split(":")[1].split()
+    return used, [line for name, line in lines.items() if name == crate or name in used]
+
+
+def build_beside(crate, source, place, name=None, more=(), parts=(), given=""):
+    """Builds a file as the program of a crate, of its name or another, beside copies of a crate and of those below it with what earlier checks kept:
+    they are proved on the way. More libraries, further parts (paths in the crate, and texts) and its input may be given. Answers the program's path."""
+    name = name or source.stem
+    used, lines = libraries_of(crate)
+    for below in (line.split(":")[0].split()[0] for line in lines):
+        shutil.copytree(ROOT / "crates" / below, place / "crates" / below, ignore=shutil.ignore_patterns("edit_times"))
+    own = place / "crates" / name
+    for part, text in (("src/main.rt", source.read_text()), *parts):
+        (own / part).parent.mkdir(parents=True, exist_ok=True)
+        (own / part).write_text(text)
+    (place / "crates.txt").write_text("\n".join([*lines, f"{name}: {' '.join([crate, *used, *more])}", ""]))
+    shutil.copy(ROOT / "HANDLES", place / "HANDLES")
+    subprocess.run(["git", "init", "-q", place], check=True)
+    done = subprocess.run(["rt", "run"], cwd=own, input=given, capture_output=True, text=True)
+    if done.returncode != 0:
+        fail(done.stdout + done.stderr)
+    return own / "out" / name

@@ -1,0 +1,133 @@
+"""Everything proved, by `rt ci` on a copy of the repository without the must-fail edits, and these tried over what it proves."""
+
+import concurrent.futures
+import os
+import pathlib
+import re
+import shutil
+import subprocess
+import sys
+import tempfile
+import threading
+
+import edits
+from gate import processors
+from lib import ROOT
+
+
+def is_left_out(folder, names):
+    """What a copy for `rt ci` leaves out: it would try the must-fail edits one by one."""
+    place = pathlib.Path(folder).relative_to(ROOT).parts
+    left_out = {".git"} if not place else {"must-fail", "out"} if place[:1] == ("crates",) and len(place) == 2 else set()
+    return left_out & set(names)
+
+
+def prove(tally):
+    """Runs `rt ci` on a copy of the repository, tries the must-fail edits over what it proves, and takes over the programs that it builds, those of tests too."""
+    with tempfile.TemporaryDirectory(prefix="td-proof-") as folder:
+        copy = pathlib.Path(folder) / "repository"
+        shutil.copytree(ROOT, copy, ignore=is_left_out)
+        trials = Trials(copy)
+        for name in trials.crates:
+            for file in set((ROOT / "crates" / name).glob("must-fail/*")) - set(edits_of(name)):
+                if file.suffix != ".md":
+                    tally.fail(f"must-fail {name}/{file.name}", "an edit is a file whose name ends in .edit")
+        if run_rt_ci(tally, copy, trials):
+            for name in trials.crates:
+                trials.begin(name)
+        trials.end(tally)
+        for build in copy.glob("crates/*/out/*"):
+            if build.is_file() and os.access(build, os.X_OK):
+                folder = ROOT / build.parent.relative_to(copy)
+                folder.mkdir(exist_ok=True)
+                shutil.copy2(build, folder)
+
+
+def run_rt_ci(tally, top, trials):
+    """Runs `rt ci`, hands on what it says, has the edits of each crate tried once it is proved, counts what its last line counts, and
+    answers whether it passed. It checks a crate by one process, and as many crates at once as there are processors but one: processes that
+    share a crate's proof each load its libraries, which takes a third more of processor time."""
+    last = ""
+    lanes = str(max(1, processors() - 1))
+    try:
+        with subprocess.Popen(["rt", "ci"], cwd=top, stdin=subprocess.DEVNULL, stdout=subprocess.PIPE,
+                              env={**os.environ, "PYTHONUNBUFFERED": "1", "RT_JOBS": lanes}) as run:
+            for line in run.stdout:
+                sys.stdout.buffer.write(line)
+                sys.stdout.buffer.flush()
+                last = line.decode(errors="replace").strip() or last
+                if proved := re.fullmatch(r"rt: (\w+) (?:proved|is kept: .*)", last):
+                    trials.begin(proved[1])
+    except OSError as error:
+        tally.fail("rt ci", error)
+        return False
+    counted = re.fullmatch(r"(\d+) passed, (\d+) failed", last)
+    if counted is None:
+        tally.fail("rt ci", f"it ended with status {run.returncode}, and its last line counts nothing")
+        return False
+    tally.passed += int(counted[1])
+    tally.failed += int(counted[2])
+    if run.returncode != 0 and int(counted[2]) == 0:
+        tally.fail("rt ci", f"it ended with status {run.returncode}")
+    return run.returncode == 0
+
+
+def edits_of(name):
+    """The must-fail edits of a crate."""
+    return sorted((ROOT / "crates" / name / "must-fail").glob("*.edit"))
+
+
+class Trials:
+    """The must-fail edits of the crates of a tree, tried two crates at once, and once `rt ci` has ended as many as there are processors."""
+
+    BESIDE = 2
+
+    def __init__(self, top):
+        self.rt = edits.load_rt()
+        self.rt.rtlib.guarded()
+        self.crates = {it.name: it for it in self.rt.rtlib.crates_below(str(top))}
+        self.processors = max(self.BESIDE, processors())
+        self.pool = concurrent.futures.ThreadPoolExecutor(self.processors)
+        self.permits = threading.Semaphore(self.BESIDE)
+        self.runs = {}
+
+    def begin(self, name):
+        """Has a crate's edits tried, where it has some and they were not begun: the libraries below it are proved."""
+        files = edits_of(name)
+        if files and name in self.crates and name not in self.runs:
+            self.runs[name] = self.pool.submit(self.tried, self.crates[name], files)
+
+    def tried(self, crate, files):
+        with self.permits:
+            return edits.try_edits(crate, files, self.rt)
+
+    def end(self, tally):
+        """Waits for all that were begun, and counts each edit."""
+        self.permits.release(max(1, self.processors - self.BESIDE))
+        for name, run in self.runs.items():
+            try:
+                answers = run.result()
+            except Exception as error:
+                tally.fail(f"must-fail {name}", f"its edits could not be tried: {error!r}")
+                continue
+            ways = [said for is_refused, said in answers.values() if is_refused]
+            tally.passed += len(ways)
+            print(f"check: must-fail {name}: {len(ways)} of {len(answers)} edits refused, {ways.count(edits.TOGETHER)} of them together", flush=True)
+            for edit, (is_refused, said) in answers.items():
+                if not is_refused:
+                    tally.fail(f"must-fail {name}/{edit}", said)
+        self.pool.shutdown()
+
+
+def try_edits_of(tally, names):
+    """Tries the must-fail edits of the named crates, over what `rt check` kept of the libraries below them."""
+    os.chdir(ROOT)
+    trials = Trials(ROOT)
+    for name in names:
+        if name not in trials.crates:
+            return tally.fail(name, "crates.txt lists no such crate")
+        for below in trials.crates[name].below():
+            if below.build_rlib(["--jobs", "1"], anew=False):
+                return tally.fail(name, f"{below.name}, below it, is not proved")
+        trials.begin(name)
+    trials.end(tally)
