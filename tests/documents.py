@@ -2,6 +2,7 @@
 
 import os
 import pathlib
+import signal
 import subprocess
 import tempfile
 
@@ -33,14 +34,15 @@ def commands_in(file):
 
 
 def printed_by(command, program, folder, seconds):
-    """What a command prints, with a program as `td`."""
+    """What a command prints, with a program as `td`. One that does not end in time is ended, with all that it started."""
+    run = subprocess.Popen(["sh", "-c", command], stdin=subprocess.DEVNULL, stdout=subprocess.PIPE, stderr=subprocess.STDOUT, cwd=folder,
+                           env={"PATH": f"{program.parent}:{os.defpath}", "LANG": "C.UTF-8"}, start_new_session=True)
     try:
-        done = subprocess.run(["sh", "-c", command], stdin=subprocess.DEVNULL, stdout=subprocess.PIPE,
-                              stderr=subprocess.STDOUT, cwd=folder, timeout=seconds,
-                              env={"PATH": f"{program.parent}:{os.defpath}", "LANG": "C.UTF-8"})
+        return run.communicate(timeout=seconds)[0].decode(errors="replace")
     except subprocess.TimeoutExpired:
+        os.killpg(run.pid, signal.SIGKILL)
+        run.communicate()
         return "nothing more within its time"
-    return done.stdout.decode(errors="replace")
 
 
 def run_document(tally, file, programs):
