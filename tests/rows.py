@@ -12,6 +12,8 @@ from lib import ROOT
 
 # Seconds for one row.
 SECONDS_OF_A_ROW = 20
+# A longer output is shown with the line in which it differs.
+LINES_SHOWN = 10
 # So many outputs may be right for one command, where lines of it say `either .. or ..`.
 MOST_OUTPUTS = 64
 
@@ -359,8 +361,23 @@ def run_command(programs, command, folder, seconds):
     for what, each in wanted.items():
         if given[what] not in each:
             words = b" ".join([command.program.encode(), *command.words]).decode(errors="backslashreplace")
-            return f"the {what} of {words} is {shown(given[what])}, and not {' or '.join(map(shown, each))}"
+            return f"the {what} of {words} {first_difference(given[what], each) if what == 'output' else ''}is {shown(given[what])}, and not {' or '.join(map(shown, each))}"
     return None
+
+
+def first_difference(given, each):
+    """Where a long output differs from the one of these that it is like for the most lines: in which line, and by what."""
+    lines, others = given.split(b"\n"), [text.split(b"\n") for text in each]
+    if len(lines) <= LINES_SHOWN:
+        return ""
+    at, other = max((alike(lines, other), other) for other in others)
+    here, there = (it[at].decode(errors="backslashreplace") if at < len(it) - 1 else "its end" for it in (lines, other))
+    return f"differs first in line {at + 1}, which is {here!r} and not {there!r}; it "
+
+
+def alike(lines, others):
+    """How many lines two texts begin with alike."""
+    return next((at for at, (one, other) in enumerate(zip(lines, others)) if one != other), min(len(lines), len(others)) - 1)
 
 
 def run_rows(tally, name, rows, programs):
