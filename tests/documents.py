@@ -2,11 +2,9 @@
 
 import os
 import pathlib
-import signal
-import subprocess
 import tempfile
 
-from gate import shown
+from gate import said_by, shown
 from lib import ROOT
 
 # The documents whose commands are run.
@@ -34,15 +32,9 @@ def commands_in(file):
 
 
 def printed_by(command, program, folder, seconds):
-    """What a command prints, with a program as `td`. One that does not end in time is ended, with all that it started."""
-    run = subprocess.Popen(["sh", "-c", command], stdin=subprocess.DEVNULL, stdout=subprocess.PIPE, stderr=subprocess.STDOUT, cwd=folder,
-                           env={"PATH": f"{program.parent}:{os.defpath}", "LANG": "C.UTF-8"}, start_new_session=True)
-    try:
-        return run.communicate(timeout=seconds)[0].decode(errors="replace")
-    except subprocess.TimeoutExpired:
-        os.killpg(run.pid, signal.SIGKILL)
-        run.communicate()
-        return "nothing more within its time"
+    """What a command prints, with a program as `td`."""
+    done = said_by(["sh", "-c", command], seconds, cwd=folder, env={"PATH": f"{program.parent}:{os.defpath}", "LANG": "C.UTF-8"})
+    return "nothing more within its time" if done is None else done[1]
 
 
 def run_document(tally, file, programs):

@@ -4,6 +4,7 @@ import os
 import pathlib
 import re
 import shutil
+import signal
 import subprocess
 import sys
 import time
@@ -62,17 +63,29 @@ def copies_of_builds(folder, name):
     return copies
 
 
+def said_by(words, seconds, **more):
+    """Status and output of a command, the error text in it; None where it does not end in time. It is ended then, with all that it started."""
+    run = subprocess.Popen(words, stdin=subprocess.DEVNULL, stdout=subprocess.PIPE, stderr=subprocess.STDOUT, start_new_session=True, **more)
+    try:
+        said, _ = run.communicate(timeout=seconds)
+        return run.returncode, said.decode(errors="replace")
+    except BaseException as error:
+        os.killpg(run.pid, signal.SIGKILL)
+        run.communicate()
+        if isinstance(error, subprocess.TimeoutExpired):
+            return None
+        raise
+
+
 def run_script(tally, name, *words):
     """Runs a script of tests/: its status says whether it passed, and a line `skipped: ..` what this machine lacks."""
-    try:
-        done = subprocess.run([sys.executable, "-B", ROOT / name, *words], stdin=subprocess.DEVNULL, stdout=subprocess.PIPE,
-                              stderr=subprocess.STDOUT, timeout=tally.seconds(SECONDS))
-    except subprocess.TimeoutExpired:
+    done = said_by([sys.executable, "-B", ROOT / name, *words], tally.seconds(SECONDS))
+    if done is None:
         return tally.fail(name, "it did not end in time")
-    said = done.stdout.decode(errors="replace").strip()
+    status, said = done[0], done[1].strip()
     lacks = re.search(r"(?m)^skipped: (.*)", said)
-    if done.returncode != 0:
-        return tally.fail(name, f"status {done.returncode}: {said[-2000:]}")
+    if status != 0:
+        return tally.fail(name, f"status {status}: {said[-2000:]}")
     if lacks:
         return tally.skip(name, lacks[1])
     tally.passed += 1
