@@ -13,7 +13,8 @@ behind a function, as `Plan::read` (`ok`), are clauses of its contract, or defin
 import collections
 import re
 
-ROOT = pathlib.Path(__file__).resolve().parent.parent
+from lib import ROOT, fail
+
 PAGES = [ROOT / "README.md", ROOT / "CHANGELOG.md", *sorted(ROOT.glob("docs/*.md")), *sorted(ROOT.glob("*/README.md"))]
 WALKS = {"docs/CLOSURES.md": "example_closures", "docs/SERVICE.md": "example_service"}
 # A drawing in a page begins so.

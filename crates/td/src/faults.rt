@@ -1,4 +1,4 @@
-//! What `td help faults` prints: docs/FAULTS.md, byte for byte. `bench/faults.py` compares them, and `bench/faults.py --write` writes this
+//! What `td help faults` prints: docs/FAULTS.md, byte for byte. `tests/faults.py` compares them, and `tests/faults.py --write` writes this
 //! file anew.
 
 /// The text that explains each fault.
