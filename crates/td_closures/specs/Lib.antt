@@ -1,0 +1,10 @@
+pub mod Context
+pub mod Drafts
+pub mod Kept
+pub mod Lines
+pub mod Machine
+pub mod Phrase
+pub mod Reading
+pub mod Refusals
+pub mod Texts
+pub mod Words
