@@ -1,4 +1,5 @@
-use Rattle.std.proofs.Common.{◌≡◌, ◌==◌, eqb-true, ℕ, List, ◌++◌, refl, sym, ap, ◌∙◌, subst, inl, inr, ⊎_elim}
+use Rattle.std.proofs.Common.{◌≡◌, ◌==◌, eqb-true, true, ℕ, List, ◌++◌, refl, sym, ap, ◌∙◌, subst, inl, inr, ⊎_elim}
+use Rattle.std.specs.Prelude.{Option, IfSome, Result, Ok, Err, OnOk}
 use Rattle.td_console.specs.Refusals.{keeper_fault}
 use Rattle.std.proofs.lemmas.Option.{IfSome_then}
 use Rattle.td_plan.specs.Lines.{Line}
@@ -20,6 +21,16 @@ use Rattle.td_feed.proofs.Lines.{fed_says}
 use Rattle.std.proofs.lemmas.Result.{on_ok_weaker}
 use Rattle.td_feed.proofs.Session.{left_of, disk_same, disk_then, disk_recovered}
 use Rattle.td_feed.proofs.streaming.stream.Goals as goal
+
+-- what holds at an Ok of each thing that may be known
+ok_known : {T E A : Type 0} (P : A → Type 0) (r : Result T E) (o : Option A) → IfSome o (λ a. OnOk r (P a)) → OnOk r (IfSome o P)
+ok_known P (Ok x) o is = is
+ok_known P (Err e) o is = tt
+
+pub returns-clause-sound : goal.returns-clause-sound
+returns-clause-sound g c =
+    let known = g.I.Source.remaining c.args.reader in
+    ok_known (λ (input : List ℕ). (script_of c.args.plan.now input).is_sound ≡ true) c.obey-keeper.result.1 known (IfSome_then known c.obey-keeper.ensures.fed (λ input fed. fed.sound))
 
 pub returns-in-Err-clause-disk : goal.returns-in-Err-clause-disk
 returns-in-Err-clause-disk g c = disk_same _ refl (λ is. lack_no_device c.in-Err.lack (ap (as_err (Unit {0})) (sym c.lack_fault.ensures.fault ∙ fault_of _ _ is)))
