@@ -105,24 +105,6 @@ def numbers_after(word, lines):
     return [int(line.removeprefix(word)) for line in lines if line.startswith(word)]
 
 
-def states_after(epochs, outputs):
-    """The lines of the states: of fold 1 the last total of a key and how many records it had, of fold 2 the greatest value of
-    the epoch in which it last sent 1, where it did not send 0 since."""
-    totals, toggled, counts = {}, {}, {}
-    for (records, _), lines in zip(epochs, outputs[1:]):
-        for key, _val in records:
-            counts[key] = counts.get(key, 0) + 1
-        for vertex, key, val in [tuple(map(int, line.split()[1:])) for line in lines]:
-            if vertex == 4:
-                totals[key] = val
-            elif vertex == 5 and val == 1:
-                toggled[key] = max(val for each, val in records if each == key)
-            elif vertex == 5:
-                del toggled[key]
-    return [f"state 1 {key} {totals[key]} {counts[key]}" for key in sorted(totals)] + [
-        f"state 2 {key} {toggled[key]} 0" for key in sorted(toggled)]
-
-
 class Feed:
     """A feed's plan, its disk's shape, its epochs and their output lines, and the states that it ends with."""
 
@@ -131,7 +113,8 @@ class Feed:
     def __init__(self, plan, shape, epochs, states=None):
         self.plan, self.shape, self.epochs = plan, shape, epochs
         self.outputs = self.made_outputs()
-        self.states = states or states_after(epochs, self.outputs)
+        self.states = states or lib.states_after(
+            (records, [tuple(map(int, line.split()[1:])) for line in lines]) for (records, _), lines in zip(epochs, self.outputs[1:]))
 
     def made_outputs(self):
         """The output lines of each epoch, by `td batch`."""

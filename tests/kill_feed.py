@@ -200,24 +200,6 @@ def check_feed(written, first, told, kill):
     return len(acknowledged)
 
 
-def states_after(epochs, outputs):
-    """The lines of the states: of fold 1 the last total of a key and how many records it had, of fold 2 the greatest value of
-    the epoch in which it last sent 1, where it did not send 0 since."""
-    totals, toggled, counts = {}, {}, {}
-    for number, records in enumerate(epochs, 1):
-        for key, _val in records:
-            counts[key] = counts.get(key, 0) + 1
-        for vertex, key, val in outputs.get(number, ()):
-            if vertex == 4:
-                totals[key] = val
-            elif vertex == 5 and val == 1:
-                toggled[key] = max(val for each, val in records if each == key)
-            elif vertex == 5:
-                del toggled[key]
-    return [f"state 1 {key} {totals[key]} {counts[key]}" for key in sorted(totals)] + [
-        f"state 2 {key} {toggled[key]} 0" for key in sorted(toggled)]
-
-
 def check_outputs(feeds, epochs, states):
     """Compares the output lines of all feeds, and the last states, with those of `td batch`."""
     text = PLAN + "--\n" + "".join(f"{line}\n" for records in epochs for line in lines_of(records))
@@ -232,8 +214,9 @@ def check_outputs(feeds, epochs, states):
     for line in whole:
         number, *rest = map(int, line.split())
         outputs.setdefault(number, []).append(rest)
-    if states != states_after(epochs, outputs):
-        lib.fail(f"the states are {states}, and not {states_after(epochs, outputs)}")
+    wanted = lib.states_after((records, outputs.get(number, ())) for number, records in enumerate(epochs, 1))
+    if states != wanted:
+        lib.fail(f"the states are {states}, and not {wanted}")
 
 
 def kill_half(made, folder):

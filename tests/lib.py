@@ -110,3 +110,21 @@ def build_beside(crate, source, place, name=None, more=(), parts=(), given=""):
     if done.returncode != 0:
         fail(done.stdout + done.stderr)
     return own / "out" / name
+
+
+def states_after(epochs):
+    """The lines of the states that the feeds' plan keeps after epochs, each its records and its outputs (vertex, key, value): of fold 1 the last total
+    of a key and how many records it had, of fold 2 the greatest value of the epoch in which it last sent 1, where it did not send 0 since."""
+    totals, toggled, counts = {}, {}, {}
+    for records, outputs in epochs:
+        for key, _val in records:
+            counts[key] = counts.get(key, 0) + 1
+        for vertex, key, val in outputs:
+            if vertex == 4:
+                totals[key] = val
+            elif vertex == 5 and val == 1:
+                toggled[key] = max(val for each, val in records if each == key)
+            elif vertex == 5:
+                del toggled[key]
+    return [f"state 1 {key} {totals[key]} {counts[key]}" for key in sorted(totals)] + [
+        f"state 2 {key} {toggled[key]} 0" for key in sorted(toggled)]
