@@ -5,7 +5,7 @@ use td_disk::{FileDisk, ReadAhead};
 use td_plan::Plan;
 
 /// Which engine is to answer: the plain evaluator, or a hall of so many shards; `Sim` takes tasks by these picks, and `Feed` works on a
-/// disk for a plan. `Stream` does so as the input comes: on a disk at this path, within these limits; and it tells standard
+/// disk for a plan. `Stream` does so as the input comes: on a disk at this path, with these options; and it tells standard
 /// error how far it has come, if it has that.
 #[derive(Drop)]
 pub(crate) enum Engine<'a> {
@@ -13,12 +13,13 @@ pub(crate) enum Engine<'a> {
     Run(u8),
     Sim(u8, Vec<u64>),
     Feed(ReadAhead<FileDisk>, Plan, u8),
-    Stream(ReadAhead<FileDisk>, &'a str, Plan, u8, Limits, Option<Stderr>),
+    Stream(ReadAhead<FileDisk>, &'a str, Plan, u8, StreamOptions, Option<Stderr>),
 }
 
-/// After how many epochs a stream cuts, and how many tasks each of its epochs may take.
+/// After how many epochs a stream cuts, how many tasks each of its epochs may take, and whether it marks them.
 #[derive(Clone, Copy, Debug, Drop)]
-pub(crate) struct Limits {
+pub(crate) struct StreamOptions {
     pub cut_every: Option<u32>,
     pub most: Option<u64>,
+    pub marks: bool,
 }

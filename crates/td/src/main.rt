@@ -19,7 +19,7 @@ use crate::catalogue::{fold_of, group_of, map_of};
 use crate::disk::{
     copy_disk, dump_disk, format_disk, open_disk, open_disk_or_tell, show_disk, upgrade_disk,
 };
-use crate::engine::{Engine, Limits};
+use crate::engine::{Engine, StreamOptions};
 use crate::faults::FAULTS;
 use crate::plan::print_plan;
 use crate::progress::stream_told;
@@ -35,7 +35,7 @@ use std::{env, io};
 use td_calls::{Calls, FoldBox, GroupBox, MapBox, StockCalls};
 use td_catalogue::{Catalogue, CatalogueCalls};
 use td_console::{Fault, StdReader, StdWriter, batch, read_picks, run, sim};
-use td_feed::feed;
+use td_feed::{Marked, feed};
 use td_stamp::{Item, Rec, State};
 use td_words::{Job, WordsError, words};
 
@@ -108,11 +108,16 @@ fn done<
             cut_every,
             most,
             progress,
+            marks,
         } => {
             let (disk, plan) = open_disk_or_tell(rt, path, plan)?;
             let told = progress.then_some(stderr);
-            let limits = Limits { cut_every, most };
-            run_engine(rt, Engine::Stream(disk, path, plan, workers, limits, told))
+            let options = StreamOptions {
+                cut_every,
+                most,
+                marks,
+            };
+            run_engine(rt, Engine::Stream(disk, path, plan, workers, options, told))
         }
         Job::Show { disk, plan } => Ok(show_disk(rt, disk, plan)?),
         Job::Dump { disk, plan } => dump_disk(rt, disk, plan),
@@ -264,18 +269,36 @@ fn answer<R: Input + Print + AllocGlobal + Threads + Wait + Sync + Send + Copy +
             );
             Ok(fed?)
         }
-        Engine::Stream(disk, path, plan, workers, limits, told) => stream_told(
-            rt,
-            disk,
-            path,
-            &plan,
-            workers,
-            limits,
-            reader,
-            &mut writer,
-            told,
-            calls,
-        ),
+        Engine::Stream(disk, path, plan, workers, options, told) => {
+            if options.marks {
+                let mut writer = Marked(writer);
+                stream_told(
+                    rt,
+                    disk,
+                    path,
+                    &plan,
+                    workers,
+                    options,
+                    reader,
+                    &mut writer,
+                    told,
+                    calls,
+                )
+            } else {
+                stream_told(
+                    rt,
+                    disk,
+                    path,
+                    &plan,
+                    workers,
+                    options,
+                    reader,
+                    &mut writer,
+                    told,
+                    calls,
+                )
+            }
+        }
     }
 }
 

@@ -1,7 +1,7 @@
 //! A stream, and beside it, where that is asked for, a thread that tells how far it has come.
 ghost use Rattle.std.specs.Prelude.{◌≡◌, ◌≤◌, [], ◌∷◌, IfOk, IfSome};
 
-use crate::engine::Limits;
+use crate::engine::StreamOptions;
 use crate::refusal::Refusal;
 use std::alloc::Global;
 use std::io::IsTerminal;
@@ -12,9 +12,9 @@ use std::thread;
 use std::thread::{Parker, Threads};
 use std::time::Duration;
 use td_catalogue::{Catalogue, CatalogueCalls};
-use td_console::{Fault, Sink, Source};
+use td_console::{Fault, Source};
 use td_disk::{FileDisk, ReadAhead};
-use td_feed::stream;
+use td_feed::{Voice, stream};
 use td_plan::Plan;
 use td_standing::KeeperError;
 use td_watch::{Reader, Watch, Writer};
@@ -59,7 +59,7 @@ struct Ending {
 /// disk in the file at `path`, with place and cause; and `Memory`, before it is called, where there is no room for a watch or no thread.
 pub(crate) fn stream_told<
     I: Source + Drop,
-    W: Sink,
+    W: Voice,
     R: Threads + Wait + AllocGlobal + Sync + Send + Copy + 'static,
 >(
     rt: &R,
@@ -67,7 +67,7 @@ pub(crate) fn stream_told<
     path: &str,
     plan: &Plan,
     workers: u8,
-    limits: Limits,
+    options: StreamOptions,
     reader: I,
     writer: &mut W,
     told: Option<Stderr>,
@@ -90,8 +90,8 @@ pub(crate) fn stream_told<
         disk,
         plan,
         workers,
-        limits.cut_every,
-        limits.most,
+        options.cut_every,
+        options.most,
         reader,
         writer,
         watch,
@@ -104,7 +104,7 @@ pub(crate) fn stream_told<
     }
     match ended {
         Ok(()) => Ok(()),
-        Err(Fault::Keeper(KeeperError::NotPassed(epoch))) if limits.most.is_some() => {
+        Err(Fault::Keeper(KeeperError::NotPassed(epoch))) if options.most.is_some() => {
             Err(Refusal::TooMuchWork(epoch))
         }
         Err(fault) => {

@@ -33,7 +33,7 @@ is_quiet Cut = true
 is_quiet (CloseFree most) = true
 is_quiet _ = false
 
-module _ {D : Type 0} (is_lawful : D → Type 0) (state : D → DiskState) (failures : D → ℕ) (answers : Answers) where
+module _ {D : Type 0} (is_lawful : D → Type 0) (state : D → DiskState) (failures : D → ℕ) (answers : Answers) (marks : Bool) where
   -- commands, and then others
   pub driven-append : (cs : List Command) (rs : List Reply) (ds : List Command) (ss : List Reply) (a b c : Keeping D) → Driven is_lawful state failures answers cs rs a b
       → Driven is_lawful state failures answers ds ss b c → Driven is_lawful state failures answers (cs ++ ds) (rs ++ ss) a c
@@ -53,32 +53,32 @@ module _ {D : Type 0} (is_lawful : D → Type 0) (state : D → DiskState) (fail
 
   -- lines of replies, one after another
   pub lines-append : (cs : List Command) (rs : List Reply) (ds : List Command) (ss : List Reply) (a b : Keeping D) → Driven is_lawful state failures answers cs rs a b
-      → lines_of (cs ++ ds) (rs ++ ss) ≡ lines_of cs rs ++ lines_of ds ss
+      → lines_of marks (cs ++ ds) (rs ++ ss) ≡ lines_of marks cs rs ++ lines_of marks ds ss
   lines-append [] [] ds ss a b is = refl
   lines-append [] (r ∷ rs) ds ss a b none = absurd none
   lines-append (x ∷ cs) [] ds ss a b none = absurd none
   lines-append (x ∷ cs) (r ∷ rs) ds ss a b first =
-      ap (λ (l : List ℕ). line_of (request_in x) r ++ l) (lines-append cs rs ds ss first.0 b first.3)
-      ∙ sym (append_assoc (line_of (request_in x) r) (lines_of cs rs) (lines_of ds ss))
+      ap (λ (l : List ℕ). line_of marks (request_in x) r ++ l) (lines-append cs rs ds ss first.0 b first.3)
+      ∙ sym (append_assoc (line_of marks (request_in x) r) (lines_of marks cs rs) (lines_of marks ds ss))
 
   -- nothing was told
-  pub says_nothing : (w : Option (List ℕ)) (k : Keeping D) → Says is_lawful state failures answers w w k k []
+  pub says_nothing : (w : Option (List ℕ)) (k : Keeping D) → Says is_lawful state failures answers marks w w k k []
   says_nothing w k = record { commands = []; replies = []; driven = refl; submitted = refl; said = Appends-nil w }
 
   -- one command was told, and its line was written
   pub says_one : (before after : Option (List ℕ)) (c : Command) (r : Reply) (old new : Keeping D) → Driven is_lawful state failures answers (c ∷ []) (r ∷ []) old new
-      → Appends before after (line_of (request_in c) r) → Says is_lawful state failures answers before after old new (submitted_in c r)
+      → Appends before after (line_of marks (request_in c) r) → Says is_lawful state failures answers marks before after old new (submitted_in c r)
   says_one before after c r old new driven said = record {
     commands = c ∷ [];
     replies = r ∷ [];
     driven = driven;
     submitted = append-nil (submitted_in c r);
-    said = subst (λ (l : List ℕ). Appends before after l) (sym (append-nil (line_of (request_in c) r))) said;
+    said = subst (λ (l : List ℕ). Appends before after l) (sym (append-nil (line_of marks (request_in c) r))) said;
   }
 
   -- one after the other
-  pub says_then : (u v w : Option (List ℕ)) (a b c : Keeping D) (x y : List AnySubmitted) → Says is_lawful state failures answers u v a b x
-      → Says is_lawful state failures answers v w b c y → Says is_lawful state failures answers u w a c (x ++ y)
+  pub says_then : (u v w : Option (List ℕ)) (a b c : Keeping D) (x y : List AnySubmitted) → Says is_lawful state failures answers marks u v a b x
+      → Says is_lawful state failures answers marks v w b c y → Says is_lawful state failures answers marks u w a c (x ++ y)
   says_then u v w a b c x y first rest = record {
     commands = first.commands ++ rest.commands;
     replies = first.replies ++ rest.replies;
@@ -86,71 +86,71 @@ module _ {D : Type 0} (is_lawful : D → Type 0) (state : D → DiskState) (fail
     submitted = submitted-append first.commands first.replies rest.commands rest.replies a b first.driven
         ∙ ap (λ (l : List AnySubmitted). l ++ submitted_by rest.commands rest.replies) first.submitted ∙ ap (λ (l : List AnySubmitted). x ++ l) rest.submitted;
     said = subst (λ (l : List ℕ). Appends u w l) (sym (lines-append first.commands first.replies rest.commands rest.replies a b first.driven))
-        (Appends-trans u v w (lines_of first.commands first.replies) (lines_of rest.commands rest.replies) first.said rest.said);
+        (Appends-trans u v w (lines_of marks first.commands first.replies) (lines_of marks rest.commands rest.replies) first.said rest.said);
   }
 
-  pub then_some : (u v w : Option (List ℕ)) (a b c : Keeping D) (x : List AnySubmitted) → Says is_lawful state failures answers u v a b x
-      → SaysSome is_lawful state failures answers v w b c → SaysSome is_lawful state failures answers u w a c
+  pub then_some : (u v w : Option (List ℕ)) (a b c : Keeping D) (x : List AnySubmitted) → Says is_lawful state failures answers marks u v a b x
+      → SaysSome is_lawful state failures answers marks v w b c → SaysSome is_lawful state failures answers marks u w a c
   then_some u v w a b c x first rest = record {
     commands = first.commands ++ rest.commands;
     replies = first.replies ++ rest.replies;
     driven = driven-append first.commands first.replies rest.commands rest.replies a b c first.driven rest.driven;
-    text = lines_of first.commands first.replies ++ rest.text;
+    text = lines_of marks first.commands first.replies ++ rest.text;
     unsaid = rest.unsaid;
-    lines = lines-append first.commands first.replies rest.commands rest.replies a b first.driven ∙ ap (λ (l : List ℕ). lines_of first.commands first.replies ++ l) rest.lines
-        ∙ sym (append_assoc (lines_of first.commands first.replies) rest.text rest.unsaid);
-    said = Appends-trans u v w (lines_of first.commands first.replies) rest.text first.said rest.said;
+    lines = lines-append first.commands first.replies rest.commands rest.replies a b first.driven ∙ ap (λ (l : List ℕ). lines_of marks first.commands first.replies ++ l) rest.lines
+        ∙ sym (append_assoc (lines_of marks first.commands first.replies) rest.text rest.unsaid);
+    said = Appends-trans u v w (lines_of marks first.commands first.replies) rest.text first.said rest.said;
   }
 
   -- all is some
-  pub some_of_all : (u v : Option (List ℕ)) (a b : Keeping D) (x : List AnySubmitted) → Says is_lawful state failures answers u v a b x → SaysSome is_lawful state failures answers u v a b
+  pub some_of_all : (u v : Option (List ℕ)) (a b : Keeping D) (x : List AnySubmitted) → Says is_lawful state failures answers marks u v a b x → SaysSome is_lawful state failures answers marks u v a b
   some_of_all u v a b x all = record {
     commands = all.commands;
     replies = all.replies;
     driven = all.driven;
-    text = lines_of all.commands all.replies;
+    text = lines_of marks all.commands all.replies;
     unsaid = [];
-    lines = sym (append-nil (lines_of all.commands all.replies));
+    lines = sym (append-nil (lines_of marks all.commands all.replies));
     said = all.said;
   }
 
   -- the last line was not written
   pub unsaid_one : (w : Option (List ℕ)) (c : Command) (r : Reply) (old new : Keeping D) → Driven is_lawful state failures answers (c ∷ []) (r ∷ []) old new
-      → SaysSome is_lawful state failures answers w w old new
-  unsaid_one w c r old new driven = record { commands = c ∷ []; replies = r ∷ []; driven = driven; text = []; unsaid = lines_of (c ∷ []) (r ∷ []); lines = refl; said = Appends-nil w }
+      → SaysSome is_lawful state failures answers marks w w old new
+  unsaid_one w c r old new driven = record { commands = c ∷ []; replies = r ∷ []; driven = driven; text = []; unsaid = lines_of marks (c ∷ []) (r ∷ []); lines = refl; said = Appends-nil w }
 
   -- a refused command writes nothing
-  pub refused_some : (w : Option (List ℕ)) (c : Command) (old new : Keeping D) → Refuses is_lawful state failures answers c old new → SaysSome is_lawful state failures answers w w old new
+  pub refused_some : (w : Option (List ℕ)) (c : Command) (old new : Keeping D) → Refuses is_lawful state failures answers c old new → SaysSome is_lawful state failures answers marks w w old new
   refused_some w c old new (inl is) = record { commands = []; replies = []; driven = is; text = []; unsaid = []; lines = refl; said = Appends-nil w }
   refused_some w c old new (inr told) = unsaid_one w c told.0 old new told.2
 
   -- AT AN ANSWER
-  pub then_by : (result : Result (Unit {0}) Fault) (u v w : Option (List ℕ)) (a b c : Keeping D) (x y : List AnySubmitted) → Says is_lawful state failures answers u v a b x
-      → SaysBy is_lawful state failures answers result v w b c y → SaysBy is_lawful state failures answers result u w a c (x ++ y)
+  pub then_by : (result : Result (Unit {0}) Fault) (u v w : Option (List ℕ)) (a b c : Keeping D) (x y : List AnySubmitted) → Says is_lawful state failures answers marks u v a b x
+      → SaysBy is_lawful state failures answers marks result v w b c y → SaysBy is_lawful state failures answers marks result u w a c (x ++ y)
   then_by (Ok done) u v w a b c x y first rest = says_then u v w a b c x y first rest
   then_by (Err fault) u v w a b c x y first rest = ⊎_elim inl (λ some. inr (then_some u v w a b c x first some)) rest
 
   pub by_ok : (result : Result (Unit {0}) Fault) (u v : Option (List ℕ)) (a b : Keeping D) (x : List AnySubmitted) → result ≡ Ok tt
-      → Says is_lawful state failures answers u v a b x → SaysBy is_lawful state failures answers result u v a b x
-  by_ok result u v a b x is says = subst (λ (r : Result (Unit {0}) Fault). SaysBy is_lawful state failures answers r u v a b x) (sym is) says
+      → Says is_lawful state failures answers marks u v a b x → SaysBy is_lawful state failures answers marks result u v a b x
+  by_ok result u v a b x is says = subst (λ (r : Result (Unit {0}) Fault). SaysBy is_lawful state failures answers marks r u v a b x) (sym is) says
 
   pub by_refusal : (result : Result (Unit {0}) Fault) (P : Fault → Type 0) (u v : Option (List ℕ)) (a b : Keeping D) (x : List AnySubmitted) → IsErrAnd result P
-      → ((f : Fault) → P f → (f ≡ Output) ⊎ SaysSome is_lawful state failures answers u v a b) → SaysBy is_lawful state failures answers result u v a b x
+      → ((f : Fault) → P f → (f ≡ Output) ⊎ SaysSome is_lawful state failures answers marks u v a b) → SaysBy is_lawful state failures answers marks result u v a b x
   by_refusal (Ok done) P u v a b x none step = absurd none
   by_refusal (Err fault) P u v a b x is step = step fault is
 
   -- the same fault is handed on
   pub handed_on : (result : Result (Unit {0}) Fault) (e : Fault) (u v w : Option (List ℕ)) (a b c : Keeping D) (x y z : List AnySubmitted) → IsErrAnd result (λ f. f ≡ e)
-      → Says is_lawful state failures answers u v a b x → SaysBy is_lawful state failures answers (Err e) v w b c y → SaysBy is_lawful state failures answers result u w a c z
+      → Says is_lawful state failures answers marks u v a b x → SaysBy is_lawful state failures answers marks (Err e) v w b c y → SaysBy is_lawful state failures answers marks result u w a c z
   handed_on (Ok done) e u v w a b c x y z none first rest = absurd none
   handed_on (Err f) e u v w a b c x y z is first rest = ⊎_elim (λ output. inl (is ∙ output)) (λ some. inr (then_some u v w a b c x first some)) rest
 
   -- a command whose reply has no line
-  pub says_silent : (w : Option (List ℕ)) (c : Command) (r : Reply) (old new : Keeping D) → Driven is_lawful state failures answers (c ∷ []) (r ∷ []) old new → line_of (request_in c) r ≡ []
-      → Says is_lawful state failures answers w w old new (submitted_in c r)
+  pub says_silent : (w : Option (List ℕ)) (c : Command) (r : Reply) (old new : Keeping D) → Driven is_lawful state failures answers (c ∷ []) (r ∷ []) old new → line_of marks (request_in c) r ≡ []
+      → Says is_lawful state failures answers marks w w old new (submitted_in c r)
   says_silent w c r old new driven none = says_one w w c r old new driven (subst (λ (l : List ℕ). Appends w w l) (sym none) (Appends-nil w))
 
-  quiet_release : (r : Reply) (old new : Keeping D) → Obeys is_lawful state failures answers Release r old new → line_of 0 r ≡ []
+  quiet_release : (r : Reply) (old new : Keeping D) → Obeys is_lawful state failures answers Release r old new → line_of marks 0 r ≡ []
   quiet_release (Submitted n) old new not_so = absurd not_so
   quiet_release (SubmittedAs n) old new not_so = absurd not_so
   quiet_release (SubmittedAll n m) old new not_so = absurd not_so
@@ -164,7 +164,7 @@ module _ {D : Type 0} (is_lawful : D → Type 0) (state : D → DiskState) (fail
   quiet_release (Written w) old new not_so = absurd not_so
   quiet_release (Refused e b) old new is = refl
 
-  quiet_settle : (r : Reply) (old new : Keeping D) → Obeys is_lawful state failures answers Settle r old new → line_of 0 r ≡ []
+  quiet_settle : (r : Reply) (old new : Keeping D) → Obeys is_lawful state failures answers Settle r old new → line_of marks 0 r ≡ []
   quiet_settle (Submitted n) old new not_so = absurd not_so
   quiet_settle (SubmittedAs n) old new not_so = absurd not_so
   quiet_settle (SubmittedAll n m) old new not_so = absurd not_so
@@ -178,7 +178,7 @@ module _ {D : Type 0} (is_lawful : D → Type 0) (state : D → DiskState) (fail
   quiet_settle (Written w) old new not_so = absurd not_so
   quiet_settle (Refused e b) old new is = refl
 
-  quiet_collect : (r : Reply) (old new : Keeping D) → Obeys is_lawful state failures answers Collect r old new → line_of 0 r ≡ []
+  quiet_collect : (r : Reply) (old new : Keeping D) → Obeys is_lawful state failures answers Collect r old new → line_of marks 0 r ≡ []
   quiet_collect (Submitted n) old new not_so = absurd not_so
   quiet_collect (SubmittedAs n) old new not_so = absurd not_so
   quiet_collect (SubmittedAll n m) old new not_so = absurd not_so
@@ -192,7 +192,7 @@ module _ {D : Type 0} (is_lawful : D → Type 0) (state : D → DiskState) (fail
   quiet_collect (Written w) old new not_so = absurd not_so
   quiet_collect (Refused e b) old new is = refl
 
-  quiet_cut : (r : Reply) (old new : Keeping D) → Obeys is_lawful state failures answers Cut r old new → line_of 0 r ≡ []
+  quiet_cut : (r : Reply) (old new : Keeping D) → Obeys is_lawful state failures answers Cut r old new → line_of marks 0 r ≡ []
   quiet_cut (Submitted n) old new not_so = absurd not_so
   quiet_cut (SubmittedAs n) old new not_so = absurd not_so
   quiet_cut (SubmittedAll n m) old new not_so = absurd not_so
@@ -206,7 +206,7 @@ module _ {D : Type 0} (is_lawful : D → Type 0) (state : D → DiskState) (fail
   quiet_cut (Written w) old new not_so = absurd not_so
   quiet_cut (Refused e b) old new is = refl
 
-  quiet_close : (most : ℕ) (r : Reply) (old new : Keeping D) → Obeys is_lawful state failures answers (CloseFree most) r old new → line_of 0 r ≡ []
+  quiet_close : (most : ℕ) (r : Reply) (old new : Keeping D) → Obeys is_lawful state failures answers (CloseFree most) r old new → line_of marks 0 r ≡ []
   quiet_close most (Submitted n) old new not_so = absurd not_so.0
   quiet_close most (SubmittedAs n) old new not_so = absurd not_so.0
   quiet_close most (SubmittedAll n m) old new not_so = absurd not_so.0
@@ -222,7 +222,7 @@ module _ {D : Type 0} (is_lawful : D → Type 0) (state : D → DiskState) (fail
 
   -- releasing, settling, collecting, cutting and closing cells write no line
   pub quietly : (w : Option (List ℕ)) (c : Command) (r : Reply) (old new : Keeping D) → is_quiet c ≡ true → Obeys is_lawful state failures answers c r old new
-      → Driven is_lawful state failures answers (c ∷ []) (r ∷ []) old new → Says is_lawful state failures answers w w old new []
+      → Driven is_lawful state failures answers (c ∷ []) (r ∷ []) old new → Says is_lawful state failures answers marks w w old new []
   quietly w Release r old new quiet is driven = says_silent w Release r old new driven (quiet_release r old new is)
   quietly w Settle r old new quiet is driven = says_silent w Settle r old new driven (quiet_settle r old new is)
   quietly w Collect r old new quiet is driven = says_silent w Collect r old new driven (quiet_collect r old new is)
@@ -236,28 +236,28 @@ module _ {D : Type 0} (is_lawful : D → Type 0) (state : D → DiskState) (fail
 
   -- the lines of one reply, where they were to be written
   pub said_by : (result : Result (Unit {0}) Fault) (w v : Option (List ℕ)) (c : Command) (r : Reply) (old new : Keeping D) (x : List AnySubmitted) (P : Type 0)
-      → Driven is_lawful state failures answers (c ∷ []) (r ∷ []) old new → submitted_in c r ≡ x → OnOk result (Appends w v (line_of (request_in c) r))
-      → IfErr result (λ f. (f ≡ Output) ⊎ ((f ≡ Memory) × P)) → (P → v ≡ w) → SaysBy is_lawful state failures answers result w v old new x
+      → Driven is_lawful state failures answers (c ∷ []) (r ∷ []) old new → submitted_in c r ≡ x → OnOk result (Appends w v (line_of marks (request_in c) r))
+      → IfErr result (λ f. (f ≡ Output) ⊎ ((f ≡ Memory) × P)) → (P → v ≡ w) → SaysBy is_lawful state failures answers marks result w v old new x
   said_by (Ok done) w v c r old new x P driven is said none same =
-      subst (λ (l : List AnySubmitted). Says is_lawful state failures answers w v old new l) is (says_one w v c r old new driven said)
+      subst (λ (l : List AnySubmitted). Says is_lawful state failures answers marks w v old new l) is (says_one w v c r old new driven said)
   said_by (Err f) w v c r old new x P driven is said why same =
-      ⊎_elim inl (λ memory. inr (subst (λ (u : Option (List ℕ)). SaysSome is_lawful state failures answers w u old new) (sym (same memory.1)) (unsaid_one w c r old new driven))) why
+      ⊎_elim inl (λ memory. inr (subst (λ (u : Option (List ℕ)). SaysSome is_lawful state failures answers marks w u old new) (sym (same memory.1)) (unsaid_one w c r old new driven))) why
 
   -- after what was said
-  pub then_quiet : (result : Result (Unit {0}) Fault) (u v w : Option (List ℕ)) (a b c : Keeping D) (x : List AnySubmitted) → Says is_lawful state failures answers u v a b x
-      → SaysBy is_lawful state failures answers result v w b c [] → SaysBy is_lawful state failures answers result u w a c x
+  pub then_quiet : (result : Result (Unit {0}) Fault) (u v w : Option (List ℕ)) (a b c : Keeping D) (x : List AnySubmitted) → Says is_lawful state failures answers marks u v a b x
+      → SaysBy is_lawful state failures answers marks result v w b c [] → SaysBy is_lawful state failures answers marks result u w a c x
   then_quiet result u v w a b c x first rest =
-      subst (λ (l : List AnySubmitted). SaysBy is_lawful state failures answers result u w a c l) (append-nil x) (then_by result u v w a b c x [] first rest)
+      subst (λ (l : List AnySubmitted). SaysBy is_lawful state failures answers marks result u w a c l) (append-nil x) (then_by result u v w a b c x [] first rest)
 
   -- and a command that was refused
   pub then_refused : (result : Result (Unit {0}) Fault) (P : Fault → Type 0) (u v : Option (List ℕ)) (command : Command) (a b c : Keeping D) (x y : List AnySubmitted) → IsErrAnd result P
-      → Says is_lawful state failures answers u v a b x → Refuses is_lawful state failures answers command b c → SaysBy is_lawful state failures answers result u v a c y
+      → Says is_lawful state failures answers marks u v a b x → Refuses is_lawful state failures answers command b c → SaysBy is_lawful state failures answers marks result u v a c y
   then_refused result P u v command a b c x y is first refused =
       by_refusal result P u v a c y is (λ f holds. inr (then_some u v v a b c x first (refused_some v command b c refused)))
 
   -- OUTPUTS THAT ARE HELD BACK: the lines of the replies are what was written, and what is held
   pub record Holding (before after : Option (List ℕ)) (old new : Keeping D) (held : List ℕ) : Type 0 where
-    pub some : SaysSome is_lawful state failures answers before after old new
+    pub some : SaysSome is_lawful state failures answers marks before after old new
     pub held_is : some.unsaid ≡ held
     pub none : submitted_by some.commands some.replies ≡ []
 
@@ -270,7 +270,7 @@ module _ {D : Type 0} (is_lawful : D → Type 0) (state : D → DiskState) (fail
 
   -- one reply more, whose lines are held too
   pub holding_more : (u v : Option (List ℕ)) (a b c : Keeping D) (o : Option EpochOut) (held more : List ℕ) → Holding u v a b held
-      → Driven is_lawful state failures answers (NextOut ∷ []) (Out o ∷ []) b c → more ≡ held ++ line_of 0 (Out o) → Holding u v a c more
+      → Driven is_lawful state failures answers (NextOut ∷ []) (Out o ∷ []) b c → more ≡ held ++ line_of marks 0 (Out o) → Holding u v a c more
   holding_more u v a b c o held more so_far driven is =
       let s = so_far.some in
       record {
@@ -281,9 +281,9 @@ module _ {D : Type 0} (is_lawful : D → Type 0) (state : D → DiskState) (fail
           text = s.text;
           unsaid = more;
           lines = lines-append s.commands s.replies (NextOut ∷ []) (Out o ∷ []) a b s.driven
-              ∙ ap (λ (l : List ℕ). l ++ lines_of (NextOut ∷ []) (Out o ∷ [])) s.lines
-              ∙ append_assoc s.text s.unsaid (lines_of (NextOut ∷ []) (Out o ∷ []))
-              ∙ ap (λ (l : List ℕ). s.text ++ l) (ap (λ (l : List ℕ). l ++ lines_of (NextOut ∷ []) (Out o ∷ [])) so_far.held_is ∙ ap (λ (l : List ℕ). held ++ l) (append-nil (line_of 0 (Out o))) ∙ sym is);
+              ∙ ap (λ (l : List ℕ). l ++ lines_of marks (NextOut ∷ []) (Out o ∷ [])) s.lines
+              ∙ append_assoc s.text s.unsaid (lines_of marks (NextOut ∷ []) (Out o ∷ []))
+              ∙ ap (λ (l : List ℕ). s.text ++ l) (ap (λ (l : List ℕ). l ++ lines_of marks (NextOut ∷ []) (Out o ∷ [])) so_far.held_is ∙ ap (λ (l : List ℕ). held ++ l) (append-nil (line_of marks 0 (Out o))) ∙ sym is);
           said = s.said;
         };
         held_is = refl;
@@ -291,12 +291,12 @@ module _ {D : Type 0} (is_lawful : D → Type 0) (state : D → DiskState) (fail
       }
 
   -- a reply that has none
-  pub none_out : (o : Option EpochOut) → ((out : EpochOut) → o ≡ Some out → ⊥) → line_of 0 (Out o) ≡ []
+  pub none_out : (o : Option EpochOut) → ((out : EpochOut) → o ≡ Some out → ⊥) → line_of marks 0 (Out o) ≡ []
   none_out None not_some = refl
   none_out (Some out) not_some = absurd (not_some out refl)
 
   -- of a refusal
-  quiet_refused : (r : Reply) → is_refused r ≡ true → line_of 0 r ≡ []
+  quiet_refused : (r : Reply) → is_refused r ≡ true → line_of marks 0 r ≡ []
   quiet_refused (Refused e b) is = refl
   quiet_refused (RefusedAll e xs) is = refl
   quiet_refused (Submitted n) is = absurd (let no : false ≡ true = is in cc)
@@ -312,12 +312,12 @@ module _ {D : Type 0} (is_lawful : D → Type 0) (state : D → DiskState) (fail
 
   -- and a command that is refused
   pub holding_refused : (u v : Option (List ℕ)) (a b c : Keeping D) (held : List ℕ) → Holding u v a b held → Refuses is_lawful state failures answers NextOut b c
-      → SaysSome is_lawful state failures answers u v a c
-  holding_refused u v a b c held so_far (inl is) = subst (λ (k : Keeping D). SaysSome is_lawful state failures answers u v a k) (sym is) so_far.some
+      → SaysSome is_lawful state failures answers marks u v a c
+  holding_refused u v a b c held so_far (inl is) = subst (λ (k : Keeping D). SaysSome is_lawful state failures answers marks u v a k) (sym is) so_far.some
   holding_refused u v a b c held so_far (inr told) =
       let s = so_far.some in
       let r : Reply = told.0 in
-      let nothing : lines_of (NextOut ∷ []) (r ∷ []) ≡ [] = ap (λ (l : List ℕ). l ++ []) (quiet_refused r told.1) in
+      let nothing : lines_of marks (NextOut ∷ []) (r ∷ []) ≡ [] = ap (λ (l : List ℕ). l ++ []) (quiet_refused r told.1) in
       record {
         commands = s.commands ++ NextOut ∷ [];
         replies = s.replies ++ r ∷ [];
@@ -325,7 +325,7 @@ module _ {D : Type 0} (is_lawful : D → Type 0) (state : D → DiskState) (fail
         text = s.text;
         unsaid = s.unsaid;
         lines = lines-append s.commands s.replies (NextOut ∷ []) (r ∷ []) a b s.driven
-            ∙ (ap (λ (l : List ℕ). lines_of s.commands s.replies ++ l) nothing ∙ (append-nil (lines_of s.commands s.replies) ∙ s.lines));
+            ∙ (ap (λ (l : List ℕ). lines_of marks s.commands s.replies ++ l) nothing ∙ (append-nil (lines_of marks s.commands s.replies) ∙ s.lines));
         said = s.said;
       }
 
@@ -356,7 +356,7 @@ module _ {D : Type 0} (is_lawful : D → Type 0) (state : D → DiskState) (fail
       subst (λ (l : List ℕ). Holding u (contents w) a b l) (ap bytes (sym same.1)) (subst (λ x. Holding u (contents x) a b (bytes held)) (sym same.0) so_far)
 
   -- nothing is held any more
-  pub all_written : (u v : Option (List ℕ)) (a b : Keeping D) (held : List ℕ) → Holding u v a b held → held ≡ [] → Says is_lawful state failures answers u v a b []
+  pub all_written : (u v : Option (List ℕ)) (a b : Keeping D) (held : List ℕ) → Holding u v a b held → held ≡ [] → Says is_lawful state failures answers marks u v a b []
   all_written u v a b held so_far none =
       let s = so_far.some in
       record {
@@ -369,7 +369,7 @@ module _ {D : Type 0} (is_lawful : D → Type 0) (state : D → DiskState) (fail
 
   -- the last of it
   pub last_written : (result : Result (Unit {0}) Fault) (u v w : Option (List ℕ)) (a b : Keeping D) (held : List ℕ) → Holding u v a b held
-      → OnOk result (Appends v w held) → IfErr result (λ f. f ≡ Output) → SaysBy is_lawful state failures answers result u w a b []
+      → OnOk result (Appends v w held) → IfErr result (λ f. f ≡ Output) → SaysBy is_lawful state failures answers marks result u w a b []
   last_written (Ok done) u v w a b held so_far written why = all_written u w a b [] (holding_written u v w a b held [] so_far written refl) refl
   last_written (Err f) u v w a b held so_far written why = inl why
 
@@ -386,22 +386,22 @@ output_no_device (Err f) why is = absurd (let not_so = is in let other = why in 
 abbrev pub EndedAs : Result (Unit {0}) Fault → Result (Unit {0}) PoolError → Fault → Type 0
 EndedAs obeyed worked f = (obeyed ≡ Err f) ⊎ (((obeyed ≡ Ok tt) ⊎ ((e : ℕ) × (obeyed ≡ Err (Keeper (error.NotPassed e))))) × ((r : PoolError) × (worked ≡ Err r) × (f ≡ pool_fault r)))
 
-module _ {D : Type 0} (is_lawful : D → Type 0) (state : D → DiskState) (failures : D → ℕ) (answers : Answers) (u v : Option (List ℕ)) (a b : Keeping D) (x : List AnySubmitted) where
-  some_by : (obeyed : Result (Unit {0}) Fault) → SaysBy is_lawful state failures answers obeyed u v a b x → (obeyed ≡ Ok tt) ⊎ ((e : ℕ) × (obeyed ≡ Err (Keeper (error.NotPassed e))))
-      → SaysSome is_lawful state failures answers u v a b
-  some_by (Ok done) says why = some_of_all is_lawful state failures answers u v a b x says
+module _ {D : Type 0} (is_lawful : D → Type 0) (state : D → DiskState) (failures : D → ℕ) (answers : Answers) (marks : Bool) (u v : Option (List ℕ)) (a b : Keeping D) (x : List AnySubmitted) where
+  some_by : (obeyed : Result (Unit {0}) Fault) → SaysBy is_lawful state failures answers marks obeyed u v a b x → (obeyed ≡ Ok tt) ⊎ ((e : ℕ) × (obeyed ≡ Err (Keeper (error.NotPassed e))))
+      → SaysSome is_lawful state failures answers marks u v a b
+  some_by (Ok done) says why = some_of_all is_lawful state failures answers marks u v a b x says
   some_by (Err f) says why =
       ⊎_elim (λ output. ⊎_elim (λ not_so. absurd (let is = not_so in cc)) (λ unpassed. absurd (let is = unpassed.1 in let other = output in cc)) why) (λ some. some) says
 
   pub ended_says : (obeyed result : Result (Unit {0}) Fault) (worked : Result (Unit {0}) PoolError) → OnOk result ((obeyed ≡ Ok tt) × (worked ≡ Ok tt)) → IfErr result (EndedAs obeyed worked)
-      → SaysBy is_lawful state failures answers obeyed u v a b x → SaysBy is_lawful state failures answers result u v a b x
-  ended_says obeyed (Ok done) worked ok err says = subst (λ (r : Result (Unit {0}) Fault). SaysBy is_lawful state failures answers r u v a b x) ok.0 says
+      → SaysBy is_lawful state failures answers marks obeyed u v a b x → SaysBy is_lawful state failures answers marks result u v a b x
+  ended_says obeyed (Ok done) worked ok err says = subst (λ (r : Result (Unit {0}) Fault). SaysBy is_lawful state failures answers marks r u v a b x) ok.0 says
   ended_says obeyed (Err f) worked ok err says =
-      ⊎_elim (λ same. subst (λ (r : Result (Unit {0}) Fault). SaysBy is_lawful state failures answers r u v a b x) same says) (λ other. inr (some_by obeyed says other.0)) err
+      ⊎_elim (λ same. subst (λ (r : Result (Unit {0}) Fault). SaysBy is_lawful state failures answers marks r u v a b x) same says) (λ other. inr (some_by obeyed says other.0)) err
 
 -- a feed of a disk
-module _ {D : Type 0} (is_lawful : D → Type 0) (state : D → DiskState) (failures : D → ℕ) (answers : Answers) where
+module _ {D : Type 0} (is_lawful : D → Type 0) (state : D → DiskState) (failures : D → ℕ) (answers : Answers) (marks : Bool) where
   pub fed_says : (result : Result (Unit {0}) Fault) (plan : List PlanLine) (alone : Bool) (disk left : D) (before after : Option (List ℕ)) (x : List AnySubmitted)
-      → SaysFrom is_lawful state failures answers result plan alone disk left before after x → SaysFed is_lawful state failures answers result plan alone disk left before after x
+      → SaysFrom is_lawful state failures answers marks result plan alone disk left before after x → SaysFed is_lawful state failures answers marks result plan alone disk left before after x
   fed_says (Ok done) plan alone disk left before after x says = says
   fed_says (Err f) plan alone disk left before after x says = inr says

@@ -1,5 +1,5 @@
 -- Orders that were obeyed, one after another, of a script that may be known.
-use Rattle.std.proofs.Common.{◌≡◌, ℕ, zero, suc, true, false, List, [], ◌∷◌, ◌++◌, refl, sym, ap, ◌∙◌, subst, append-nil, append_assoc}
+use Rattle.std.proofs.Common.{◌≡◌, ℕ, zero, suc, Bool, true, false, List, [], ◌∷◌, ◌++◌, refl, sym, ap, ◌∙◌, subst, append-nil, append_assoc}
 use Rattle.std.specs.Prelude.{Option, Some, None, Result}
 use Rattle.std.proofs.lemmas.Option.{IfSome_then}
 use Rattle.std.specs.Option.{IfSome}
@@ -57,15 +57,15 @@ those : (asked : Asked) (orders : List Order) → IsOf asked orders → submissi
 those (One order) orders is = ap submissions is
 those (Epochs group) orders is = is
 
-module _ {D : Type 0} (is_lawful : D → Type 0) (state : D → DiskState) (failures : D → ℕ) (answers : Answers) where
+module _ {D : Type 0} (is_lawful : D → Type 0) (state : D → DiskState) (failures : D → ℕ) (answers : Answers) (marks : Bool) where
   -- THE ORDERS SO FAR were obeyed by a keeper, and its lines written
   pub record HasObeyed (all left : Option Script) (u v : Option (List ℕ)) (old new : Keeping D) : Type 0 where
     pub done : List Order
     pub known : IsPart all done left
-    pub said : Says is_lawful state failures answers u v old new (new_to old (submissions done))
+    pub said : Says is_lawful state failures answers marks u v old new (new_to old (submissions done))
     pub carried : Carries answers old new (new_to old (submissions done))
 
-  pub none_obeyed : (all : Option Script) (u v : Option (List ℕ)) (old new : Keeping D) → Says is_lawful state failures answers u v old new [] → Carries answers old new [] → HasObeyed all all u v old new
+  pub none_obeyed : (all : Option Script) (u v : Option (List ℕ)) (old new : Keeping D) → Says is_lawful state failures answers marks u v old new [] → Carries answers old new [] → HasObeyed all all u v old new
   none_obeyed all u v old new said carried = record { done = []; known = by all; said = said; carried = carried }
     where
       by : (all : Option Script) → IsPart all [] all
@@ -92,12 +92,12 @@ module _ {D : Type 0} (is_lawful : D → Type 0) (state : D → DiskState) (fail
         ap (new_to old) (submissions-append so.done orders.0 ∙ ap (λ (l : List Submitted). submissions so.done ++ l) orders.1)
         ∙ new_on answers old there (submissions so.done) more so.carried
 
-    pub some_obeyed : Says is_lawful state failures answers v w there new (new_to there more) → Carries answers there new (new_to there more) → HasObeyed all next u w old new
+    pub some_obeyed : Says is_lawful state failures answers marks v w there new (new_to there more) → Carries answers there new (new_to there more) → HasObeyed all next u w old new
     some_obeyed said carried = record {
       done = so.done ++ orders.0;
       known = orders.2;
-      said = subst (λ (x : List Submitted). Says is_lawful state failures answers u w old new x) (sym also_new)
-          (says_then is_lawful state failures answers u v w old there new (new_to old (submissions so.done)) (new_to there more) so.said said);
+      said = subst (λ (x : List Submitted). Says is_lawful state failures answers marks u w old new x) (sym also_new)
+          (says_then is_lawful state failures answers marks u v w old there new (new_to old (submissions so.done)) (new_to there more) so.said said);
       carried = subst (λ (x : List Submitted). Carries answers old new x) (sym also_new) (then_carries answers old there new (new_to old (submissions so.done)) (new_to there more) so.carried carried);
     }
 
@@ -166,11 +166,11 @@ module _ {D : Type 0} (is_lawful : D → Type 0) (state : D → DiskState) (fail
     pub at_end_left : (new : Keeping D) → Asks left next None → Carries answers there new [] → IfSome all (λ s. Leaves is_lawful state answers old new (new_to old (submissions s.orders)))
     at_end_left new asks carried = IfSome_then all (at_end_carried new asks carried) (λ s whole. leaves_all is_lawful state answers old new (new_to old (submissions s.orders)) whole)
 
-    pub at_end_said : (result : Result (Unit {0}) Fault) (w : Option (List ℕ)) (new : Keeping D) → Asks left next None → SaysBy is_lawful state failures answers result v w there new []
-        → IfSome all (λ s. SaysBy is_lawful state failures answers result u w old new (new_to old (submissions s.orders)))
+    pub at_end_said : (result : Result (Unit {0}) Fault) (w : Option (List ℕ)) (new : Keeping D) → Asks left next None → SaysBy is_lawful state failures answers marks result v w there new []
+        → IfSome all (λ s. SaysBy is_lawful state failures answers marks result u w old new (new_to old (submissions s.orders)))
     at_end_said result w new asks said =
-        IfSome_then all (all_done asks) (λ s is. subst (λ (os : List Order). SaysBy is_lawful state failures answers result u w old new (new_to old (submissions os))) (sym is)
-        (then_quiet is_lawful state failures answers result u v w old there new (new_to old (submissions so.done)) so.said said))
+        IfSome_then all (all_done asks) (λ s is. subst (λ (os : List Order). SaysBy is_lawful state failures answers marks result u w old new (new_to old (submissions os))) (sym is)
+        (then_quiet is_lawful state failures answers marks result u v w old there new (new_to old (submissions so.done)) so.said said))
 
   -- a refusal before the first order
   pub none_left : (old new : Keeping D) (more : List Submitted) → old.broken ≡ false → Leaves is_lawful state answers old new [] → Leaves is_lawful state answers old new more

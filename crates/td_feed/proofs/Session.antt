@@ -89,75 +89,75 @@ pub went_on : {D : Type 0} {answers : Answers} {a b c : Keeping D} → Carries a
 went_on {answers = answers} {a = a} {b = b} {c = c} first next = then_carries answers a b c [] [] first next
 
 -- WHAT IS FED
-module _ {D : Type 0} {is_lawful : D → Type 0} {state : D → DiskState} {failures : D → ℕ} {answers : Answers} where
-  pub fed_nothing : {w : Option (List ℕ)} {k : Keeping D} → k.broken ≡ false → Feeds is_lawful state failures answers (Ok tt) w w k k []
-  fed_nothing {w = w} {k = k} whole = record { carried = unmoved answers k k refl refl whole; left = tt; said = says_nothing is_lawful state failures answers w k }
+module _ {D : Type 0} {is_lawful : D → Type 0} {state : D → DiskState} {failures : D → ℕ} {answers : Answers} {marks : Bool} where
+  pub fed_nothing : {w : Option (List ℕ)} {k : Keeping D} → k.broken ≡ false → Feeds is_lawful state failures answers marks (Ok tt) w w k k []
+  fed_nothing {w = w} {k = k} whole = record { carried = unmoved answers k k refl refl whole; left = tt; said = says_nothing is_lawful state failures answers marks w k }
 
   -- and then nothing more
-  pub fed_then : {d : Unit {0}} {r : Result (Unit {0}) Fault} {u v w : Option (List ℕ)} {a b c : Keeping D} {x : List Submitted} → Feeds is_lawful state failures answers (Ok d) u v a b x
-      → Feeds is_lawful state failures answers r v w b c [] → Feeds is_lawful state failures answers r u w a c x
+  pub fed_then : {d : Unit {0}} {r : Result (Unit {0}) Fault} {u v w : Option (List ℕ)} {a b c : Keeping D} {x : List Submitted} → Feeds is_lawful state failures answers marks (Ok d) u v a b x
+      → Feeds is_lawful state failures answers marks r v w b c [] → Feeds is_lawful state failures answers marks r u w a c x
   fed_then {r = r} {u = u} {v = v} {w = w} {a = a} {b = b} {c = c} {x = x} first next = record {
     carried = on_ok_weaker r (λ more. carries_then is_lawful state answers a b c x first.carried more) next.carried;
     left = on_err_weaker r (λ more. leaves_then is_lawful state answers a b c x first.carried more) next.left;
-    said = then_quiet is_lawful state failures answers r u v w a b c x first.said next.said;
+    said = then_quiet is_lawful state failures answers marks r u v w a b c x first.said next.said;
   }
 
   -- nothing, and then these
-  pub fed_after : {d : Unit {0}} {r : Result (Unit {0}) Fault} {u v w : Option (List ℕ)} {a b c : Keeping D} {x : List Submitted} → Feeds is_lawful state failures answers (Ok d) u v a b []
-      → Feeds is_lawful state failures answers r v w b c x → Feeds is_lawful state failures answers r u w a c x
+  pub fed_after : {d : Unit {0}} {r : Result (Unit {0}) Fault} {u v w : Option (List ℕ)} {a b c : Keeping D} {x : List Submitted} → Feeds is_lawful state failures answers marks (Ok d) u v a b []
+      → Feeds is_lawful state failures answers marks r v w b c x → Feeds is_lawful state failures answers marks r u w a c x
   fed_after {r = r} {u = u} {v = v} {w = w} {a = a} {b = b} {c = c} {x = x} first next = record {
     carried = on_ok_weaker r (λ more. carries_after is_lawful state answers a b c x first.carried more) next.carried;
     left = on_err_weaker r (λ more. leaves_after is_lawful state answers a b c x first.carried more) next.left;
-    said = then_by is_lawful state failures answers r u v w a b c [] x first.said next.said;
+    said = then_by is_lawful state failures answers marks r u v w a b c [] x first.said next.said;
   }
 
   -- the same fault is handed on
   pub fed_handed : {e : Fault} {u v : Option (List ℕ)} {a b : Keeping D} {x : List Submitted} (r : Result (Unit {0}) Fault) → IsErrAnd r (λ f. f ≡ e)
-      → Feeds is_lawful state failures answers (Err e) u v a b x → Feeds is_lawful state failures answers r u v a b x
+      → Feeds is_lawful state failures answers marks (Err e) u v a b x → Feeds is_lawful state failures answers marks r u v a b x
   fed_handed (Ok d) none fed = absurd none
   fed_handed {u = u} {v = v} {a = a} {b = b} {x = x} (Err f) is fed =
-      subst (λ (g : Fault). Feeds is_lawful state failures answers (Err g) u v a b x) (sym is) fed
+      subst (λ (g : Fault). Feeds is_lawful state failures answers marks (Err g) u v a b x) (sym is) fed
 
   -- a command whose reply has no line was obeyed
   pub fed_quietly : {w : Option (List ℕ)} {a b : Keeping D} (command : Command) (reply : Reply) → is_quiet command ≡ true → Carries answers a b [] → IsObeyed is_lawful state failures answers command reply a b
-      → Feeds is_lawful state failures answers (Ok tt) w w a b []
+      → Feeds is_lawful state failures answers marks (Ok tt) w w a b []
   fed_quietly {w = w} {a = a} {b = b} command reply quiet carried is =
-      record { carried = carried; left = tt; said = quietly is_lawful state failures answers w command reply a b quiet is.obeyed is.driven }
+      record { carried = carried; left = tt; said = quietly is_lawful state failures answers marks w command reply a b quiet is.obeyed is.driven }
 
   -- nothing was submitted, at whatever answer
-  pub fed_quiet : {u v : Option (List ℕ)} {a b : Keeping D} (r : Result (Unit {0}) Fault) → Carries answers a b [] → SaysBy is_lawful state failures answers r u v a b []
-      → Feeds is_lawful state failures answers r u v a b []
+  pub fed_quiet : {u v : Option (List ℕ)} {a b : Keeping D} (r : Result (Unit {0}) Fault) → Carries answers a b [] → SaysBy is_lawful state failures answers marks r u v a b []
+      → Feeds is_lawful state failures answers marks r u v a b []
   fed_quiet {a = a} {b = b} r carried said = record { carried = at_ok r carried; left = at_err r (leaves_none is_lawful state answers a b [] carried); said = said }
 
   -- a command was refused
   pub fed_refused : {w : Option (List ℕ)} {a b : Keeping D} {x : List Submitted} (P : Fault → Type 0) (r : Result (Unit {0}) Fault) (command : Command) → IsErrAnd r P → new_to a (batch_in command) ≡ x
-      → IsNotObeyed is_lawful state failures answers command a b → Feeds is_lawful state failures answers r w w a b x
+      → IsNotObeyed is_lawful state failures answers command a b → Feeds is_lawful state failures answers marks r w w a b x
   fed_refused P (Ok d) command none is refused = absurd none
   fed_refused {w = w} {a = a} {b = b} P (Err f) command holds is refused = record {
     carried = tt;
     left = subst (λ (l : List Submitted). Leaves is_lawful state answers a b l) is refused.left;
-    said = inr (refused_some is_lawful state failures answers w command a b refused.refused);
+    said = inr (refused_some is_lawful state failures answers marks w command a b refused.refused);
   }
 
   -- nothing was done
-  pub unfed : {w : Option (List ℕ)} {k : Keeping D} {x : List Submitted} (f : Fault) → k.broken ≡ false → Feeds is_lawful state failures answers (Err f) w w k k x
+  pub unfed : {w : Option (List ℕ)} {k : Keeping D} {x : List Submitted} (f : Fault) → k.broken ≡ false → Feeds is_lawful state failures answers marks (Err f) w w k k x
   unfed {w = w} {k = k} {x = x} f whole = record {
     carried = tt;
     left = leaves_none is_lawful state answers k k x (unmoved answers k k refl refl whole);
-    said = inr (some_of_all is_lawful state failures answers w w k k [] (says_nothing is_lawful state failures answers w k));
+    said = inr (some_of_all is_lawful state failures answers marks w w k k [] (says_nothing is_lawful state failures answers marks w k));
   }
 
-  pub none_fed : {w : Option (List ℕ)} {k : Keeping D} {s : Script} (f : Fault) → k.broken ≡ false → FeedsScript is_lawful state failures answers (Err f) w w k k s
+  pub none_fed : {w : Option (List ℕ)} {k : Keeping D} {s : Script} (f : Fault) → k.broken ≡ false → FeedsScript is_lawful state failures answers marks (Err f) w w k k s
   none_fed f whole = record { sound = tt; fed = unfed f whole }
 
   -- what is left at any answer
-  pub left_of : {u v : Option (List ℕ)} {a b : Keeping D} {x : List Submitted} (r : Result (Unit {0}) Fault) → Feeds is_lawful state failures answers r u v a b x → Leaves is_lawful state answers a b x
+  pub left_of : {u v : Option (List ℕ)} {a b : Keeping D} {x : List Submitted} (r : Result (Unit {0}) Fault) → Feeds is_lawful state failures answers marks r u v a b x → Leaves is_lawful state answers a b x
   left_of {a = a} {b = b} {x = x} (Ok d) fed = leaves_all is_lawful state answers a b x fed.carried
   left_of (Err f) fed = fed.left
 
   -- how a feed of a script ended
   pub fed_ended : {u v : Option (List ℕ)} {a b : Keeping D} {s : Script} (obeyed r : Result (Unit {0}) Fault) (worked : Result (Unit {0}) PoolError) → OnOk r ((obeyed ≡ Ok tt) × (worked ≡ Ok tt)) → IfErr r (EndedAs obeyed worked)
-      → FeedsScript is_lawful state failures answers obeyed u v a b s → FeedsScript is_lawful state failures answers r u v a b s
+      → FeedsScript is_lawful state failures answers marks obeyed u v a b s → FeedsScript is_lawful state failures answers marks r u v a b s
   fed_ended {u = u} {v = v} {a = a} {b = b} {s = s} obeyed r worked ok err fed =
       let x : List Submitted = new_to a (submissions s.orders) in
       let same = ok_only (obeyed ≡ Ok tt) (worked ≡ Ok tt) r ok in record {
@@ -165,13 +165,13 @@ module _ {D : Type 0} {is_lawful : D → Type 0} {state : D → DiskState} {fail
         fed = record {
           carried = ended_ok (Carries answers a b x) tt obeyed r same fed.fed.carried;
           left = ended_err (Carries answers a b x) (Leaves is_lawful state answers a b x) obeyed r (λ whole. leaves_all is_lawful state answers a b x whole) fed.fed.carried fed.fed.left;
-          said = ended_says is_lawful state failures answers u v a b x obeyed r worked ok err fed.fed.said;
+          said = ended_says is_lawful state failures answers marks u v a b x obeyed r worked ok err fed.fed.said;
         };
       }
 
   -- a script was refused
   pub err_fed : {u v : Option (List ℕ)} {a b : Keeping D} {s : Script} (P : Fault → Type 0) (r : Result (Unit {0}) Fault) → IsErrAnd r P → Leaves is_lawful state answers a b (new_to a (submissions s.orders))
-      → SaysBy is_lawful state failures answers r u v a b (new_to a (submissions s.orders)) → FeedsScript is_lawful state failures answers r u v a b s
+      → SaysBy is_lawful state failures answers marks r u v a b (new_to a (submissions s.orders)) → FeedsScript is_lawful state failures answers marks r u v a b s
   err_fed P (Ok d) none left said = absurd none
   err_fed P (Err f) holds left said = record { sound = tt; fed = record { carried = tt; left = left; said = said } }
 

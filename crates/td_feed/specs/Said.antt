@@ -2,6 +2,7 @@
 use Rattle.std.specs.Prelude.{◌≡◌, ◌⊎◌, ℕ, zero, suc, ◌-◌, Bool, true, List, [], ◌∷◌, ◌++◌, codes, All, Option, Some, Result, Ok, Err, OnOk}
 use Rattle.std.specs.Fmt.{decimal}
 use Rattle.std.specs.Io.KnownBytes.{Appends}
+use Rattle.td_stamp.specs.declared.epoch_out.EpochOut.{EpochOut}
 use Rattle.td_plan.specs.Lines.{Line as PlanLine}
 use Rattle.td_calls.specs.Answers.{Answers}
 use Rattle.td_disk.specs.Disk.{DiskState}
@@ -41,26 +42,35 @@ again_line request = codes "again " ++ decimal request ++ 10 ∷ []
 abbrev pub cut_line : ℕ → List ℕ
 cut_line epoch = codes "cut " ++ decimal epoch ++ 10 ∷ []
 
+-- `done E`, the mark of an epoch whose output lines are all written
+abbrev pub done_line : ℕ → List ℕ
+done_line epoch = codes "done " ++ decimal epoch ++ 10 ∷ []
+
+-- THE LINES OF AN EPOCH that is handed out: its outputs, and its mark after them, where epochs are marked
+abbrev pub out_lines : Bool → EpochOut → List ℕ
+out_lines true out = output_text (out ∷ []) ++ done_line out.epoch
+out_lines false out = output_text (out ∷ [])
+
 -- the request number of a command, 0 for none
 abbrev pub request_in : Command → ℕ
 request_in (SubmitAs request batch) = request
 request_in _ = 0
 
 -- THE LINES OF A REPLY to a command with this request number: that an epoch is on the disk, or was there already; the outputs of
--- one that is handed out; that a cut is on the disk
-abbrev pub line_of : ℕ → Reply → List ℕ
-line_of request (Submitted epoch) = ack_line epoch
-line_of request (SubmittedAs (New epoch)) = ack_line epoch
-line_of request (SubmittedAs (Already last)) = again_line request
-line_of request (SubmittedAll first end) = ack_lines first (end - first)
-line_of request (Out (Some out)) = output_text (out ∷ [])
-line_of request (Written (Some epoch)) = cut_line epoch
-line_of request _ = []
+-- one that is handed out, and its mark where epochs are marked; that a cut is on the disk
+abbrev pub line_of : Bool → ℕ → Reply → List ℕ
+line_of marks request (Submitted epoch) = ack_line epoch
+line_of marks request (SubmittedAs (New epoch)) = ack_line epoch
+line_of marks request (SubmittedAs (Already last)) = again_line request
+line_of marks request (SubmittedAll first end) = ack_lines first (end - first)
+line_of marks request (Out (Some out)) = out_lines marks out
+line_of marks request (Written (Some epoch)) = cut_line epoch
+line_of marks request _ = []
 
 -- of replies to commands, one after another
-abbrev pub lines_of : List Command → List Reply → List ℕ
-lines_of (command ∷ commands) (reply ∷ replies) = line_of (request_in command) reply ++ lines_of commands replies
-lines_of _ _ = []
+abbrev pub lines_of : Bool → List Command → List Reply → List ℕ
+lines_of marks (command ∷ commands) (reply ∷ replies) = line_of marks (request_in command) reply ++ lines_of marks commands replies
+lines_of marks _ _ = []
 
 -- ALL OUTPUTS of a keeper's epochs were handed out
 pub record IsAllOut {D : Type 0} (k : Keeping D) : Type 0 where
@@ -73,14 +83,14 @@ fault_in (Refused error back) = keeper_fault error
 fault_in (RefusedAll (Keeper error) back) = keeper_fault error
 fault_in _ = Memory
 
-module _ {D : Type 0} (is_lawful : D → Type 0) (state : D → DiskState) (failures : D → ℕ) (answers : Answers) where
+module _ {D : Type 0} (is_lawful : D → Type 0) (state : D → DiskState) (failures : D → ℕ) (answers : Answers) (marks : Bool) where
   -- A KEEPER WAS TOLD WHAT SUBMITS THESE, and the lines of its replies were appended to what a writer holds, all of them, in order
   pub record Says (before after : Option (List ℕ)) (old new : Keeping D) (x : List AnySubmitted) : Type 0 where
     pub commands : List Command
     pub replies : List Reply
     pub driven : Driven is_lawful state failures answers commands replies old new
     pub submitted : submitted_by commands replies ≡ x
-    pub said : Appends before after (lines_of commands replies)
+    pub said : Appends before after (lines_of marks commands replies)
 
   -- or a beginning of them: no line is written before its reply
   pub record SaysSome (before after : Option (List ℕ)) (old new : Keeping D) : Type 0 where
@@ -89,7 +99,7 @@ module _ {D : Type 0} (is_lawful : D → Type 0) (state : D → DiskState) (fail
     pub driven : Driven is_lawful state failures answers commands replies old new
     pub text : List ℕ
     pub unsaid : List ℕ
-    pub lines : lines_of commands replies ≡ text ++ unsaid
+    pub lines : lines_of marks commands replies ≡ text ++ unsaid
     pub said : Appends before after text
 
   -- all of them after Ok, and a beginning at a refusal; of a writer that failed nothing is known
@@ -122,6 +132,7 @@ module _ {D : Type 0} (is_lawful : D → Type 0) (state : D → DiskState) (fail
   SaysFed (Ok done) plan alone disk left before after x = SaysFrom (Ok done) plan alone disk left before after x
   SaysFed (Err fault) plan alone disk left before after x = (after ≡ before) ⊎ SaysFrom (Err fault) plan alone disk left before after x
 
+module _ {D : Type 0} (is_lawful : D → Type 0) (state : D → DiskState) (failures : D → ℕ) (answers : Answers) where
   -- ONE COMMAND that was refused: by the keeper, or before it was told
   abbrev pub Refuses : Command → Keeping D → Keeping D → Type 0
   Refuses command old new = (new ≡ old) ⊎ ((reply : Reply) × (is_refused reply ≡ true) × Driven is_lawful state failures answers (command ∷ []) (reply ∷ []) old new)

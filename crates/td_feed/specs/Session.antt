@@ -25,17 +25,6 @@ pub record KeepsDisk {D T : Type 0} (capacity : D → ℕ) (is_lawful : D → Ty
   pub counts : CountsDevice result (Keeper Device) (failures old) (failures new)
 
 module _ {D : Type 0} (is_lawful : D → Type 0) (state : D → DiskState) (failures : D → ℕ) (answers : Answers) where
-  -- THESE ARE FED: after Ok the keeper goes on with all of them, after a refusal with some; and what was written are the lines of its replies
-  pub record Feeds (result : Result (Unit {0}) Fault) (before after : Option (List ℕ)) (old new : Keeping D) (x : List AnySubmitted) : Type 0 where
-    pub carried : OnOk result (Carries answers old new x)
-    pub left : OnErr result (Leaves is_lawful state answers old new x)
-    pub said : SaysBy is_lawful state failures answers result before after old new x
-
-  -- A SCRIPT IS FED, those of its batches that are new to the keeper; and Ok is answered only to one without a fault
-  pub record FeedsScript (result : Result (Unit {0}) Fault) (before after : Option (List ℕ)) (old new : Keeping D) (script : Script) : Type 0 where
-    pub sound : OnOk result (script.is_sound ≡ true)
-    pub fed : Feeds result before after old new (new_to old (submissions script.orders))
-
   -- ONE COMMAND WAS OBEYED: the reply is no refusal, and the keeper goes on with what it submitted
   pub record IsObeyed (command : Command) (reply : Reply) (old new : Keeping D) : Type 0 where
     pub obeyed : Obeys is_lawful state failures answers command reply old new
@@ -48,6 +37,18 @@ module _ {D : Type 0} (is_lawful : D → Type 0) (state : D → DiskState) (fail
     pub refused : Refuses is_lawful state failures answers command old new
     pub left : Leaves is_lawful state answers old new (new_to old (batch_in command))
 
+module _ {D : Type 0} (is_lawful : D → Type 0) (state : D → DiskState) (failures : D → ℕ) (answers : Answers) (marks : Bool) where
+  -- THESE ARE FED: after Ok the keeper goes on with all of them, after a refusal with some; and what was written are the lines of its replies
+  pub record Feeds (result : Result (Unit {0}) Fault) (before after : Option (List ℕ)) (old new : Keeping D) (x : List AnySubmitted) : Type 0 where
+    pub carried : OnOk result (Carries answers old new x)
+    pub left : OnErr result (Leaves is_lawful state answers old new x)
+    pub said : SaysBy is_lawful state failures answers marks result before after old new x
+
+  -- A SCRIPT IS FED, those of its batches that are new to the keeper; and Ok is answered only to one without a fault
+  pub record FeedsScript (result : Result (Unit {0}) Fault) (before after : Option (List ℕ)) (old new : Keeping D) (script : Script) : Type 0 where
+    pub sound : OnOk result (script.is_sound ≡ true)
+    pub fed : Feeds result before after old new (new_to old (submissions script.orders))
+
   -- A DISK IS FED, of an input that asks for these
   pub record FeedsDisk (result : Result (Unit {0}) Fault) (plan : List PlanLine) (alone : Bool) (disk left : D) (before after : Option (List ℕ)) (x : List AnySubmitted) : Type 0 where
     -- one that stood for a history, whatever a crash had left of it, stands after Ok for that and each of these that is new: has no
@@ -59,4 +60,4 @@ module _ {D : Type 0} (is_lawful : D → Type 0) (state : D → DiskState) (fail
         → EachTellsSome answers plan history (new_after (greatest 0 history) x) (state left)
     -- what is written are the lines of what the keeper of the disk replied, one after another: all of them after Ok, and a beginning of
     -- them at a refusal, where the writer did not fail
-    pub said : SaysFed is_lawful state failures answers result plan alone disk left before after x
+    pub said : SaysFed is_lawful state failures answers marks result plan alone disk left before after x

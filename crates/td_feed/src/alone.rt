@@ -8,10 +8,11 @@ ghost use Rattle.td_feed.specs.Session.{KeepsDisk, FeedsScript};
 use crate::asking::Asking;
 use crate::in_turn::{ended_as, obey_each};
 use crate::under_way::{Feeding, is_at_last_number};
+use crate::voice::Voice;
 use std::alloc::Global;
 use std::sync::Wait;
 use td_calls::{Closures, Law};
-use td_console::{Fault, Sink};
+use td_console::Fault;
 use td_core::HallError;
 use td_disk::Disk;
 use td_keeper::{Engine, Keeper};
@@ -21,7 +22,7 @@ use td_standing::KeeperError;
 /// Obeys orders by a hall of the keeper's own, in this thread, and settles: so nothing is locked, lent or compared. Refusals: `Epochs`,
 /// where the checkpoint's epoch is the last that there can be; those of what asks for the orders, of the keeper, of the tasks and of the
 /// writer; and `Memory`.
-pub(crate) fn obey_alone<D: Disk, S: Asking + Drop, W: Sink, L: Law, C: Closures<L>, R: Wait>(
+pub(crate) fn obey_alone<D: Disk, S: Asking + Drop, W: Voice, L: Law, C: Closures<L>, R: Wait>(
     rt: &R,
     alloc: Global,
     keeper: Keeper<D, L>,
@@ -34,7 +35,7 @@ pub(crate) fn obey_alone<D: Disk, S: Asking + Drop, W: Sink, L: Law, C: Closures
     requires fits { first_lack (C.has_map calls.now) (C.has_group calls.now) (C.has_fold calls.now) (vertices keeper.plan) ≡ None }
     requires collected { keeper.collected ≡ keeper.base }
     ensures disk { KeepsDisk D.capacity D.is_lawful D.failures result.1 keeper.device result.0.device }
-    ensures fed { IfSome (S.script orders) (λ script. FeedsScript D.is_lawful D.state D.failures L.answers result.1 (W.contents writer.old) (W.contents writer.new) keeper result.0 script) }
+    ensures fed { IfSome (S.script orders) (λ script. FeedsScript D.is_lawful D.state D.failures L.answers W.marks result.1 (W.contents writer.old) (W.contents writer.new) keeper result.0 script) }
     ensures all_out { OnOk result.1 (IsAllOut result.0) }
 {
     if is_at_last_number(&keeper) {

@@ -11,6 +11,7 @@ ghost use Rattle.td_feed.specs.Session.{KeepsDisk, Feeds, FeedsDisk};
 use crate::asking::Listed;
 use crate::order::{Order, read_orders};
 use crate::under_way::{Feeding, Pace, open};
+use crate::voice::Voice;
 use crate::workers::obey_by_workers;
 use std::alloc::Global;
 use std::collections::VecDeque;
@@ -19,7 +20,7 @@ use std::sync::Wait;
 use std::sync::ledger::Blank;
 use std::thread::Threads;
 use td_calls::{Closures, Law};
-use td_console::{Fault, Sink, Source, lack_fault, read_all};
+use td_console::{Fault, Source, lack_fault, read_all};
 use td_core::Hall;
 use td_disk::Disk;
 use td_keeper::Keeper;
@@ -40,7 +41,7 @@ use td_standing::laws;
 pub fn feed<
     D: Disk + Drop,
     I: Source,
-    W: Sink,
+    W: Voice,
     L: Law + Send + Sync,
     C: Closures<L> + Sync,
     R: Threads + Wait + Sync,
@@ -65,7 +66,7 @@ pub fn feed<
 
     // An input with a fault answers an error, with nothing written to the writer; and what it asks for is fed.
     ensures fault { IfSome (I.remaining reader.old) (λ input. IfErr (orders_of plan.now input) (λ _. IsErr result.1 × (writer.new ≡ writer.old))) }
-    ensures fed { IfSome (I.remaining reader.old) (λ input. FeedsDisk D.is_lawful D.state D.failures L.answers result.1 plan.now false disk result.0
+    ensures fed { IfSome (I.remaining reader.old) (λ input. FeedsDisk D.is_lawful D.state D.failures L.answers W.marks result.1 plan.now false disk result.0
         (W.contents writer.old) (W.contents writer.new) (submitted_by (orders_of plan.now input))) }
 {
     laws::told_in_parts();
@@ -86,7 +87,7 @@ pub fn feed<
 fn obey<
     D: Disk + Drop,
     I: Source,
-    W: Sink,
+    W: Voice,
     L: Law + Send + Sync,
     C: Closures<L> + Sync,
     R: Threads + Wait + Sync,
@@ -105,7 +106,7 @@ fn obey<
     requires whole { keeper.broken ≡ false }
     ensures disk { KeepsDisk D.capacity D.is_lawful D.failures result.1 keeper.device result.0.device }
     ensures fault { IfSome (I.remaining reader.old) (λ input. IfErr (orders_of plan.now input) (λ _. IsErr result.1 × (writer.new ≡ writer.old))) }
-    ensures fed { IfSome (I.remaining reader.old) (λ input. Feeds D.is_lawful D.state D.failures L.answers result.1 (W.contents writer.old) (W.contents writer.new) keeper result.0 (new_to keeper (submitted_by (orders_of plan.now input)))) }
+    ensures fed { IfSome (I.remaining reader.old) (λ input. Feeds D.is_lawful D.state D.failures L.answers W.marks result.1 (W.contents writer.old) (W.contents writer.new) keeper result.0 (new_to keeper (submitted_by (orders_of plan.now input)))) }
 {
     match prepared(alloc, &keeper, plan, workers, reader) {
         Ok((orders, hall)) => {

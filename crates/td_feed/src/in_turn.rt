@@ -9,10 +9,11 @@ ghost use Rattle.td_feed.specs.Session.{KeepsDisk, FeedsScript};
 use crate::asking::Asking;
 use crate::at_once::Room;
 use crate::under_way::{Feeding, open_epochs};
+use crate::voice::Voice;
 use std::alloc::Global;
 use std::sync::Wait;
 use td_calls::Law;
-use td_console::{Fault, Sink};
+use td_console::Fault;
 use td_core::HallError;
 use td_disk::Disk;
 use td_keeper::Obey;
@@ -21,7 +22,7 @@ use td_standing::KeeperError;
 
 /// Does what is asked for in turn, at the feeding's pace, and settles. Refusals: `Memory`, before anything else, where a worker was
 /// refused a thread; those of what asks for the orders, of the keeper and of the writer.
-pub(crate) fn obey_each<D: Disk, S: Asking, W: Sink, L: Law, R: Wait, E: Obey<D, L, R>>(
+pub(crate) fn obey_each<D: Disk, S: Asking, W: Voice, L: Law, R: Wait, E: Obey<D, L, R>>(
     rt: &R,
     alloc: Global,
     engine: &mut E,
@@ -32,7 +33,7 @@ pub(crate) fn obey_each<D: Disk, S: Asking, W: Sink, L: Law, R: Wait, E: Obey<D,
 ) -> Result<(), Fault>
     requires whole { (E.keeping engine.old).broken ≡ false }
     ensures disk { KeepsDisk D.capacity D.is_lawful D.failures result (E.keeping engine.old).device (E.keeping engine.new).device }
-    ensures fed { IfSome (S.script orders.old) (λ script. FeedsScript D.is_lawful D.state D.failures L.answers result (W.contents writer.old) (W.contents writer.new) (E.keeping engine.old) (E.keeping engine.new) script) }
+    ensures fed { IfSome (S.script orders.old) (λ script. FeedsScript D.is_lawful D.state D.failures L.answers W.marks result (W.contents writer.old) (W.contents writer.new) (E.keeping engine.old) (E.keeping engine.new) script) }
     ensures all_out { E.alone ≡ true → OnOk result (IsAllOut (E.keeping engine.new)) }
 {
     if is_refused {

@@ -52,8 +52,8 @@ pub fn scripts()
 /// EACH EPOCH THAT IS ACKNOWLEDGED IS TOLD. Whatever a feed or a stream came to, and whatever a crash leaves of its disk then, that tells
 /// each epoch for which an `ack` line was written, and each that the keeper acknowledged beside.
 pub fn acknowledged_is_told<D: Disk, L: Law>()
-    ensures { (result : AnyResult (Unit {0}) AnyFault) (plan : List Line) (alone : Bool) (disk left : D) (before after : Option (List ℕ)) (x : List AnySubmitted)
-        (from : SaysFrom D.is_lawful D.state D.failures L.answers result plan alone disk left before after x) → D.is_lawful disk
+    ensures { (marks : Bool) (result : AnyResult (Unit {0}) AnyFault) (plan : List Line) (alone : Bool) (disk left : D) (before after : Option (List ℕ)) (x : List AnySubmitted)
+        (from : SaysFrom D.is_lawful D.state D.failures L.answers marks result plan alone disk left before after x) → D.is_lawful disk
         → (commands : List AnyCommand) (replies : List AnyReply)
         → Driven D.is_lawful D.state D.failures L.answers commands replies (record from.keeper { watch = from.watch }) from.ended
         → (c : List ℕ) → (D.state left).images c → TellsAcknowledged plan replies c }
@@ -65,8 +65,8 @@ pub fn acknowledged_is_told<D: Disk, L: Law>()
 /// AT EACH MOMENT of a feed or a stream, in the middle of a write too, and not at its answer alone: of a disk that stood for a history, what
 /// a crash leaves tells that history and a beginning of what the keeper's commands submitted.
 pub fn moments_are_told<D: Disk, L: Law>()
-    ensures { (result : AnyResult (Unit {0}) AnyFault) (plan : List Line) (alone : Bool) (disk left : D) (before after : Option (List ℕ)) (x : List AnySubmitted)
-        (from : SaysFrom D.is_lawful D.state D.failures L.answers result plan alone disk left before after x) → D.is_lawful disk
+    ensures { (marks : Bool) (result : AnyResult (Unit {0}) AnyFault) (plan : List Line) (alone : Bool) (disk left : D) (before after : Option (List ℕ)) (x : List AnySubmitted)
+        (from : SaysFrom D.is_lawful D.state D.failures L.answers marks result plan alone disk left before after x) → D.is_lawful disk
         → (commands : List AnyCommand) (replies : List AnyReply)
         → Driven D.is_lawful D.state D.failures L.answers commands replies (record from.keeper { watch = from.watch }) from.ended
         → (history : List AnySubmitted) → EachTellsHistory L.answers plan history (D.state disk)

@@ -22,6 +22,7 @@ mod streaming;
 mod telling;
 mod under_way;
 mod upgrading;
+mod voice;
 mod workers;
 
 pub use dumping::dump;
@@ -32,3 +33,4 @@ pub use plan_text::read_plan;
 pub use showing::show;
 pub use streaming::stream;
 pub use upgrading::upgrade;
+pub use voice::{Marked, Voice};

@@ -1,25 +1,27 @@
 //! What a feed writes: the lines of its keeper's replies.
 ghost use Rattle.std.specs.Prelude.{◌≡◌, ◌⊎◌, ◌-◌, ◌++◌, string_bytes, IfOk, IfErr, OnOk};
 ghost use Rattle.std.specs.Io.KnownBytes.{Appends};
-ghost use Rattle.td_feed.specs.Said.{line_of as line_in, ack_line, ack_lines, request_in};
+ghost use Rattle.td_feed.specs.Said.{line_of as line_in, ack_line, ack_lines, out_lines, request_in};
 
+use crate::voice::Voice;
 use std::alloc::Global;
 use std::fmt::Write;
-use td_console::{Fault, Sink, print_epoch, write_answer};
+use td_console::{Fault, print_epoch, write_answer};
 use td_keeper::{Command, Receipt, Reply};
+use td_stamp::EpochOut;
 
 /// Writes the lines of a reply to a command with this request number, where it has some. Refusals: `Memory`, with nothing written,
 /// and `Output`.
-pub(crate) fn say<W: Sink>(
+pub(crate) fn say<W: Voice>(
     alloc: Global,
     request: u64,
     reply: &Reply,
     writer: &mut W,
 ) -> Result<(), Fault>
-    ensures said { OnOk result (Appends (W.contents writer.old) (W.contents writer.new) (line_in request reply.now)) }
+    ensures said { OnOk result (Appends (W.contents writer.old) (W.contents writer.new) (line_in W.marks request reply.now)) }
     ensures unsaid { IfErr result (λ f. (f ≡ Fault.Output) ⊎ ((f ≡ Fault.Memory) × (writer.new ≡ writer.old))) }
 {
-    let line = line_of(alloc, request, reply)?;
+    let line = line_of(alloc, request, reply, writer.is_marking())?;
     write_answer(writer, line.as_str())
 }
 
@@ -35,8 +37,8 @@ pub(crate) fn request_in(command: &Command) -> u64
 
 /// The lines of a reply: `ack E` where an epoch is on the disk, one for each of a group, `again Q` where one with this request number or a greater was there
 /// already, the output lines of one that is handed out, `cut E` where a cut is on the disk, and else none. Refusal: `Memory`.
-fn line_of(alloc: Global, request: u64, reply: &Reply) -> Result<String, Fault>
-    ensures ok { IfOk result (λ line. string_bytes line ≡ line_in request reply.now) }
+fn line_of(alloc: Global, request: u64, reply: &Reply, marks: bool) -> Result<String, Fault>
+    ensures ok { IfOk result (λ line. string_bytes line ≡ line_in marks request reply.now) }
     ensures err { IfErr result (λ f. f ≡ Fault.Memory) }
 {
     match reply {
@@ -48,11 +50,23 @@ fn line_of(alloc: Global, request: u64, reply: &Reply) -> Result<String, Fault>
         Reply::Written(Some(epoch)) => Ok(format!(in alloc; "cut {epoch}\n")?),
         Reply::Out(Some(out)) => {
             let mut lines = String::new(alloc);
-            print_epoch(&mut lines, out)?;
+            print_out(&mut lines, out, marks)?;
             Ok(lines)
         }
         _ => Ok(String::new(alloc)),
     }
+}
+
+/// Appends the output lines of an epoch, and `done E` after them, where epochs are marked. Refusal: `Memory`.
+pub(crate) fn print_out(lines: &mut String, out: &EpochOut, marks: bool) -> Result<(), Fault>
+    ensures ok { OnOk result (string_bytes lines.new ≡ string_bytes lines.old ++ out_lines marks out.now) }
+    ensures err { IfErr result (λ f. f ≡ Fault.Memory) }
+{
+    print_epoch(lines, out)?;
+    if marks {
+        writeln!(lines, "done {}", out.epoch)?;
+    }
+    Ok(())
 }
 
 /// `ack E` of each epoch from the first up to, and without, the end. Refusal: `Memory`.

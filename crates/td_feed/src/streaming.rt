@@ -12,6 +12,7 @@ ghost use Rattle.td_feed.specs.Session.{KeepsDisk, FeedsScript, FeedsDisk};
 use crate::alone::obey_alone;
 use crate::asking::Streamed;
 use crate::under_way::{Feeding, Pace, open};
+use crate::voice::Voice;
 use crate::workers::obey_by_workers;
 use std::alloc::Global;
 use std::marker::Brand;
@@ -19,7 +20,7 @@ use std::sync::Wait;
 use std::sync::ledger::Blank;
 use std::thread::Threads;
 use td_calls::{Closures, Law};
-use td_console::{Fault, Sink, Source, lack_fault};
+use td_console::{Fault, Source, lack_fault};
 use td_disk::Disk;
 use td_keeper::Keeper;
 use td_keeper::laws::each_is_kept;
@@ -48,7 +49,7 @@ use td_watch::Writer;
 pub fn stream<
     D: Disk + Drop,
     I: Source + Drop,
-    W: Sink,
+    W: Voice,
     L: Law + Send + Sync,
     C: Closures<L> + Sync,
     R: Threads + Wait + Sync,
@@ -77,7 +78,7 @@ pub fn stream<
 
     // Ok is answered only to an input without a fault; and what it asks for is fed, by one worker until all outputs went out.
     ensures sound { OnOk result.1 (IfSome (I.remaining reader) (λ input. (script_of plan.now input).is_sound ≡ true)) }
-    ensures fed { IfSome (I.remaining reader) (λ input. FeedsDisk D.is_lawful D.state D.failures L.answers result.1 plan.now (workers == 1) disk result.0
+    ensures fed { IfSome (I.remaining reader) (λ input. FeedsDisk D.is_lawful D.state D.failures L.answers W.marks result.1 plan.now (workers == 1) disk result.0
         (W.contents writer.old) (W.contents writer.new) (submissions (script_of plan.now input).orders)) }
 {
     laws::told_in_parts();
@@ -118,7 +119,7 @@ fn watched<D: Disk, L: Law>(keeper: Keeper<D, L>, watch: Option<Writer>) -> Keep
 fn obey<
     D: Disk + Drop,
     I: Source + Drop,
-    W: Sink,
+    W: Voice,
     L: Law + Send + Sync,
     C: Closures<L> + Sync,
     R: Threads + Wait + Sync,
@@ -140,7 +141,7 @@ fn obey<
     requires fits { first_lack (C.has_map calls.now) (C.has_group calls.now) (C.has_fold calls.now) (vertices keeper.plan) ≡ None }
     requires collected { keeper.collected ≡ keeper.base }
     ensures disk { KeepsDisk D.capacity D.is_lawful D.failures result.1 keeper.device result.0.device }
-    ensures fed { IfSome (I.remaining reader) (λ input. FeedsScript D.is_lawful D.state D.failures L.answers result.1 (W.contents writer.old) (W.contents writer.new) keeper result.0 (script_of plan.now input)) }
+    ensures fed { IfSome (I.remaining reader) (λ input. FeedsScript D.is_lawful D.state D.failures L.answers W.marks result.1 (W.contents writer.old) (W.contents writer.new) keeper result.0 (script_of plan.now input)) }
     ensures all_out { workers ≡ 1 → OnOk result.1 (IsAllOut result.0) }
 {
     let feeding = Feeding::new(

@@ -7,9 +7,10 @@ ghost use Rattle.td_feed.specs.Said.{fault_in};
 ghost use Rattle.td_feed.specs.Session.{KeepsDisk, Feeds, IsObeyed, IsNotObeyed};
 
 use crate::saying::{request_in, say};
+use crate::voice::Voice;
 use std::alloc::Global;
 use td_calls::Law;
-use td_console::{Fault, Sink};
+use td_console::Fault;
 use td_disk::Disk;
 use td_keeper::laws::others_rest;
 use td_keeper::{Command, GroupError, Obey, Reply, tell_one};
@@ -37,7 +38,7 @@ pub(crate) fn tell<D: Disk, L: Law, R, E: Obey<D, L, R>>(
 
 /// Tells a keeper at work one command, and writes the lines of its reply. Refusals: those of `tell`; `Memory`, where there was no room for
 /// the lines; and `Output`.
-pub(crate) fn tell_aloud<D: Disk, L: Law, R, E: Obey<D, L, R>, W: Sink>(
+pub(crate) fn tell_aloud<D: Disk, L: Law, R, E: Obey<D, L, R>, W: Voice>(
     rt: &R,
     alloc: Global,
     engine: &mut E,
@@ -47,7 +48,7 @@ pub(crate) fn tell_aloud<D: Disk, L: Law, R, E: Obey<D, L, R>, W: Sink>(
     requires whole { (E.keeping engine.old).broken ≡ false }
     requires rising { IsRising (E.keeping engine.old) command }
     ensures disk { KeepsDisk D.capacity D.is_lawful D.failures result (E.keeping engine.old).device (E.keeping engine.new).device }
-    ensures fed { Feeds D.is_lawful D.state D.failures L.answers result (W.contents writer.old) (W.contents writer.new) (E.keeping engine.old) (E.keeping engine.new) (new_to (E.keeping engine.old) (batch_in command)) }
+    ensures fed { Feeds D.is_lawful D.state D.failures L.answers W.marks result (W.contents writer.old) (W.contents writer.new) (E.keeping engine.old) (E.keeping engine.new) (new_to (E.keeping engine.old) (batch_in command)) }
     ensures obeyed { OnOk result ((reply : AnyReply) × Obeys D.is_lawful D.state D.failures L.answers command reply (E.keeping engine.old) (E.keeping engine.new) × (is_refused reply ≡ false)) }
 
     // Nothing is written but for a command that was obeyed.

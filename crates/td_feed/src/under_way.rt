@@ -1,5 +1,5 @@
 //! A feed under way.
-ghost use Rattle.std.specs.Prelude.{◌≡◌, ◌⊎◌, ◌↔◌, ◌+◌, ◌^◌, ◌<◌, ◌≤◌, ℕ, List, Option, Some, [], ◌∷◌, true, false, IsTrue, IfOk, IfErr, IfSome, IfNone, OnOk, string_bytes};
+ghost use Rattle.std.specs.Prelude.{◌≡◌, ◌⊎◌, ◌↔◌, ◌+◌, ◌^◌, ◌<◌, ◌≤◌, ℕ, List, Bool, Option, Some, [], ◌∷◌, true, false, IsTrue, IfOk, IfErr, IfSome, IfNone, OnOk, string_bytes};
 ghost use Rattle.std.specs.Io.KnownBytes.{Appends};
 ghost use Rattle.td_standing.specs.declared.error.KeeperError.TheVariants.{Epochs};
 ghost use Rattle.td_keeper.specs.declared.command.Command.TheVariants.{NextOut};
@@ -15,10 +15,12 @@ ghost use Rattle.td_keeper.specs.Keeping.{since_base};
 
 use crate::at_once::Asked;
 use crate::order::Order;
+use crate::saying::print_out;
 use crate::telling::{tell, tell_aloud};
+use crate::voice::Voice;
 use std::alloc::Global;
 use td_calls::Law;
-use td_console::{Fault, Sink, print_epoch, write_answer};
+use td_console::{Fault, Sink, write_answer};
 use td_core::{Hall, HallError};
 use td_disk::Disk;
 use td_journal::Submitted;
@@ -121,7 +123,7 @@ impl Feeding {
     }
 
     /// Does what is asked for. Refusals: those of the keeper and of the writer.
-    fn obey<D: Disk, L: Law, R, E: Obey<D, L, R>, W: Sink>(
+    fn obey<D: Disk, L: Law, R, E: Obey<D, L, R>, W: Voice>(
         &mut self,
         rt: &R,
         alloc: Global,
@@ -132,7 +134,7 @@ impl Feeding {
         requires whole { (E.keeping engine.old).broken ≡ false }
         requires rising { MayFollow (last_request (E.keeping engine.old).standing) (Some asked) }
         ensures disk { KeepsDisk D.capacity D.is_lawful D.failures result (E.keeping engine.old).device (E.keeping engine.new).device }
-        ensures fed { Feeds D.is_lawful D.state D.failures L.answers result (W.contents writer.old) (W.contents writer.new) (E.keeping engine.old) (E.keeping engine.new) (new_to (E.keeping engine.old) (asked_for asked)) }
+        ensures fed { Feeds D.is_lawful D.state D.failures L.answers W.marks result (W.contents writer.old) (W.contents writer.new) (E.keeping engine.old) (E.keeping engine.new) (new_to (E.keeping engine.old) (asked_for asked)) }
     {
         match asked {
             Asked::Epochs(group) => {
@@ -158,7 +160,7 @@ impl Feeding {
 
     /// Tells the keeper a command that submits batches of this weight, and writes its lines, `ack E` or `again Q`; and releases what
     /// the hall lacks, where they are new and it is time.
-    fn submit<D: Disk, L: Law, R, E: Obey<D, L, R>, W: Sink>(
+    fn submit<D: Disk, L: Law, R, E: Obey<D, L, R>, W: Voice>(
         &mut self,
         rt: &R,
         alloc: Global,
@@ -170,7 +172,7 @@ impl Feeding {
         requires whole { (E.keeping engine.old).broken ≡ false }
         requires rising { IsRising (E.keeping engine.old) command }
         ensures disk { KeepsDisk D.capacity D.is_lawful D.failures result (E.keeping engine.old).device (E.keeping engine.new).device }
-        ensures fed { Feeds D.is_lawful D.state D.failures L.answers result (W.contents writer.old) (W.contents writer.new) (E.keeping engine.old) (E.keeping engine.new) (new_to (E.keeping engine.old) (batch_in command)) }
+        ensures fed { Feeds D.is_lawful D.state D.failures L.answers W.marks result (W.contents writer.old) (W.contents writer.new) (E.keeping engine.old) (E.keeping engine.new) (new_to (E.keeping engine.old) (batch_in command)) }
 
         // Nothing is written but for a batch that is on the disk.
         ensures acknowledged { (writer.new ≡ writer.old) ⊎ Carries L.answers (E.keeping engine.old) (E.keeping engine.new) (new_to (E.keeping engine.old) (batch_in command)) }
@@ -206,7 +208,7 @@ impl Feeding {
         ensures disk { KeepsDisk D.capacity D.is_lawful D.failures result (E.keeping engine.old).device (E.keeping engine.new).device }
 
         // Nothing is written, whatever the writer is.
-        ensures fed { (held : Option (List ℕ)) → Feeds D.is_lawful D.state D.failures L.answers result held held (E.keeping engine.old) (E.keeping engine.new) [] }
+        ensures fed { (marks : Bool) (held : Option (List ℕ)) → Feeds D.is_lawful D.state D.failures L.answers marks result held held (E.keeping engine.old) (E.keeping engine.new) [] }
         ensures rests { Carries L.answers (E.keeping engine.old) (E.keeping engine.new) [] }
         ensures own { E.alone ≡ true → OnOk result ((E.hall engine.new).batches ≡ since_base (E.keeping engine.new)) }
     {
@@ -217,7 +219,7 @@ impl Feeding {
     }
 
     /// Lets all epochs pass, and writes the output lines that were not written before. What the disk has stays.
-    pub(crate) fn settle<D: Disk, L: Law, R, E: Obey<D, L, R>, W: Sink>(
+    pub(crate) fn settle<D: Disk, L: Law, R, E: Obey<D, L, R>, W: Voice>(
         &mut self,
         rt: &R,
         alloc: Global,
@@ -226,7 +228,7 @@ impl Feeding {
     ) -> Result<(), Fault>
         requires whole { (E.keeping engine.old).broken ≡ false }
         ensures disk { KeepsDisk D.capacity D.is_lawful D.failures result (E.keeping engine.old).device (E.keeping engine.new).device }
-        ensures fed { Feeds D.is_lawful D.state D.failures L.answers result (W.contents writer.old) (W.contents writer.new) (E.keeping engine.old) (E.keeping engine.new) [] }
+        ensures fed { Feeds D.is_lawful D.state D.failures L.answers W.marks result (W.contents writer.old) (W.contents writer.new) (E.keeping engine.old) (E.keeping engine.new) [] }
         ensures rests { Carries L.answers (E.keeping engine.old) (E.keeping engine.new) [] }
         ensures none_left { OnOk result ((E.keeping engine.new).queue ≡ []) }
         ensures all_out { E.alone ≡ true → OnOk result (IsAllOut (E.keeping engine.new)) }
@@ -238,7 +240,7 @@ impl Feeding {
     }
 
     /// Does what is due before the first order, at this pace: releases the epochs that the hall lacks, or writes their outputs too.
-    pub(crate) fn begin<D: Disk, L: Law, R, E: Obey<D, L, R>, W: Sink>(
+    pub(crate) fn begin<D: Disk, L: Law, R, E: Obey<D, L, R>, W: Voice>(
         &mut self,
         rt: &R,
         alloc: Global,
@@ -247,7 +249,7 @@ impl Feeding {
     ) -> Result<(), Fault>
         requires whole { (E.keeping engine.old).broken ≡ false }
         ensures disk { KeepsDisk D.capacity D.is_lawful D.failures result (E.keeping engine.old).device (E.keeping engine.new).device }
-        ensures fed { Feeds D.is_lawful D.state D.failures L.answers result (W.contents writer.old) (W.contents writer.new) (E.keeping engine.old) (E.keeping engine.new) [] }
+        ensures fed { Feeds D.is_lawful D.state D.failures L.answers W.marks result (W.contents writer.old) (W.contents writer.new) (E.keeping engine.old) (E.keeping engine.new) [] }
     {
         match self.pace {
             Pace::AtEnd => self.release(rt, engine),
@@ -256,7 +258,7 @@ impl Feeding {
     }
 
     /// Does what is asked for, and what is due after it at this pace.
-    pub(crate) fn obey_at_pace<D: Disk, L: Law, R, E: Obey<D, L, R>, W: Sink>(
+    pub(crate) fn obey_at_pace<D: Disk, L: Law, R, E: Obey<D, L, R>, W: Voice>(
         &mut self,
         rt: &R,
         alloc: Global,
@@ -267,14 +269,14 @@ impl Feeding {
         requires whole { (E.keeping engine.old).broken ≡ false }
         requires rising { MayFollow (last_request (E.keeping engine.old).standing) (Some asked) }
         ensures disk { KeepsDisk D.capacity D.is_lawful D.failures result (E.keeping engine.old).device (E.keeping engine.new).device }
-        ensures fed { Feeds D.is_lawful D.state D.failures L.answers result (W.contents writer.old) (W.contents writer.new) (E.keeping engine.old) (E.keeping engine.new) (new_to (E.keeping engine.old) (asked_for asked)) }
+        ensures fed { Feeds D.is_lawful D.state D.failures L.answers W.marks result (W.contents writer.old) (W.contents writer.new) (E.keeping engine.old) (E.keeping engine.new) (new_to (E.keeping engine.old) (asked_for asked)) }
     {
         self.obey(rt, alloc, engine, asked, writer)?;
         self.keep_pace(rt, alloc, engine, writer)
     }
 
     /// Does what is due after an order, at this pace: nothing; or settles, and cuts where it is time, and closes the cells that come next.
-    fn keep_pace<D: Disk, L: Law, R, E: Obey<D, L, R>, W: Sink>(
+    fn keep_pace<D: Disk, L: Law, R, E: Obey<D, L, R>, W: Voice>(
         &mut self,
         rt: &R,
         alloc: Global,
@@ -283,7 +285,7 @@ impl Feeding {
     ) -> Result<(), Fault>
         requires whole { (E.keeping engine.old).broken ≡ false }
         ensures disk { KeepsDisk D.capacity D.is_lawful D.failures result (E.keeping engine.old).device (E.keeping engine.new).device }
-        ensures fed { Feeds D.is_lawful D.state D.failures L.answers result (W.contents writer.old) (W.contents writer.new) (E.keeping engine.old) (E.keeping engine.new) [] }
+        ensures fed { Feeds D.is_lawful D.state D.failures L.answers W.marks result (W.contents writer.old) (W.contents writer.new) (E.keeping engine.old) (E.keeping engine.new) [] }
     {
         match self.pace {
             Pace::AtEnd => Ok(()),
@@ -295,7 +297,7 @@ impl Feeding {
     }
 
     /// Settles, and cuts where it is time.
-    fn cut_or_settle<D: Disk, L: Law, R, E: Obey<D, L, R>, W: Sink>(
+    fn cut_or_settle<D: Disk, L: Law, R, E: Obey<D, L, R>, W: Voice>(
         &mut self,
         rt: &R,
         alloc: Global,
@@ -305,7 +307,7 @@ impl Feeding {
     ) -> Result<(), Fault>
         requires whole { (E.keeping engine.old).broken ≡ false }
         ensures disk { KeepsDisk D.capacity D.is_lawful D.failures result (E.keeping engine.old).device (E.keeping engine.new).device }
-        ensures fed { Feeds D.is_lawful D.state D.failures L.answers result (W.contents writer.old) (W.contents writer.new) (E.keeping engine.old) (E.keeping engine.new) [] }
+        ensures fed { Feeds D.is_lawful D.state D.failures L.answers W.marks result (W.contents writer.old) (W.contents writer.new) (E.keeping engine.old) (E.keeping engine.new) [] }
     {
         if is_cut_due(engine.keeper(), every) {
             self.cut(rt, alloc, engine, writer)
@@ -324,7 +326,7 @@ impl Feeding {
         ensures disk { KeepsDisk D.capacity D.is_lawful D.failures result (E.keeping engine.old).device (E.keeping engine.new).device }
 
         // Nothing is written, whatever the writer is.
-        ensures fed { (held : Option (List ℕ)) → Feeds D.is_lawful D.state D.failures L.answers result held held (E.keeping engine.old) (E.keeping engine.new) [] }
+        ensures fed { (marks : Bool) (held : Option (List ℕ)) → Feeds D.is_lawful D.state D.failures L.answers marks result held held (E.keeping engine.old) (E.keeping engine.new) [] }
     {
         if self.freed == 0 {
             return Ok(());
@@ -335,7 +337,7 @@ impl Feeding {
     }
 
     /// Settles, cuts, writes the cut to the disk, and writes `cut E`. The cells of the epochs up to it are free from then on.
-    fn cut<D: Disk, L: Law, R, E: Obey<D, L, R>, W: Sink>(
+    fn cut<D: Disk, L: Law, R, E: Obey<D, L, R>, W: Voice>(
         &mut self,
         rt: &R,
         alloc: Global,
@@ -344,7 +346,7 @@ impl Feeding {
     ) -> Result<(), Fault>
         requires whole { (E.keeping engine.old).broken ≡ false }
         ensures disk { KeepsDisk D.capacity D.is_lawful D.failures result (E.keeping engine.old).device (E.keeping engine.new).device }
-        ensures fed { Feeds D.is_lawful D.state D.failures L.answers result (W.contents writer.old) (W.contents writer.new) (E.keeping engine.old) (E.keeping engine.new) [] }
+        ensures fed { Feeds D.is_lawful D.state D.failures L.answers W.marks result (W.contents writer.old) (W.contents writer.new) (E.keeping engine.old) (E.keeping engine.new) [] }
         ensures written { OnOk result ((E.keeping engine.new).waiting ≡ false) }
     {
         self.settle(rt, alloc, engine, writer)?;
@@ -372,21 +374,22 @@ pub(crate) fn open_epochs<D: Disk, L: Law>(keeper: &Keeper<D, L>) -> u64 {
 }
 
 /// Writes the output lines of the epochs that were collected, and lets these go.
-fn write_outs<D: Disk, L: Law, R, E: Obey<D, L, R>, W: Sink>(
+fn write_outs<D: Disk, L: Law, R, E: Obey<D, L, R>, W: Voice>(
     alloc: Global,
     engine: &mut E,
     writer: &mut W,
 ) -> Result<(), Fault>
     requires whole { (E.keeping engine.old).broken ≡ false }
     ensures disk { KeepsDisk D.capacity D.is_lawful D.failures result (E.keeping engine.old).device (E.keeping engine.new).device }
-    ensures fed { Feeds D.is_lawful D.state D.failures L.answers result (W.contents writer.old) (W.contents writer.new) (E.keeping engine.old) (E.keeping engine.new) [] }
+    ensures fed { Feeds D.is_lawful D.state D.failures L.answers W.marks result (W.contents writer.old) (W.contents writer.new) (E.keeping engine.old) (E.keeping engine.new) [] }
     ensures rests { Carries L.answers (E.keeping engine.old) (E.keeping engine.new) [] }
     ensures none_left { OnOk result ((E.keeping engine.new).queue ≡ []) }
     ensures stands { ((E.keeping engine.new).standing ≡ (E.keeping engine.old).standing) × ((E.keeping engine.new).collected ≡ (E.keeping engine.old).collected) }
 {
+    let marks = writer.is_marking();
     let mut text = String::new(alloc);
     while let Some(out) = next_out(engine) {
-        print_epoch(&mut text, &out)?;
+        print_out(&mut text, &out, marks)?;
         write_piece(writer, &mut text)?;
     }
     if text.is_empty() {

@@ -7,13 +7,14 @@ use crate::asking::Asking;
 use crate::at_pool::AtPool;
 use crate::in_turn::{ended_as, obey_each};
 use crate::under_way::Feeding;
+use crate::voice::Voice;
 use std::alloc::Global;
 use std::sync::Wait;
 use std::sync::ledger::Blank;
 use std::thread;
 use std::thread::Threads;
 use td_calls::{Closures, Law};
-use td_console::{Fault, Sink};
+use td_console::Fault;
 use td_core::Hall;
 use td_disk::Disk;
 use td_keeper::Keeper;
@@ -24,7 +25,7 @@ use td_pool::{Crew, Pool, PoolError, Seat};
 pub(crate) fn obey_by_workers<
     D: Disk + Drop,
     S: Asking + Drop,
-    W: Sink,
+    W: Voice,
     L: Law + Send + Sync,
     C: Closures<L> + Sync,
     K: Crew + Send + Sync,
@@ -45,7 +46,7 @@ pub(crate) fn obey_by_workers<
     requires hall { (hall.workers ≡ K.shards) × (hall.given ≡ K.start) }
     requires whole { keeper.broken ≡ false }
     ensures disk { KeepsDisk D.capacity D.is_lawful D.failures result.1 keeper.device result.0.device }
-    ensures fed { IfSome (S.script orders) (λ script. FeedsScript D.is_lawful D.state D.failures L.answers result.1 (W.contents writer.old) (W.contents writer.new) keeper result.0 script) }
+    ensures fed { IfSome (S.script orders) (λ script. FeedsScript D.is_lawful D.state D.failures L.answers W.marks result.1 (W.contents writer.old) (W.contents writer.new) keeper result.0 script) }
 {
     match Pool::<K, L>::new(alloc, hall, blank) {
         Ok((pool, seats)) => beside(
@@ -59,7 +60,7 @@ pub(crate) fn obey_by_workers<
 fn beside<
     D: Disk + Drop,
     S: Asking + Drop,
-    W: Sink,
+    W: Voice,
     L: Law + Send + Sync,
     C: Closures<L> + Sync,
     K: Crew + Send + Sync,
@@ -77,7 +78,7 @@ fn beside<
 ) -> (Keeper<D, L>, Result<(), Fault>)
     requires whole { keeper.broken ≡ false }
     ensures disk { KeepsDisk D.capacity D.is_lawful D.failures result.1 keeper.device result.0.device }
-    ensures fed { IfSome (S.script orders) (λ script. FeedsScript D.is_lawful D.state D.failures L.answers result.1 (W.contents writer.old) (W.contents writer.new) keeper result.0 script) }
+    ensures fed { IfSome (S.script orders) (λ script. FeedsScript D.is_lawful D.state D.failures L.answers W.marks result.1 (W.contents writer.old) (W.contents writer.new) keeper result.0 script) }
 {
     let allowance = Allowance::new(pool, feeding.pace.tasks_of_an_epoch());
     let allowance = &allowance;
@@ -88,7 +89,7 @@ fn beside<
             requires { keeper.broken ≡ false }
             ensures same_writer { result.1.ghost_name ≡ writer.entry.ghost_name }
             ensures disk { KeepsDisk D.capacity D.is_lawful D.failures result.0.1 keeper.device result.0.0.device }
-            ensures fed { IfSome (S.script orders) (λ script. FeedsScript D.is_lawful D.state D.failures L.answers result.0.1 (W.contents writer.entry.now) (W.contents result.1.now) keeper result.0.0 script) }
+            ensures fed { IfSome (S.script orders) (λ script. FeedsScript D.is_lawful D.state D.failures L.answers W.marks result.0.1 (W.contents writer.entry.now) (W.contents result.1.now) keeper result.0.0 script) }
         {
             let pool = allowance.pool;
             let mut engine = AtPool { keeper, allowance };

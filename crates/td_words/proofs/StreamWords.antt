@@ -2,7 +2,7 @@
 use Rattle.std.proofs.Common.{◌≡◌, refl, true, false, Some, None, codes, option_map}
 use Rattle.clap.specs.Words.{takes, subcommand_of}
 use Rattle.clap.proofs.OnLiterals.{clap_on_literals}
-use Rattle.td_words.specs.Command.{td, stream_words, cutting_words, most_words, telling_words}
+use Rattle.td_words.specs.Command.{td, stream_words, cutting_words, most_words, telling_words, marking_words}
 use Rattle.td_words.proofs.StreamAsked.{stream_values, given_stream}
 
 pub stream_is_taken : takes td stream_words ≡ true
@@ -14,7 +14,7 @@ unfolding clap_on_literals
 stream_is_named = refl
 
 -- with no number of shards, 1, with no numbers of epochs and deliveries, none, and with no flag, false
-pub stream_has : option_map (λ p. stream_values p.1) (subcommand_of td stream_words) ≡ Some (given_stream None None false)
+pub stream_has : option_map (λ p. stream_values p.1) (subcommand_of td stream_words) ≡ Some (given_stream None None false false)
 unfolding clap_on_literals
 stream_has = refl
 
@@ -26,7 +26,7 @@ pub cutting_is_named : option_map (λ p. p.0) (subcommand_of td cutting_words) �
 unfolding clap_on_literals
 cutting_is_named = refl
 
-pub cutting_has : option_map (λ p. stream_values p.1) (subcommand_of td cutting_words) ≡ Some (given_stream (Some (codes "4")) None false)
+pub cutting_has : option_map (λ p. stream_values p.1) (subcommand_of td cutting_words) ≡ Some (given_stream (Some (codes "4")) None false false)
 unfolding clap_on_literals
 cutting_has = refl
 
@@ -38,7 +38,7 @@ pub most_is_named : option_map (λ p. p.0) (subcommand_of td most_words) ≡ Som
 unfolding clap_on_literals
 most_is_named = refl
 
-pub most_has : option_map (λ p. stream_values p.1) (subcommand_of td most_words) ≡ Some (given_stream None (Some (codes "4")) false)
+pub most_has : option_map (λ p. stream_values p.1) (subcommand_of td most_words) ≡ Some (given_stream None (Some (codes "4")) false false)
 unfolding clap_on_literals
 most_has = refl
 
@@ -50,6 +50,18 @@ pub telling_is_named : option_map (λ p. p.0) (subcommand_of td telling_words) �
 unfolding clap_on_literals
 telling_is_named = refl
 
-pub telling_has : option_map (λ p. stream_values p.1) (subcommand_of td telling_words) ≡ Some (given_stream None None true)
+pub telling_has : option_map (λ p. stream_values p.1) (subcommand_of td telling_words) ≡ Some (given_stream None None true false)
 unfolding clap_on_literals
 telling_has = refl
+
+pub marking_is_taken : takes td marking_words ≡ true
+unfolding clap_on_literals
+marking_is_taken = refl
+
+pub marking_is_named : option_map (λ p. p.0) (subcommand_of td marking_words) ≡ Some (codes "stream")
+unfolding clap_on_literals
+marking_is_named = refl
+
+pub marking_has : option_map (λ p. stream_values p.1) (subcommand_of td marking_words) ≡ Some (given_stream None None false true)
+unfolding clap_on_literals
+marking_has = refl

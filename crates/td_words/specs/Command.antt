@@ -91,7 +91,8 @@ abbrev pub copy_app : App
 copy_app = with_rule (with_shape (with_rule (with_files (new_app (codes "copy"))) (word_rule (codes "new")))) until_rule
 
 abbrev pub stream_app : App
-stream_app = with_rule (with_rule (with_rule (with_rule (with_files (new_app (codes "stream"))) workers_rule) cut_every_rule) most_rule) (flag_rule (codes "progress"))
+stream_app = with_rule (with_rule (with_rule (with_rule (with_rule (with_files (new_app (codes "stream"))) workers_rule) cut_every_rule) most_rule) (flag_rule (codes "progress")))
+    (flag_rule (codes "marks"))
 
 abbrev pub plan_app : App
 plan_app = with_rule (with_rule (new_app (codes "plan")) (word_rule (codes "plan"))) (flag_rule (codes "dot"))
@@ -140,6 +141,9 @@ most_words = codes "td" ∷ codes "stream" ∷ codes "d" ∷ codes "p" ∷ codes
 abbrev pub telling_words : List (List ℕ)
 telling_words = codes "td" ∷ codes "stream" ∷ codes "d" ∷ codes "p" ∷ codes "--progress" ∷ []
 
+abbrev pub marking_words : List (List ℕ)
+marking_words = codes "td" ∷ codes "stream" ∷ codes "d" ∷ codes "p" ∷ codes "--marks" ∷ []
+
 -- the number that a subcommand has at a name, where clap says so: in decimal, as Rust reads it, and between these
 abbrev pub IsNumber : Text → ℕ → ℕ → List Row → ℕ → Type 0
 IsNumber id least most rows number = (text : List ℕ) × (one_of id rows ≡ Some text)
@@ -185,7 +189,7 @@ name_of (Show disk plan) = codes "show"
 name_of (Dump disk plan) = codes "dump"
 name_of (Upgrade disk plan) = codes "upgrade"
 name_of (Copy disk plan new m n k until) = codes "copy"
-name_of (Stream disk plan workers cut_every most progress) = codes "stream"
+name_of (Stream disk plan workers cut_every most progress marks) = codes "stream"
 name_of (Plan plan dot) = codes "plan"
 name_of (Help text) = codes "help"
 name_of Version = codes "version"
@@ -205,8 +209,8 @@ HasValues rows (Copy disk plan new m n k until) = (first_of (codes "disk") rows 
     × (first_of (codes "new") rows ≡ Some new.now)
     × IsNumber (codes "m") 0 4294967295 rows m × IsNumber (codes "n") 0 4294967295 rows n × IsNumber (codes "k") 0 4294967295 rows k
     × IsUntil rows until
-HasValues rows (Stream disk plan workers cut_every most progress) = (first_of (codes "disk") rows ≡ Some disk.now) × (first_of (codes "plan") rows ≡ Some plan.now)
-    × IsWorkers rows workers × IsCutEvery rows cut_every × IsMost rows most × IsFlag (codes "progress") rows progress
+HasValues rows (Stream disk plan workers cut_every most progress marks) = (first_of (codes "disk") rows ≡ Some disk.now) × (first_of (codes "plan") rows ≡ Some plan.now)
+    × IsWorkers rows workers × IsCutEvery rows cut_every × IsMost rows most × IsFlag (codes "progress") rows progress × IsFlag (codes "marks") rows marks
 HasValues rows (Plan plan dot) = (first_of (codes "plan") rows ≡ Some plan.now) × IsFlag (codes "dot") rows dot
 HasValues rows (Help text) = ⊥
 HasValues rows Version = ⊥
@@ -228,7 +232,7 @@ abbrev pub HasWorkers : Job → Type 0
 HasWorkers (Run workers) = (1 ≤ workers) × (workers ≤ 16)
 HasWorkers (Sim workers picks) = (1 ≤ workers) × (workers ≤ 16)
 HasWorkers (Feed disk plan workers) = (1 ≤ workers) × (workers ≤ 16)
-HasWorkers (Stream disk plan workers cut_every most progress) = (1 ≤ workers) × (workers ≤ 16)
+HasWorkers (Stream disk plan workers cut_every most progress marks) = (1 ≤ workers) × (workers ≤ 16)
 HasWorkers _ = Unit {0}
 
 -- the words ask for no job, nor for help alone
@@ -252,6 +256,6 @@ abbrev pub IsCopy : Text → Text → Text → ℕ → ℕ → ℕ → Option �
 IsCopy a b c x y z e (Copy disk plan new m n k until) = (disk.now ≡ a) × (plan.now ≡ b) × (new.now ≡ c) × (m ≡ x) × (n ≡ y) × (k ≡ z) × (until ≡ e)
 IsCopy a b c x y z e _ = ⊥
 
-abbrev pub IsStream : Text → Text → ℕ → Option ℕ → Option ℕ → Bool → Job → Type 0
-IsStream a b w e r t (Stream disk plan workers cut_every most progress) = (disk.now ≡ a) × (plan.now ≡ b) × (workers ≡ w) × (cut_every ≡ e) × (most ≡ r) × (progress ≡ t)
-IsStream a b w e r t _ = ⊥
+abbrev pub IsStream : Text → Text → ℕ → Option ℕ → Option ℕ → Bool → Bool → Job → Type 0
+IsStream a b w e r t s (Stream disk plan workers cut_every most progress marks) = (disk.now ≡ a) × (plan.now ≡ b) × (workers ≡ w) × (cut_every ≡ e) × (most ≡ r) × (progress ≡ t) × (marks ≡ s)
+IsStream a b w e r t s _ = ⊥

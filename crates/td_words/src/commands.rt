@@ -75,6 +75,8 @@ const DOT: &str = "Write a picture, in the language of Graphviz";
 
 const PROGRESS: &str = "Write how far it has come to standard error, each second";
 
+const MARKS: &str = "Write 'done EPOCH' after the output lines of each epoch";
+
 /// The greatest epoch, and the greatest count of deliveries.
 pub(crate) const GREATEST: u64 = 9_223_372_036_854_775_807;
 
@@ -175,6 +177,7 @@ Reads:  PLAN, DISK and lines, as td feed does
 Writes: DISK, and, of all epochs that are closed and before it waits for more lines, 'ack EPOCH' (or 'again REQUEST') and
         then output lines 'EPOCH VERTEX KEY VALUE'; 'cut EPOCH' where a line 'cut' asks for a cut, after each E epochs with
         --cut-every E, and in any case before the room for epochs on DISK is full;
+        with --marks, 'done EPOCH' after the output lines of an epoch, also where it has none;
         with --progress, to standard error, 'acked EPOCH done EPOCH kept EPOCH': the last epoch on DISK, computed, and cut
 A cut keeps the states on DISK, and frees the room of the epochs up to it
 Common faults:
@@ -340,7 +343,8 @@ fn stream_leaf<'a>(alloc: Global) -> Result<Command<'a>, AllocError>
         option_arg(alloc, "cut-every", "E", 1, 65_536, CUT_EVERY),
     )?;
     let leaf = with_arg(leaf, option_arg(alloc, "most", "R", 1, GREATEST, MOST))?;
-    with_arg(leaf, flag_arg(alloc, "progress", PROGRESS))
+    let leaf = with_arg(leaf, flag_arg(alloc, "progress", PROGRESS))?;
+    with_arg(leaf, flag_arg(alloc, "marks", MARKS))
 }
 
 /// `plan`.

@@ -5,7 +5,7 @@ ghost use Rattle.clap.specs.Words.{found_of, first_of, kind_of, rows_of, subcomm
 ghost use Rattle.td_words.specs.declared.job.Job.{Job as AnyJob};
 ghost use Rattle.td_words.specs.Command.{batch_words, run_words, format_words, feed_words, IsAsked, IsNamed, IsNumber};
 ghost use Rattle.td_words.specs.Command.{IsWorkers, HasWorkers, IsRefused, IsNotTaken, IsFormat, IsFeed, IsCopy, asks_version, asks_faults};
-ghost use Rattle.td_words.specs.Command.{until_words, stream_words, cutting_words, most_words, telling_words, IsOption, IsCutEvery, IsFlag, IsStream};
+ghost use Rattle.td_words.specs.Command.{until_words, stream_words, cutting_words, most_words, telling_words, marking_words, IsOption, IsCutEvery, IsFlag, IsStream};
 ghost use Rattle.td_words.specs.Jobs.{IsHelp, IsOf, IsTextAsked};
 
 use crate::commands::{GREATEST, command};
@@ -17,7 +17,7 @@ use std::alloc::Global;
 /// What these words ask for, of which the first is the program's name. The subcommands are `batch`, `run [--workers W]`,
 /// `sim [--workers W] [--picks LIST]`, `format DISK PLAN M N K`, `feed [--workers W] DISK PLAN`, `show DISK PLAN`,
 /// `dump DISK PLAN`, `upgrade DISK PLAN`, `copy [--until E] DISK PLAN NEW M N K`, `stream [--workers W] [--cut-every E] [--most R]
-/// [--progress] DISK PLAN` and `plan [--dot] PLAN`. W is 1 to 16, and 1 where it is not given; LIST is `0` where it is not given; M, N and K
+/// [--progress] [--marks] DISK PLAN` and `plan [--dot] PLAN`. W is 1 to 16, and 1 where it is not given; LIST is `0` where it is not given; M, N and K
 /// are numbers of 32 bits. E of `--cut-every` is 1 to 65536, E of `--until` 0 to 2^63 - 1, and R 1 to 2^63 - 1; each is none where it is not
 /// given. `--version` or `-V` alone asks for the version, `help faults` for the text on faults.
 /// Refusals: `Words` where these are none of them and clap refuses the words, and `Memory`.
@@ -30,10 +30,11 @@ pub fn words<'a>(alloc: Global, given: &'a [String]) -> Result<Job<'a>, WordsErr
     ensures format { map string_bytes given.entry.now ≡ format_words → IfOk result (IsFormat (codes "d") (codes "p") 4 2 3) × IfErr result (λ e. e ≡ WordsError.Memory) }
     ensures feed { map string_bytes given.entry.now ≡ feed_words → IfOk result (IsFeed (codes "d") (codes "p") 1) × IfErr result (λ e. e ≡ WordsError.Memory) }
     ensures until { map string_bytes given.entry.now ≡ until_words → IfOk result (IsCopy (codes "d") (codes "p") (codes "e") 4 2 3 (Some 4)) × IfErr result (λ e. e ≡ WordsError.Memory) }
-    ensures stream { map string_bytes given.entry.now ≡ stream_words → IfOk result (IsStream (codes "d") (codes "p") 1 None None false) × IfErr result (λ e. e ≡ WordsError.Memory) }
-    ensures cutting { map string_bytes given.entry.now ≡ cutting_words → IfOk result (IsStream (codes "d") (codes "p") 1 (Some 4) None false) × IfErr result (λ e. e ≡ WordsError.Memory) }
-    ensures most { map string_bytes given.entry.now ≡ most_words → IfOk result (IsStream (codes "d") (codes "p") 1 None (Some 4) false) × IfErr result (λ e. e ≡ WordsError.Memory) }
-    ensures telling { map string_bytes given.entry.now ≡ telling_words → IfOk result (IsStream (codes "d") (codes "p") 1 None None true) × IfErr result (λ e. e ≡ WordsError.Memory) }
+    ensures stream { map string_bytes given.entry.now ≡ stream_words → IfOk result (IsStream (codes "d") (codes "p") 1 None None false false) × IfErr result (λ e. e ≡ WordsError.Memory) }
+    ensures cutting { map string_bytes given.entry.now ≡ cutting_words → IfOk result (IsStream (codes "d") (codes "p") 1 (Some 4) None false false) × IfErr result (λ e. e ≡ WordsError.Memory) }
+    ensures most { map string_bytes given.entry.now ≡ most_words → IfOk result (IsStream (codes "d") (codes "p") 1 None (Some 4) false false) × IfErr result (λ e. e ≡ WordsError.Memory) }
+    ensures telling { map string_bytes given.entry.now ≡ telling_words → IfOk result (IsStream (codes "d") (codes "p") 1 None None true false) × IfErr result (λ e. e ≡ WordsError.Memory) }
+    ensures marking { map string_bytes given.entry.now ≡ marking_words → IfOk result (IsStream (codes "d") (codes "p") 1 None None false true) × IfErr result (λ e. e ≡ WordsError.Memory) }
     ensures version { asks_version (map string_bytes given.entry.now) ≡ true → result ≡ Ok Job.Version }
     ensures faults { asks_faults (map string_bytes given.entry.now) ≡ true → result ≡ Ok Job.Faults }
 {
@@ -87,10 +88,11 @@ fn parsed<'a>(alloc: Global, given: &'a [String]) -> Result<Job<'a>, WordsError>
     ensures format { map string_bytes given.entry.now ≡ format_words → IfOk result (IsFormat (codes "d") (codes "p") 4 2 3) × IfErr result (λ e. e ≡ WordsError.Memory) }
     ensures feed { map string_bytes given.entry.now ≡ feed_words → IfOk result (IsFeed (codes "d") (codes "p") 1) × IfErr result (λ e. e ≡ WordsError.Memory) }
     ensures until { map string_bytes given.entry.now ≡ until_words → IfOk result (IsCopy (codes "d") (codes "p") (codes "e") 4 2 3 (Some 4)) × IfErr result (λ e. e ≡ WordsError.Memory) }
-    ensures stream { map string_bytes given.entry.now ≡ stream_words → IfOk result (IsStream (codes "d") (codes "p") 1 None None false) × IfErr result (λ e. e ≡ WordsError.Memory) }
-    ensures cutting { map string_bytes given.entry.now ≡ cutting_words → IfOk result (IsStream (codes "d") (codes "p") 1 (Some 4) None false) × IfErr result (λ e. e ≡ WordsError.Memory) }
-    ensures most { map string_bytes given.entry.now ≡ most_words → IfOk result (IsStream (codes "d") (codes "p") 1 None (Some 4) false) × IfErr result (λ e. e ≡ WordsError.Memory) }
-    ensures telling { map string_bytes given.entry.now ≡ telling_words → IfOk result (IsStream (codes "d") (codes "p") 1 None None true) × IfErr result (λ e. e ≡ WordsError.Memory) }
+    ensures stream { map string_bytes given.entry.now ≡ stream_words → IfOk result (IsStream (codes "d") (codes "p") 1 None None false false) × IfErr result (λ e. e ≡ WordsError.Memory) }
+    ensures cutting { map string_bytes given.entry.now ≡ cutting_words → IfOk result (IsStream (codes "d") (codes "p") 1 (Some 4) None false false) × IfErr result (λ e. e ≡ WordsError.Memory) }
+    ensures most { map string_bytes given.entry.now ≡ most_words → IfOk result (IsStream (codes "d") (codes "p") 1 None (Some 4) false false) × IfErr result (λ e. e ≡ WordsError.Memory) }
+    ensures telling { map string_bytes given.entry.now ≡ telling_words → IfOk result (IsStream (codes "d") (codes "p") 1 None None true false) × IfErr result (λ e. e ≡ WordsError.Memory) }
+    ensures marking { map string_bytes given.entry.now ≡ marking_words → IfOk result (IsStream (codes "d") (codes "p") 1 None None false true) × IfErr result (λ e. e ≡ WordsError.Memory) }
 {
     let Ok(command) = command(alloc) else {
         return Err(WordsError::Memory);
@@ -252,6 +254,7 @@ fn stream_job<'a>(matches: &ArgMatches<'a>) -> Option<Job<'a>>
     let cut_every = cut_every_of(matches)?;
     let most = option_of(matches, "most", 1, GREATEST)?;
     let progress = flag_of(matches, "progress")?;
+    let marks = flag_of(matches, "marks")?;
     Some(Job::Stream {
         disk,
         plan,
@@ -259,6 +262,7 @@ fn stream_job<'a>(matches: &ArgMatches<'a>) -> Option<Job<'a>>
         cut_every,
         most,
         progress,
+        marks,
     })
 }
 

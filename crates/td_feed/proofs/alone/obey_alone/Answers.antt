@@ -24,7 +24,7 @@ pub returns-in-Err-clause-fed : goal.returns-in-Err-clause-fed
 returns-in-Err-clause-fed g c =
     let w = g.W.Sink.contents c.args.writer.now in
     in_some_is (g.S.Asking.script c.args.orders)
-    (λ s is. subst (λ (k : Keeping g.row.D.Denot). FeedsScript g.D.Disk.is_lawful g.D.Disk.state g.D.Disk.failures g.L.Law.answers (Err Memory) w w c.args.keeper k s) (sym c.in-Err.ensures.refused.1) (none_fed Memory c.requires.whole))
+    (λ s is. subst (λ (k : Keeping g.row.D.Denot). FeedsScript g.D.Disk.is_lawful g.D.Disk.state g.D.Disk.failures g.L.Law.answers g.W.Voice.marks (Err Memory) w w c.args.keeper k s) (sym c.in-Err.ensures.refused.1) (none_fed Memory c.requires.whole))
 
 pub returns-clause-disk : goal.returns-clause-disk
 returns-clause-disk g c =
@@ -40,14 +40,15 @@ returns-clause-fed g c =
     let state = g.D.Disk.state in
     let failures = g.D.Disk.failures in
     let answers = g.L.Law.answers in
+    let marks = g.W.Voice.marks in
     let u = g.W.Sink.contents c.args.writer.now in
     let v = g.W.Sink.contents c.obey_each-obeyed.new.writer in
     let new = c.into_keeper-keeper.result.0 in
     let obeyed = c.obey_each-obeyed.result in
     let r = c.ended_as.result in
     IfSome_then (g.S.Asking.script c.args.orders) c.obey_each-obeyed.ensures.fed
-    (λ s fed. subst (λ (k : Keeping g.row.D.Denot). FeedsScript is_lawful state failures answers r u v k new s) c.in-Ok.ensures.same
-    (subst (λ (k : Keeping g.row.D.Denot). FeedsScript is_lawful state failures answers r u v c.in-Ok.engine.keeping k s) (sym c.into_keeper-keeper.ensures)
+    (λ s fed. subst (λ (k : Keeping g.row.D.Denot). FeedsScript is_lawful state failures answers marks r u v k new s) c.in-Ok.ensures.same
+    (subst (λ (k : Keeping g.row.D.Denot). FeedsScript is_lawful state failures answers marks r u v c.in-Ok.engine.keeping k s) (sym c.into_keeper-keeper.ensures)
     (fed_ended obeyed r c.worked_until.result c.ended_as.ensures.ok c.ended_as.ensures.err fed)))
 
 pub returns-clause-all_out : goal.returns-clause-all_out

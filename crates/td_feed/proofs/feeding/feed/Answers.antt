@@ -77,6 +77,7 @@ returns-clause-fed g c =
     let state = g.D.Disk.state in
     let failures = g.D.Disk.failures in
     let answers = g.L.Law.answers in
+    let marks = g.W.Voice.marks in
     let plan = c.args.plan.now in
     let old = c.args.disk in
     let keeper : Keeping g.row.D.Denot = c.in-Ok.keeper in
@@ -88,7 +89,7 @@ returns-clause-fed g c =
     IfSome_then (g.I.Source.remaining c.args.reader.now) c.obey-keeper.ensures.fed
     (λ input fed.
     let more : List Submitted = new_to keeper (submitted_by (orders_of plan input)) in
-    let feeds : Feeds is_lawful state failures answers r u v keeper new more = fed in
+    let feeds : Feeds is_lawful state failures answers marks r u v keeper new more = fed in
     let stands = λ (lawful : is_lawful old) (history : List Submitted) (told : EachTellsHistory answers plan history (state old)).
     let safe : CrashSafe Unchanged (state old) (state keeper.device) = c.in-Ok.ensures.crash_safe lawful in
     found answers plan history (state old) (state keeper.device) safe
@@ -112,7 +113,7 @@ returns-clause-fed g c =
           (subst (λ (d : g.row.D.Denot). EachTellsSome answers plan history more (state d)) (sym c.into_disk.ensures.disk)
           (subst (λ (p : List Line). EachTellsSome answers p history more (state new.device)) c.in-Ok.ensures.plan
           (ended_some is_lawful state answers c.told_in_parts.ensures.together keeper new history more (by_keeper history is) (left_of r feeds) held (left_lawful lawful))));
-      said = fed_says is_lawful state failures answers r plan false old c.into_disk.result u v (submitted_by (orders_of plan input))
+      said = fed_says is_lawful state failures answers marks r plan false old c.into_disk.result u v (submitted_by (orders_of plan input))
           (record {
             keeper = c.in-Ok.keeper;
             fresh = c.in-Ok.ensures.fresh;

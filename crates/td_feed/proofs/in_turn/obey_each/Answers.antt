@@ -36,6 +36,7 @@ returns-in_err-begin-clause-fed g c =
     let state = g.D.Disk.state in
     let failures = g.D.Disk.failures in
     let answers = g.L.Law.answers in
+    let marks = g.W.Voice.marks in
     let u = g.W.Sink.contents c.args.writer.now in
     let w = g.W.Sink.contents c.begin.new.writer in
     let old = g.E.Obey.keeping c.args.engine.now in
@@ -43,9 +44,9 @@ returns-in_err-begin-clause-fed g c =
     let fed = c.in_err-begin.ensures.fed in
     in_some_is (g.S.Asking.script c.args.orders.now)
     (λ s is. err_fed _ c.from_residual.result c.from_residual.ensures.1
-    (none_left is_lawful state failures answers old new (new_to old (submissions s.orders)) c.requires.whole (subst (λ (k : Keeping g.row.D.Denot). Leaves is_lawful state answers k new []) c.allow.ensures fed.left))
-    (handed_on is_lawful state failures answers c.from_residual.result c.in_err-begin.field-0.0 u u w old old new [] [] (new_to old (submissions s.orders)) c.from_residual.ensures.1 (says_nothing is_lawful state failures answers u old)
-    (subst (λ (k : Keeping g.row.D.Denot). SaysBy is_lawful state failures answers (Err c.in_err-begin.field-0.0) u w k new []) c.allow.ensures fed.said)))
+    (none_left is_lawful state failures answers marks old new (new_to old (submissions s.orders)) c.requires.whole (subst (λ (k : Keeping g.row.D.Denot). Leaves is_lawful state answers k new []) c.allow.ensures fed.left))
+    (handed_on is_lawful state failures answers marks c.from_residual.result c.in_err-begin.field-0.0 u u w old old new [] [] (new_to old (submissions s.orders)) c.from_residual.ensures.1 (says_nothing is_lawful state failures answers marks u old)
+    (subst (λ (k : Keeping g.row.D.Denot). SaysBy is_lawful state failures answers marks (Err c.in_err-begin.field-0.0) u w k new []) c.allow.ensures fed.said)))
 
 pub loop-asked-init : goal.loop-asked-init
 loop-asked-init g c =
@@ -53,6 +54,7 @@ loop-asked-init g c =
     let state = g.D.Disk.state in
     let failures = g.D.Disk.failures in
     let answers = g.L.Law.answers in
+    let marks = g.W.Voice.marks in
     let v = g.W.Sink.contents c.args.writer.now in
     let w = g.W.Sink.contents c.begin.new.writer in
     let new = g.E.Obey.keeping c.begin.new.engine in
@@ -60,8 +62,8 @@ loop-asked-init g c =
     let fed = c.in_ok-begin.ensures.fed in
     record {
       obeyed =
-          none_obeyed is_lawful state failures answers (g.S.Asking.script c.args.orders.now) v w (g.E.Obey.keeping c.args.engine.now) new
-          (subst (λ (k : Keeping g.row.D.Denot). Says is_lawful state failures answers v w k new []) same fed.said)
+          none_obeyed is_lawful state failures answers marks (g.S.Asking.script c.args.orders.now) v w (g.E.Obey.keeping c.args.engine.now) new
+          (subst (λ (k : Keeping g.row.D.Denot). Says is_lawful state failures answers marks v w k new []) same fed.said)
           (subst (λ (k : Keeping g.row.D.Denot). Carries answers k new []) same fed.carried);
       disk = subst (λ (k : Keeping g.row.D.Denot). KeepsDisk g.D.Disk.capacity is_lawful failures done k.device new.device) same c.in_ok-begin.ensures.disk;
     }
@@ -78,6 +80,7 @@ returns-in_err-asked-clause-fed g c =
     let state = g.D.Disk.state in
     let failures = g.D.Disk.failures in
     let answers = g.L.Law.answers in
+    let marks = g.W.Voice.marks in
     let script = g.S.Asking.script c.args.orders.now in
     let left = g.S.Asking.script c.loop-asked.orders in
     let u = g.W.Sink.contents c.args.writer.now in
@@ -88,9 +91,9 @@ returns-in_err-asked-clause-fed g c =
     let r = c.from_residual-in_err-asked.result in
     in_some_is script
     (λ s is. err_fed _ r c.from_residual-in_err-asked.ensures.1
-    (known _ script s is (left_there is_lawful state failures answers script left left u v old there so))
-    (by_refusal is_lawful state failures answers r (λ (f : Fault). f ≡ c.in_err-asked.field-0.0) u v old there (new_to old (submissions s.orders)) c.from_residual-in_err-asked.ensures.1
-    (λ f is. inr (some_of_all is_lawful state failures answers u v old there (new_to old (submissions so.done)) so.said))))
+    (known _ script s is (left_there is_lawful state failures answers marks script left left u v old there so))
+    (by_refusal is_lawful state failures answers marks r (λ (f : Fault). f ≡ c.in_err-asked.field-0.0) u v old there (new_to old (submissions s.orders)) c.from_residual-in_err-asked.ensures.1
+    (λ f is. inr (some_of_all is_lawful state failures answers marks u v old there (new_to old (submissions so.done)) so.said))))
 
 pub returns-in_default-clause-disk : goal.returns-in_default-clause-disk
 returns-in_default-clause-disk g c = disk_then c.loop-asked.invariant.disk c.settle.ensures.disk
@@ -101,6 +104,7 @@ returns-in_default-clause-fed g c =
     let state = g.D.Disk.state in
     let failures = g.D.Disk.failures in
     let answers = g.L.Law.answers in
+    let marks = g.W.Voice.marks in
     let script = g.S.Asking.script c.args.orders.now in
     let left = g.S.Asking.script c.loop-asked.orders in
     let next = g.S.Asking.script c.next_asked.new.self in
@@ -115,11 +119,11 @@ returns-in_default-clause-fed g c =
     let asks : Asks left next None = subst (Asks left next) (none_of c.in_ok-asked.field-0 c.in_default.not-Some) c.in_ok-asked.ensures.asked in
     in_some_is script
     (λ s is. record {
-      sound = at_ok r (known _ script s is (is_sound is_lawful state failures answers script left next u v old there so asks));
+      sound = at_ok r (known _ script s is (is_sound is_lawful state failures answers marks script left next u v old there so asks));
       fed = record {
-        carried = at_ok r (known _ script s is (at_end_carried is_lawful state failures answers script left next u v old there so new asks c.settle.ensures.rests));
-        left = at_err r (known _ script s is (at_end_left is_lawful state failures answers script left next u v old there so new asks c.settle.ensures.rests));
-        said = known _ script s is (at_end_said is_lawful state failures answers script left next u v old there so r w new asks c.settle.ensures.fed.said);
+        carried = at_ok r (known _ script s is (at_end_carried is_lawful state failures answers marks script left next u v old there so new asks c.settle.ensures.rests));
+        left = at_err r (known _ script s is (at_end_left is_lawful state failures answers marks script left next u v old there so new asks c.settle.ensures.rests));
+        said = known _ script s is (at_end_said is_lawful state failures answers marks script left next u v old there so r w new asks c.settle.ensures.fed.said);
       };
     })
 
@@ -129,6 +133,7 @@ loop-asked-preserved g c =
     let state = g.D.Disk.state in
     let failures = g.D.Disk.failures in
     let answers = g.L.Law.answers in
+    let marks = g.W.Voice.marks in
     let script = g.S.Asking.script c.args.orders.now in
     let left = g.S.Asking.script c.loop-asked.orders in
     let next = g.S.Asking.script c.next_asked.new.self in
@@ -144,8 +149,8 @@ loop-asked-preserved g c =
     let fed = c.in_ok-obey_at_pace.ensures.fed in
     record {
       obeyed =
-          some_obeyed is_lawful state failures answers script left next u v w old there new asked so (subst (Asks left next) c.in-Some-2.is c.in_ok-asked.ensures.asked)
-          (subst (λ (k : Keeping g.row.D.Denot). Says is_lawful state failures answers v w k new (new_to k (asked_for asked))) same fed.said)
+          some_obeyed is_lawful state failures answers marks script left next u v w old there new asked so (subst (Asks left next) c.in-Some-2.is c.in_ok-asked.ensures.asked)
+          (subst (λ (k : Keeping g.row.D.Denot). Says is_lawful state failures answers marks v w k new (new_to k (asked_for asked))) same fed.said)
           (subst (λ (k : Keeping g.row.D.Denot). Carries answers k new (new_to k (asked_for asked))) same fed.carried);
       disk = disk_then c.loop-asked.invariant.disk (subst (λ (k : Keeping g.row.D.Denot). KeepsDisk g.D.Disk.capacity is_lawful failures done k.device new.device) same c.in_ok-obey_at_pace.ensures.disk);
     }
@@ -162,6 +167,7 @@ returns-in_err-obey_at_pace-clause-fed g c =
     let state = g.D.Disk.state in
     let failures = g.D.Disk.failures in
     let answers = g.L.Law.answers in
+    let marks = g.W.Voice.marks in
     let script = g.S.Asking.script c.args.orders.now in
     let left = g.S.Asking.script c.loop-asked.orders in
     let next = g.S.Asking.script c.next_asked.new.self in
@@ -179,7 +185,7 @@ returns-in_err-obey_at_pace-clause-fed g c =
     let fed = c.in_err-obey_at_pace.ensures.fed in
     in_some_is script
     (λ s is. err_fed _ r c.from_residual-in_err-obey_at_pace.ensures.1
-    (known _ script s is (some_refused is_lawful state failures answers script left next u v w old there new asked so (subst (Asks left next) c.in-Some-2.is c.in_ok-asked.ensures.asked)
+    (known _ script s is (some_refused is_lawful state failures answers marks script left next u v w old there new asked so (subst (Asks left next) c.in-Some-2.is c.in_ok-asked.ensures.asked)
     (subst (λ (k : Keeping g.row.D.Denot). Leaves is_lawful state answers k new (new_to k (asked_for asked))) same fed.left)))
-    (handed_on is_lawful state failures answers r e u v w old there new (new_to old (submissions so.done)) (new_to there (asked_for asked)) (new_to old (submissions s.orders)) c.from_residual-in_err-obey_at_pace.ensures.1 so.said
-    (subst (λ (k : Keeping g.row.D.Denot). SaysBy is_lawful state failures answers (Err e) v w k new (new_to k (asked_for asked))) same fed.said)))
+    (handed_on is_lawful state failures answers marks r e u v w old there new (new_to old (submissions so.done)) (new_to there (asked_for asked)) (new_to old (submissions s.orders)) c.from_residual-in_err-obey_at_pace.ensures.1 so.said
+    (subst (λ (k : Keeping g.row.D.Denot). SaysBy is_lawful state failures answers marks (Err e) v w k new (new_to k (asked_for asked))) same fed.said)))

@@ -12,12 +12,12 @@ pub returns-in-Ok-clause-fed : goal.returns-in-Ok-clause-fed
 returns-in-Ok-clause-fed g c =
     let ended = c.obey_by_workers.result in
     of_made (script_of c.args.plan.now)
-    (λ (asked : Script). FeedsScript g.D.Disk.is_lawful g.D.Disk.state g.D.Disk.failures g.L.Law.answers ended.1 (g.W.Sink.contents c.args.writer.now) (g.W.Sink.contents c.obey_by_workers.new.writer) c.args.keeper ended.0 asked)
+    (λ (asked : Script). FeedsScript g.D.Disk.is_lawful g.D.Disk.state g.D.Disk.failures g.L.Law.answers g.W.Voice.marks ended.1 (g.W.Sink.contents c.args.writer.now) (g.W.Sink.contents c.obey_by_workers.new.writer) c.args.keeper ended.0 asked)
     (g.I.Source.remaining c.args.reader) _ c.new-orders.ensures c.obey_by_workers.ensures.fed
 
 pub returns-then-workers-eq1-clause-fed : goal.returns-then-workers-eq1-clause-fed
 returns-then-workers-eq1-clause-fed g c =
     let ended = c.obey_alone.result in
     of_made (script_of c.args.plan.now)
-    (λ (asked : Script). FeedsScript g.D.Disk.is_lawful g.D.Disk.state g.D.Disk.failures g.L.Law.answers ended.1 (g.W.Sink.contents c.args.writer.now) (g.W.Sink.contents c.obey_alone.new.writer) c.args.keeper ended.0 asked)
+    (λ (asked : Script). FeedsScript g.D.Disk.is_lawful g.D.Disk.state g.D.Disk.failures g.L.Law.answers g.W.Voice.marks ended.1 (g.W.Sink.contents c.args.writer.now) (g.W.Sink.contents c.obey_alone.new.writer) c.args.keeper ended.0 asked)
     (g.I.Source.remaining c.args.reader) _ c.new-orders.ensures c.obey_alone.ensures.fed

@@ -1,11 +1,11 @@
-use Rattle.std.proofs.Common.{◌≡◌, ◌==◌, inl, inr, ℕ, true, List, [], ◌∷◌, ◌++◌, length, refl, sym, ap, ◌∙◌, subst, arith, eqb-true}
+use Rattle.std.proofs.Common.{◌≡◌, ◌==◌, inl, inr, ℕ, Bool, true, List, [], ◌∷◌, ◌++◌, length, refl, sym, ap, ◌∙◌, subst, arith, eqb-true}
 use Rattle.std.specs.Prelude.{Option, Some, string_bytes, string_len, OnOk}
 use Rattle.std.specs.Io.KnownBytes.{Appends}
 use Rattle.std.proofs.lemmas.List.{append-nil}
 use Rattle.td_stamp.specs.declared.epoch_out.EpochOut.{EpochOut}
 use Rattle.td_keeper.specs.declared.command.Reply.TheVariants.{Out}
 use Rattle.td_console.specs.declared.faults.Fault.{Fault}
-use Rattle.td_feed.specs.Said.{line_of}
+use Rattle.td_feed.specs.Said.{line_of, out_lines}
 use Rattle.td_feed.proofs.Carrying.{unmoved, carries_after}
 use Rattle.td_feed.proofs.Counting.{other_fault}
 use Rattle.td_feed.proofs.Lines.{by_refusal, output_no_device, holding_nothing, holding_more, holding_piece, none_out, all_written, last_written}
@@ -19,7 +19,7 @@ nil_of (x ∷ l) n is many = absurd (let none : n ≡ 0 = eqb-true n 0 is in ome
 
 pub loop-out-init : goal.loop-out-init
 loop-out-init g c = record {
-  said = holding_nothing g.D.Disk.is_lawful g.D.Disk.state g.D.Disk.failures g.L.Law.answers (g.W.Sink.contents c.args.writer.now) (g.E.Obey.keeping c.args.engine.now) (string_bytes c.new-text.result) c.new-text.ensures.bytes;
+  said = holding_nothing g.D.Disk.is_lawful g.D.Disk.state g.D.Disk.failures g.L.Law.answers g.W.Voice.marks (g.W.Sink.contents c.args.writer.now) (g.E.Obey.keeping c.args.engine.now) (string_bytes c.new-text.result) c.new-text.ensures.bytes;
   carried = unmoved g.L.Law.answers (g.E.Obey.keeping c.args.engine.now) (g.E.Obey.keeping c.args.engine.now) refl refl c.requires.whole;
   device = refl;
   standing = refl;
@@ -32,6 +32,7 @@ loop-out-preserved g c =
     let state = g.D.Disk.state in
     let failures = g.D.Disk.failures in
     let answers = g.L.Law.answers in
+    let marks = g.W.Voice.marks in
     let u = g.W.Sink.contents c.args.writer.now in
     let v = g.W.Sink.contents c.loop-out.writer in
     let old = (g.E.Obey.keeping c.args.engine.now) in
@@ -40,25 +41,26 @@ loop-out-preserved g c =
     let held = string_bytes c.loop-out.text in
     let so_far = c.loop-out.invariant in
     let o : Option EpochOut = c.next_out.result in
-    let more = holding_more is_lawful state failures answers u v old there new o held (held ++ line_of 0 (Out o)) so_far.said c.next_out.ensures.driven refl in
-    let printed : string_bytes c.print_epoch.new.text ≡ held ++ line_of 0 (Out (Some c.in-Some.out)) =
-    c.in_ok-print_epoch.ensures.ok ∙ ap (λ (l : List ℕ). held ++ l) (sym (append-nil _)) in
-    let is : held ++ line_of 0 (Out o) ≡ string_bytes c.print_epoch.new.text = ap (λ (p : Option EpochOut). held ++ line_of 0 (Out p)) c.in-Some.is ∙ sym printed in
+    let more = holding_more is_lawful state failures answers marks u v old there new o held (held ++ line_of marks 0 (Out o)) so_far.said c.next_out.ensures.driven refl in
+    let printed : string_bytes c.print_out.new.text ≡ held ++ line_of marks 0 (Out (Some c.in-Some.out)) =
+    c.in_ok-print_out.ensures.ok ∙ ap (λ (m : Bool). held ++ out_lines m c.in-Some.out) c.is_marking-marks.ensures in
+    let is : held ++ line_of marks 0 (Out o) ≡ string_bytes c.print_out.new.text = ap (λ (p : Option EpochOut). held ++ line_of marks 0 (Out p)) c.in-Some.is ∙ sym printed in
     record {
-      said = holding_piece is_lawful state failures answers g.W.Sink.contents string_bytes u c.loop-out.writer c.write_piece.new.writer old new c.print_epoch.new.text c.write_piece.new.text
-          (holding_more is_lawful state failures answers u v old there new o held (string_bytes c.print_epoch.new.text) so_far.said c.next_out.ensures.driven (sym is)) c.in_ok-write_piece.ensures.ok;
+      said = holding_piece is_lawful state failures answers marks g.W.Sink.contents string_bytes u c.loop-out.writer c.write_piece.new.writer old new c.print_out.new.text c.write_piece.new.text
+          (holding_more is_lawful state failures answers marks u v old there new o held (string_bytes c.print_out.new.text) so_far.said c.next_out.ensures.driven (sym is)) c.in_ok-write_piece.ensures.ok;
       carried = carries_after is_lawful state answers old there new [] so_far.carried c.next_out.ensures.carried;
       device = c.next_out.ensures.device ∙ so_far.device;
       standing = c.next_out.ensures.stands.0 ∙ so_far.standing;
       collected = c.next_out.ensures.stands.1 ∙ so_far.collected;
     }
 
-pub returns-in_err-print_epoch-clause-fed : goal.returns-in_err-print_epoch-clause-fed
-returns-in_err-print_epoch-clause-fed g c =
+pub returns-in_err-print_out-clause-fed : goal.returns-in_err-print_out-clause-fed
+returns-in_err-print_out-clause-fed g c =
     let is_lawful = g.D.Disk.is_lawful in
     let state = g.D.Disk.state in
     let failures = g.D.Disk.failures in
     let answers = g.L.Law.answers in
+    let marks = g.W.Voice.marks in
     let u = g.W.Sink.contents c.args.writer.now in
     let v = g.W.Sink.contents c.loop-out.writer in
     let old = (g.E.Obey.keeping c.args.engine.now) in
@@ -67,15 +69,15 @@ returns-in_err-print_epoch-clause-fed g c =
     let held = string_bytes c.loop-out.text in
     let so_far = c.loop-out.invariant in
     let o : Option EpochOut = c.next_out.result in
-    let more = holding_more is_lawful state failures answers u v old there new o held (held ++ line_of 0 (Out o)) so_far.said c.next_out.ensures.driven refl in
+    let more = holding_more is_lawful state failures answers marks u v old there new o held (held ++ line_of marks 0 (Out o)) so_far.said c.next_out.ensures.driven refl in
     fed_quiet c.from_residual.result (carries_after g.D.Disk.is_lawful g.D.Disk.state g.L.Law.answers (g.E.Obey.keeping c.args.engine.now) (g.E.Obey.keeping c.loop-out.engine) (g.E.Obey.keeping c.next_out.new.engine) [] c.loop-out.invariant.carried c.next_out.ensures.carried)
-    (by_refusal is_lawful state failures answers c.from_residual.result (λ (f : Fault). f ≡ c.in_err-print_epoch.field-0.0) u v old new [] c.from_residual.ensures.1
+    (by_refusal is_lawful state failures answers marks c.from_residual.result (λ (f : Fault). f ≡ c.in_err-print_out.field-0.0) u v old new [] c.from_residual.ensures.1
     (λ f is. inr more.some))
 
-pub returns-in_err-print_epoch-clause-disk : goal.returns-in_err-print_epoch-clause-disk
-returns-in_err-print_epoch-clause-disk g c =
+pub returns-in_err-print_out-clause-disk : goal.returns-in_err-print_out-clause-disk
+returns-in_err-print_out-clause-disk g c =
     disk_same c.from_residual.result (c.next_out.ensures.device ∙ c.loop-out.invariant.device)
-    (other_fault c.from_residual.result (λ (f : Fault). f ≡ c.in_err-print_epoch.field-0.0) c.from_residual.ensures.1 (λ is. let memory = c.in_err-print_epoch.ensures.err in let other = is in cc))
+    (other_fault c.from_residual.result (λ (f : Fault). f ≡ c.in_err-print_out.field-0.0) c.from_residual.ensures.1 (λ is. let memory = c.in_err-print_out.ensures.err in let other = is in cc))
 
 pub returns-in_err-write_piece-clause-fed : goal.returns-in_err-write_piece-clause-fed
 returns-in_err-write_piece-clause-fed g c =
@@ -83,6 +85,7 @@ returns-in_err-write_piece-clause-fed g c =
     let state = g.D.Disk.state in
     let failures = g.D.Disk.failures in
     let answers = g.L.Law.answers in
+    let marks = g.W.Voice.marks in
     let u = g.W.Sink.contents c.args.writer.now in
     let v = g.W.Sink.contents c.loop-out.writer in
     let old = (g.E.Obey.keeping c.args.engine.now) in
@@ -91,7 +94,7 @@ returns-in_err-write_piece-clause-fed g c =
     let held = string_bytes c.loop-out.text in
     let so_far = c.loop-out.invariant in
     fed_quiet c.from_residual-in_err-write_piece.result (carries_after g.D.Disk.is_lawful g.D.Disk.state g.L.Law.answers (g.E.Obey.keeping c.args.engine.now) (g.E.Obey.keeping c.loop-out.engine) (g.E.Obey.keeping c.next_out.new.engine) [] c.loop-out.invariant.carried c.next_out.ensures.carried)
-    (by_refusal is_lawful state failures answers c.from_residual-in_err-write_piece.result (λ (f : Fault). f ≡ c.in_err-write_piece.field-0.0) u (g.W.Sink.contents c.write_piece.new.writer) old new []
+    (by_refusal is_lawful state failures answers marks c.from_residual-in_err-write_piece.result (λ (f : Fault). f ≡ c.in_err-write_piece.field-0.0) u (g.W.Sink.contents c.write_piece.new.writer) old new []
     c.from_residual-in_err-write_piece.ensures.1 (λ f is. inl (is ∙ c.in_err-write_piece.ensures.err)))
 
 pub returns-in_err-write_piece-clause-disk : goal.returns-in_err-write_piece-clause-disk
@@ -105,6 +108,7 @@ returns-then-is_empty-clause-fed g c =
     let state = g.D.Disk.state in
     let failures = g.D.Disk.failures in
     let answers = g.L.Law.answers in
+    let marks = g.W.Voice.marks in
     let u = g.W.Sink.contents c.args.writer.now in
     let v = g.W.Sink.contents c.loop-out.writer in
     let old = (g.E.Obey.keeping c.args.engine.now) in
@@ -113,10 +117,10 @@ returns-then-is_empty-clause-fed g c =
     let held = string_bytes c.loop-out.text in
     let so_far = c.loop-out.invariant in
     let o : Option EpochOut = c.next_out.result in
-    let more = holding_more is_lawful state failures answers u v old there new o held (held ++ line_of 0 (Out o)) so_far.said c.next_out.ensures.driven refl in
-    let line = none_out is_lawful state failures answers o c.in_default.not-Some in
+    let more = holding_more is_lawful state failures answers marks u v old there new o held (held ++ line_of marks 0 (Out o)) so_far.said c.next_out.ensures.driven refl in
+    let line = none_out is_lawful state failures answers marks o c.in_default.not-Some in
     let empty : held ≡ [] = nil_of held (string_len c.loop-out.text) (sym c.is_empty.ensures ∙ c.if-is_empty.true) c.loop-out.text.bytes.ok.0 in
-    record { carried = (carries_after g.D.Disk.is_lawful g.D.Disk.state g.L.Law.answers (g.E.Obey.keeping c.args.engine.now) (g.E.Obey.keeping c.loop-out.engine) (g.E.Obey.keeping c.next_out.new.engine) [] c.loop-out.invariant.carried c.next_out.ensures.carried); left = tt; said = all_written is_lawful state failures answers u v old new (held ++ line_of 0 (Out o)) more (ap (λ (l : List ℕ). l ++ line_of 0 (Out o)) empty ∙ line) }
+    record { carried = (carries_after g.D.Disk.is_lawful g.D.Disk.state g.L.Law.answers (g.E.Obey.keeping c.args.engine.now) (g.E.Obey.keeping c.loop-out.engine) (g.E.Obey.keeping c.next_out.new.engine) [] c.loop-out.invariant.carried c.next_out.ensures.carried); left = tt; said = all_written is_lawful state failures answers marks u v old new (held ++ line_of marks 0 (Out o)) more (ap (λ (l : List ℕ). l ++ line_of marks 0 (Out o)) empty ∙ line) }
 
 pub returns-then-is_empty-clause-disk : goal.returns-then-is_empty-clause-disk
 returns-then-is_empty-clause-disk g c = disk_same _ (c.next_out.ensures.device ∙ c.loop-out.invariant.device) (ok_no_device tt)
@@ -127,6 +131,7 @@ returns-clause-fed g c =
     let state = g.D.Disk.state in
     let failures = g.D.Disk.failures in
     let answers = g.L.Law.answers in
+    let marks = g.W.Voice.marks in
     let u = g.W.Sink.contents c.args.writer.now in
     let v = g.W.Sink.contents c.loop-out.writer in
     let old = (g.E.Obey.keeping c.args.engine.now) in
@@ -135,22 +140,22 @@ returns-clause-fed g c =
     let held = string_bytes c.loop-out.text in
     let so_far = c.loop-out.invariant in
     let o : Option EpochOut = c.next_out.result in
-    let more = holding_more is_lawful state failures answers u v old there new o held (held ++ line_of 0 (Out o)) so_far.said c.next_out.ensures.driven refl in
+    let more = holding_more is_lawful state failures answers marks u v old there new o held (held ++ line_of marks 0 (Out o)) so_far.said c.next_out.ensures.driven refl in
     let w = g.W.Sink.contents c.write_answer.new.writer in
-    let line = none_out is_lawful state failures answers o c.in_default.not-Some in
-    let is : c.as_str.result.now ≡ held ++ line_of 0 (Out o) = c.as_str.ensures.value ∙ sym (append-nil held) ∙ ap (λ (l : List ℕ). held ++ l) (sym line) in
+    let line = none_out is_lawful state failures answers marks o c.in_default.not-Some in
+    let is : c.as_str.result.now ≡ held ++ line_of marks 0 (Out o) = c.as_str.ensures.value ∙ sym (append-nil held) ∙ ap (λ (l : List ℕ). held ++ l) (sym line) in
     fed_quiet c.write_answer.result (carries_after g.D.Disk.is_lawful g.D.Disk.state g.L.Law.answers (g.E.Obey.keeping c.args.engine.now) (g.E.Obey.keeping c.loop-out.engine) (g.E.Obey.keeping c.next_out.new.engine) [] c.loop-out.invariant.carried c.next_out.ensures.carried)
-    (last_written is_lawful state failures answers c.write_answer.result u v w old new (held ++ line_of 0 (Out o)) more
+    (last_written is_lawful state failures answers marks c.write_answer.result u v w old new (held ++ line_of marks 0 (Out o)) more
     (subst (λ (t : List ℕ). OnOk c.write_answer.result (Appends v w t)) is c.write_answer.ensures.written) c.write_answer.ensures.err)
 
 pub returns-clause-disk : goal.returns-clause-disk
 returns-clause-disk g c = disk_same c.write_answer.result (c.next_out.ensures.device ∙ c.loop-out.invariant.device) (output_no_device c.write_answer.result c.write_answer.ensures.err)
 
-pub returns-in_err-print_epoch-clause-rests : goal.returns-in_err-print_epoch-clause-rests
-returns-in_err-print_epoch-clause-rests g c = carries_after g.D.Disk.is_lawful g.D.Disk.state g.L.Law.answers (g.E.Obey.keeping c.args.engine.now) (g.E.Obey.keeping c.loop-out.engine) (g.E.Obey.keeping c.next_out.new.engine) [] c.loop-out.invariant.carried c.next_out.ensures.carried
+pub returns-in_err-print_out-clause-rests : goal.returns-in_err-print_out-clause-rests
+returns-in_err-print_out-clause-rests g c = carries_after g.D.Disk.is_lawful g.D.Disk.state g.L.Law.answers (g.E.Obey.keeping c.args.engine.now) (g.E.Obey.keeping c.loop-out.engine) (g.E.Obey.keeping c.next_out.new.engine) [] c.loop-out.invariant.carried c.next_out.ensures.carried
 
-pub returns-in_err-print_epoch-clause-stands : goal.returns-in_err-print_epoch-clause-stands
-returns-in_err-print_epoch-clause-stands g c = (c.next_out.ensures.stands.0 ∙ c.loop-out.invariant.standing, c.next_out.ensures.stands.1 ∙ c.loop-out.invariant.collected)
+pub returns-in_err-print_out-clause-stands : goal.returns-in_err-print_out-clause-stands
+returns-in_err-print_out-clause-stands g c = (c.next_out.ensures.stands.0 ∙ c.loop-out.invariant.standing, c.next_out.ensures.stands.1 ∙ c.loop-out.invariant.collected)
 
 pub returns-in_err-write_piece-clause-rests : goal.returns-in_err-write_piece-clause-rests
 returns-in_err-write_piece-clause-rests g c = carries_after g.D.Disk.is_lawful g.D.Disk.state g.L.Law.answers (g.E.Obey.keeping c.args.engine.now) (g.E.Obey.keeping c.loop-out.engine) (g.E.Obey.keeping c.next_out.new.engine) [] c.loop-out.invariant.carried c.next_out.ensures.carried

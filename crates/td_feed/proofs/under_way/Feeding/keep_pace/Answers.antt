@@ -18,4 +18,4 @@ pub returns-in_ok-cut_or_settle-in-Live-clause-disk : goal.returns-in_ok-cut_or_
 returns-in_ok-cut_or_settle-in-Live-clause-disk g c = disk_then c.in_ok-cut_or_settle-in-Live.ensures.disk c.close_freed.ensures.disk
 
 pub returns-in_ok-cut_or_settle-in-Live-clause-fed : goal.returns-in_ok-cut_or_settle-in-Live-clause-fed
-returns-in_ok-cut_or_settle-in-Live-clause-fed g c = fed_then c.in_ok-cut_or_settle-in-Live.ensures.fed (c.close_freed.ensures.fed (g.W.Sink.contents c.cut_or_settle.new.writer))
+returns-in_ok-cut_or_settle-in-Live-clause-fed g c = fed_then c.in_ok-cut_or_settle-in-Live.ensures.fed (c.close_freed.ensures.fed g.W.Voice.marks (g.W.Sink.contents c.cut_or_settle.new.writer))

@@ -7,7 +7,7 @@ pub returns-in_err-tell-clause-disk : goal.returns-in_err-tell-clause-disk
 returns-in_err-tell-clause-disk g c = disk_handed c.from_residual.result c.from_residual.ensures.1 c.in_err-tell.ensures.disk
 
 pub returns-in_err-tell-clause-fed : goal.returns-in_err-tell-clause-fed
-returns-in_err-tell-clause-fed g c = λ w. fed_refused _ c.from_residual.result Release c.from_residual.ensures.1 refl c.in_err-tell.ensures.refused
+returns-in_err-tell-clause-fed g c = λ marks w. fed_refused _ c.from_residual.result Release c.from_residual.ensures.1 refl c.in_err-tell.ensures.refused
 
 pub returns-in_err-tell-clause-rests : goal.returns-in_err-tell-clause-rests
 returns-in_err-tell-clause-rests g c = c.tell.ensures.rests refl
@@ -16,7 +16,7 @@ pub returns-clause-disk : goal.returns-clause-disk
 returns-clause-disk g c = disk_ok c.in_ok-tell.ensures.disk
 
 pub returns-clause-fed : goal.returns-clause-fed
-returns-clause-fed g c = λ w. fed_quietly Release c.in_ok-tell.field-0 refl (c.tell.ensures.rests refl) c.in_ok-tell.ensures.obeyed
+returns-clause-fed g c = λ marks w. fed_quietly Release c.in_ok-tell.field-0 refl (c.tell.ensures.rests refl) c.in_ok-tell.ensures.obeyed
 
 pub returns-clause-rests : goal.returns-clause-rests
 returns-clause-rests g c = c.tell.ensures.rests refl

@@ -9,7 +9,7 @@ pub returns-in_err-release-clause-disk : goal.returns-in_err-release-clause-disk
 returns-in_err-release-clause-disk g c = disk_handed c.from_residual.result c.from_residual.ensures.1 c.in_err-release.ensures.disk
 
 pub returns-in_err-release-clause-fed : goal.returns-in_err-release-clause-fed
-returns-in_err-release-clause-fed g c = fed_handed c.from_residual.result c.from_residual.ensures.1 (c.in_err-release.ensures.fed (g.W.Sink.contents c.args.writer.now))
+returns-in_err-release-clause-fed g c = fed_handed c.from_residual.result c.from_residual.ensures.1 (c.in_err-release.ensures.fed g.W.Voice.marks (g.W.Sink.contents c.args.writer.now))
 
 pub returns-in_err-release-clause-rests : goal.returns-in_err-release-clause-rests
 returns-in_err-release-clause-rests g c = c.release.ensures.rests
@@ -18,7 +18,7 @@ pub returns-in_err-tell-clause-disk : goal.returns-in_err-tell-clause-disk
 returns-in_err-tell-clause-disk g c = disk_then c.in_ok-release.ensures.disk (disk_handed c.from_residual-in_err-tell.result c.from_residual-in_err-tell.ensures.1 c.in_err-tell.ensures.disk)
 
 pub returns-in_err-tell-clause-fed : goal.returns-in_err-tell-clause-fed
-returns-in_err-tell-clause-fed g c = fed_after (c.in_ok-release.ensures.fed (g.W.Sink.contents c.args.writer.now)) (fed_refused _ c.from_residual-in_err-tell.result Settle c.from_residual-in_err-tell.ensures.1 refl c.in_err-tell.ensures.refused)
+returns-in_err-tell-clause-fed g c = fed_after (c.in_ok-release.ensures.fed g.W.Voice.marks (g.W.Sink.contents c.args.writer.now)) (fed_refused _ c.from_residual-in_err-tell.result Settle c.from_residual-in_err-tell.ensures.1 refl c.in_err-tell.ensures.refused)
 
 pub returns-in_err-tell-clause-rests : goal.returns-in_err-tell-clause-rests
 returns-in_err-tell-clause-rests g c = went_on c.release.ensures.rests (c.tell.ensures.rests refl)
@@ -28,7 +28,7 @@ returns-in_err-tell-2-clause-disk g c = disk_then c.in_ok-release.ensures.disk (
 
 pub returns-in_err-tell-2-clause-fed : goal.returns-in_err-tell-2-clause-fed
 returns-in_err-tell-2-clause-fed g c =
-    fed_after (c.in_ok-release.ensures.fed (g.W.Sink.contents c.args.writer.now)) (fed_after (fed_quietly Settle c.in_ok-tell.field-0 refl (c.tell.ensures.rests refl) c.in_ok-tell.ensures.obeyed)
+    fed_after (c.in_ok-release.ensures.fed g.W.Voice.marks (g.W.Sink.contents c.args.writer.now)) (fed_after (fed_quietly Settle c.in_ok-tell.field-0 refl (c.tell.ensures.rests refl) c.in_ok-tell.ensures.obeyed)
     (fed_refused _ c.from_residual-in_err-tell-2.result Collect c.from_residual-in_err-tell-2.ensures.1 refl c.in_err-tell-2.ensures.refused))
 
 pub returns-in_err-tell-2-clause-rests : goal.returns-in_err-tell-2-clause-rests
@@ -39,7 +39,7 @@ returns-clause-disk g c = disk_then c.in_ok-release.ensures.disk (disk_then c.in
 
 pub returns-clause-fed : goal.returns-clause-fed
 returns-clause-fed g c =
-    fed_after (c.in_ok-release.ensures.fed (g.W.Sink.contents c.args.writer.now)) (fed_after (fed_quietly Settle c.in_ok-tell.field-0 refl (c.tell.ensures.rests refl) c.in_ok-tell.ensures.obeyed)
+    fed_after (c.in_ok-release.ensures.fed g.W.Voice.marks (g.W.Sink.contents c.args.writer.now)) (fed_after (fed_quietly Settle c.in_ok-tell.field-0 refl (c.tell.ensures.rests refl) c.in_ok-tell.ensures.obeyed)
     (fed_after (fed_quietly Collect c.in_ok-tell-2.field-0 refl (c.tell-2.ensures.rests refl) c.in_ok-tell-2.ensures.obeyed) c.write_outs.ensures.fed))
 
 pub returns-clause-rests : goal.returns-clause-rests

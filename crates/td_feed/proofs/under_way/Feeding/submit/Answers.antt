@@ -11,4 +11,4 @@ pub returns-clause-disk : goal.returns-clause-disk
 returns-clause-disk g c = disk_then c.in_ok-tell_aloud.ensures.disk c.release.ensures.disk
 
 pub returns-clause-fed : goal.returns-clause-fed
-returns-clause-fed g c = fed_then c.in_ok-tell_aloud.ensures.fed (c.release.ensures.fed (g.W.Sink.contents c.tell_aloud.new.writer))
+returns-clause-fed g c = fed_then c.in_ok-tell_aloud.ensures.fed (c.release.ensures.fed g.W.Voice.marks (g.W.Sink.contents c.tell_aloud.new.writer))
