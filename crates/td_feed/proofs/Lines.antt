@@ -22,7 +22,7 @@ use Rattle.td_console.specs.declared.faults.Fault.{Fault}
 use Rattle.td_console.specs.declared.faults.Fault.TheVariants.{Output, Memory, Keeper}
 use Rattle.td_feed.specs.Carried.{is_refused}
 use Rattle.td_feed.specs.Fed.{pool_fault}
-use Rattle.td_feed.specs.Said.{request_in, line_of, lines_of, Says, SaysSome, SaysBy, SaysFrom, SaysFed, Refuses}
+use Rattle.td_feed.specs.Said.{request_in, line_of, lines_of, Says, SaysSome, SaysUnheard, SaysBy, SaysFrom, SaysFed, Refuses}
 
 -- whether a command's reply has no line
 abbrev pub is_quiet : Command → Bool
@@ -124,18 +124,30 @@ module _ {D : Type 0} (is_lawful : D → Type 0) (state : D → DiskState) (fail
   refused_some w c old new (inl is) = record { commands = []; replies = []; driven = is; text = []; unsaid = []; lines = refl; said = Appends-nil w }
   refused_some w c old new (inr told) = unsaid_one w c told.0 old new told.2
 
+  -- whatever was written, the keeper was told
+  pub unheard : (u v : Option (List ℕ)) (a b : Keeping D) → SaysSome is_lawful state failures answers marks u v a b → SaysUnheard is_lawful state failures answers marks a b
+  unheard u v a b some = record { commands = some.commands; replies = some.replies; driven = some.driven }
+
+  pub then_unheard : (u v : Option (List ℕ)) (a b c : Keeping D) (x : List AnySubmitted) → Says is_lawful state failures answers marks u v a b x
+      → SaysUnheard is_lawful state failures answers marks b c → SaysUnheard is_lawful state failures answers marks a c
+  then_unheard u v a b c x first rest = record {
+    commands = first.commands ++ rest.commands;
+    replies = first.replies ++ rest.replies;
+    driven = driven-append first.commands first.replies rest.commands rest.replies a b c first.driven rest.driven;
+  }
+
   -- AT AN ANSWER
   pub then_by : (result : Result (Unit {0}) Fault) (u v w : Option (List ℕ)) (a b c : Keeping D) (x y : List AnySubmitted) → Says is_lawful state failures answers marks u v a b x
       → SaysBy is_lawful state failures answers marks result v w b c y → SaysBy is_lawful state failures answers marks result u w a c (x ++ y)
   then_by (Ok done) u v w a b c x y first rest = says_then u v w a b c x y first rest
-  then_by (Err fault) u v w a b c x y first rest = ⊎_elim inl (λ some. inr (then_some u v w a b c x first some)) rest
+  then_by (Err fault) u v w a b c x y first rest = ⊎_elim (λ output. inl (output.0, then_unheard u v a b c x first output.1)) (λ some. inr (then_some u v w a b c x first some)) rest
 
   pub by_ok : (result : Result (Unit {0}) Fault) (u v : Option (List ℕ)) (a b : Keeping D) (x : List AnySubmitted) → result ≡ Ok tt
       → Says is_lawful state failures answers marks u v a b x → SaysBy is_lawful state failures answers marks result u v a b x
   by_ok result u v a b x is says = subst (λ (r : Result (Unit {0}) Fault). SaysBy is_lawful state failures answers marks r u v a b x) (sym is) says
 
   pub by_refusal : (result : Result (Unit {0}) Fault) (P : Fault → Type 0) (u v : Option (List ℕ)) (a b : Keeping D) (x : List AnySubmitted) → IsErrAnd result P
-      → ((f : Fault) → P f → (f ≡ Output) ⊎ SaysSome is_lawful state failures answers marks u v a b) → SaysBy is_lawful state failures answers marks result u v a b x
+      → ((f : Fault) → P f → ((f ≡ Output) × SaysUnheard is_lawful state failures answers marks a b) ⊎ SaysSome is_lawful state failures answers marks u v a b) → SaysBy is_lawful state failures answers marks result u v a b x
   by_refusal (Ok done) P u v a b x none step = absurd none
   by_refusal (Err fault) P u v a b x is step = step fault is
 
@@ -143,7 +155,7 @@ module _ {D : Type 0} (is_lawful : D → Type 0) (state : D → DiskState) (fail
   pub handed_on : (result : Result (Unit {0}) Fault) (e : Fault) (u v w : Option (List ℕ)) (a b c : Keeping D) (x y z : List AnySubmitted) → IsErrAnd result (λ f. f ≡ e)
       → Says is_lawful state failures answers marks u v a b x → SaysBy is_lawful state failures answers marks (Err e) v w b c y → SaysBy is_lawful state failures answers marks result u w a c z
   handed_on (Ok done) e u v w a b c x y z none first rest = absurd none
-  handed_on (Err f) e u v w a b c x y z is first rest = ⊎_elim (λ output. inl (is ∙ output)) (λ some. inr (then_some u v w a b c x first some)) rest
+  handed_on (Err f) e u v w a b c x y z is first rest = ⊎_elim (λ output. inl (is ∙ output.0, then_unheard u v a b c x first output.1)) (λ some. inr (then_some u v w a b c x first some)) rest
 
   -- a command whose reply has no line
   pub says_silent : (w : Option (List ℕ)) (c : Command) (r : Reply) (old new : Keeping D) → Driven is_lawful state failures answers (c ∷ []) (r ∷ []) old new → line_of marks (request_in c) r ≡ []
@@ -241,7 +253,7 @@ module _ {D : Type 0} (is_lawful : D → Type 0) (state : D → DiskState) (fail
   said_by (Ok done) w v c r old new x P driven is said none same =
       subst (λ (l : List AnySubmitted). Says is_lawful state failures answers marks w v old new l) is (says_one w v c r old new driven said)
   said_by (Err f) w v c r old new x P driven is said why same =
-      ⊎_elim inl (λ memory. inr (subst (λ (u : Option (List ℕ)). SaysSome is_lawful state failures answers marks w u old new) (sym (same memory.1)) (unsaid_one w c r old new driven))) why
+      ⊎_elim (λ output. inl (output, unheard w w old new (unsaid_one w c r old new driven))) (λ memory. inr (subst (λ (u : Option (List ℕ)). SaysSome is_lawful state failures answers marks w u old new) (sym (same memory.1)) (unsaid_one w c r old new driven))) why
 
   -- after what was said
   pub then_quiet : (result : Result (Unit {0}) Fault) (u v w : Option (List ℕ)) (a b c : Keeping D) (x : List AnySubmitted) → Says is_lawful state failures answers marks u v a b x
@@ -371,7 +383,7 @@ module _ {D : Type 0} (is_lawful : D → Type 0) (state : D → DiskState) (fail
   pub last_written : (result : Result (Unit {0}) Fault) (u v w : Option (List ℕ)) (a b : Keeping D) (held : List ℕ) → Holding u v a b held
       → OnOk result (Appends v w held) → IfErr result (λ f. f ≡ Output) → SaysBy is_lawful state failures answers marks result u w a b []
   last_written (Ok done) u v w a b held so_far written why = all_written u w a b [] (holding_written u v w a b held [] so_far written refl) refl
-  last_written (Err f) u v w a b held so_far written why = inl why
+  last_written (Err f) u v w a b held so_far written why = inl (why, unheard u v a b so_far.some)
 
 -- a refusal of a writer's, or for want of memory, is not the device's
 pub no_device_if : {T : Type 0} (result : Result T Fault) (P : Type 0) → IfErr result (λ f. (f ≡ Output) ⊎ ((f ≡ Memory) × P)) → result ≡ Err (Keeper error.Device) → ⊥
@@ -391,7 +403,7 @@ module _ {D : Type 0} (is_lawful : D → Type 0) (state : D → DiskState) (fail
       → SaysSome is_lawful state failures answers marks u v a b
   some_by (Ok done) says why = some_of_all is_lawful state failures answers marks u v a b x says
   some_by (Err f) says why =
-      ⊎_elim (λ output. ⊎_elim (λ not_so. absurd (let is = not_so in cc)) (λ unpassed. absurd (let is = unpassed.1 in let other = output in cc)) why) (λ some. some) says
+      ⊎_elim (λ output. ⊎_elim (λ not_so. absurd (let is = not_so in cc)) (λ unpassed. absurd (let is = unpassed.1 in let other = output.0 in cc)) why) (λ some. some) says
 
   pub ended_says : (obeyed result : Result (Unit {0}) Fault) (worked : Result (Unit {0}) PoolError) → OnOk result ((obeyed ≡ Ok tt) × (worked ≡ Ok tt)) → IfErr result (EndedAs obeyed worked)
       → SaysBy is_lawful state failures answers marks obeyed u v a b x → SaysBy is_lawful state failures answers marks result u v a b x

@@ -175,6 +175,7 @@ module _ {D : Type 0} {is_lawful : D → Type 0} {state : D → DiskState} {fail
   err_fed P (Ok d) none left said = absurd none
   err_fed P (Err f) holds left said = record { sound = tt; fed = record { carried = tt; left = left; said = said } }
 
+module _ {D : Type 0} {is_lawful : D → Type 0} {state : D → DiskState} {failures : D → ℕ} {answers : Answers} where
   -- a hall of its own was released into: it has all batches
   pub all_released : {a b : Keeping D} (r : Reply) (S T : HallState) → IsObeyed is_lawful state failures answers Release r a b → ComesOf Release r a S b T → T.batches ≡ since_base b
   all_released (Refused e back) S T released comes = absurd (let no : true ≡ false = released.done in cc)

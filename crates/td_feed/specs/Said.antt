@@ -1,5 +1,5 @@
 -- What a feed writes: the lines of what its keeper replied.
-use Rattle.std.specs.Prelude.{◌≡◌, ◌⊎◌, ℕ, zero, suc, ◌-◌, Bool, true, List, [], ◌∷◌, ◌++◌, codes, All, Option, Some, Result, Ok, Err, OnOk}
+use Rattle.std.specs.Prelude.{◌≡◌, ◌⊎◌, ℕ, zero, suc, ◌-◌, Bool, true, false, List, [], ◌∷◌, ◌++◌, codes, All, Option, Some, Result, Ok, Err, OnOk}
 use Rattle.std.specs.Fmt.{decimal}
 use Rattle.std.specs.Io.KnownBytes.{Appends}
 use Rattle.td_stamp.specs.declared.epoch_out.EpochOut.{EpochOut}
@@ -102,10 +102,16 @@ module _ {D : Type 0} (is_lawful : D → Type 0) (state : D → DiskState) (fail
     pub lines : lines_of marks commands replies ≡ text ++ unsaid
     pub said : Appends before after text
 
-  -- all of them after Ok, and a beginning at a refusal; of a writer that failed nothing is known
+  -- or nothing is known of the writer, which failed
+  pub record SaysUnheard (old new : Keeping D) : Type 0 where
+    pub commands : List Command
+    pub replies : List Reply
+    pub driven : Driven is_lawful state failures answers commands replies old new
+
+  -- all of them after Ok, and a beginning at a refusal
   abbrev pub SaysBy : Result (Unit {0}) Fault → Option (List ℕ) → Option (List ℕ) → Keeping D → Keeping D → List AnySubmitted → Type 0
   SaysBy (Ok done) before after old new x = Says before after old new x
-  SaysBy (Err fault) before after old new x = (fault ≡ Output) ⊎ SaysSome before after old new
+  SaysBy (Err fault) before after old new x = ((fault ≡ Output) × SaysUnheard old new) ⊎ SaysSome before after old new
 
   -- A FEED OF A DISK: its keeper is what the disk tells, perhaps with a watch attached, and what was written are the lines of what
   -- that keeper replied; it was told what submits those of these that are new to it; and the disk that is left holds what the keeper

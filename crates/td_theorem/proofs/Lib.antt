@@ -7,3 +7,4 @@ mod Stints
 mod Plays
 mod Engines
 mod Lives
+mod Found

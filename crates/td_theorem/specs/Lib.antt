@@ -1,3 +1,4 @@
 pub mod Life
 pub mod Comes
 pub mod Holds
+pub mod Feeds

@@ -8,7 +8,7 @@ use Rattle.td_console.specs.declared.faults.Fault.{Fault}
 use Rattle.td_feed.specs.Said.{line_of, out_lines}
 use Rattle.td_feed.proofs.Carrying.{unmoved, carries_after}
 use Rattle.td_feed.proofs.Counting.{other_fault}
-use Rattle.td_feed.proofs.Lines.{by_refusal, output_no_device, holding_nothing, holding_more, holding_piece, none_out, all_written, last_written}
+use Rattle.td_feed.proofs.Lines.{by_refusal, unheard, output_no_device, holding_nothing, holding_more, holding_piece, none_out, all_written, last_written}
 use Rattle.td_feed.proofs.Session.{ok_no_device, disk_same, fed_quiet}
 use Rattle.td_feed.proofs.under_way.write_outs.Goals as goal
 
@@ -42,12 +42,12 @@ loop-out-preserved g c =
     let so_far = c.loop-out.invariant in
     let o : Option EpochOut = c.next_out.result in
     let more = holding_more is_lawful state failures answers marks u v old there new o held (held ++ line_of marks 0 (Out o)) so_far.said c.next_out.ensures.driven refl in
-    let printed : string_bytes c.print_out.new.text ≡ held ++ line_of marks 0 (Out (Some c.in-Some.out)) =
+    let printed : string_bytes c.print_out.new.lines ≡ held ++ line_of marks 0 (Out (Some c.in-Some.out)) =
     c.in_ok-print_out.ensures.ok ∙ ap (λ (m : Bool). held ++ out_lines m c.in-Some.out) c.is_marking-marks.ensures in
-    let is : held ++ line_of marks 0 (Out o) ≡ string_bytes c.print_out.new.text = ap (λ (p : Option EpochOut). held ++ line_of marks 0 (Out p)) c.in-Some.is ∙ sym printed in
+    let is : held ++ line_of marks 0 (Out o) ≡ string_bytes c.print_out.new.lines = ap (λ (p : Option EpochOut). held ++ line_of marks 0 (Out p)) c.in-Some.is ∙ sym printed in
     record {
-      said = holding_piece is_lawful state failures answers marks g.W.Sink.contents string_bytes u c.loop-out.writer c.write_piece.new.writer old new c.print_out.new.text c.write_piece.new.text
-          (holding_more is_lawful state failures answers marks u v old there new o held (string_bytes c.print_out.new.text) so_far.said c.next_out.ensures.driven (sym is)) c.in_ok-write_piece.ensures.ok;
+      said = holding_piece is_lawful state failures answers marks g.W.Sink.contents string_bytes u c.loop-out.writer c.write_piece.new.writer old new c.print_out.new.lines c.write_piece.new.text
+          (holding_more is_lawful state failures answers marks u v old there new o held (string_bytes c.print_out.new.lines) so_far.said c.next_out.ensures.driven (sym is)) c.in_ok-write_piece.ensures.ok;
       carried = carries_after is_lawful state answers old there new [] so_far.carried c.next_out.ensures.carried;
       device = c.next_out.ensures.device ∙ so_far.device;
       standing = c.next_out.ensures.stands.0 ∙ so_far.standing;
@@ -93,9 +93,11 @@ returns-in_err-write_piece-clause-fed g c =
     let new = (g.E.Obey.keeping c.next_out.new.engine) in
     let held = string_bytes c.loop-out.text in
     let so_far = c.loop-out.invariant in
+    let o : Option EpochOut = c.next_out.result in
+    let more = holding_more is_lawful state failures answers marks u v old there new o held (held ++ line_of marks 0 (Out o)) so_far.said c.next_out.ensures.driven refl in
     fed_quiet c.from_residual-in_err-write_piece.result (carries_after g.D.Disk.is_lawful g.D.Disk.state g.L.Law.answers (g.E.Obey.keeping c.args.engine.now) (g.E.Obey.keeping c.loop-out.engine) (g.E.Obey.keeping c.next_out.new.engine) [] c.loop-out.invariant.carried c.next_out.ensures.carried)
     (by_refusal is_lawful state failures answers marks c.from_residual-in_err-write_piece.result (λ (f : Fault). f ≡ c.in_err-write_piece.field-0.0) u (g.W.Sink.contents c.write_piece.new.writer) old new []
-    c.from_residual-in_err-write_piece.ensures.1 (λ f is. inl (is ∙ c.in_err-write_piece.ensures.err)))
+    c.from_residual-in_err-write_piece.ensures.1 (λ f is. inl (is ∙ c.in_err-write_piece.ensures.err, unheard is_lawful state failures answers marks u v old new more.some)))
 
 pub returns-in_err-write_piece-clause-disk : goal.returns-in_err-write_piece-clause-disk
 returns-in_err-write_piece-clause-disk g c =

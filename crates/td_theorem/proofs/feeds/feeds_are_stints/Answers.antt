@@ -1,0 +1,21 @@
+use Rattle.std.proofs.Common.{List, ℕ, refl, sym, subst}
+use Rattle.td_standing.specs.Advanced.{HeldWhere}
+use Rattle.td_theorem.proofs.Found.{is_fresh}
+use Rattle.td_theorem.proofs.feeds.feeds_are_stints.Goals as goal
+
+pub returns : goal.returns
+returns g c marks result plan alone disk left before after x from lawful commands replies driven image was =
+    let state = g.D.Disk.state in
+    let ended = from.ended in
+    record {
+      unwritten = from.unwritten lawful;
+      lawful = from.lawful lawful;
+      for_plan = from.plan_is;
+      keeps = from.found lawful;
+      fresh = is_fresh from;
+      kept = from.kept;
+      driven = driven;
+      held = subst (λ (d : g.row.D.Denot). HeldWhere ended.broken g.L.Law.answers ended.plan ended.head ended.side ended.standing (state d)) from.left_is (from.holds (from.lawful_left lawful));
+      stopped = refl;
+      crashed = subst (λ (d : g.row.D.Denot). (state d).since (state d).moment image) from.left_is was;
+    }
