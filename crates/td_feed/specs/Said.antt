@@ -133,10 +133,14 @@ module _ {D : Type 0} (is_lawful : D → Type 0) (state : D → DiskState) (fail
     pub said : SaysBy result before after (record keeper { watch = watch }) ended (new_to keeper x)
     pub all_out : alone ≡ true → OnOk result (IsAllOut ended)
 
-  -- at a refusal before there is a keeper, or before it is told anything, nothing is written
+  -- or nothing was done, where a refusal came before its keeper: nothing was written, and the disk tells what it told
+  pub record IsUntouched (disk left : D) (before after : Option (List ℕ)) : Type 0 where
+    pub said : after ≡ before
+    pub disk_is : (left ≡ disk) ⊎ (is_lawful disk → CrashSafe Unchanged (state disk) (state left))
+
   abbrev pub SaysFed : Result (Unit {0}) Fault → List PlanLine → Bool → D → D → Option (List ℕ) → Option (List ℕ) → List AnySubmitted → Type 0
   SaysFed (Ok done) plan alone disk left before after x = SaysFrom (Ok done) plan alone disk left before after x
-  SaysFed (Err fault) plan alone disk left before after x = (after ≡ before) ⊎ SaysFrom (Err fault) plan alone disk left before after x
+  SaysFed (Err fault) plan alone disk left before after x = IsUntouched disk left before after ⊎ SaysFrom (Err fault) plan alone disk left before after x
 
 module _ {D : Type 0} (is_lawful : D → Type 0) (state : D → DiskState) (failures : D → ℕ) (answers : Answers) where
   -- ONE COMMAND that was refused: by the keeper, or before it was told

@@ -29,7 +29,7 @@ returns-in-Err-clause-fed g c =
     (λ input. record {
       fed = tt;
       safe = λ lawful history told. none_more g.L.Law.answers c.args.plan.now history (new_after (greatest 0 history) (submitted_by (orders_of c.args.plan.now input))) (g.D.Disk.state c.args.disk) told;
-      said = inl refl;
+      said = inl (record { said = refl; disk_is = inl refl });
     })
 
 pub returns-in-Err-recover-clause-disk : goal.returns-in-Err-recover-clause-disk
@@ -59,7 +59,7 @@ returns-in-Err-recover-clause-fed g c =
           none_more answers plan history (new_after (greatest 0 history) (submitted_by (orders_of plan input))) (state new)
           (still_each answers plan history (state old) (state new) safe
           (λ i image. g.met.D.Disk.counts_now new (state old).moment i (c.in-Err-recover.ensures.lawful_back.0 lawful) safe.later image) told);
-      said = inl refl;
+      said = inl (record { said = refl; disk_is = inr c.in-Err-recover.ensures.crash_safe_back });
     })
 
 pub returns-clause-disk : goal.returns-clause-disk
