@@ -5,10 +5,12 @@ use Rattle.std.specs.Io.KnownBytes.{Appends}
 use Rattle.td_stamp.specs.declared.epoch_out.EpochOut.{EpochOut}
 use Rattle.td_plan.specs.Lines.{Line as PlanLine}
 use Rattle.td_calls.specs.Answers.{Answers}
-use Rattle.td_disk.specs.Disk.{DiskState}
+use Rattle.td_disk.specs.Disk.{DiskState, Rises, IsDurable}
 use Rattle.td_gate.specs.CrashSafe.{CrashSafe, Unchanged}
 use Rattle.td_journal.specs.declared.submitted.Submitted.{Submitted as AnySubmitted}
 use Rattle.td_watch.specs.View.{View}
+use Rattle.td_standing.specs.declared.error.KeeperError.TheVariants.{Device}
+use Rattle.td_standing.specs.Read.{Refused as Refusal}
 use Rattle.td_standing.specs.Told.{Told}
 use Rattle.td_standing.specs.Tells.{Keeps}
 use Rattle.td_standing.specs.Standing.{Standing, last_epoch}
@@ -22,9 +24,10 @@ use Rattle.td_keeper.specs.declared.receipt.Receipt.TheVariants.{New, Already}
 use Rattle.td_keeper.specs.Keeping.{Keeping, IsKeeping, IsFreshlyOpened}
 use Rattle.td_keeper.specs.Driven.{submitted_by, AcknowledgesUpTo, Driven}
 use Rattle.td_feed.specs.Carried.{new_to, is_refused}
+use Rattle.td_feed.specs.Shown.{IsRefusedAs}
 use Rattle.td_console.specs.Answer.{output_text}
 use Rattle.td_console.specs.declared.faults.Fault.{Fault}
-use Rattle.td_console.specs.declared.faults.Fault.TheVariants.{Memory, Output}
+use Rattle.td_console.specs.declared.faults.Fault.TheVariants.{Memory, Output, Keeper as AsKeeper}
 use Rattle.td_console.specs.Refusals.{keeper_fault}
 
 -- `ack E`, `again Q` and `cut E`
@@ -133,14 +136,16 @@ module _ {D : Type 0} (is_lawful : D → Type 0) (state : D → DiskState) (fail
     pub said : SaysBy result before after (record keeper { watch = watch }) ended (new_to keeper x)
     pub all_out : alone ≡ true → OnOk result (IsAllOut ended)
 
-  -- or nothing was done, where a refusal came before its keeper: nothing was written, and the disk tells what it told
-  pub record IsUntouched (disk left : D) (before after : Option (List ℕ)) : Type 0 where
+  -- OR NO KEEPER WAS FOUND on it: the disk tells this refusal, or a call of it or memory failed; and nothing was written, there or to a writer
+  pub record IsUntouched (fault : Fault) (plan : List PlanLine) (disk left : D) (before after : Option (List ℕ)) : Type 0 where
+    pub refused : (fault ≡ Memory) ⊎ (((fault ≡ AsKeeper Device) × Rises (failures disk) (failures left))
+        ⊎ IsRefusedAs fault (λ error. is_lawful disk → IsDurable (state left) × Told plan (state left).bytes (Refusal error)))
+    pub unwritten : is_lawful disk → CrashSafe Unchanged (state disk) (state left)
     pub said : after ≡ before
-    pub disk_is : (left ≡ disk) ⊎ (is_lawful disk → CrashSafe Unchanged (state disk) (state left))
 
   abbrev pub SaysFed : Result (Unit {0}) Fault → List PlanLine → Bool → D → D → Option (List ℕ) → Option (List ℕ) → List AnySubmitted → Type 0
   SaysFed (Ok done) plan alone disk left before after x = SaysFrom (Ok done) plan alone disk left before after x
-  SaysFed (Err fault) plan alone disk left before after x = IsUntouched disk left before after ⊎ SaysFrom (Err fault) plan alone disk left before after x
+  SaysFed (Err fault) plan alone disk left before after x = IsUntouched fault plan disk left before after ⊎ SaysFrom (Err fault) plan alone disk left before after x
 
 module _ {D : Type 0} (is_lawful : D → Type 0) (state : D → DiskState) (failures : D → ℕ) (answers : Answers) where
   -- ONE COMMAND that was refused: by the keeper, or before it was told

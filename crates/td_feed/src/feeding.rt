@@ -66,7 +66,8 @@ pub fn feed<
 
     // An input with a fault answers an error, with nothing written to the writer; and what it asks for is fed.
     ensures fault { IfSome (I.remaining reader.old) (λ input. IfErr (orders_of plan.now input) (λ _. IsErr result.1 × (writer.new ≡ writer.old))) }
-    ensures fed { IfSome (I.remaining reader.old) (λ input. FeedsDisk D.is_lawful D.state D.failures L.answers W.marks result.1 plan.now false disk result.0
+    ensures fed { first_lack (C.has_map calls.now) (C.has_group calls.now) (C.has_fold calls.now) (vertices plan.now) ≡ None
+        → IfSome (I.remaining reader.old) (λ input. FeedsDisk D.is_lawful D.state D.failures L.answers W.marks result.1 plan.now false disk result.0
         (W.contents writer.old) (W.contents writer.new) (submitted_by (orders_of plan.now input))) }
 {
     laws::told_in_parts();

@@ -78,7 +78,8 @@ pub fn stream<
 
     // Ok is answered only to an input without a fault; and what it asks for is fed, by one worker until all outputs went out.
     ensures sound { OnOk result.1 (IfSome (I.remaining reader) (λ input. (script_of plan.now input).is_sound ≡ true)) }
-    ensures fed { IfSome (I.remaining reader) (λ input. FeedsDisk D.is_lawful D.state D.failures L.answers W.marks result.1 plan.now (workers == 1) disk result.0
+    ensures fed { first_lack (C.has_map calls.now) (C.has_group calls.now) (C.has_fold calls.now) (vertices plan.now) ≡ None
+        → IfSome (I.remaining reader) (λ input. FeedsDisk D.is_lawful D.state D.failures L.answers W.marks result.1 plan.now (workers == 1) disk result.0
         (W.contents writer.old) (W.contents writer.new) (submissions (script_of plan.now input).orders)) }
 {
     laws::told_in_parts();

@@ -2,8 +2,12 @@ use Rattle.std.proofs.Common.{◌≡◌, false, ℕ, List, ◌++◌, refl, sym, 
 use Rattle.td_console.specs.Refusals.{keeper_fault}
 use Rattle.std.proofs.lemmas.Option.{IfSome_then}
 use Rattle.td_plan.specs.Lines.{Line}
+use Rattle.td_disk.specs.Disk.{Rises, IsDurable}
 use Rattle.td_gate.specs.CrashSafe.{CrashSafe, Unchanged}
 use Rattle.td_journal.specs.declared.submitted.Submitted.{Submitted}
+use Rattle.td_standing.specs.declared.error.KeeperError.{KeeperError}
+use Rattle.td_standing.specs.Told.{Told}
+use Rattle.td_standing.specs.Read.{Refused}
 use Rattle.td_standing.specs.Stops.{Stands}
 use Rattle.td_standing.specs.Advanced.{states_by, HeldWhere}
 use Rattle.td_journal.specs.Numbers.{greatest}
@@ -16,6 +20,7 @@ use Rattle.td_feed.proofs.Newness.{last_of_history}
 use Rattle.td_feed.proofs.Carrying.{in_some, ended_some, ended_all, none_more, still_each, found}
 use Rattle.td_feed.proofs.Counting.{as_err, fault_of, keeper_device, lack_no_device}
 use Rattle.td_feed.proofs.Lines.{fed_says}
+use Rattle.td_feed.proofs.Refused.{refused}
 use Rattle.std.proofs.lemmas.Result.{on_ok_weaker}
 use Rattle.td_feed.proofs.Session.{left_of, disk_same, disk_then, disk_recovered}
 use Rattle.td_feed.proofs.feeding.feed.Goals as goal
@@ -24,13 +29,7 @@ pub returns-in-Err-clause-disk : goal.returns-in-Err-clause-disk
 returns-in-Err-clause-disk g c = disk_same _ refl (λ is. lack_no_device c.in-Err.lack (ap (as_err (Unit {0})) (sym c.lack_fault.ensures.fault ∙ fault_of _ _ is)))
 
 pub returns-in-Err-clause-fed : goal.returns-in-Err-clause-fed
-returns-in-Err-clause-fed g c =
-    in_some (g.I.Source.remaining c.args.reader.now)
-    (λ input. record {
-      fed = tt;
-      safe = λ lawful history told. none_more g.L.Law.answers c.args.plan.now history (new_after (greatest 0 history) (submitted_by (orders_of c.args.plan.now input))) (g.D.Disk.state c.args.disk) told;
-      said = inl (record { said = refl; disk_is = inl refl });
-    })
+returns-in-Err-clause-fed g c = λ none. absurd (let some = c.in-Err.ensures.err in cc)
 
 pub returns-in-Err-recover-clause-disk : goal.returns-in-Err-recover-clause-disk
 returns-in-Err-recover-clause-disk g c =
@@ -45,7 +44,12 @@ returns-in-Err-recover-clause-disk g c =
     }
 
 pub returns-in-Err-recover-clause-fed : goal.returns-in-Err-recover-clause-fed
-returns-in-Err-recover-clause-fed g c =
+returns-in-Err-recover-clause-fed g c = λ fits.
+    let recover = c.in-Err-recover.ensures in
+    let state = g.D.Disk.state in
+    let new = c.in-Err-recover.disk in
+    let rose = Rises (g.D.Disk.failures c.args.disk) (g.D.Disk.failures new) in
+    let tells = λ (e : KeeperError). g.D.Disk.is_lawful c.args.disk → IsDurable (state new) × Told c.args.plan.now (state new).bytes (Refused e) in
     in_some (g.I.Source.remaining c.args.reader.now)
     (λ input. record {
       fed = tt;
@@ -59,7 +63,11 @@ returns-in-Err-recover-clause-fed g c =
           none_more answers plan history (new_after (greatest 0 history) (submitted_by (orders_of plan input))) (state new)
           (still_each answers plan history (state old) (state new) safe
           (λ i image. g.met.D.Disk.counts_now new (state old).moment i (c.in-Err-recover.ensures.lawful_back.0 lawful) safe.later image) told);
-      said = inl (record { said = refl; disk_is = inr c.in-Err-recover.ensures.crash_safe_back });
+      said = inl (record {
+        refused = refused rose tells c.in-Err-recover.refusal c.from.result c.from.ensures recover.device recover.refused;
+        unwritten = recover.crash_safe_back;
+        said = refl;
+      });
     })
 
 pub returns-clause-disk : goal.returns-clause-disk
@@ -72,7 +80,7 @@ returns-clause-disk g c =
     (disk_then (disk_recovered c.in-Ok.ensures.size c.in-Ok.ensures.lawful c.in-Ok.ensures.stays) c.obey-keeper.ensures.disk)
 
 pub returns-clause-fed : goal.returns-clause-fed
-returns-clause-fed g c =
+returns-clause-fed g c = λ fits.
     let is_lawful = g.D.Disk.is_lawful in
     let state = g.D.Disk.state in
     let failures = g.D.Disk.failures in
