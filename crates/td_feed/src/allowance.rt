@@ -1,4 +1,8 @@
 //! How many tasks the epochs of a stream may take.
+//!
+//! Tasks are what a hall counts. Whether an epoch takes too many is known only when it was tried, and then it stands on the disk.
+//! A later start allows as many for each epoch since the last cut, and may get through. A copy up to the epoch before goes on
+//! without it.
 
 use std::sync::Wait;
 use std::sync::atomic::{AtomicU64, Ordering};

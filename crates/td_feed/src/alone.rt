@@ -1,4 +1,7 @@
 //! A stream on one thread.
+//!
+//! It reads no line while tasks run, so a second thread would only wait in turn. A feed starts its workers in threads whatever
+//! their number.
 ghost use Rattle.std.specs.Prelude.{◌≡◌, false, None, IfSome, OnOk};
 ghost use Rattle.td_plan.specs.Blocks.{vertices};
 ghost use Rattle.td_calls.specs.Fits.{first_lack};

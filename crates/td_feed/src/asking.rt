@@ -1,4 +1,11 @@
 //! Where the orders of a feed come from, one after another.
+//!
+//! A stream is a feed whose orders come from a reader, at a pace. One loop obeys both, and clauses speak of the script that is
+//! left, where it is known. A fault of a line that was read ahead waits until the epochs before it are on the disk and their
+//! lines are written.
+//!
+//! A line and an open epoch have limits here, since a producer that closes neither would fill the memory. An epoch whose request
+//! number is on the disk already has no limit, since it is not put there again.
 ghost use Rattle.std.specs.Prelude.{◌≡◌, ◌<◌, ◌≤◌, ◌++◌, ◌∷◌, ℕ, List, [], Option, Some, None, true, false, length, option_map, OnOk, IfOk, IfErr, IfSome, IfNone};
 ghost use Rattle.td_group.specs.Groups.{may_follow};
 ghost use Rattle.td_feed.specs.declared.order.Order.{Order as AnyOrder};

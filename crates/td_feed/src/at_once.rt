@@ -1,4 +1,8 @@
 //! What is asked for at once, and how much a keeper takes at once.
+//!
+//! A feed has its epochs up to the next `cut` at once, and a stream those that stand whole in what the input has given. A group
+//! ends before an epoch that would be refused or repeated. That one goes alone, so a refusal and an `again Q` come after all that
+//! was acknowledged.
 ghost use Rattle.std.specs.Prelude.{◌≡◌, ◌≤◌, ℕ, [], ◌∷◌, Some, true, IfSome, IfNone, IsTrue, length};
 ghost use Rattle.td_journal.specs.Numbers.{may_come};
 ghost use Rattle.td_standing.specs.Standing.{last_request};
@@ -17,6 +21,7 @@ use td_stamp::EPOCHS_END;
 /// How many epochs a group has at most, and how many bytes their cells take together.
 const EPOCHS: u64 = 256;
 
+// A cell is written whole, so from 21,845 records a cell on each epoch goes alone.
 const BYTES: u64 = 1 << 20;
 
 /// The bytes of a cell beside its records, its gate too, and those of a record.

@@ -1,4 +1,8 @@
 //! The epochs after a disk's checkpoint, in lines that a feed takes.
+//!
+//! The comment before the epochs is for a reader: a feed passes over it. It does not list the states, which no line of a feed
+//! could take. Memory is taken before the first line is written, and numbers are printed by `itoa`, which takes none. So want of
+//! memory is said with nothing written, and no part of a journal goes to a feed.
 ghost use Rattle.std.specs.Prelude.{◌≡◌, ◌≢◌, ◌⊎◌, ◌↔◌, ◌++◌, ◌+◌, ◌<◌, ◌≤◌, ◌^◌, ℕ, [], ◌∷◌, codes, flat_map, length, string_bytes, string_len, string_capacity, IfOk, IfErr, OnOk};
 ghost use Rattle.std.specs.Result.{IsOk};
 ghost use Rattle.td_disk.specs.Disk.{IsDurable, Rises};

@@ -1,6 +1,13 @@
 //! The engines behind the commands of the program `td` that have a disk, over any disk, reader and writer: `format`, `feed`,
 //! `stream`, `show`, `dump` and `upgrade`. Their one contract: a feed or a stream that answers Ok leaves a disk that stands for what it
 //! stood for before and each epoch of the input that is new to it, once; and what `show` and `dump` write is what the disk tells.
+//!
+//! They are a crate of their own above `td_console` and the keeper, apart from the program's words (`td_words`). So a check of
+//! either loads nothing of the other. Disk, reader and writer are type parameters, and what is proved of a feed holds over any
+//! lawful disk. What is written is said by the keeper's replies, so its contract carries over to the lines. `format`, `show` and
+//! `dump` borrow the disk. `feed`, `stream` and `upgrade` take it and hand it back, since a keeper has it meanwhile.
+//!
+//! For example a feed of `0 7 1` and `.` submits one record as the next epoch, and writes `ack 1` on a new disk.
 #![tactic(auto)]
 
 mod allowance;

@@ -9,6 +9,7 @@ use std::marker::Model;
 use td_console::{Fault, LineFault, Source};
 
 /// How many bytes are read at a time, at most.
+// That is what a pipe holds, so a group may be as large.
 const PIECE: usize = 65_536;
 
 /// How many bytes a line may have. A line that says anything has fewer than a hundred.

@@ -1,4 +1,6 @@
 //! What the input of a feed asks for, line by line.
+//!
+//! A request number is a line of its own, so a data line is the same in all inputs.
 ghost use Rattle.std.specs.Prelude.{◌≡◌, ◌⊎◌, ◌<◌, ◌^◌, [], true, false, All, IfOk, IfErr, MatchOption, Some, None, Ok, Err, length};
 ghost use Rattle.std.specs.Bool.{OnTrue};
 ghost use Rattle.td_plan.specs.Text.{text_lines, words};

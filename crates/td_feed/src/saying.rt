@@ -1,4 +1,8 @@
 //! What a feed writes: the lines of its keeper's replies.
+//!
+//! A line stands for a reply, and what a reply says is the keeper's contract. So the text does not fix how many outputs a settle
+//! finds, which no contract of threads can. `again Q` has the number of the line, since a producer looks for the answer to what
+//! it sent.
 ghost use Rattle.std.specs.Prelude.{◌≡◌, ◌⊎◌, ◌-◌, ◌++◌, string_bytes, IfOk, IfErr, OnOk};
 ghost use Rattle.std.specs.Io.KnownBytes.{Appends};
 ghost use Rattle.td_feed.specs.Said.{line_of as line_in, ack_line, ack_lines, out_lines, request_in};

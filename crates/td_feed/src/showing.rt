@@ -1,4 +1,7 @@
 //! What a disk tells, in lines.
+//!
+//! It needs no keeper, hence no law and no closures. The file is opened to be read and written all the same, with an exclusive
+//! lock, since it begins with a sync, as recovery does.
 ghost use Rattle.std.specs.Prelude.{◌≡◌, ◌≢◌, ◌⊎◌, ◌↔◌, ◌++◌, ◌+◌, ◌<◌, ◌^◌, ℕ, Ok, length, string_bytes, IfOk, IfErr, OnOk};
 ghost use Rattle.td_disk.specs.Disk.{IsDurable, Rises};
 ghost use Rattle.td_gate.specs.CrashSafe.{CrashSafe, Unchanged};

@@ -1,4 +1,8 @@
 //! Streaming epochs to a disk, line by line.
+//!
+//! The caller makes the watch and follows it, so no clock is needed here. Its writer begins with zeros, which are above no
+//! keeper's words. A stream ends at `most` after the put and not before. To refuse an epoch before it is on the disk, its `ack`
+//! would wait for its tasks.
 ghost use Rattle.std.specs.Prelude.{◌≡◌, ◌==◌, ◌≤◌, [], ◌∷◌, Option, true, false, None, OnOk, IfSome, Err};
 ghost use Rattle.td_plan.specs.Blocks.{vertices};
 ghost use Rattle.td_calls.specs.Fits.{first_lack};

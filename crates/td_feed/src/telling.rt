@@ -1,4 +1,6 @@
 //! What a feed tells its keeper beside the workers.
+//!
+//! It is one command at a time, since what a feed writes, and when it releases, depends on the reply before.
 ghost use Rattle.std.specs.Prelude.{◌≡◌, ◌⊎◌, [], true, false, IfOk, IfErr, OnOk, OnErr};
 ghost use Rattle.td_keeper.specs.declared.command.Reply.{Reply as AnyReply};
 ghost use Rattle.td_keeper.specs.Driven.{Obeys, ComesOf};

@@ -1,4 +1,7 @@
 //! A feed under way.
+//!
+//! The `ack` lines of a group are written at once, and a stream's outputs after them. A stream settles after each order and reads
+//! no line meanwhile, so outputs come before the next `ack`.
 ghost use Rattle.std.specs.Prelude.{◌≡◌, ◌⊎◌, ◌↔◌, ◌+◌, ◌^◌, ◌<◌, ◌≤◌, ℕ, List, Bool, Option, Some, [], ◌∷◌, true, false, IsTrue, IfOk, IfErr, IfSome, IfNone, OnOk, string_bytes};
 ghost use Rattle.std.specs.Io.KnownBytes.{Appends};
 ghost use Rattle.td_standing.specs.declared.error.KeeperError.TheVariants.{Epochs};
@@ -72,8 +75,8 @@ impl Pace {
 }
 
 /// How much the pool's hall has since its base, and how much the keeper has beyond that, each epoch and each record counted as
-/// one. A release compares all that the hall has, so it waits until as much is new. And how many cells the last cut freed, which may be
-/// open yet.
+/// one. A release compares all that the hall has, so it waits until as much is new. And how many cells the last cut freed, which
+/// may be open yet. Released one by one, the epochs between two cuts would be compared once for each of them.
 #[derive(Drop)]
 pub(crate) struct Feeding {
     pub(crate) pace: Pace,
@@ -337,6 +340,7 @@ impl Feeding {
     }
 
     /// Settles, cuts, writes the cut to the disk, and writes `cut E`. The cells of the epochs up to it are free from then on.
+    /// With no epochs since the last cut it writes that one again.
     fn cut<D: Disk, L: Law, R, E: Obey<D, L, R>, W: Voice>(
         &mut self,
         rt: &R,

@@ -19,8 +19,9 @@ use td_standing::laws;
 /// Recovers a disk, raises it to version 2 of the format, which has request numbers, and writes `version 2`, also where it was of
 /// version 2 before. What it tells stays as it was.
 ///
-/// Refusals: what the disk refuses as it is recovered; `LastGeneration` of the keeper's; `Memory`; and the keeper's `Device`. With
-/// these nothing is written to the writer. Where the writer failed, `Output`, and the disk is of version 2.
+/// Refusals: what the disk refuses as it is recovered; `LastGeneration` of the keeper's; `Memory`; and the keeper's `Device`.
+/// With these nothing is written to the writer. Where the writer failed, `Output`, and the disk is of version 2. So it may be
+/// called before each feed.
 pub fn upgrade<D: Disk, L: Law, W: Sink>(
     alloc: Global,
     disk: D,

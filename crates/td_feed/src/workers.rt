@@ -1,4 +1,9 @@
 //! A feed beside the workers, each in a thread of its own.
+//!
+//! The keeper moves into the scope of the threads and comes back with the answer, and so does the reference to the writer. A
+//! closure that is called once says nothing of what it leaves behind a reference. So a disk must be one that may be dropped.
+//! `td_workers` is not used here: of a reference in its work nothing is known afterwards, and a feed says what its writer then
+//! holds.
 ghost use Rattle.std.specs.Prelude.{◌≡◌, false, IfSome};
 ghost use Rattle.td_feed.specs.Session.{KeepsDisk, FeedsScript};
 
@@ -20,8 +25,9 @@ use td_disk::Disk;
 use td_keeper::Keeper;
 use td_pool::{Crew, Pool, PoolError, Seat};
 
-/// Obeys orders by a hall on which workers work, at this pace, and settles. Refusals: those of what asks for the orders, of the keeper and of the writer; that of a worker,
-/// in place of epochs that did not pass for it; and `Memory`, also where a thread could not be made.
+/// Obeys orders by a hall on which workers work, at this pace, and settles. Refusals: those of what asks for the orders, of the
+/// keeper and of the writer; that of a worker, in place of epochs that did not pass for it; and `Memory`, also where a thread
+/// could not be made.
 pub(crate) fn obey_by_workers<
     D: Disk + Drop,
     S: Asking + Drop,
