@@ -1,4 +1,5 @@
-//! Why a file cannot be had, as a second look at it finds.
+//! Why a file cannot be had, as a second look at it finds. A disk's own call answers `File` alone. What a file was at the first
+//! look, where somebody changed it in between, is not known.
 
 use std::fs::{File, OpenOptions, TryLockError};
 use std::io::ErrorKind;

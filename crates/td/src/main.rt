@@ -1,4 +1,7 @@
 //! Makes the closures of the catalogue, and does what the program's words ask for.
+//!
+//! `td` is words, files and standard streams round engines that are proved for any disk, reader and writer. What this crate adds
+//! is wiring: most of it has no contract, and rows test it. That each code of the catalogue is stored is proved (`answer`).
 #![tactic(auto)]
 
 ghost use Rattle.td_words.specs.Command.{HasWorkers};
@@ -39,7 +42,8 @@ use td_feed::{Marked, feed};
 use td_stamp::{Item, Rec, State};
 use td_words::{Job, WordsError, words};
 
-/// The program's name and version, and the logic of the kit that it is written for. Whether a program was proved is not its own to say.
+/// The program's name and version, and the logic of the kit that it is written for. Whether a program was proved is not its own
+/// to say. The same source makes a program of which nothing is proved. `./build` writes `td.proof` beside the one that it proved.
 const VERSION: &str = "td 0.1 (logic dac8208d650f15bf)\n";
 
 fn main(rt: HostRuntime) -> ExitCode {
@@ -64,7 +68,8 @@ fn tells_who(job: &Job<'_>) -> bool {
     )
 }
 
-/// Does what is asked for. How far a stream has come is told to `stderr`, if that is asked for.
+/// Does what is asked for. How far a stream has come is told to `stderr`, if that is asked for. Whether that is a terminal is
+/// asked of `Stderr`, since no bound of a runtime says it.
 fn done<
     R: Files<File = File>
         + Input
@@ -190,8 +195,9 @@ fn ended<R: Eprint + AllocGlobal>(
     }
 }
 
-/// Answers standard input with the closures of the catalogue. Those of its first shelf are made here, since a function may not hand
-/// out one that it makes; of each kind there is one, which captures its code.
+/// Answers standard input with the closures of the catalogue. Those of its first shelf are made here, since a function may not
+/// hand out one that it makes; of each kind there is one, which captures its code. With one box for each code the proof that a
+/// box may be dropped would go over sixteen.
 fn run_engine<R: Input + Print + AllocGlobal + Threads + Wait + Sync + Send + Copy + 'static>(
     rt: &R,
     engine: Engine<'_>,

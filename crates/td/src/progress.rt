@@ -1,4 +1,8 @@
 //! A stream, and beside it, where that is asked for, a thread that tells how far it has come.
+//!
+//! The thread writes on change, so each line of a log says something new and the last one is how the stream ended. It is not
+//! joined: to know that a write would wait takes `poll`. It takes no memory, so nothing that it does can be refused. On a
+//! terminal that also has the output, the lines run into one another.
 ghost use Rattle.std.specs.Prelude.{◌≡◌, ◌≤◌, [], ◌∷◌, IfOk, IfSome};
 
 use crate::engine::StreamOptions;
@@ -35,7 +39,8 @@ impl Moment {
         }
     }
 
-    /// Waits for it, a second at most, and answers whether it has come.
+    /// Waits for it, a second at most, and answers whether it has come. It may be woken for no reason, and then answers before
+    /// its second is over.
     fn wait<R: Wait>(&self, rt: &R) -> bool {
         self.parker.park_timeout(rt, Duration::from_secs(1));
         self.has_come.load(Ordering::SeqCst)

@@ -82,8 +82,9 @@ impl Refusal {
         }
     }
 
-    /// The exit status of a command that tells who is to do something: 3 the device failed, 4 an operator is wanted, 5 a line of the
-    /// input or of the plan, 6 a standard stream, 7 a file, 8 too much work; 1 for all else.
+    /// The exit status of a command that tells who is to do something: 3 the device failed, 4 an operator is wanted, 5 a line of
+    /// the input or of the plan, 6 a standard stream, 7 a file, 8 too much work; 1 for all else. A supervisor that starts a
+    /// stream again whatever its status would go on after a failed sync.
     pub(crate) fn status(&self) -> u8 {
         match self {
             Refusal::Plain(fault) | Refusal::New(fault) | Refusal::At(fault, _) => status_of(

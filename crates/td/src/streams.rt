@@ -13,7 +13,8 @@ use std::{fs, io};
 const PAUSE: u64 = 5;
 
 /// A reader or a writer of the system's, each call of which that would block counts as interrupted, after a pause: who reads and
-/// writes here makes such a call again.
+/// writes here makes such a call again. std has no call that waits until a stream is ready, and the gate lets no crate use the
+/// kit's `libc`, which has `poll`.
 #[derive(Drop)]
 pub(crate) struct Awaited<'a, S, T> {
     stream: S,
@@ -68,15 +69,16 @@ impl<'a, S: Write, T: Wait> Write for Awaited<'a, S, T> {
     }
 }
 
-/// Whether a standard stream may be closed: the system tells nothing of it.
+/// Whether a standard stream may be closed: the system tells nothing of it. Where `/proc` is not there, all count as closed.
 fn is_any_closed<R: Files<File = File>>(rt: &R) -> bool {
     ["/proc/self/fd/0", "/proc/self/fd/1", "/proc/self/fd/2"]
         .iter()
         .any(|path| fs::metadata(rt, *path).is_err())
 }
 
-/// Takes the numbers of the standard streams, where one may be closed, for as long as the answer is held. A file that is opened gets
-/// the lowest number that is free: a disk that got that of standard output would be written over by the lines of the answer.
+/// Takes the numbers of the standard streams, where one may be closed, for as long as the answer is held. A file that is opened
+/// gets the lowest number that is free: a disk that got that of standard output would be written over by the lines of the answer.
+/// A folder can be neither read nor written, so a closed stream stays `input` or `output`.
 pub(crate) fn hold_streams<R: Files<File = File>>(rt: &R) -> io::Result<Option<[File; 3]>> {
     if !is_any_closed(rt) {
         return Ok(None);

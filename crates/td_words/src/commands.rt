@@ -425,7 +425,8 @@ fn word_arg<'a>(alloc: Global, id: &'a str, name: &'a str, help: &'a str) -> Arg
         .help(help)
 }
 
-/// A number of 32 bits that has to stand there.
+/// A number of 32 bits that has to stand there. `-0` is no such number, as in Rust's `parse`. Whether M, N and K are a shape is
+/// asked after the plan was read.
 fn number_arg<'a>(alloc: Global, id: &'a str, name: &'a str, help: &'a str) -> Arg<'a>
     ensures rule { rule_of result ≡ number_rule id.entry.now }
     ensures local { result.global ≡ false }

@@ -44,7 +44,8 @@ pub fn words<'a>(alloc: Global, given: &'a [String]) -> Result<Job<'a>, WordsErr
     }
 }
 
-/// The text that these words ask for, of which clap knows nothing.
+/// The text that these words ask for, of which clap knows nothing. They are looked for first. A version flag of clap's would be
+/// taken before any command's words, and the text on faults is no command's help.
 fn text_asked<'a>(given: &[String]) -> Option<Job<'a>>
     ensures some { IfSome result (IsTextAsked (map string_bytes given.now)) }
     ensures none { IfNone result ((asks_version (map string_bytes given.now) ≡ false) × (asks_faults (map string_bytes given.now) ≡ false)) }
@@ -116,7 +117,8 @@ fn named<'a>(matches: &ArgMatches<'a>) -> Option<Job<'a>>
     job_of(name, found)
 }
 
-/// The job of the subcommand of this name, with these matches.
+/// The job of the subcommand of this name, with these matches. The proof compares whole names, with one lemma for each command
+/// and none for each pair. So a new name is no case in the other lemmas.
 fn job_of<'a>(name: &str, matches: &ArgMatches<'a>) -> Option<Job<'a>>
     ensures some { IfSome result (IsOf name.now (rows_of (found_of matches.now))) }
     ensures none { IfNone result ((job : AnyJob) → IsOf name.now (rows_of (found_of matches.now)) job → ⊥) }
