@@ -4,7 +4,8 @@
     tests/pages.py
 
 Each link of a page leads to a file, and to a heading of it where it names one. Each indented line of docs/CLOSURES.md and docs/SERVICE.md is a line of
-the crate that the page walks through (of its sources, its definitions, or what it prints); `..` stands for lines that are left out.
+the crate that the page walks through (of its sources, its definitions, or what it prints); `..` stands for lines that are left out. Each quoted block of
+docs/MEANING.md, from a line of three back ticks to the next, stands word for word in the file of crates/ that is named last before it.
 
 Each name that a page cites is one of the sources: a path as `Plan::read` or `laws::orders`, in the crate that it names, or that a section of docs/GUARANTEES.md is
 of; each word of code with `_` or a capital inside; each file. In docs/GUARANTEES.md so is each name behind `*Contract*`, and what stands in brackets
@@ -64,6 +65,43 @@ def mistakes_of_walks():
             said = line.strip()
             if line.startswith("    ") and said not in lines | {"..", ""} and not said.startswith(DRAWN):
                 yield f"{name}: no line of {crate}: {said}"
+
+
+def mistakes_of_definitions():
+    """Blocks of docs/MEANING.md that do not stand, definition by definition, in the file that is named last before them."""
+    page = "docs/MEANING.md"
+    file, quoted = None, None
+    for number, line in enumerate((ROOT / page).read_text(encoding="utf-8").splitlines(), 1):
+        if quoted is None and line.startswith("```"):
+            quoted = []
+        elif quoted is None:
+            file = ([file] + re.findall(r"`(crates/[\w/]+\.(?:antt|rt))`", line))[-1]
+        elif line != "```":
+            quoted.append(line)
+        else:
+            wrong = [first for first, *more in definitions_in(quoted) if not is_quoted(file, [first, *more])]
+            yield from (f"{page}:{number}: it does not stand so in {file}: {first.strip()}" for first in wrong)
+            quoted = None
+    if quoted is not None:
+        yield f"{page}: the last quoted block has no end"
+
+
+def definitions_in(lines):
+    """Lines as definitions, each from a line that begins one on."""
+    found = []
+    for line in lines:
+        if re.match(r" *(?:abbrev|pub record|pub data|pub fn)\b", line) or not found:
+            found.append([])
+        found[-1] += [line] * (line != "")
+    return found
+
+
+def is_quoted(file, lines):
+    """Whether lines are whole lines of a file, one after another, and the definition does not go on behind them."""
+    if file is None or not (ROOT / file).is_file():
+        return False
+    _, stands, behind = f"\n{(ROOT / file).read_text(encoding='utf-8')}".partition("\n" + "\n".join(lines) + "\n")
+    return bool(stands) and re.match(r"\n|\Z| *--|\{", behind) is not None
 
 
 class Function:
@@ -182,7 +220,7 @@ def mistakes_of_contracts(sources):
 
 def main():
     sources = Sources()
-    wrong = [*mistakes_of_links(), *mistakes_of_walks(), *mistakes_of_names(sources), *mistakes_of_contracts(sources)]
+    wrong = [*mistakes_of_links(), *mistakes_of_walks(), *mistakes_of_definitions(), *mistakes_of_names(sources), *mistakes_of_contracts(sources)]
     if wrong:
         fail("\n".join(wrong))
     print(f"{len(PAGES)} pages: links lead somewhere, what is quoted of crates stands there, and each name, clause and file that is cited is there")

@@ -385,21 +385,32 @@ The first two of these, here:
     told 0
 
 **`device`**: a read, a write or a sync of DISK failed. Each epoch with an `ack` was on the device before. Of the next ones all that were
-to be put there together may be there, or none. `td stream`, `td dump` and `td copy` tell the file, the call and the cause: `td: device:
-total.disk: write: no space left on device`. The call is `read`, `write` or `sync`. What to do:
+to be put there together may be there, or none. `td stream`, `td dump` and `td copy` name the file, the call and the cause: `td: device:
+total.disk: write: no space left on device`. The call is `read`, `write` or `sync`.
 
-1. **Do not start `td` on this file at once**, and let no supervisor do so. The status of a stream is 3.
-2. Read the call and the cause. The other commands tell neither: take it for a failed sync, and go to step 5.
-3. `write` and `no space left on device`, `quota exceeded` or `file too large`: make room, or raise the limit. The file is good; go to step 7.
-4. `read` and `the file has become shorter`: something cut the file off. Put a copy back, look for what did it, and go to step 7.
-5. Anything else, and whatever came of a `sync`: mend or replace the device.
-6. Start the machine again, or take the file system off and put it on again. After a sync that failed, an operating system may keep in
-   its memory what the device never got, and answer reads, and later syncs, from there. What `td` would then tell and acknowledge, a
-   loss of power would take away. (Or copy the file past that memory, as by `dd iflag=direct`, and compare: where they differ the copy
-   is what stands.)
-7. Look with `td show`: what it tells is what you have.
-8. Start again, and send everything from the first batch without an answer, under its request numbers. Batches without numbers are sent
-   from the epoch after `told`.
+Never:
+
+- start `td` on this file before step 6, not even `td show`;
+- format it, or send a batch again under a new request number;
+- put a copy over it while its own bytes may be good: what was acknowledged after the copy was made is not in it.
+
+Do this, in this order:
+
+1. **Stop what starts `td` by itself**: the supervisor, the timer, the loop of a script. The status of a stream is 3.
+2. **Write down** the line that `td` wrote, and which batch was the first without an `ack` or `again`.
+3. **Read the call and the cause** in that line:
+   - `write`, and `no space left on device`, `quota exceeded` or `file too large`: make room, or raise the limit. The file is good. Go to step 6.
+   - `read`, and `the file has become shorter`: something cut the file off. Look for what did it, and put a copy back. Go to step 6.
+   - Anything else, and whatever the cause of a `sync`: go on with step 4. So does a line without a call, as of `format`, `feed`, `show` and `upgrade`.
+4. **Mend or replace the device.** Where it is replaced copy the file to the new one by `cp`, then run `sync`, and go on with that copy.
+5. **Start the machine again**, or take the file system off and put it on again. After a sync that failed, an operating system may keep in its
+   memory what the device never got. It then answers reads, and later syncs, from there. A loss of power would take away what `td` would find and
+   acknowledge. (Or copy the file past that memory, as by `dd iflag=direct`, and compare: where they differ the copy is what stands.)
+6. **Run `td show DISK PLAN`.** What it writes is what you have. Where it writes `device` again, go back to step 4. Where it writes `damaged`, put a
+   copy back.
+7. **Start again, and send everything from the first batch without an answer**, under its request numbers. What is there already is answered
+   `again`. Batches without numbers are sent from the epoch after `told`.
+8. **Start what you stopped** in step 1.
 
 A file on which `td format` ended so is formatted again. Where NEW of `td copy` failed, the text has its path, NEW was removed, and DISK is
 as it was: make room, or take another device, and copy again.
@@ -422,12 +433,18 @@ may go on for ever, the end of a line has not, or an epoch has more than 2^32 li
     td: input
 
 **`output`**: standard output cannot be written: it is closed, or its file system is full, or who read it went away, as `head` does. The
-disk is fine. It may have a few more epochs than you saw `ack` for, all that were put there together; what stands after them in the input
-is not there. A disk whose `version 2` could not be written is raised. What to do:
+disk is fine. It may have a few more epochs than you saw `ack` for, all that were put there together. What stands after them in the input
+is not there. A disk whose `version 2` could not be written is raised.
 
-1. Have the output read again, or make room for it.
-2. Start again, and send everything from the first batch without an answer, under its request numbers. Batches without numbers are sent
-   from the epoch after the one that `td show` tells.
+Never format the disk for this, put a copy back, or send a batch again under a new request number.
+
+1. **Look at who reads the output**: start it again, or make room for the file where it goes. Commands other than `feed` and `stream` are then run
+   again, and that is all.
+2. **Run `td show DISK PLAN`.** The epoch behind `told` is the last on the disk, and the one behind `kept` that of the last cut.
+3. **Start again, and send everything from the first batch without an answer**, under its request numbers. What is there already is answered
+   `again`. Batches without numbers are sent from the epoch after `told`.
+4. **Read the outputs again.** Those of all epochs after `kept` come once more, the same ones. Those up to `kept` do not: a cut dropped them. Where
+   you lack some, feed all batches from the first on to a fresh disk, if you have them.
 
 A feed whose output is closed has put two epochs on the disk:
 
