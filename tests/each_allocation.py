@@ -7,7 +7,7 @@ It runs `td batch`, `run` and `sim` on the files, by default on the small exampl
 Each run must answer as with ample memory, or write nothing to standard output, `td: memory` to standard error, and end with
 status 1.
 
-Without files it also runs the commands on disks and plans: `plan`, `plan --dot`, `format`, `show`, `dump`, `copy`, `upgrade`, `feed` and `stream`. Each
+Without files it also runs the commands on disks and plans, and with closures in text: `batch`, `run`, `plan`, `plan --dot`, `format`, `show`, `dump`, `copy`, `upgrade`, `feed` and `stream`. Each
 answers as with ample memory, or as above; a feed or a stream, which may have written a beginning of its lines, then left a disk that tells what these
 say, and the others one that tells what it told, or what they would make of it.
 
@@ -66,6 +66,9 @@ FOLLOWED = (*WITH_WORKERS, b"recover\n")
 # The plans of the commands on files: a running total, and one with a loop.
 TOTAL = lib.TOTAL.encode()
 LOOP = b"# a countdown\n0 input\nloop 3\n1 enter 0\n2 feedback 3\n3 map 2 1 2\n4 leave 3\nend\n5 output 4\n"
+# Closures in text, and a plan that has them.
+CLOSURES = b"map 10000 # twice\n  send key, val * 2 when val > 0\nfold 10001\n  let n = 0\n  item n = n + 1, a = a + val\n  send key, a / n\n"
+WRITTEN = b"0 input\n1 map 10000 0\n2 fold 10001 1\n3 output 2\n"
 # How their disk is made, one command after another.
 MADE = [
     ("format disk plan 4 3 3", b""),
@@ -76,6 +79,10 @@ MADE = [
 ON_FILES = [
     ("plan loop", b"", 0),
     ("plan loop --dot", b"", 0),
+    ("plan written --closures closures", b"", 0),
+    ("plan written --closures closures --dot", b"", 0),
+    ("batch --closures closures", WRITTEN + b"--\n0 7 5\n0 7 -2\n.\n0 7 1\n.\n", 0),
+    ("run --workers 2 --closures closures", WRITTEN + b"--\n0 7 5\n0 7 -2\n.\n0 7 1\n.\n", 0),
     ("format disk plan 4 3 3", b"", 0),
     ("show disk plan", b"", 2),
     ("dump disk plan", b"", 2),
@@ -133,6 +140,8 @@ class OnFiles:
         self.feeds = self.words[0] in ("feed", "stream")
         (folder / "plan").write_bytes(TOTAL)
         (folder / "loop").write_bytes(LOOP)
+        (folder / "written").write_bytes(WRITTEN)
+        (folder / "closures").write_bytes(CLOSURES)
         for each, given in MADE[:made]:
             done = subprocess.run([TD, *each.split()], input=given, capture_output=True, cwd=folder)
             if done.returncode != 0:

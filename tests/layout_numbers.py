@@ -30,7 +30,7 @@ HOMES = {
     1_048_576: ("td_head",),  # the most states of a slot
 }
 # The crates and files that are left out.
-LEFT_OUT = ("td_tests/", "td/src/faults.rt")
+LEFT_OUT = ("td_tests/", "td/src/faults.rt", "td/src/language.rt")
 # The reasons: a premise that the shape of a formatted disk meets, repeated at each call for want of an invariant of the type;
 LIMIT = "the limit of a shape, as a premise of a call"
 # a definition or a clause that says where something is, for want of a name that the crate could cite;

@@ -60,10 +60,11 @@ def lines_of(crate):
 
 def mistakes_of_walks():
     for name, crate in WALKS.items():
-        lines = lines_of(crate)
+        lines, is_command = lines_of(crate), False
         for line in (ROOT / name).read_text(encoding="utf-8").splitlines():
             said = line.strip()
-            if line.startswith("    ") and said not in lines | {"..", ""} and not said.startswith(DRAWN):
+            is_command = line.startswith("    ") and (is_command or said.startswith("$ "))
+            if line.startswith("    ") and not is_command and said not in lines | {"..", ""} and not said.startswith(DRAWN):
                 yield f"{name}: no line of {crate}: {said}"
 
 

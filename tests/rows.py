@@ -418,10 +418,16 @@ def run_all_rows(tally, programs):
 
 
 def run_examples(tally, programs):
-    rows = []
-    for file in sorted((ROOT / "examples").glob("*.td")):
-        row, command = Row(file.name), Command("td", [b"batch"])
-        command.given, command.outputs = file.read_bytes(), [file.with_suffix(".out").read_bytes()]
-        row.steps.append(command)
-        rows.append(row)
-    run_rows(tally, "examples", rows, programs)
+    """Runs the examples, those with closures in text too."""
+    run_rows(tally, "examples", [example_row(file) for file in sorted((ROOT / "examples").rglob("*.td"))], programs)
+
+
+def example_row(file):
+    """The row of an example: `NAME.td` by `td batch`, with `NAME.closures` where that is there, gives `NAME.out`."""
+    row, command, closures = Row(file.relative_to(ROOT / "examples").as_posix()), Command("td", [b"batch"]), file.with_suffix(".closures")
+    if closures.is_file():
+        row.steps.append(Put(closures.name, closures.read_bytes()))
+        command.words += [b"--closures", closures.name.encode()]
+    command.given, command.outputs = file.read_bytes(), [file.with_suffix(".out").read_bytes()]
+    row.steps.append(command)
+    return row

@@ -26,8 +26,8 @@ fold_codes = map (λ row. row.0) fold_answers
 
 -- an engine with 1 to 16 shards, and some pick
 abbrev pub IsLawfulEngine : Engine → Type 0
-IsLawfulEngine Batch = Unit {0}
-IsLawfulEngine (Run workers) = (1 ≤ workers) × (workers ≤ 16)
+IsLawfulEngine (Batch closures) = Unit {0}
+IsLawfulEngine (Run workers closures) = (1 ≤ workers) × (workers ≤ 16)
 IsLawfulEngine (Feed disk plan workers) = (1 ≤ workers) × (workers ≤ 16)
 IsLawfulEngine (Stream disk path plan workers limits told) = (1 ≤ workers) × (workers ≤ 16)
-IsLawfulEngine (Sim workers picks) = (1 ≤ workers) × (workers ≤ 16) × (0 < length picks.items)
+IsLawfulEngine (Sim workers picks closures) = (1 ≤ workers) × (workers ≤ 16) × (0 < length picks.items)

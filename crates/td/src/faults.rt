@@ -136,10 +136,43 @@ sources of a vertex.
 ## Closures
 
 **`vertex V: no closure C`**: the catalogue has no closure of that code for the kind of vertex V. Maps, groups and folds
-have codes of their own: 20 is a group's, and no map's. The catalogue stands in `docs/FORMATS.md`.
+have codes of their own: 20 is a group's, and no map's. The catalogue stands in `docs/FORMATS.md`. A code from 10000 on is one of
+closures in text: `--closures FILE` is missing, or FILE has none of that kind and code.
 
     $ printf '0 input\n1 map 20 0\n2 output 1\n' | td batch
     td: vertex 1: no closure 20
+
+**`closures line L: syntax`**: the line of closures in text is none of the forms that `td help closures` shows, or its kind of closure
+has no such line. Behind the text stand the file and the line. An `item` in a map; a `keep` in a group; a tab in the place of blanks; an
+operator without its right side; a `send` with one number:
+
+    $ printf 'group 10000\n  keep key, val\n' > my.closures; td batch --closures my.closures < /dev/null
+    td: closures line 2: syntax: my.closures:   keep key, val
+    $ printf 'map 10000\n  send val\n' > my.closures; td batch --closures my.closures < /dev/null
+    td: closures line 2: syntax: my.closures:   send val
+
+**`closures line L: name`**: a name is unknown, or is not there on this line: `a` in a map, `lost` in an `item`, a register before its
+`let`. A number from 2^64 on counts as an unknown name:
+
+    $ printf 'map 10000\n  send kye, val\n' > my.closures; td batch --closures my.closures < /dev/null
+    td: closures line 2: name: my.closures:   send kye, val
+    $ printf 'group 10000\n  send key, a\n' > my.closures; td batch --closures my.closures < /dev/null
+    td: closures line 2: name: my.closures:   send key, a
+
+**`closures line L: code`**: a code is not 10000 to 65535, or two closures of one kind have it:
+
+    $ printf 'map 40\n  send key, val\n' > my.closures; td batch --closures my.closures < /dev/null
+    td: closures line 1: code: my.closures: map 40
+
+**`closures line L: too many`**: the line or the text is longer than a limit of `docs/FORMATS.md` allows: a ninth register, a ninth line
+`send`, a second `keep`:
+
+    $ printf 'fold 10000\n  keep a, b\n  keep b, a\n' > my.closures; td batch --closures my.closures < /dev/null
+    td: closures line 3: too many: my.closures:   keep b, a
+
+**`closures line L: deep`**: an expression is nested more than 64 deep. Name parts of it by `let`, in lines before.
+
+The status of these is 1, of `td plan` 5.
 
 ## Lines of records
 

@@ -8,10 +8,12 @@ ghost use Rattle.td_words.specs.Command.{HasWorkers};
 ghost use Rattle.td.specs.Whole.{IsLawfulEngine, HasEach, map_codes, group_codes, fold_codes};
 
 mod catalogue;
+mod closures;
 mod disk;
 mod engine;
 mod faults;
 mod file_cause;
+mod language;
 mod plan;
 mod progress;
 mod refusal;
@@ -19,11 +21,13 @@ mod store;
 mod streams;
 
 use crate::catalogue::{fold_of, group_of, map_of};
+use crate::closures::closures_at;
 use crate::disk::{
     copy_disk, dump_disk, format_disk, open_disk, open_disk_or_tell, show_disk, upgrade_disk,
 };
 use crate::engine::{Engine, StreamOptions};
 use crate::faults::FAULTS;
+use crate::language::LANGUAGE;
 use crate::plan::print_plan;
 use crate::progress::stream_told;
 use crate::refusal::Refusal;
@@ -37,10 +41,11 @@ use std::thread::Threads;
 use std::{env, io};
 use td_calls::{Calls, FoldBox, GroupBox, MapBox, StockCalls};
 use td_catalogue::{Catalogue, CatalogueCalls};
-use td_console::{Fault, StdReader, StdWriter, batch, read_picks, run, sim};
+use td_console::{Fault, StdReader, StdWriter, read_picks};
 use td_feed::{Marked, feed};
 use td_stamp::{Item, Rec, State};
 use td_words::{Job, WordsError, words};
+use td_written::{batch, run, sim};
 
 /// The program's name and version, and the logic of the kit that it is written for. Whether a program was proved is not its own
 /// to say. The same source makes a program of which nothing is proved. `./build` writes `td.proof` beside the one that it proved.
@@ -85,11 +90,22 @@ fn done<
     requires workers { HasWorkers job }
 {
     match job {
-        Job::Batch => run_engine(rt, Engine::Batch),
-        Job::Run(workers) => run_engine(rt, Engine::Run(workers)),
-        Job::Sim(workers, picks) => {
+        Job::Batch { closures } => {
+            let closures = closures_at(rt, closures)?;
+            run_engine(rt, Engine::Batch(closures))
+        }
+        Job::Run { workers, closures } => {
+            let closures = closures_at(rt, closures)?;
+            run_engine(rt, Engine::Run(workers, closures))
+        }
+        Job::Sim {
+            workers,
+            picks,
+            closures,
+        } => {
             let picks = read_picks(rt.alloc(), picks)?;
-            run_engine(rt, Engine::Sim(workers, picks))
+            let closures = closures_at(rt, closures)?;
+            run_engine(rt, Engine::Sim(workers, picks, closures))
         }
         Job::Format {
             disk,
@@ -136,10 +152,15 @@ fn done<
             k,
             until,
         } => copy_disk(rt, disk, plan, new, m, n, k, until),
-        Job::Plan { plan, dot } => print_plan(rt, plan, dot),
+        Job::Plan {
+            plan,
+            dot,
+            closures,
+        } => print_plan(rt, plan, dot, closures),
         Job::Help(text) => print_text(rt, text.as_str()),
         Job::Version => print_text(rt, VERSION),
         Job::Faults => print_text(rt, FAULTS),
+        Job::Language => print_text(rt, LANGUAGE),
     }
 }
 
@@ -224,41 +245,44 @@ fn run_engine<R: Input + Print + AllocGlobal + Threads + Wait + Sync + Send + Co
         )?;
         store_fold(&mut calls, code, fold)?;
     }
-    answer(rt, &CatalogueCalls { stock: calls }, engine)
+    answer(rt, CatalogueCalls { stock: calls }, engine)
 }
 
-/// Answers standard input with the whole catalogue.
+/// Answers standard input with the whole catalogue, and what closures in text the engine has.
 fn answer<R: Input + Print + AllocGlobal + Threads + Wait + Sync + Send + Copy + 'static>(
     rt: &R,
-    calls: &CatalogueCalls,
+    calls: CatalogueCalls,
     engine: Engine<'_>,
 ) -> Result<(), Refusal>
     requires lawful { IsLawfulEngine engine }
-    requires maps { HasEach (λ c. c.code) calls.now.stock.maps map_codes }
-    requires groups { HasEach (λ c. c.code) calls.now.stock.groups group_codes }
-    requires folds { HasEach (λ c. c.code) calls.now.stock.folds fold_codes }
+    requires maps { HasEach (λ c. c.code) calls.stock.maps map_codes }
+    requires groups { HasEach (λ c. c.code) calls.stock.groups group_codes }
+    requires folds { HasEach (λ c. c.code) calls.stock.folds fold_codes }
 {
     let mut reader = StdReader(Awaited::new(rt, rt.reader()));
     let mut writer = StdWriter(Awaited::new(rt, io::writer(rt)));
     match engine {
-        Engine::Batch => Ok(batch::<_, _, Catalogue, CatalogueCalls>(
+        Engine::Batch(closures) => Ok(batch::<_, _, Catalogue, CatalogueCalls>(
             rt.alloc(),
             &mut reader,
             &mut writer,
             calls,
+            closures,
         )?),
-        Engine::Run(workers) => Ok(run::<_, _, Catalogue, CatalogueCalls>(
+        Engine::Run(workers, closures) => Ok(run::<_, _, Catalogue, CatalogueCalls>(
             rt.alloc(),
             &mut reader,
             &mut writer,
             calls,
+            closures,
             workers,
         )?),
-        Engine::Sim(workers, picks) => Ok(sim::<_, _, Catalogue, CatalogueCalls>(
+        Engine::Sim(workers, picks, closures) => Ok(sim::<_, _, Catalogue, CatalogueCalls>(
             rt.alloc(),
             &mut reader,
             &mut writer,
             calls,
+            closures,
             workers,
             picks.as_slice(),
         )?),
@@ -271,7 +295,7 @@ fn answer<R: Input + Print + AllocGlobal + Threads + Wait + Sync + Send + Copy +
                 workers,
                 &mut reader,
                 &mut writer,
-                calls,
+                &calls,
             );
             Ok(fed?)
         }
@@ -288,7 +312,7 @@ fn answer<R: Input + Print + AllocGlobal + Threads + Wait + Sync + Send + Copy +
                     reader,
                     &mut writer,
                     told,
-                    calls,
+                    &calls,
                 )
             } else {
                 stream_told(
@@ -301,7 +325,7 @@ fn answer<R: Input + Print + AllocGlobal + Threads + Wait + Sync + Send + Copy +
                     reader,
                     &mut writer,
                     told,
-                    calls,
+                    &calls,
                 )
             }
         }

@@ -2,6 +2,7 @@
 //! and `copy` tell its place and its cause too, where these are known, and these and `plan` have a status for each who is to do something.
 
 use std::alloc::{AllocError, AllocFailed, Global};
+use td_closures::Fault as ClosuresFault;
 use td_console::Fault;
 use td_copy::CopyError;
 use td_disk::{Disk, FileFailure};
@@ -15,6 +16,8 @@ pub(crate) enum Refusal {
     Plain(Fault),
     /// The fault, and after it its place and its cause.
     At(Fault, String),
+    /// The fault of closures in text, and after it the file and the line.
+    Closures(ClosuresFault, String),
     /// What a copy has no room for, or that there is no such epoch, which its text says.
     Copy(CopyError),
     /// The fault of the new disk of a copy.
@@ -77,19 +80,21 @@ impl Refusal {
         match self {
             Refusal::Plain(fault) | Refusal::New(fault) => format!(in alloc; "td: {fault}"),
             Refusal::At(fault, cause) => format!(in alloc; "td: {fault}: {cause}"),
+            Refusal::Closures(fault, place) => format!(in alloc; "td: {fault}: {place}"),
             Refusal::Copy(error) => format!(in alloc; "td: {error}"),
             Refusal::TooMuchWork(epoch) => format!(in alloc; "td: too much work: epoch {epoch}"),
         }
     }
 
     /// The exit status of a command that tells who is to do something: 3 the device failed, 4 an operator is wanted, 5 a line of
-    /// the input or of the plan, 6 a standard stream, 7 a file, 8 too much work; 1 for all else. A supervisor that starts a
-    /// stream again whatever its status would go on after a failed sync.
+    /// the input, of the plan or of closures in text, 6 a standard stream, 7 a file, 8 too much work; 1 for all else. A supervisor
+    /// that starts a stream again whatever its status would go on after a failed sync.
     pub(crate) fn status(&self) -> u8 {
         match self {
             Refusal::Plain(fault) | Refusal::New(fault) | Refusal::At(fault, _) => status_of(
                 *fault,
             ),
+            Refusal::Closures(..) => LINE,
             Refusal::Copy(_) => OPERATOR,
             Refusal::TooMuchWork(_) => TOO_MUCH_WORK,
         }

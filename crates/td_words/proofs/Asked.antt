@@ -1,5 +1,5 @@
 -- What the matches of a parse ask for.
-use Rattle.std.proofs.Common.{◌≡◌, ◌≢◌, ◌⊎◌, inl, inr, ℕ, ◌<◌, ◌≤◌, ◌^◌, Bool, List, [], Option, Some, None, option_map, Result, Ok, Err, IfOk, IfErr, IfNone, refl, ap, sym, ◌∙◌, subst, arith, bytes_eq, codes, lit<}
+use Rattle.std.proofs.Common.{◌≡◌, ◌≢◌, ◌⊎◌, inl, inr, ℕ, ◌<◌, ◌≤◌, ◌^◌, Bool, List, [], Option, Some, None, option_map, Result, Ok, Err, IfOk, IfErr, IfNone, refl, ap, ap₂, sym, ◌∙◌, subst, arith, bytes_eq, codes, lit<}
 use Rattle.std.specs.Borrow.{Bor}
 use Rattle.std.specs.Str.Parse.{ParsesUnsigned, IsNumeral, digits_value, without_leading_plus}
 use Rattle.clap.specs.declared.parser.matches.Found.{Found}
@@ -11,11 +11,11 @@ use Rattle.clap.proofs.WalkLemmas.{one_text-rows}
 use Rattle.clap.specs.Faults.{fault_of}
 use Rattle.clap.specs.Kinds.{IsAmong}
 use Rattle.td_words.specs.declared.job.Job.{Job}
-use Rattle.td_words.specs.declared.job.Job.TheVariants.{Batch, Run, Sim, Format, Feed, Show, Dump, Upgrade, Stream, Plan, Help, Version, Faults}
+use Rattle.td_words.specs.declared.job.Job.TheVariants.{Batch, Run, Sim, Format, Feed, Show, Dump, Upgrade, Stream, Plan, Help, Version, Faults, Language}
 use Rattle.td_words.specs.declared.job.WordsError.{WordsError}
 use Rattle.td_words.specs.declared.job.WordsError.TheVariants.{Words, Memory}
 use Rattle.td_words.specs.Jobs.{IsHelp, IsOf}
-use Rattle.td_words.specs.Command.{td, IsNumber, IsWorkers, IsNamed, HasValues, HasWorkers, IsAsked, IsNotTaken, name_of, IsFormat, IsFeed}
+use Rattle.td_words.specs.Command.{td, IsNumber, IsWorkers, IsClosures, IsBatch, IsNamed, HasValues, HasWorkers, IsAsked, IsNotTaken, name_of, IsFormat, IsFeed}
 
 -- a number, as it is read
 module _ {E : Type 0} (bits : ℕ) (Reads : List ℕ → Result ℕ E → Type 0) (numbers : (t : List ℕ) (x : Result ℕ E) → Reads t x → ParsesUnsigned bits 10 t x) (f : Found) (id : Text) (r : Option ℕ)
@@ -62,16 +62,16 @@ only_memory (Ok job) kind ok err e = let h = ok.1 in absurd cc
 only_memory (Err error) kind ok err e = elim err [ inl memory ↦ ap Err memory | inr h ↦ absurd (h.2 e) ]
 
 -- the jobs of each name, and their values; that any other job has another name is computed from the two names
-pub only_batch : (rows : List Row) (job : Job) → IsOf (codes "batch") rows job → job ≡ Batch
-only_batch rows Batch h = refl
+pub only_batch : (rows : List Row) (job : Job) → IsOf (codes "batch") rows job → (c : Option (Bor Text)) × (job ≡ Batch c) × IsClosures rows c
+only_batch rows (Batch c) h = (c, refl, h.1)
 only_batch rows _ h = let other = ap (bytes_eq (codes "batch")) h.0 in cc
 
-pub only_run : (rows : List Row) (job : Job) → IsOf (codes "run") rows job → (w : ℕ) × (job ≡ Run w) × IsWorkers rows w
-only_run rows (Run w) h = (w, refl, h.1)
+pub only_run : (rows : List Row) (job : Job) → IsOf (codes "run") rows job → (w : ℕ) × (c : Option (Bor Text)) × (job ≡ Run w c) × IsWorkers rows w × IsClosures rows c
+only_run rows (Run w c) h = (w, c, refl, h.1.0, h.1.1)
 only_run rows _ h = let other = ap (bytes_eq (codes "run")) h.0 in cc
 
 pub only_sim : (rows : List Row) (job : Job) → IsOf (codes "sim") rows job → (w : ℕ) × (picks : Bor Text) × IsWorkers rows w × (first_of (codes "picks") rows ≡ Some picks.now)
-only_sim rows (Sim w picks) h = (w, picks, h.1.0, h.1.1)
+only_sim rows (Sim w picks c) h = (w, picks, h.1.0, h.1.1.0)
 only_sim rows _ h = let other = ap (bytes_eq (codes "sim")) h.0 in cc
 
 pub only_format : (rows : List Row) (job : Job) → IsOf (codes "format") rows job → (disk : Bor Text) × (plan : Bor Text) × (m : ℕ) × (n : ℕ) × (k : ℕ) × (job ≡ Format disk plan m n k) × HasValues rows (Format disk plan m n k)
@@ -94,8 +94,8 @@ pub only_upgrade : (rows : List Row) (job : Job) → IsOf (codes "upgrade") rows
 only_upgrade rows (Upgrade disk plan) h = (disk, plan, h.1)
 only_upgrade rows _ h = let other = ap (bytes_eq (codes "upgrade")) h.0 in cc
 
-pub only_plan : (rows : List Row) (job : Job) → IsOf (codes "plan") rows job → (plan : Bor Text) × (dot : Bool) × HasValues rows (Plan plan dot)
-only_plan rows (Plan plan dot) h = (plan, dot, h.1)
+pub only_plan : (rows : List Row) (job : Job) → IsOf (codes "plan") rows job → (plan : Bor Text) × (dot : Bool) × (c : Option (Bor Text)) × HasValues rows (Plan plan dot c)
+only_plan rows (Plan plan dot c) h = (plan, dot, c, h.1)
 only_plan rows _ h = let other = ap (bytes_eq (codes "plan")) h.0 in cc
 
 -- a value that is lacking
@@ -107,11 +107,12 @@ pub asked_by : (words : List (List ℕ)) (job : Job) → fault_of td words ≡ [
 asked_by words (Help text) e n = absurd n.2
 asked_by words Version e n = absurd n.2
 asked_by words Faults e n = absurd n.2
+asked_by words Language e n = absurd n.2
 asked_by words _ e n = (e, n)
 
 pub has_workers : (met : Option (Text × List Row)) (job : Job) → IsNamed met job → HasWorkers job
-has_workers met (Run w) n = (n.2.4, n.2.5)
-has_workers met (Sim w picks) n = (n.2.0.4, n.2.0.5)
+has_workers met (Run w c) n = (n.2.0.4, n.2.0.5)
+has_workers met (Sim w picks c) n = (n.2.0.4, n.2.0.5)
 has_workers met (Feed disk plan w) n = (n.2.2.4, n.2.2.5)
 has_workers met (Stream disk plan w cut_every most progress marks) n = (n.2.2.4, n.2.2.5)
 has_workers met _ n = tt
@@ -160,17 +161,36 @@ pub written : (id : Text) (least most : ℕ) (rows : List Row) (text : List ℕ)
 written id least most rows text n h at =
     let same : h.0 ≡ text = let there = h.1 in cc in h.3 ∙ ap (λ t. digits_value 10 (without_leading_plus t)) same
 
-pub named_batch : (met : Option (Text × List Row)) (job : Job) → IsNamed met job → option_map (λ p. p.0) met ≡ Some (codes "batch") → job ≡ Batch
-named_batch met job n name = let m = met_of met (codes "batch") job n name in only_batch m.0 job m.2
+-- the file of an option that is left out
+no_file : (rows : List Row) (file : Option (Bor Text)) → IsClosures rows file → first_of (codes "closures") rows ≡ None → file ≡ None
+no_file rows None h e = refl
+no_file rows (Some f) h e = cc
 
-pub named_run : (met : Option (Text × List Row)) (job : Job) → IsNamed met job → option_map (λ p. p.0) met ≡ Some (codes "run") → option_map (λ p. one_of (codes "workers") p.1) met ≡ Some (Some (codes "1")) → job ≡ Run 1
-named_run met job n name value =
+pub named_batch : (met : Option (Text × List Row)) (job : Job) → IsNamed met job → option_map (λ p. p.0) met ≡ Some (codes "batch") → option_map (λ p. first_of (codes "closures") p.1) met ≡ Some None → job ≡ Batch None
+named_batch met job n name value =
+    let m = met_of met (codes "batch") job n name in
+    let only = only_batch m.0 job m.2 in
+    only.1 ∙ ap Batch (no_file m.0 only.0 only.2 (value_met (first_of (codes "closures")) None met (codes "batch") m.0 m.1 value))
+
+pub batch_met : (met : Option (Text × List Row)) → option_map (λ p. p.0) met ≡ Some (codes "batch") → option_map (λ p. first_of (codes "closures") p.1) met ≡ Some None → IsNamed met (Batch None)
+batch_met met e value = let m = met_some met (codes "batch") e in (m.0, m.1, value_met (first_of (codes "closures")) None met (codes "batch") m.0 m.1 value)
+
+abbrev pub RunValues : Type 0
+RunValues = Option Text × Option Text
+
+abbrev pub run_values : List Row → RunValues
+run_values rows = (one_of (codes "workers") rows, first_of (codes "closures") rows)
+
+abbrev pub given_run : RunValues
+given_run = (Some (codes "1"), None)
+
+pub named_run : (met : Option (Text × List Row)) (job : Job) → IsNamed met job → option_map (λ p. p.0) met ≡ Some (codes "run") → option_map (λ p. run_values p.1) met ≡ Some given_run → job ≡ Run 1 None
+named_run met job n name values =
     let m = met_of met (codes "run") job n name in
     let only = only_run m.0 job m.2 in
-    only.1 ∙ ap Run (written (codes "workers") 1 16 m.0 (codes "1") only.0 only.2 (value_met (one_of (codes "workers")) (Some (codes "1")) met (codes "run") m.0 m.1 value))
-
-pub batch_met : (met : Option (Text × List Row)) → option_map (λ p. p.0) met ≡ Some (codes "batch") → IsNamed met Batch
-batch_met met e = let m = met_some met (codes "batch") e in (m.0, m.1, tt)
+    let v = value_met run_values given_run met (codes "run") m.0 m.1 values in
+    let one_shard : only.0 ≡ 1 = written (codes "workers") 1 16 m.0 (codes "1") only.0 only.3 (ap (λ (x : RunValues). x.0) v) in
+    only.2 ∙ ap₂ Run one_shard (no_file m.0 only.1 only.4 (ap (λ (x : RunValues). x.1) v))
 
 -- a number of one digit, which is there
 abbrev pub OneDigit : ℕ → Text → ℕ → Type 0
@@ -191,14 +211,25 @@ four = ((omega arith, (lit< tt, tt)), refl)
 pub number_there : (id : Text) (least most : ℕ) (rows : List Row) (text : Text) (n : ℕ) → one_of id rows ≡ Some text → OneDigit 10 text n → least ≤ n → n ≤ most → IsNumber id least most rows n
 number_there id least most rows text n at digit low high = (text, at, digit.0, digit.1, low, high)
 
-pub run_met : (met : Option (Text × List Row)) → option_map (λ p. p.0) met ≡ Some (codes "run") → option_map (λ p. one_of (codes "workers") p.1) met ≡ Some (Some (codes "1")) → IsNamed met (Run 1)
-run_met met name value =
+pub run_met : (met : Option (Text × List Row)) → option_map (λ p. p.0) met ≡ Some (codes "run") → option_map (λ p. run_values p.1) met ≡ Some given_run → IsNamed met (Run 1 None)
+run_met met name values =
     let m = met_some met (codes "run") name in
-    (m.0, m.1, number_there (codes "workers") 1 16 m.0 (codes "1") 1 (value_met (one_of (codes "workers")) (Some (codes "1")) met (codes "run") m.0 m.1 value) one (omega arith) (omega arith))
+    let v = value_met run_values given_run met (codes "run") m.0 m.1 values in
+    (m.0, m.1, (number_there (codes "workers") 1 16 m.0 (codes "1") 1 (ap (λ (x : RunValues). x.0) v) one (omega arith) (omega arith), ap (λ (x : RunValues). x.1) v))
 
 -- some reference to a text
 abbrev pub to : Text → Bor Text
 to text = record { ref_ptr = (0, 0); now = text }
+
+-- a batch with closures in text
+pub written_met : (met : Option (Text × List Row)) → option_map (λ p. p.0) met ≡ Some (codes "batch") → option_map (λ p. first_of (codes "closures") p.1) met ≡ Some (Some (codes "c")) → IsNamed met (Batch (Some (to (codes "c"))))
+written_met met e value = let m = met_some met (codes "batch") e in (m.0, m.1, value_met (first_of (codes "closures")) (Some (codes "c")) met (codes "batch") m.0 m.1 value)
+
+pub named_written : (met : Option (Text × List Row)) (job : Job) → IsNamed met job → option_map (λ p. p.0) met ≡ Some (codes "batch") → option_map (λ p. first_of (codes "closures") p.1) met ≡ Some (Some (codes "c")) → IsBatch (Some (codes "c")) job
+named_written met job n name value =
+    let m = met_of met (codes "batch") job n name in
+    let only = only_batch m.0 job m.2 in
+    subst (IsBatch (Some (codes "c"))) (sym only.1) (sym only.2 ∙ value_met (first_of (codes "closures")) (Some (codes "c")) met (codes "batch") m.0 m.1 value)
 
 abbrev pub FormatValues : Type 0
 FormatValues = Option Text × Option Text × Option Text × Option Text × Option Text

@@ -1,5 +1,6 @@
 -- What clap makes of the program's words, of which the first is the program's name.
-use Rattle.std.specs.Prelude.{◌≡◌, ◌≢◌, ℕ, ◌≤◌, pos, List, [], ◌∷◌, Option, Some, None, Bool, true, false, ◌&&◌, ◌||◌, IsTrue, codes}
+use Rattle.std.specs.Prelude.{◌≡◌, ◌≢◌, ℕ, ◌≤◌, pos, List, [], ◌∷◌, Option, Some, None, option_map, Bool, true, false, ◌&&◌, ◌||◌, IsTrue, codes}
+use Rattle.std.specs.Borrow.{Bor}
 use Rattle.std.specs.Str.{bytes_eq}
 use Rattle.std.specs.Str.Parse.{IsNumeral, digits_value, without_leading_plus}
 use Rattle.clap.specs.Words.{App, Row, Rule, Text, new_app, new_rule, with_rule, with_subcommand, subcommand_of, one_of, first_of}
@@ -9,7 +10,7 @@ use Rattle.clap.specs.declared.builder.value_parser.ValueParser.TheVariants as p
 use Rattle.clap.specs.declared.builder.action.ArgAction.TheVariants.{SetTrue}
 use Rattle.clap.specs.declared.error.kind.ErrorKind.TheVariants.{DisplayHelp}
 use Rattle.td_words.specs.declared.job.Job.{Job}
-use Rattle.td_words.specs.declared.job.Job.TheVariants.{Batch, Run, Sim, Format, Feed, Show, Dump, Upgrade, Copy, Stream, Plan, Help, Version, Faults}
+use Rattle.td_words.specs.declared.job.Job.TheVariants.{Batch, Run, Sim, Format, Feed, Show, Dump, Upgrade, Copy, Stream, Plan, Help, Version, Faults, Language}
 
 -- `--workers W`, a number of 1 to 16, and 1 where it is not given
 abbrev pub workers_rule : Rule
@@ -56,15 +57,23 @@ most_rule = option_rule (codes "most") 1 9223372036854775807
 abbrev pub flag_rule : Text → Rule
 flag_rule id = record (new_rule id) { long = Some id; action = Some SetTrue }
 
+-- an option with the name of a file, which may be left out
+abbrev pub file_rule : Text → Rule
+file_rule id = record (new_rule id) { long = Some id; value_names = 1 }
+
+-- `--closures FILE`
+abbrev pub closures_rule : Rule
+closures_rule = file_rule (codes "closures")
+
 -- the subcommands
 abbrev pub batch_app : App
-batch_app = new_app (codes "batch")
+batch_app = with_rule (new_app (codes "batch")) closures_rule
 
 abbrev pub run_app : App
-run_app = with_rule (new_app (codes "run")) workers_rule
+run_app = with_rule (with_rule (new_app (codes "run")) workers_rule) closures_rule
 
 abbrev pub sim_app : App
-sim_app = with_rule (with_rule (new_app (codes "sim")) workers_rule) picks_rule
+sim_app = with_rule (with_rule (with_rule (new_app (codes "sim")) workers_rule) picks_rule) closures_rule
 
 abbrev pub with_files : App → App
 with_files app = with_rule (with_rule app (word_rule (codes "disk"))) (word_rule (codes "plan"))
@@ -95,7 +104,7 @@ stream_app = with_rule (with_rule (with_rule (with_rule (with_rule (with_files (
     (flag_rule (codes "marks"))
 
 abbrev pub plan_app : App
-plan_app = with_rule (with_rule (new_app (codes "plan")) (word_rule (codes "plan"))) (flag_rule (codes "dot"))
+plan_app = with_rule (with_rule (with_rule (new_app (codes "plan")) (word_rule (codes "plan"))) (flag_rule (codes "dot"))) closures_rule
 
 -- `td`, which needs one of them
 abbrev pub alone : App
@@ -104,8 +113,8 @@ alone = let named = new_app (codes "td") in record named { top = record named.to
 abbrev pub td : App
 td = with_subcommand (with_subcommand (with_subcommand (with_subcommand (with_subcommand (with_subcommand (with_subcommand (with_subcommand (with_subcommand (with_subcommand (with_subcommand alone batch_app.top) run_app.top) sim_app.top) format_app.top) feed_app.top) show_app.top) dump_app.top) upgrade_app.top) copy_app.top) stream_app.top) plan_app.top
 
--- the words that ask for the program's name and version, `--version` or `-V`, and those that ask for the text on faults, `help faults`:
--- clap has no part in these
+-- the words that ask for the program's name and version, `--version` or `-V`, and those that ask for the text on faults, `help faults`,
+-- and for that on closures in text, `help closures`: clap has no part in these
 abbrev pub asks_version : List Text → Bool
 asks_version (name ∷ word ∷ []) = bytes_eq word (codes "--version") || bytes_eq word (codes "-V")
 asks_version _ = false
@@ -114,8 +123,15 @@ abbrev pub asks_faults : List Text → Bool
 asks_faults (name ∷ help ∷ about ∷ []) = bytes_eq help (codes "help") && bytes_eq about (codes "faults")
 asks_faults _ = false
 
+abbrev pub asks_language : List Text → Bool
+asks_language (name ∷ help ∷ about ∷ []) = bytes_eq help (codes "help") && bytes_eq about (codes "closures")
+asks_language _ = false
+
 abbrev pub batch_words : List (List ℕ)
 batch_words = codes "td" ∷ codes "batch" ∷ []
+
+abbrev pub written_words : List (List ℕ)
+written_words = codes "td" ∷ codes "batch" ∷ codes "--closures" ∷ codes "c" ∷ []
 
 abbrev pub run_words : List (List ℕ)
 run_words = codes "td" ∷ codes "run" ∷ []
@@ -178,11 +194,19 @@ flag_text false = codes "false"
 abbrev pub IsFlag : Text → List Row → Bool → Type 0
 IsFlag id rows is_given = one_of id rows ≡ Some (flag_text is_given)
 
+-- the name of the file that an option has, or none where it is left out
+abbrev pub IsFile : Text → List Row → Option (Bor Text) → Type 0
+IsFile id rows file = first_of id rows ≡ option_map (λ f. f.now) file
+
+-- the file with closures in text, or none
+abbrev pub IsClosures : List Row → Option (Bor Text) → Type 0
+IsClosures = IsFile (codes "closures")
+
 -- the name of a job's subcommand, and its values there
 abbrev pub name_of : Job → Text
-name_of Batch = codes "batch"
-name_of (Run workers) = codes "run"
-name_of (Sim workers picks) = codes "sim"
+name_of (Batch closures) = codes "batch"
+name_of (Run workers closures) = codes "run"
+name_of (Sim workers picks closures) = codes "sim"
 name_of (Format disk plan m n k) = codes "format"
 name_of (Feed disk plan workers) = codes "feed"
 name_of (Show disk plan) = codes "show"
@@ -190,15 +214,16 @@ name_of (Dump disk plan) = codes "dump"
 name_of (Upgrade disk plan) = codes "upgrade"
 name_of (Copy disk plan new m n k until) = codes "copy"
 name_of (Stream disk plan workers cut_every most progress marks) = codes "stream"
-name_of (Plan plan dot) = codes "plan"
+name_of (Plan plan dot closures) = codes "plan"
 name_of (Help text) = codes "help"
 name_of Version = codes "version"
 name_of Faults = codes "faults"
+name_of Language = codes "closures"
 
 abbrev pub HasValues : List Row → Job → Type 0
-HasValues rows Batch = Unit {0}
-HasValues rows (Run workers) = IsWorkers rows workers
-HasValues rows (Sim workers picks) = IsWorkers rows workers × (first_of (codes "picks") rows ≡ Some picks.now)
+HasValues rows (Batch closures) = IsClosures rows closures
+HasValues rows (Run workers closures) = IsWorkers rows workers × IsClosures rows closures
+HasValues rows (Sim workers picks closures) = IsWorkers rows workers × (first_of (codes "picks") rows ≡ Some picks.now) × IsClosures rows closures
 HasValues rows (Format disk plan m n k) = (first_of (codes "disk") rows ≡ Some disk.now) × (first_of (codes "plan") rows ≡ Some plan.now)
     × IsNumber (codes "m") 0 4294967295 rows m × IsNumber (codes "n") 0 4294967295 rows n × IsNumber (codes "k") 0 4294967295 rows k
 HasValues rows (Feed disk plan workers) = (first_of (codes "disk") rows ≡ Some disk.now) × (first_of (codes "plan") rows ≡ Some plan.now) × IsWorkers rows workers
@@ -211,26 +236,28 @@ HasValues rows (Copy disk plan new m n k until) = (first_of (codes "disk") rows 
     × IsUntil rows until
 HasValues rows (Stream disk plan workers cut_every most progress marks) = (first_of (codes "disk") rows ≡ Some disk.now) × (first_of (codes "plan") rows ≡ Some plan.now)
     × IsWorkers rows workers × IsCutEvery rows cut_every × IsMost rows most × IsFlag (codes "progress") rows progress × IsFlag (codes "marks") rows marks
-HasValues rows (Plan plan dot) = (first_of (codes "plan") rows ≡ Some plan.now) × IsFlag (codes "dot") rows dot
+HasValues rows (Plan plan dot closures) = (first_of (codes "plan") rows ≡ Some plan.now) × IsFlag (codes "dot") rows dot × IsClosures rows closures
 HasValues rows (Help text) = ⊥
 HasValues rows Version = ⊥
 HasValues rows Faults = ⊥
+HasValues rows Language = ⊥
 
 -- the subcommand at which a parse arrived is the job's, and has its values
 abbrev pub IsNamed : Option (Text × List Row) → Job → Type 0
 IsNamed met job = (rows : List Row) × (met ≡ Some (name_of job, rows)) × HasValues rows job
 
--- clap takes the words, and they name the job; or they ask for help, for the version, or for the text on faults
+-- clap takes the words, and they name the job; or they ask for help, for the version, or for a text of the program
 abbrev pub IsAsked : List (List ℕ) → Job → Type 0
 IsAsked words (Help text) = IsAmong DisplayHelp (fault_of td words)
 IsAsked words Version = IsTrue (asks_version words)
 IsAsked words Faults = IsTrue (asks_faults words)
+IsAsked words Language = IsTrue (asks_language words)
 IsAsked words job = (fault_of td words ≡ []) × IsNamed (subcommand_of td words) job
 
 -- a number of shards is 1 to 16
 abbrev pub HasWorkers : Job → Type 0
-HasWorkers (Run workers) = (1 ≤ workers) × (workers ≤ 16)
-HasWorkers (Sim workers picks) = (1 ≤ workers) × (workers ≤ 16)
+HasWorkers (Run workers closures) = (1 ≤ workers) × (workers ≤ 16)
+HasWorkers (Sim workers picks closures) = (1 ≤ workers) × (workers ≤ 16)
 HasWorkers (Feed disk plan workers) = (1 ≤ workers) × (workers ≤ 16)
 HasWorkers (Stream disk plan workers cut_every most progress marks) = (1 ≤ workers) × (workers ≤ 16)
 HasWorkers _ = Unit {0}
@@ -241,9 +268,13 @@ IsNotTaken words = ((job : Job) → IsNamed (subcommand_of td words) job → fau
 
 -- nor for another text
 abbrev pub IsRefused : List (List ℕ) → Type 0
-IsRefused words = IsNotTaken words × (asks_version words ≡ false) × (asks_faults words ≡ false)
+IsRefused words = IsNotTaken words × (asks_version words ≡ false) × (asks_faults words ≡ false) × (asks_language words ≡ false)
 
--- a formatting with these values, a feed, a copy, and a feed as its lines come
+-- a batch with these values, a formatting, a feed, a copy, and a feed as its lines come
+abbrev pub IsBatch : Option Text → Job → Type 0
+IsBatch c (Batch closures) = option_map (λ f. f.now) closures ≡ c
+IsBatch c _ = ⊥
+
 abbrev pub IsFormat : Text → Text → ℕ → ℕ → ℕ → Job → Type 0
 IsFormat a b x y z (Format disk plan m n k) = (disk.now ≡ a) × (plan.now ≡ b) × (m ≡ x) × (n ≡ y) × (k ≡ z)
 IsFormat a b x y z _ = ⊥

@@ -4,8 +4,8 @@ use Rattle.clap.specs.Words.{Row, Text}
 use Rattle.clap.specs.declared.builder.command.Command.{Command}
 use Rattle.clap.specs.declared.builder.command.Command.TheViews.{out-Command}
 use Rattle.td_words.specs.declared.job.Job.{Job}
-use Rattle.td_words.specs.declared.job.Job.TheVariants.{Help, Version, Faults}
-use Rattle.td_words.specs.Command.{name_of, HasValues, asks_version, asks_faults}
+use Rattle.td_words.specs.declared.job.Job.TheVariants.{Help, Version, Faults, Language}
+use Rattle.td_words.specs.Command.{name_of, HasValues, asks_version, asks_faults, asks_language}
 
 -- a job that prints a text
 abbrev pub IsHelp : Job → Type 0
@@ -16,6 +16,7 @@ IsHelp _ = ⊥
 abbrev pub IsTextAsked : List Text → Job → Type 0
 IsTextAsked words Version = asks_version words ≡ true
 IsTextAsked words Faults = (asks_version words ≡ false) × (asks_faults words ≡ true)
+IsTextAsked words Language = (asks_version words ≡ false) × (asks_faults words ≡ false) × (asks_language words ≡ true)
 IsTextAsked words _ = ⊥
 
 -- a job of the subcommand of this name, with these values

@@ -2,7 +2,7 @@
 ghost use Rattle.std.specs.Prelude.{◌≡◌, false, IfOk, IsOkAnd};
 ghost use Rattle.clap.specs.Words.{app_of, new_app, rule_of, with_rule, with_subcommand};
 ghost use Rattle.td_words.specs.Command.{alone, td, batch_app, run_app, sim_app, format_app, feed_app, show_app, dump_app, upgrade_app, copy_app};
-ghost use Rattle.td_words.specs.Command.{workers_rule, picks_rule, word_rule, number_rule, option_rule, flag_rule};
+ghost use Rattle.td_words.specs.Command.{workers_rule, picks_rule, word_rule, number_rule, option_rule, flag_rule, file_rule};
 ghost use Rattle.td_words.specs.Command.{stream_app, plan_app};
 ghost use Rattle.td_words.specs.Jobs.{has_globals};
 
@@ -73,6 +73,9 @@ const PLAN_OR_INPUT: &str =
 
 const DOT: &str = "Write a picture, in the language of Graphviz";
 
+const CLOSURES: &str =
+    "A file with closures in text, which have codes from 10000 on; see 'td help closures'";
+
 const PROGRESS: &str = "Write how far it has come to standard error, each second";
 
 const MARKS: &str = "Write 'done EPOCH' after the output lines of each epoch";
@@ -84,7 +87,8 @@ pub(crate) const GREATEST: u64 = 9_223_372_036_854_775_807;
 const TD_MORE: &str = "\
 Output goes to standard output, faults to standard error
 Exit status: 0; 2 for words that do not parse; after a fault 1, or of dump, copy, stream and plan what their help tells
-'td help COMMAND' tells what a command reads and writes, 'td help faults' what each fault means, 'td --version' the version";
+'td help COMMAND' tells what a command reads and writes, 'td help faults' what each fault means, 'td help closures' how closures are
+written as text, 'td --version' the version";
 
 const BATCH_MORE: &str = "\
 Reads:  the lines of a plan, a line '--', and lines 'INPUT KEY VALUE', where a line '.' closes an epoch
@@ -238,7 +242,8 @@ fn batch_leaf<'a>(alloc: Global) -> Result<Command<'a>, AllocError>
     ensures app { IfOk result (λ c. app_of c ≡ batch_app) }
     ensures globals { IfOk result (λ c. has_globals c ≡ false) }
 {
-    Ok(new_leaf(alloc, "batch", BATCH, BATCH_MORE))
+    let leaf = new_leaf(alloc, "batch", BATCH, BATCH_MORE);
+    with_arg(leaf, file_arg(alloc, "closures", CLOSURES))
 }
 
 /// `run`.
@@ -247,7 +252,8 @@ fn run_leaf<'a>(alloc: Global) -> Result<Command<'a>, AllocError>
     ensures globals { IfOk result (λ c. has_globals c ≡ false) }
 {
     let leaf = new_leaf(alloc, "run", RUN, BATCH_MORE);
-    with_arg(leaf, workers_arg(alloc))
+    let leaf = with_arg(leaf, workers_arg(alloc))?;
+    with_arg(leaf, file_arg(alloc, "closures", CLOSURES))
 }
 
 /// `sim`.
@@ -257,7 +263,8 @@ fn sim_leaf<'a>(alloc: Global) -> Result<Command<'a>, AllocError>
 {
     let leaf = new_leaf(alloc, "sim", SIM, SIM_MORE);
     let leaf = with_arg(leaf, workers_arg(alloc))?;
-    with_arg(leaf, picks_arg(alloc))
+    let leaf = with_arg(leaf, picks_arg(alloc))?;
+    with_arg(leaf, file_arg(alloc, "closures", CLOSURES))
 }
 
 /// `format`.
@@ -354,7 +361,8 @@ fn plan_leaf<'a>(alloc: Global) -> Result<Command<'a>, AllocError>
 {
     let leaf = new_leaf(alloc, "plan", LISTING, PLAN_MORE);
     let leaf = with_arg(leaf, word_arg(alloc, "plan", "PLAN", PLAN_OR_INPUT))?;
-    with_arg(leaf, flag_arg(alloc, "dot", DOT))
+    let leaf = with_arg(leaf, flag_arg(alloc, "dot", DOT))?;
+    with_arg(leaf, file_arg(alloc, "closures", CLOSURES))
 }
 
 /// A subcommand without arguments, with what help says of it, in one line and at its end.
@@ -455,6 +463,14 @@ fn option_arg<'a>(
         .value_name(name)
         .value_parser(ValueParser::unsigned(least, most))
         .help(help)
+}
+
+/// An option with the name of a file, which may be left out, as `--closures FILE`.
+fn file_arg<'a>(alloc: Global, id: &'a str, help: &'a str) -> Arg<'a>
+    ensures rule { rule_of result ≡ file_rule id.entry.now }
+    ensures local { result.global ≡ false }
+{
+    Arg::new(alloc, id).long(id).value_name("FILE").help(help)
 }
 
 /// A flag, as `--progress`.

@@ -1,14 +1,24 @@
 //! What the program can be asked for.
 
-/// What is asked for. A list of picks and the names of files are as they were given.
+/// What is asked for. A list of picks and the names of files are as they were given. Where there is a file `closures`, the closures of
+/// its text stand beside the catalogue's.
 #[derive(Debug, Drop)]
 pub enum Job<'a> {
     /// To run a batch from standard input to standard output.
-    Batch,
+    Batch {
+        closures: Option<&'a str>,
+    },
     /// The same by a hall of so many shards.
-    Run(u8),
+    Run {
+        workers: u8,
+        closures: Option<&'a str>,
+    },
     /// The same by a hall of so many shards that take turns, with this list of picks, which is not read yet.
-    Sim(u8, &'a str),
+    Sim {
+        workers: u8,
+        picks: &'a str,
+        closures: Option<&'a str>,
+    },
     /// To make the file `disk` and format it for the plan in the file `plan`, with `m` records a cell, `n` cells and `k` states
     /// a slot; these are not compared with their limits yet.
     Format {
@@ -66,6 +76,7 @@ pub enum Job<'a> {
     Plan {
         plan: &'a str,
         dot: bool,
+        closures: Option<&'a str>,
     },
     /// To print this text.
     Help(String),
@@ -73,6 +84,8 @@ pub enum Job<'a> {
     Version,
     /// To print the text that explains each fault.
     Faults,
+    /// To print the text on closures in text.
+    Language,
 }
 
 /// Why nothing can be done for the words.

@@ -5,6 +5,7 @@ ghost use Rattle.clap.specs.Words.{found_of, first_of, kind_of, rows_of, subcomm
 ghost use Rattle.td_words.specs.declared.job.Job.{Job as AnyJob};
 ghost use Rattle.td_words.specs.Command.{batch_words, run_words, format_words, feed_words, IsAsked, IsNamed, IsNumber};
 ghost use Rattle.td_words.specs.Command.{IsWorkers, HasWorkers, IsRefused, IsNotTaken, IsFormat, IsFeed, IsCopy, asks_version, asks_faults};
+ghost use Rattle.td_words.specs.Command.{written_words, asks_language, IsBatch, IsFile};
 ghost use Rattle.td_words.specs.Command.{until_words, stream_words, cutting_words, most_words, telling_words, marking_words, IsOption, IsCutEvery, IsFlag, IsStream};
 ghost use Rattle.td_words.specs.Jobs.{IsHelp, IsOf, IsTextAsked};
 
@@ -15,18 +16,20 @@ use clap::{ArgMatches, Error};
 use std::alloc::Global;
 
 /// What these words ask for, of which the first is the program's name. The subcommands are `batch`, `run [--workers W]`,
-/// `sim [--workers W] [--picks LIST]`, `format DISK PLAN M N K`, `feed [--workers W] DISK PLAN`, `show DISK PLAN`,
+/// `sim [--workers W] [--picks LIST]`, each with `[--closures FILE]`, `format DISK PLAN M N K`, `feed [--workers W] DISK PLAN`, `show DISK PLAN`,
 /// `dump DISK PLAN`, `upgrade DISK PLAN`, `copy [--until E] DISK PLAN NEW M N K`, `stream [--workers W] [--cut-every E] [--most R]
-/// [--progress] [--marks] DISK PLAN` and `plan [--dot] PLAN`. W is 1 to 16, and 1 where it is not given; LIST is `0` where it is not given; M, N and K
+/// [--progress] [--marks] DISK PLAN` and `plan [--dot] [--closures FILE] PLAN`. W is 1 to 16, and 1 where it is not given; LIST is `0` where it is not given; M, N and K
 /// are numbers of 32 bits. E of `--cut-every` is 1 to 65536, E of `--until` 0 to 2^63 - 1, and R 1 to 2^63 - 1; each is none where it is not
-/// given. `--version` or `-V` alone asks for the version, `help faults` for the text on faults.
+/// given. `--version` or `-V` alone asks for the version, `help faults` for the text on faults, `help closures` for that on
+/// closures in text.
 /// Refusals: `Words` where these are none of them and clap refuses the words, and `Memory`.
 pub fn words<'a>(alloc: Global, given: &'a [String]) -> Result<Job<'a>, WordsError>
     ensures ok { IfOk result (IsAsked (map string_bytes given.entry.now)) }
     ensures workers { IfOk result HasWorkers }
     ensures err { IfErr result (λ e. (e ≡ WordsError.Memory) ⊎ ((e ≡ WordsError.Words) × IsRefused (map string_bytes given.entry.now))) }
-    ensures batch { map string_bytes given.entry.now ≡ batch_words → (result ≡ Ok Job.Batch) ⊎ (result ≡ Err WordsError.Memory) }
-    ensures run { map string_bytes given.entry.now ≡ run_words → (result ≡ Ok (Job.Run 1)) ⊎ (result ≡ Err WordsError.Memory) }
+    ensures batch { map string_bytes given.entry.now ≡ batch_words → (result ≡ Ok (Job.Batch None)) ⊎ (result ≡ Err WordsError.Memory) }
+    ensures run { map string_bytes given.entry.now ≡ run_words → (result ≡ Ok (Job.Run 1 None)) ⊎ (result ≡ Err WordsError.Memory) }
+    ensures written { map string_bytes given.entry.now ≡ written_words → IfOk result (IsBatch (Some (codes "c"))) × IfErr result (λ e. e ≡ WordsError.Memory) }
     ensures format { map string_bytes given.entry.now ≡ format_words → IfOk result (IsFormat (codes "d") (codes "p") 4 2 3) × IfErr result (λ e. e ≡ WordsError.Memory) }
     ensures feed { map string_bytes given.entry.now ≡ feed_words → IfOk result (IsFeed (codes "d") (codes "p") 1) × IfErr result (λ e. e ≡ WordsError.Memory) }
     ensures until { map string_bytes given.entry.now ≡ until_words → IfOk result (IsCopy (codes "d") (codes "p") (codes "e") 4 2 3 (Some 4)) × IfErr result (λ e. e ≡ WordsError.Memory) }
@@ -37,6 +40,7 @@ pub fn words<'a>(alloc: Global, given: &'a [String]) -> Result<Job<'a>, WordsErr
     ensures marking { map string_bytes given.entry.now ≡ marking_words → IfOk result (IsStream (codes "d") (codes "p") 1 None None false true) × IfErr result (λ e. e ≡ WordsError.Memory) }
     ensures version { asks_version (map string_bytes given.entry.now) ≡ true → result ≡ Ok Job.Version }
     ensures faults { asks_faults (map string_bytes given.entry.now) ≡ true → result ≡ Ok Job.Faults }
+    ensures language { asks_language (map string_bytes given.entry.now) ≡ true → result ≡ Ok Job.Language }
 {
     match text_asked(given) {
         Some(job) => Ok(job),
@@ -48,12 +52,15 @@ pub fn words<'a>(alloc: Global, given: &'a [String]) -> Result<Job<'a>, WordsErr
 /// taken before any command's words, and the text on faults is no command's help.
 fn text_asked<'a>(given: &[String]) -> Option<Job<'a>>
     ensures some { IfSome result (IsTextAsked (map string_bytes given.now)) }
-    ensures none { IfNone result ((asks_version (map string_bytes given.now) ≡ false) × (asks_faults (map string_bytes given.now) ≡ false)) }
+    ensures none { IfNone result ((asks_version (map string_bytes given.now) ≡ false) × (asks_faults (map string_bytes given.now) ≡ false)
+        × (asks_language (map string_bytes given.now) ≡ false)) }
 {
     if asks_version(given) {
         Some(Job::Version)
     } else if asks_faults(given) {
         Some(Job::Faults)
+    } else if asks_language(given) {
+        Some(Job::Language)
     } else {
         None
     }
@@ -79,13 +86,24 @@ fn asks_faults(given: &[String]) -> bool
     }
 }
 
+/// Whether these words ask for the text on closures in text.
+fn asks_language(given: &[String]) -> bool
+    ensures { result ≡ asks_language (map string_bytes given.now) }
+{
+    match given {
+        [_, help, about] => help.as_str() == "help" && about.as_str() == "closures",
+        _ => false,
+    }
+}
+
 /// What these words ask for, as clap parses them. Refusals: `Words` where clap refuses them, and `Memory`.
 fn parsed<'a>(alloc: Global, given: &'a [String]) -> Result<Job<'a>, WordsError>
     ensures ok { IfOk result (IsAsked (map string_bytes given.entry.now)) }
     ensures workers { IfOk result HasWorkers }
     ensures err { IfErr result (λ e. (e ≡ WordsError.Memory) ⊎ ((e ≡ WordsError.Words) × IsNotTaken (map string_bytes given.entry.now))) }
-    ensures batch { map string_bytes given.entry.now ≡ batch_words → (result ≡ Ok Job.Batch) ⊎ (result ≡ Err WordsError.Memory) }
-    ensures run { map string_bytes given.entry.now ≡ run_words → (result ≡ Ok (Job.Run 1)) ⊎ (result ≡ Err WordsError.Memory) }
+    ensures batch { map string_bytes given.entry.now ≡ batch_words → (result ≡ Ok (Job.Batch None)) ⊎ (result ≡ Err WordsError.Memory) }
+    ensures run { map string_bytes given.entry.now ≡ run_words → (result ≡ Ok (Job.Run 1 None)) ⊎ (result ≡ Err WordsError.Memory) }
+    ensures written { map string_bytes given.entry.now ≡ written_words → IfOk result (IsBatch (Some (codes "c"))) × IfErr result (λ e. e ≡ WordsError.Memory) }
     ensures format { map string_bytes given.entry.now ≡ format_words → IfOk result (IsFormat (codes "d") (codes "p") 4 2 3) × IfErr result (λ e. e ≡ WordsError.Memory) }
     ensures feed { map string_bytes given.entry.now ≡ feed_words → IfOk result (IsFeed (codes "d") (codes "p") 1) × IfErr result (λ e. e ≡ WordsError.Memory) }
     ensures until { map string_bytes given.entry.now ≡ until_words → IfOk result (IsCopy (codes "d") (codes "p") (codes "e") 4 2 3 (Some 4)) × IfErr result (λ e. e ≡ WordsError.Memory) }
@@ -124,7 +142,7 @@ fn job_of<'a>(name: &str, matches: &ArgMatches<'a>) -> Option<Job<'a>>
     ensures none { IfNone result ((job : AnyJob) → IsOf name.now (rows_of (found_of matches.now)) job → ⊥) }
 {
     match name {
-        "batch" => Some(Job::Batch),
+        "batch" => Some(batch_job(matches)),
         "run" => run_job(matches),
         "sim" => sim_job(matches),
         "format" => format_job(matches),
@@ -139,13 +157,22 @@ fn job_of<'a>(name: &str, matches: &ArgMatches<'a>) -> Option<Job<'a>>
     }
 }
 
+/// The batch that the matches of `batch` ask for.
+fn batch_job<'a>(matches: &ArgMatches<'a>) -> Job<'a>
+    ensures { IsOf (codes "batch") (rows_of (found_of matches.now)) result }
+{
+    let closures = file_of(matches, "closures");
+    Job::Batch { closures }
+}
+
 /// The run that the matches of `run` ask for.
 fn run_job<'a>(matches: &ArgMatches<'a>) -> Option<Job<'a>>
     ensures some { IfSome result (IsOf (codes "run") (rows_of (found_of matches.now))) }
     ensures none { IfNone result ((job : AnyJob) → IsOf (codes "run") (rows_of (found_of matches.now)) job → ⊥) }
 {
     let workers = workers_of(matches)?;
-    Some(Job::Run(workers))
+    let closures = file_of(matches, "closures");
+    Some(Job::Run { workers, closures })
 }
 
 /// The simulation that the matches of `sim` ask for.
@@ -155,7 +182,12 @@ fn sim_job<'a>(matches: &ArgMatches<'a>) -> Option<Job<'a>>
 {
     let workers = workers_of(matches)?;
     let picks = word_of(matches, "picks")?;
-    Some(Job::Sim(workers, picks))
+    let closures = file_of(matches, "closures");
+    Some(Job::Sim {
+        workers,
+        picks,
+        closures,
+    })
 }
 
 /// The formatting that the matches of `format` ask for.
@@ -275,13 +307,25 @@ fn plan_job<'a>(matches: &ArgMatches<'a>) -> Option<Job<'a>>
 {
     let plan = word_of(matches, "plan")?;
     let dot = flag_of(matches, "dot")?;
-    Some(Job::Plan { plan, dot })
+    let closures = file_of(matches, "closures");
+    Some(Job::Plan {
+        plan,
+        dot,
+        closures,
+    })
 }
 
 /// The word of an argument.
 fn word_of<'a>(matches: &ArgMatches<'a>, id: &str) -> Option<&'a str>
     ensures some { IfSome result (λ word. first_of id.now (rows_of (found_of matches.now)) ≡ Some word.now) }
     ensures none { IfNone result (first_of id.now (rows_of (found_of matches.now)) ≡ None) }
+{
+    matches.get_str(id)
+}
+
+/// The name of a file that an option has; none, where it is left out.
+fn file_of<'a>(matches: &ArgMatches<'a>, id: &str) -> Option<&'a str>
+    ensures { IsFile id.now (rows_of (found_of matches.now)) result }
 {
     matches.get_str(id)
 }

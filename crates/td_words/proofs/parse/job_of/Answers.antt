@@ -1,8 +1,5 @@
 use Rattle.std.proofs.Common.{rules}
 use Rattle.td_words.proofs.parse.job_of.Goals as goal
 
-pub returns-in-batch-clause-some : goal.returns-in-batch-clause-some
-returns-in-batch-clause-some c = search rules
-
 pub returns-in-show-clause-some : goal.returns-in-show-clause-some
 returns-in-show-clause-some c = search rules

@@ -1,13 +1,13 @@
 use Rattle.std.proofs.Common.{◌≡◌, ◌∙◌, ◌⊎◌, [], refl, true, false, Ok, Some, None, inl, inr, ap, ap₂, sym, subst, map, option_map, codes}
 use Rattle.std.specs.Prelude.{string_bytes}
-use Rattle.clap.specs.Words.{kind_of, is_simple, takes, subcommand_of, subcommand_rows_of, one_of}
+use Rattle.clap.specs.Words.{kind_of, is_simple, takes, subcommand_of, subcommand_rows_of, first_of}
 use Rattle.clap.specs.Faults.{fault_of, is_simple_and_free}
 use Rattle.clap.specs.Kinds.{IsAmong}
 use Rattle.clap.specs.declared.error.kind.ErrorKind.TheVariants.{OutOfMemory}
 use Rattle.td_words.specs.declared.job.Job.TheVariants.{Batch, Run, Format, Feed, Copy, Stream}
 use Rattle.td_words.specs.Command.{td, IsNamed}
-use Rattle.td_words.proofs.Asked.{asked_by, helped_by, refused_by, none_named, named_batch, named_run, named_format, named_feed, batch_met, run_met, format_met, feed_met, only_memory, memory_alone, format_values, feed_values, to}
-use Rattle.td_words.proofs.BatchWords.{td_is_simple, td_is_free, batch_is_taken, batch_is_named, run_is_taken, run_is_named, run_has_one}
+use Rattle.td_words.proofs.Asked.{asked_by, helped_by, refused_by, none_named, named_batch, named_written, named_run, named_format, named_feed, batch_met, written_met, run_met, format_met, feed_met, only_memory, memory_alone, run_values, format_values, feed_values, to}
+use Rattle.td_words.proofs.BatchWords.{td_is_simple, td_is_free, batch_is_taken, batch_is_named, batch_has, written_is_taken, written_is_named, written_has, run_is_taken, run_is_named, run_has}
 use Rattle.td_words.proofs.DiskWords.{format_is_taken, format_is_named, format_has, feed_is_taken, feed_is_named, feed_has}
 use Rattle.td_words.proofs.CopyAsked.{named_until, until_met, copy_values}
 use Rattle.td_words.proofs.CopyWords.{until_is_taken, until_is_named, until_has}
@@ -39,7 +39,8 @@ returns-in-Some-clause-batch c = λ e.
     let given = map string_bytes c.args.given.now in
     let found = c.in-Ok-try_get_matches_from in
     let met : subcommand_rows_of found.matches ≡ subcommand_of td given = (found.ensures.matches (ap is_simple c.in-Ok.ensures ∙ td_is_simple)).1 ∙ ap (λ a. subcommand_of a given) c.in-Ok.ensures in
-    inl (ap Ok (named_batch (subcommand_rows_of found.matches) c.in-Some.job c.in-Some.ensures.some (ap (option_map (λ p. p.0)) (met ∙ ap (subcommand_of td) e) ∙ batch_is_named)))
+    let is = met ∙ ap (subcommand_of td) e in
+    inl (ap Ok (named_batch (subcommand_rows_of found.matches) c.in-Some.job c.in-Some.ensures.some (ap (option_map (λ p. p.0)) is ∙ batch_is_named) (ap (option_map (λ p. first_of (codes "closures") p.1)) is ∙ batch_has)))
 
 pub returns-in-Some-clause-run : goal.returns-in-Some-clause-run
 returns-in-Some-clause-run c = λ e.
@@ -47,7 +48,7 @@ returns-in-Some-clause-run c = λ e.
     let found = c.in-Ok-try_get_matches_from in
     let met : subcommand_rows_of found.matches ≡ subcommand_of td given = (found.ensures.matches (ap is_simple c.in-Ok.ensures ∙ td_is_simple)).1 ∙ ap (λ a. subcommand_of a given) c.in-Ok.ensures in
     let is = met ∙ ap (subcommand_of td) e in
-    inl (ap Ok (named_run (subcommand_rows_of found.matches) c.in-Some.job c.in-Some.ensures.some (ap (option_map (λ p. p.0)) is ∙ run_is_named) (ap (option_map (λ p. one_of (codes "workers") p.1)) is ∙ run_has_one)))
+    inl (ap Ok (named_run (subcommand_rows_of found.matches) c.in-Some.job c.in-Some.ensures.some (ap (option_map (λ p. p.0)) is ∙ run_is_named) (ap (option_map (λ p. run_values p.1)) is ∙ run_has)))
 
 pub returns-clause-err : goal.returns-clause-err
 returns-clause-err c =
@@ -62,7 +63,8 @@ returns-clause-batch c = λ e.
     let given = map string_bytes c.args.given.now in
     let found = c.in-Ok-try_get_matches_from in
     let met : subcommand_rows_of found.matches ≡ subcommand_of td given = (found.ensures.matches (ap is_simple c.in-Ok.ensures ∙ td_is_simple)).1 ∙ ap (λ a. subcommand_of a given) c.in-Ok.ensures in
-    absurd (c.in-None.ensures.none Batch (batch_met (subcommand_rows_of found.matches) (ap (option_map (λ p. p.0)) (met ∙ ap (subcommand_of td) e) ∙ batch_is_named)))
+    let is = met ∙ ap (subcommand_of td) e in
+    absurd (c.in-None.ensures.none (Batch None) (batch_met (subcommand_rows_of found.matches) (ap (option_map (λ p. p.0)) is ∙ batch_is_named) (ap (option_map (λ p. first_of (codes "closures") p.1)) is ∙ batch_has)))
 
 pub returns-clause-run : goal.returns-clause-run
 returns-clause-run c = λ e.
@@ -70,7 +72,26 @@ returns-clause-run c = λ e.
     let found = c.in-Ok-try_get_matches_from in
     let met : subcommand_rows_of found.matches ≡ subcommand_of td given = (found.ensures.matches (ap is_simple c.in-Ok.ensures ∙ td_is_simple)).1 ∙ ap (λ a. subcommand_of a given) c.in-Ok.ensures in
     let is = met ∙ ap (subcommand_of td) e in
-    absurd (c.in-None.ensures.none (Run 1) (run_met (subcommand_rows_of found.matches) (ap (option_map (λ p. p.0)) is ∙ run_is_named) (ap (option_map (λ p. one_of (codes "workers") p.1)) is ∙ run_has_one)))
+    absurd (c.in-None.ensures.none (Run 1 None) (run_met (subcommand_rows_of found.matches) (ap (option_map (λ p. p.0)) is ∙ run_is_named) (ap (option_map (λ p. run_values p.1)) is ∙ run_has)))
+
+pub returns-in-Err-clause-written : goal.returns-in-Err-clause-written
+returns-in-Err-clause-written c = λ e. memory_alone _ _ (only_memory _ _ c.asked_instead.ensures.ok c.asked_instead.ensures.err (c.in-Err.ensures.passes (ap₂ takes c.in-Ok.ensures e ∙ written_is_taken)))
+
+pub returns-in-Some-clause-written : goal.returns-in-Some-clause-written
+returns-in-Some-clause-written c = λ e.
+    let given = map string_bytes c.args.given.now in
+    let found = c.in-Ok-try_get_matches_from in
+    let met : subcommand_rows_of found.matches ≡ subcommand_of td given = (found.ensures.matches (ap is_simple c.in-Ok.ensures ∙ td_is_simple)).1 ∙ ap (λ a. subcommand_of a given) c.in-Ok.ensures in
+    let is = met ∙ ap (subcommand_of td) e in
+    (named_written (subcommand_rows_of found.matches) c.in-Some.job c.in-Some.ensures.some (ap (option_map (λ p. p.0)) is ∙ written_is_named) (ap (option_map (λ p. first_of (codes "closures") p.1)) is ∙ written_has), tt)
+
+pub returns-clause-written : goal.returns-clause-written
+returns-clause-written c = λ e.
+    let given = map string_bytes c.args.given.now in
+    let found = c.in-Ok-try_get_matches_from in
+    let met : subcommand_rows_of found.matches ≡ subcommand_of td given = (found.ensures.matches (ap is_simple c.in-Ok.ensures ∙ td_is_simple)).1 ∙ ap (λ a. subcommand_of a given) c.in-Ok.ensures in
+    let is = met ∙ ap (subcommand_of td) e in
+    absurd (c.in-None.ensures.none (Batch (Some (to (codes "c")))) (written_met (subcommand_rows_of found.matches) (ap (option_map (λ p. p.0)) is ∙ written_is_named) (ap (option_map (λ p. first_of (codes "closures") p.1)) is ∙ written_has)))
 
 pub returns-in-Err-clause-format : goal.returns-in-Err-clause-format
 returns-in-Err-clause-format c = λ e. memory_alone _ _ (only_memory _ _ c.asked_instead.ensures.ok c.asked_instead.ensures.err (c.in-Err.ensures.passes (ap₂ takes c.in-Ok.ensures e ∙ format_is_taken)))

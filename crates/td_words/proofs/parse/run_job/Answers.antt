@@ -4,7 +4,7 @@ use Rattle.td_words.proofs.Asked.{when_none, only_run}
 use Rattle.td_words.proofs.parse.run_job.Goals as goal
 
 pub returns-in_err-workers-clause-none : goal.returns-in_err-workers-clause-none
-returns-in_err-workers-clause-none c = when_none _ c.from_residual.ensures (λ job h. let only = only_run (rows_of (found_of c.args.matches.now)) job h in c.in_err-workers.ensures.none only.0 only.2)
+returns-in_err-workers-clause-none c = when_none _ c.from_residual.ensures (λ job h. let only = only_run (rows_of (found_of c.args.matches.now)) job h in c.in_err-workers.ensures.none only.0 only.3)
 
 pub returns-clause-some : goal.returns-clause-some
-returns-clause-some c = (refl, c.in_ok-workers.ensures.some)
+returns-clause-some c = (refl, (c.in_ok-workers.ensures.some, c.file_of-closures.ensures))

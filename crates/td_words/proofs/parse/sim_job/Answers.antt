@@ -10,4 +10,4 @@ pub returns-in_err-picks-clause-none : goal.returns-in_err-picks-clause-none
 returns-in_err-picks-clause-none c = when_none _ c.from_residual-in_err-picks.ensures (λ job h. let only = only_sim (rows_of (found_of c.args.matches.now)) job h in lacks (codes "picks") (rows_of (found_of c.args.matches.now)) _ c.in_err-picks.ensures.none only.3)
 
 pub returns-clause-some : goal.returns-clause-some
-returns-clause-some c = (refl, (c.in_ok-workers.ensures.some, c.in_ok-picks.ensures.some))
+returns-clause-some c = (refl, (c.in_ok-workers.ensures.some, c.in_ok-picks.ensures.some, c.file_of-closures.ensures))

@@ -1,0 +1,13 @@
+use Rattle.td_written.proofs.engine.run_by.Goals as goal
+
+pub returns : goal.returns
+returns c =
+    let answered = c.run.ensures in record {
+      ok = answered.ok;
+      end = answered.end;
+      fault = answered.fault;
+      input = answered.input;
+      output = answered.output;
+      room = answered.room;
+      nothing = answered.nothing;
+    }
