@@ -208,6 +208,9 @@ three = ((omega arith, (lit< tt, tt)), refl)
 pub four : OneDigit 10 (codes "4") 4
 four = ((omega arith, (lit< tt, tt)), refl)
 
+pub five : OneDigit 10 (codes "5") 5
+five = ((omega arith, (lit< tt, tt)), refl)
+
 pub number_there : (id : Text) (least most : ℕ) (rows : List Row) (text : Text) (n : ℕ) → one_of id rows ≡ Some text → OneDigit 10 text n → least ≤ n → n ≤ most → IsNumber id least most rows n
 number_there id least most rows text n at digit low high = (text, at, digit.0, digit.1, low, high)
 

@@ -10,7 +10,7 @@ use Rattle.td_words.specs.declared.job.Job.{Job}
 use Rattle.td_words.specs.declared.job.Job.TheVariants.{Stream}
 use Rattle.td_words.specs.Jobs.{IsOf}
 use Rattle.td_words.specs.Command.{IsNamed, HasValues, IsFlag, flag_text, IsStream}
-use Rattle.td_words.proofs.Asked.{met_some, met_of, value_met, written, one, four, number_there, some_is, to}
+use Rattle.td_words.proofs.Asked.{met_some, met_of, value_met, written, one, four, five, number_there, some_is, to}
 use Rattle.td_words.proofs.Options.{Gives, option_there, option_is}
 
 -- a flag, as it is read
@@ -107,14 +107,8 @@ module _ (met : Option (Text × List Row)) (name : option_map (λ p. p.0) met �
   pub named_uncut : (told marks : Bool) (job : Job) → IsNamed met job → option_map (λ p. stream_values p.1) met ≡ Some (given_stream None None told marks) → IsStream (codes "d") (codes "p") 1 None None told marks job
   named_uncut told marks job n values = named_stream None None None None told marks tt tt met name values job n
 
-  pub cutting_met : option_map (λ p. stream_values p.1) met ≡ Some (given_stream (Some (codes "4")) None false false) → IsNamed met (Stream (to (codes "d")) (to (codes "p")) 1 (Some 4) None false false)
-  cutting_met values = stream_met (Some (codes "4")) None (Some 4) None false false (four, omega arith, omega arith) tt met name values
+  pub cutting_met : option_map (λ p. stream_values p.1) met ≡ Some (given_stream (Some (codes "4")) (Some (codes "5")) false false) → IsNamed met (Stream (to (codes "d")) (to (codes "p")) 1 (Some 4) (Some 5) false false)
+  cutting_met values = stream_met (Some (codes "4")) (Some (codes "5")) (Some 4) (Some 5) false false (four, omega arith, omega arith) (five, omega arith, omega arith) met name values
 
-  pub named_cutting : (job : Job) → IsNamed met job → option_map (λ p. stream_values p.1) met ≡ Some (given_stream (Some (codes "4")) None false false) → IsStream (codes "d") (codes "p") 1 (Some 4) None false false job
-  named_cutting job n values = named_stream (Some (codes "4")) None (Some 4) None false false (four, omega arith, omega arith) tt met name values job n
-
-  pub most_met : option_map (λ p. stream_values p.1) met ≡ Some (given_stream None (Some (codes "4")) false false) → IsNamed met (Stream (to (codes "d")) (to (codes "p")) 1 None (Some 4) false false)
-  most_met values = stream_met None (Some (codes "4")) None (Some 4) false false tt (four, omega arith, omega arith) met name values
-
-  pub named_most : (job : Job) → IsNamed met job → option_map (λ p. stream_values p.1) met ≡ Some (given_stream None (Some (codes "4")) false false) → IsStream (codes "d") (codes "p") 1 None (Some 4) false false job
-  named_most job n values = named_stream None (Some (codes "4")) None (Some 4) false false tt (four, omega arith, omega arith) met name values job n
+  pub named_cutting : (job : Job) → IsNamed met job → option_map (λ p. stream_values p.1) met ≡ Some (given_stream (Some (codes "4")) (Some (codes "5")) false false) → IsStream (codes "d") (codes "p") 1 (Some 4) (Some 5) false false job
+  named_cutting job n values = named_stream (Some (codes "4")) (Some (codes "5")) (Some 4) (Some 5) false false (four, omega arith, omega arith) (five, omega arith, omega arith) met name values job n

@@ -2,7 +2,7 @@
 use Rattle.std.proofs.Common.{◌≡◌, refl, true, false, Some, None, codes, option_map}
 use Rattle.clap.specs.Words.{takes, subcommand_of}
 use Rattle.clap.proofs.OnLiterals.{clap_on_literals}
-use Rattle.td_words.specs.Command.{td, stream_words, cutting_words, most_words, telling_words, marking_words}
+use Rattle.td_words.specs.Command.{td, stream_words, cutting_words, telling_words}
 use Rattle.td_words.proofs.StreamAsked.{stream_values, given_stream}
 
 pub stream_is_taken : takes td stream_words ≡ true
@@ -26,21 +26,9 @@ pub cutting_is_named : option_map (λ p. p.0) (subcommand_of td cutting_words) �
 unfolding clap_on_literals
 cutting_is_named = refl
 
-pub cutting_has : option_map (λ p. stream_values p.1) (subcommand_of td cutting_words) ≡ Some (given_stream (Some (codes "4")) None false false)
+pub cutting_has : option_map (λ p. stream_values p.1) (subcommand_of td cutting_words) ≡ Some (given_stream (Some (codes "4")) (Some (codes "5")) false false)
 unfolding clap_on_literals
 cutting_has = refl
-
-pub most_is_taken : takes td most_words ≡ true
-unfolding clap_on_literals
-most_is_taken = refl
-
-pub most_is_named : option_map (λ p. p.0) (subcommand_of td most_words) ≡ Some (codes "stream")
-unfolding clap_on_literals
-most_is_named = refl
-
-pub most_has : option_map (λ p. stream_values p.1) (subcommand_of td most_words) ≡ Some (given_stream None (Some (codes "4")) false false)
-unfolding clap_on_literals
-most_has = refl
 
 pub telling_is_taken : takes td telling_words ≡ true
 unfolding clap_on_literals
@@ -50,18 +38,6 @@ pub telling_is_named : option_map (λ p. p.0) (subcommand_of td telling_words) �
 unfolding clap_on_literals
 telling_is_named = refl
 
-pub telling_has : option_map (λ p. stream_values p.1) (subcommand_of td telling_words) ≡ Some (given_stream None None true false)
+pub telling_has : option_map (λ p. stream_values p.1) (subcommand_of td telling_words) ≡ Some (given_stream None None true true)
 unfolding clap_on_literals
 telling_has = refl
-
-pub marking_is_taken : takes td marking_words ≡ true
-unfolding clap_on_literals
-marking_is_taken = refl
-
-pub marking_is_named : option_map (λ p. p.0) (subcommand_of td marking_words) ≡ Some (codes "stream")
-unfolding clap_on_literals
-marking_is_named = refl
-
-pub marking_has : option_map (λ p. stream_values p.1) (subcommand_of td marking_words) ≡ Some (given_stream None None false true)
-unfolding clap_on_literals
-marking_has = refl

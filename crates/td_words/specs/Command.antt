@@ -149,16 +149,10 @@ abbrev pub stream_words : List (List ℕ)
 stream_words = codes "td" ∷ codes "stream" ∷ codes "d" ∷ codes "p" ∷ []
 
 abbrev pub cutting_words : List (List ℕ)
-cutting_words = codes "td" ∷ codes "stream" ∷ codes "d" ∷ codes "p" ∷ codes "--cut-every" ∷ codes "4" ∷ []
-
-abbrev pub most_words : List (List ℕ)
-most_words = codes "td" ∷ codes "stream" ∷ codes "d" ∷ codes "p" ∷ codes "--most" ∷ codes "4" ∷ []
+cutting_words = codes "td" ∷ codes "stream" ∷ codes "d" ∷ codes "p" ∷ codes "--cut-every" ∷ codes "4" ∷ codes "--most" ∷ codes "5" ∷ []
 
 abbrev pub telling_words : List (List ℕ)
-telling_words = codes "td" ∷ codes "stream" ∷ codes "d" ∷ codes "p" ∷ codes "--progress" ∷ []
-
-abbrev pub marking_words : List (List ℕ)
-marking_words = codes "td" ∷ codes "stream" ∷ codes "d" ∷ codes "p" ∷ codes "--marks" ∷ []
+telling_words = codes "td" ∷ codes "stream" ∷ codes "d" ∷ codes "p" ∷ codes "--progress" ∷ codes "--marks" ∷ []
 
 -- the number that a subcommand has at a name, where clap says so: in decimal, as Rust reads it, and between these
 abbrev pub IsNumber : Text → ℕ → ℕ → List Row → ℕ → Type 0

@@ -6,7 +6,7 @@ ghost use Rattle.td_words.specs.declared.job.Job.{Job as AnyJob};
 ghost use Rattle.td_words.specs.Command.{batch_words, run_words, format_words, feed_words, IsAsked, IsNamed, IsNumber};
 ghost use Rattle.td_words.specs.Command.{IsWorkers, HasWorkers, IsRefused, IsNotTaken, IsFormat, IsFeed, IsCopy, asks_version, asks_faults};
 ghost use Rattle.td_words.specs.Command.{written_words, asks_language, IsBatch, IsFile};
-ghost use Rattle.td_words.specs.Command.{until_words, stream_words, cutting_words, most_words, telling_words, marking_words, IsOption, IsCutEvery, IsFlag, IsStream};
+ghost use Rattle.td_words.specs.Command.{until_words, stream_words, cutting_words, telling_words, IsOption, IsCutEvery, IsFlag, IsStream};
 ghost use Rattle.td_words.specs.Jobs.{IsHelp, IsOf, IsTextAsked};
 
 use crate::commands::{GREATEST, command};
@@ -34,10 +34,8 @@ pub fn words<'a>(alloc: Global, given: &'a [String]) -> Result<Job<'a>, WordsErr
     ensures feed { map string_bytes given.entry.now ≡ feed_words → IfOk result (IsFeed (codes "d") (codes "p") 1) × IfErr result (λ e. e ≡ WordsError.Memory) }
     ensures until { map string_bytes given.entry.now ≡ until_words → IfOk result (IsCopy (codes "d") (codes "p") (codes "e") 4 2 3 (Some 4)) × IfErr result (λ e. e ≡ WordsError.Memory) }
     ensures stream { map string_bytes given.entry.now ≡ stream_words → IfOk result (IsStream (codes "d") (codes "p") 1 None None false false) × IfErr result (λ e. e ≡ WordsError.Memory) }
-    ensures cutting { map string_bytes given.entry.now ≡ cutting_words → IfOk result (IsStream (codes "d") (codes "p") 1 (Some 4) None false false) × IfErr result (λ e. e ≡ WordsError.Memory) }
-    ensures most { map string_bytes given.entry.now ≡ most_words → IfOk result (IsStream (codes "d") (codes "p") 1 None (Some 4) false false) × IfErr result (λ e. e ≡ WordsError.Memory) }
-    ensures telling { map string_bytes given.entry.now ≡ telling_words → IfOk result (IsStream (codes "d") (codes "p") 1 None None true false) × IfErr result (λ e. e ≡ WordsError.Memory) }
-    ensures marking { map string_bytes given.entry.now ≡ marking_words → IfOk result (IsStream (codes "d") (codes "p") 1 None None false true) × IfErr result (λ e. e ≡ WordsError.Memory) }
+    ensures cutting { map string_bytes given.entry.now ≡ cutting_words → IfOk result (IsStream (codes "d") (codes "p") 1 (Some 4) (Some 5) false false) × IfErr result (λ e. e ≡ WordsError.Memory) }
+    ensures telling { map string_bytes given.entry.now ≡ telling_words → IfOk result (IsStream (codes "d") (codes "p") 1 None None true true) × IfErr result (λ e. e ≡ WordsError.Memory) }
     ensures version { asks_version (map string_bytes given.entry.now) ≡ true → result ≡ Ok Job.Version }
     ensures faults { asks_faults (map string_bytes given.entry.now) ≡ true → result ≡ Ok Job.Faults }
     ensures language { asks_language (map string_bytes given.entry.now) ≡ true → result ≡ Ok Job.Language }
@@ -108,10 +106,8 @@ fn parsed<'a>(alloc: Global, given: &'a [String]) -> Result<Job<'a>, WordsError>
     ensures feed { map string_bytes given.entry.now ≡ feed_words → IfOk result (IsFeed (codes "d") (codes "p") 1) × IfErr result (λ e. e ≡ WordsError.Memory) }
     ensures until { map string_bytes given.entry.now ≡ until_words → IfOk result (IsCopy (codes "d") (codes "p") (codes "e") 4 2 3 (Some 4)) × IfErr result (λ e. e ≡ WordsError.Memory) }
     ensures stream { map string_bytes given.entry.now ≡ stream_words → IfOk result (IsStream (codes "d") (codes "p") 1 None None false false) × IfErr result (λ e. e ≡ WordsError.Memory) }
-    ensures cutting { map string_bytes given.entry.now ≡ cutting_words → IfOk result (IsStream (codes "d") (codes "p") 1 (Some 4) None false false) × IfErr result (λ e. e ≡ WordsError.Memory) }
-    ensures most { map string_bytes given.entry.now ≡ most_words → IfOk result (IsStream (codes "d") (codes "p") 1 None (Some 4) false false) × IfErr result (λ e. e ≡ WordsError.Memory) }
-    ensures telling { map string_bytes given.entry.now ≡ telling_words → IfOk result (IsStream (codes "d") (codes "p") 1 None None true false) × IfErr result (λ e. e ≡ WordsError.Memory) }
-    ensures marking { map string_bytes given.entry.now ≡ marking_words → IfOk result (IsStream (codes "d") (codes "p") 1 None None false true) × IfErr result (λ e. e ≡ WordsError.Memory) }
+    ensures cutting { map string_bytes given.entry.now ≡ cutting_words → IfOk result (IsStream (codes "d") (codes "p") 1 (Some 4) (Some 5) false false) × IfErr result (λ e. e ≡ WordsError.Memory) }
+    ensures telling { map string_bytes given.entry.now ≡ telling_words → IfOk result (IsStream (codes "d") (codes "p") 1 None None true true) × IfErr result (λ e. e ≡ WordsError.Memory) }
 {
     let Ok(command) = command(alloc) else {
         return Err(WordsError::Memory);

@@ -11,8 +11,8 @@ use Rattle.td_words.proofs.BatchWords.{td_is_simple, td_is_free, batch_is_taken,
 use Rattle.td_words.proofs.DiskWords.{format_is_taken, format_is_named, format_has, feed_is_taken, feed_is_named, feed_has}
 use Rattle.td_words.proofs.CopyAsked.{named_until, until_met, copy_values}
 use Rattle.td_words.proofs.CopyWords.{until_is_taken, until_is_named, until_has}
-use Rattle.td_words.proofs.StreamAsked.{named_uncut, named_cutting, named_most, uncut_met, cutting_met, most_met, stream_values}
-use Rattle.td_words.proofs.StreamWords.{stream_is_taken, stream_is_named, stream_has, cutting_is_taken, cutting_is_named, cutting_has, most_is_taken, most_is_named, most_has, telling_is_taken, telling_is_named, telling_has, marking_is_taken, marking_is_named, marking_has}
+use Rattle.td_words.proofs.StreamAsked.{named_uncut, named_cutting, uncut_met, cutting_met, stream_values}
+use Rattle.td_words.proofs.StreamWords.{stream_is_taken, stream_is_named, stream_has, cutting_is_taken, cutting_is_named, cutting_has, telling_is_taken, telling_is_named, telling_has}
 use Rattle.td_words.proofs.parse.parsed.Goals as goal
 
 pub returns-in-Err-clause-err : goal.returns-in-Err-clause-err
@@ -186,26 +186,7 @@ returns-clause-cutting c = λ e.
     let found = c.in-Ok-try_get_matches_from in
     let met : subcommand_rows_of found.matches ≡ subcommand_of td given = (found.ensures.matches (ap is_simple c.in-Ok.ensures ∙ td_is_simple)).1 ∙ ap (λ a. subcommand_of a given) c.in-Ok.ensures in
     let is = met ∙ ap (subcommand_of td) e in
-    absurd (c.in-None.ensures.none (Stream (to (codes "d")) (to (codes "p")) 1 (Some 4) None false false) (cutting_met (subcommand_rows_of found.matches) (ap (option_map (λ p. p.0)) is ∙ cutting_is_named) (ap (option_map (λ p. stream_values p.1)) is ∙ cutting_has)))
-
-pub returns-in-Err-clause-most : goal.returns-in-Err-clause-most
-returns-in-Err-clause-most c = λ e. memory_alone _ _ (only_memory _ _ c.asked_instead.ensures.ok c.asked_instead.ensures.err (c.in-Err.ensures.passes (ap₂ takes c.in-Ok.ensures e ∙ most_is_taken)))
-
-pub returns-in-Some-clause-most : goal.returns-in-Some-clause-most
-returns-in-Some-clause-most c = λ e.
-    let given = map string_bytes c.args.given.now in
-    let found = c.in-Ok-try_get_matches_from in
-    let met : subcommand_rows_of found.matches ≡ subcommand_of td given = (found.ensures.matches (ap is_simple c.in-Ok.ensures ∙ td_is_simple)).1 ∙ ap (λ a. subcommand_of a given) c.in-Ok.ensures in
-    let is = met ∙ ap (subcommand_of td) e in
-    (named_most (subcommand_rows_of found.matches) (ap (option_map (λ p. p.0)) is ∙ most_is_named) c.in-Some.job c.in-Some.ensures.some (ap (option_map (λ p. stream_values p.1)) is ∙ most_has), tt)
-
-pub returns-clause-most : goal.returns-clause-most
-returns-clause-most c = λ e.
-    let given = map string_bytes c.args.given.now in
-    let found = c.in-Ok-try_get_matches_from in
-    let met : subcommand_rows_of found.matches ≡ subcommand_of td given = (found.ensures.matches (ap is_simple c.in-Ok.ensures ∙ td_is_simple)).1 ∙ ap (λ a. subcommand_of a given) c.in-Ok.ensures in
-    let is = met ∙ ap (subcommand_of td) e in
-    absurd (c.in-None.ensures.none (Stream (to (codes "d")) (to (codes "p")) 1 None (Some 4) false false) (most_met (subcommand_rows_of found.matches) (ap (option_map (λ p. p.0)) is ∙ most_is_named) (ap (option_map (λ p. stream_values p.1)) is ∙ most_has)))
+    absurd (c.in-None.ensures.none (Stream (to (codes "d")) (to (codes "p")) 1 (Some 4) (Some 5) false false) (cutting_met (subcommand_rows_of found.matches) (ap (option_map (λ p. p.0)) is ∙ cutting_is_named) (ap (option_map (λ p. stream_values p.1)) is ∙ cutting_has)))
 
 pub returns-in-Err-clause-telling : goal.returns-in-Err-clause-telling
 returns-in-Err-clause-telling c = λ e. memory_alone _ _ (only_memory _ _ c.asked_instead.ensures.ok c.asked_instead.ensures.err (c.in-Err.ensures.passes (ap₂ takes c.in-Ok.ensures e ∙ telling_is_taken)))
@@ -216,7 +197,7 @@ returns-in-Some-clause-telling c = λ e.
     let found = c.in-Ok-try_get_matches_from in
     let met : subcommand_rows_of found.matches ≡ subcommand_of td given = (found.ensures.matches (ap is_simple c.in-Ok.ensures ∙ td_is_simple)).1 ∙ ap (λ a. subcommand_of a given) c.in-Ok.ensures in
     let is = met ∙ ap (subcommand_of td) e in
-    (named_uncut (subcommand_rows_of found.matches) (ap (option_map (λ p. p.0)) is ∙ telling_is_named) true false c.in-Some.job c.in-Some.ensures.some (ap (option_map (λ p. stream_values p.1)) is ∙ telling_has), tt)
+    (named_uncut (subcommand_rows_of found.matches) (ap (option_map (λ p. p.0)) is ∙ telling_is_named) true true c.in-Some.job c.in-Some.ensures.some (ap (option_map (λ p. stream_values p.1)) is ∙ telling_has), tt)
 
 pub returns-clause-telling : goal.returns-clause-telling
 returns-clause-telling c = λ e.
@@ -224,26 +205,7 @@ returns-clause-telling c = λ e.
     let found = c.in-Ok-try_get_matches_from in
     let met : subcommand_rows_of found.matches ≡ subcommand_of td given = (found.ensures.matches (ap is_simple c.in-Ok.ensures ∙ td_is_simple)).1 ∙ ap (λ a. subcommand_of a given) c.in-Ok.ensures in
     let is = met ∙ ap (subcommand_of td) e in
-    absurd (c.in-None.ensures.none (Stream (to (codes "d")) (to (codes "p")) 1 None None true false) (uncut_met (subcommand_rows_of found.matches) (ap (option_map (λ p. p.0)) is ∙ telling_is_named) true false (ap (option_map (λ p. stream_values p.1)) is ∙ telling_has)))
-
-pub returns-in-Err-clause-marking : goal.returns-in-Err-clause-marking
-returns-in-Err-clause-marking c = λ e. memory_alone _ _ (only_memory _ _ c.asked_instead.ensures.ok c.asked_instead.ensures.err (c.in-Err.ensures.passes (ap₂ takes c.in-Ok.ensures e ∙ marking_is_taken)))
-
-pub returns-in-Some-clause-marking : goal.returns-in-Some-clause-marking
-returns-in-Some-clause-marking c = λ e.
-    let given = map string_bytes c.args.given.now in
-    let found = c.in-Ok-try_get_matches_from in
-    let met : subcommand_rows_of found.matches ≡ subcommand_of td given = (found.ensures.matches (ap is_simple c.in-Ok.ensures ∙ td_is_simple)).1 ∙ ap (λ a. subcommand_of a given) c.in-Ok.ensures in
-    let is = met ∙ ap (subcommand_of td) e in
-    (named_uncut (subcommand_rows_of found.matches) (ap (option_map (λ p. p.0)) is ∙ marking_is_named) false true c.in-Some.job c.in-Some.ensures.some (ap (option_map (λ p. stream_values p.1)) is ∙ marking_has), tt)
-
-pub returns-clause-marking : goal.returns-clause-marking
-returns-clause-marking c = λ e.
-    let given = map string_bytes c.args.given.now in
-    let found = c.in-Ok-try_get_matches_from in
-    let met : subcommand_rows_of found.matches ≡ subcommand_of td given = (found.ensures.matches (ap is_simple c.in-Ok.ensures ∙ td_is_simple)).1 ∙ ap (λ a. subcommand_of a given) c.in-Ok.ensures in
-    let is = met ∙ ap (subcommand_of td) e in
-    absurd (c.in-None.ensures.none (Stream (to (codes "d")) (to (codes "p")) 1 None None false true) (uncut_met (subcommand_rows_of found.matches) (ap (option_map (λ p. p.0)) is ∙ marking_is_named) false true (ap (option_map (λ p. stream_values p.1)) is ∙ marking_has)))
+    absurd (c.in-None.ensures.none (Stream (to (codes "d")) (to (codes "p")) 1 None None true true) (uncut_met (subcommand_rows_of found.matches) (ap (option_map (λ p. p.0)) is ∙ telling_is_named) true true (ap (option_map (λ p. stream_values p.1)) is ∙ telling_has)))
 
 pub returns-in-Err-clause-ok : goal.returns-in-Err-clause-ok
 returns-in-Err-clause-ok c =
