@@ -6,3 +6,4 @@ mod Headed
 mod Fitting
 mod Stopped
 mod Zeroed
+mod Written

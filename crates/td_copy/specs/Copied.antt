@@ -1,10 +1,12 @@
 -- A disk that is made to tell what another one tells. Its head comes last.
-use Rattle.std.specs.Prelude.{◌≡◌, ◌⊎◌, ℕ, ◌≤◌, ◌<◌, true, slice_index, List, Some, None, Ok}
+use Rattle.std.specs.Prelude.{◌≡◌, ◌⊎◌, ℕ, ◌+◌, ◌≤◌, ◌<◌, true, slice_index, List, Some, None, Ok}
 use Rattle.td_plan.specs.Lines.{Line}
 use Rattle.td_disk.specs.Disk.{DiskState}
 use Rattle.td_gate.specs.Region.{opened}
 use Rattle.td_head.specs.Layout.{Sizes, head_a, head_b}
 use Rattle.td_slots.specs.Newest.{newest}
+use Rattle.td_journal.specs.declared.journal.Journal.{Journal}
+use Rattle.td_journal.specs.Cell.{cell_of}
 use Rattle.td_journal.specs.Numbers.{rise}
 use Rattle.td_journal.specs.Ring.{told_after}
 use Rattle.td_standing.specs.Standing.{Standing}
@@ -29,6 +31,10 @@ pub record HasParts (plan : List Line) (sizes : Sizes) (s : Standing) (image : L
   pub no_head : HasNoHead image
   pub slot : newest 2 (folds_of plan) (slots_of sizes) image ≡ Ok (checkpoint_of 0 s)
   pub cells : told_after (inputs_of plan) (ring_of sizes s.epoch) image (Some s.last) s.epoch ≡ Ok s.submitted
+
+-- The cells for the epochs after the i-th from a checkpoint on, up to the n-th, are closed.
+abbrev pub AreClosedAfter : Journal → ℕ → List ℕ → Type 0
+AreClosedAfter j i image = (k : ℕ) → i < k → k ≤ j.n → opened (cell_of j (j.kept + k)) image ≡ None
 
 -- Each image since a moment up to old was one by then, or no head of it is open.
 pub record OpensNoHead (old new : DiskState) : Type 0 where

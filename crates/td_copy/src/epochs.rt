@@ -1,17 +1,23 @@
 //! Putting the epochs after a checkpoint into their cells, on a disk that has no head yet.
+//!
+//! Nothing is told before the head is there, so all cells but the last are written as they are, and one sync serves them all. The last one
+//! is put as a keeper puts its cells: where the journal is full, the cell behind it is that of the first epoch.
 ghost use Rattle.std.specs.Prelude.{◌≡◌, ◌⊎◌, ◌↔◌, ◌+◌, ◌^◌, ◌<◌, ◌≤◌, [], ◌∷◌, true, All, List, ℕ, length, OnOk, IfErr, IsErrOf};
 ghost use Rattle.td_plan.specs.Lines.{Line};
 ghost use Rattle.td_disk.specs.Disk.{CountsDevice, IsDurable};
 ghost use Rattle.td_head.specs.Layout.{Sizes};
-ghost use Rattle.td_journal.specs.Cell.{ring_len, is_batch};
+ghost use Rattle.td_gate.specs.Reading.{Each};
+ghost use Rattle.td_gate.specs.Regions.{Replaces};
+ghost use Rattle.td_journal.specs.Cell.{cell_of, cell_bytes, ring_len, is_batch, FitsEntry};
 ghost use Rattle.td_journal.specs.Numbers.{rise};
 ghost use Rattle.td_standing.specs.Standing.{Standing, with_more};
 ghost use Rattle.td_standing.specs.Told.{inputs_of, ring_of};
 ghost use Rattle.td_standing.specs.Tells.{HasRoom, IsFresh};
-ghost use Rattle.td_copy.specs.Copied.{HasNoHead, HasParts, OpensNoHead};
+ghost use Rattle.td_copy.specs.Copied.{AreClosedAfter, EachHasNoHead, HasNoHead, HasParts, OpensNoHead};
 
 use std::alloc::Global;
 use td_disk::Disk;
+use td_gate::OPEN;
 use td_journal::{Journal, JournalError, Submitted};
 
 /// Puts an epoch into its cell, after the cell behind it was closed where it bears the epoch behind it. Refusals: `Memory`,
@@ -58,6 +64,78 @@ fn put_epoch<D: Disk>(
     Ok(())
 }
 
+/// Writes an epoch into its cell, with its gate open, and makes no sync. Refusals: `Memory`, with the disk not called; `Device`.
+fn write_epoch<D: Disk>(
+    alloc: Global,
+    journal: &Journal,
+    device: &mut D,
+    epoch: u64,
+    submitted: &Submitted,
+) -> Result<(), JournalError>
+    requires cells { 0 < journal.now.n }
+    requires records { journal.now.m ≤ 65536 }
+    requires room { journal.now.at + ring_len journal.now.m journal.now.n ≤ D.capacity device.old }
+    requires few { length submitted.now.batch ≤ journal.now.m }
+    requires behind { 8258 ≤ journal.now.at }
+    ensures refusals { IfErr result (λ e. (e ≡ JournalError.Memory) ⊎ (e ≡ JournalError.Device)) }
+    ensures failures { CountsDevice result JournalError.Device (D.failures device.old) (D.failures device.new) }
+    ensures size { D.capacity device.new ≡ D.capacity device.old }
+    ensures lawful { D.is_lawful device.old ↔ D.is_lawful device.new }
+    ensures no_head { D.is_lawful device.old → EachHasNoHead (D.state device.old)
+        → EachHasNoHead (D.state device.new) × OpensNoHead (D.state device.old) (D.state device.new) }
+    ensures fits { OnOk result (Each FitsEntry submitted.now.batch × (submitted.now.request < 2 ^ 64)) }
+    ensures written { OnOk result (D.is_lawful device.old
+        → Replaces (cell_of journal.now epoch) (cell_bytes journal.now.m epoch submitted.now.request submitted.now.batch) (D.state device.old).bytes (D.state device.new).bytes) }
+{
+    td_journal::laws::cells_read_back();
+    let mut bytes = journal.payload(alloc, epoch, submitted.request, &submitted.batch)?;
+    bytes.push(OPEN)?;
+    let _size = device.size();
+    let cell = journal.cell_of(epoch);
+    device.write(cell.at, &bytes)?;
+    Ok(())
+}
+
+/// Writes epochs into their cells, of which the first is the one after a checkpoint's, and makes no sync. Refusals: `Memory`, `Device`.
+fn write_epochs<D: Disk>(
+    alloc: Global,
+    journal: &Journal,
+    device: &mut D,
+    submitted: &[Submitted],
+) -> Result<(), JournalError>
+    requires cells { 0 < journal.now.n }
+    requires records { journal.now.m ≤ 65536 }
+    requires room { journal.now.at + ring_len journal.now.m journal.now.n ≤ D.capacity device.old }
+    requires few { All (λ x. length x.batch ≤ journal.now.m) submitted.now }
+    requires small { journal.now.kept + length submitted.now < 2 ^ 63 }
+    requires behind { 8258 ≤ journal.now.at }
+    ensures refusals { IfErr result (λ e. (e ≡ JournalError.Memory) ⊎ (e ≡ JournalError.Device)) }
+    ensures failures { CountsDevice result JournalError.Device (D.failures device.old) (D.failures device.new) }
+    ensures size { D.capacity device.new ≡ D.capacity device.old }
+    ensures lawful { D.is_lawful device.old ↔ D.is_lawful device.new }
+    ensures no_head { D.is_lawful device.old → EachHasNoHead (D.state device.old)
+        → EachHasNoHead (D.state device.new) × OpensNoHead (D.state device.old) (D.state device.new) }
+    ensures put { OnOk result (D.is_lawful device.old → (plan : List Line) (sizes : Sizes) (s : Standing)
+        → journal.now ≡ ring_of sizes s.epoch → s.submitted ≡ [] → length submitted.now < sizes.n
+        → rise (Some s.last) submitted.now ≡ true → All (λ x. is_batch (inputs_of plan) x.batch ≡ true) submitted.now
+        → AreClosedAfter journal.now 0 (D.state device.old).bytes → HasParts plan sizes s (D.state device.old).bytes
+        → HasParts plan sizes (with_more s submitted.now) (D.state device.new).bytes) }
+{
+    td_gate::laws::put_leaves_others();
+    td_standing::laws::parts_are_apart();
+    td_slots::laws::slots_tell();
+    td_journal::laws::numbers();
+    td_journal::laws::cells();
+    td_journal::laws::following_is_closed();
+    td_journal::laws::next_is_put();
+    let mut epoch = journal.kept;
+    for each in submitted {
+        epoch += 1;
+        write_epoch(alloc, journal, device, epoch, each)?;
+    }
+    Ok(())
+}
+
 /// Puts epochs into their cells, of which the first is the one after a checkpoint's. Refusals: `Memory`, `Device`.
 pub(crate) fn put_epochs<D: Disk>(
     alloc: Global,
@@ -70,6 +148,7 @@ pub(crate) fn put_epochs<D: Disk>(
     requires room { journal.now.at + ring_len journal.now.m journal.now.n ≤ D.capacity device.old }
     requires few { All (λ x. length x.batch ≤ journal.now.m) submitted.now }
     requires small { journal.now.kept + length submitted.now < 2 ^ 63 }
+    requires behind { 8258 ≤ journal.now.at }
     ensures refusals { IfErr result (λ e. (e ≡ JournalError.Memory) ⊎ (e ≡ JournalError.Device)) }
     ensures failures { CountsDevice result JournalError.Device (D.failures device.old) (D.failures device.new) }
     ensures size { D.capacity device.new ≡ D.capacity device.old }
@@ -81,14 +160,15 @@ pub(crate) fn put_epochs<D: Disk>(
     ensures put { OnOk result (D.is_lawful device.old → (plan : List Line) (sizes : Sizes) (s : Standing)
         → journal.now ≡ ring_of sizes s.epoch → s.submitted ≡ [] → length submitted.now ≤ sizes.n
         → rise (Some s.last) submitted.now ≡ true → All (λ x. is_batch (inputs_of plan) x.batch ≡ true) submitted.now
-        → IsDurable (D.state device.old) → HasParts plan sizes s (D.state device.old).bytes
+        → IsDurable (D.state device.old) → AreClosedAfter journal.now 0 (D.state device.old).bytes → HasParts plan sizes s (D.state device.old).bytes
         → HasParts plan sizes (with_more s submitted.now) (D.state device.new).bytes) }
 {
     td_journal::laws::numbers();
-    let mut epoch = journal.kept;
-    for each in submitted {
-        epoch += 1;
-        put_epoch(alloc, journal, device, epoch, each)?;
-    }
-    Ok(())
+    let Some((last, before)) = submitted.split_last() else {
+        return Ok(());
+    };
+    write_epochs(alloc, journal, device, before)?;
+    device.sync()?;
+    let epoch = journal.kept + submitted.len() as u64;
+    put_epoch(alloc, journal, device, epoch, last)
 }

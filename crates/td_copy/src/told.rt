@@ -14,7 +14,7 @@ ghost use Rattle.td_standing.specs.Told.{Told, inputs_of, folds_of, slots_of as 
 ghost use Rattle.td_standing.specs.Tells.{Tells, Keeps, TellsSince, first_head};
 ghost use Rattle.td_standing.specs.Read.{MayStand, standing_of, Stood, Refused};
 ghost use Rattle.td_copy.specs.Room.{room_fault, HasRoomFor};
-ghost use Rattle.td_copy.specs.Copied.{HasNoHead, HasParts, OpensNoHead, IsRising};
+ghost use Rattle.td_copy.specs.Copied.{AreClosedAfter, HasNoHead, HasParts, OpensNoHead, IsRising};
 ghost use Rattle.td_copy.specs.Refusals.{IsNotPut};
 
 use crate::epochs::put_epochs;
@@ -180,6 +180,7 @@ fn write_checkpoint<D: Disk>(
         → are_states (folds_of plan) checkpoint.now.states ≡ true
         → IsDurable (D.state device.old) → HasNoHead (D.state device.old).bytes
         → HasParts plan shape (standing_from checkpoint.now []) (D.state device.new).bytes) }
+    ensures closed { OnOk result (D.is_lawful device.old → AreClosedAfter (ring_in shape checkpoint.now.epoch) 0 (D.state device.new).bytes) }
 {
     td_gate::laws::put_leaves_others();
     td_gate::laws::durable_is_settled::<D>();

@@ -1,4 +1,4 @@
-use Rattle.std.proofs.Common.{◌≡◌, ℕ, suc, ◌%◌, ◌<◌, ◌≤◌, ◌^◌, List, refl, sym, ap, ◌∙◌, subst, arith}
+use Rattle.std.proofs.Common.{◌≡◌, ℕ, suc, ◌+◌, ◌%◌, ◌<◌, ◌≤◌, ◌^◌, List, refl, sym, ap, ◌∙◌, subst, arith}
 use Rattle.std.specs.Prelude.{Option, Some, None}
 use Rattle.td_gate.specs.CrashSafe.{CrashSafe}
 use Rattle.td_gate.specs.Region.{opened, IsOpen, Puts}
@@ -96,3 +96,27 @@ returns-clause-head g c lawful durable none =
     let now = laws.counts_now new (state mid).moment (state new).bytes also safe.later (laws.reads_image new also) in
     no_head_after c.put_leaves_others.ensures r p behind (state mid).bytes (state new).bytes (read_step (Puts r p) (state mid) (state new) durable_mid safe now)
     (c.in_ok-put_zeros.ensures.head lawful durable none)
+
+pub returns-clause-closed : goal.returns-clause-closed
+returns-clause-closed g c lawful k low high =
+    let state = g.D.Disk.state in
+    let laws = g.met.D.Disk in
+    let sizes = c.args.shape in
+    let at = c.args.checkpoint.now in
+    let mid = c.put_zeros.new.device in
+    let new = c.write.new.device in
+    let slots = c.slots_of-slots.result in
+    let is : slots ≡ slots_of sizes = c.slots_of-slots.ensures.slots in
+    let r = slot (slots_of sizes) 0 in
+    let p = slot_bytes sizes.k at.epoch at.last at.states in
+    let still = c.in_ok-put_zeros.ensures.lawful.0 lawful in
+    let durable_mid = c.in_ok-put_zeros.ensures.durable lawful in
+    let settled = c.durable_is_settled.ensures mid (slot slots 0) durable_mid in
+    let safe = subst (λ (z : Slots). CrashSafe (Puts (slot z 0) (slot_bytes z.k at.epoch at.last at.states)) (state mid) (state new)) is (c.in_ok-write.ensures.crash_safe still settled) in
+    let also = c.in_ok-write.ensures.lawful.0 still in
+    let now = laws.counts_now new (state mid).moment (state new).bytes also safe.later (laws.reads_image new also) in
+    let put : Puts r p (state mid).bytes (state new).bytes = read_step (Puts r p) (state mid) (state new) durable_mid safe now in
+    let zeros : IsZeroBetween 8258 (size_of sizes) (state mid).bytes = c.in_ok-put_zeros.ensures.behind lawful in
+    let i = (at.epoch + k) % sizes.n in
+    c.put_leaves_others.ensures r (cell_of (ring_of sizes at.epoch) (at.epoch + k)) p (state mid).bytes (state new).bytes (c.parts_are_apart.ensures.slots_cells sizes at.epoch i).0 put
+    ∙ cell_closed sizes at.epoch i (state mid).bytes (c.parts_are_apart.ensures.ends sizes at.epoch i (mod-lt (at.epoch + k) c.requires.cells)) zeros

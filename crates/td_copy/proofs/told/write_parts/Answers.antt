@@ -6,7 +6,7 @@ use Rattle.td_journal.specs.Numbers.{rise}
 use Rattle.td_journal.specs.declared.submitted.Submitted.{Submitted}
 use Rattle.td_standing.specs.Standing.{standing_from}
 use Rattle.td_standing.specs.Told.{inputs_of}
-use Rattle.td_copy.specs.Copied.{HasParts}
+use Rattle.td_copy.specs.Copied.{AreClosedAfter, HasParts}
 use Rattle.td_copy.proofs.Steps.{opens_in_turn}
 use Rattle.td_copy.proofs.told.write_parts.Goals as goal
 
@@ -34,7 +34,8 @@ returns-clause-put g c lawful plan states batches rising durable none =
     (subst (λ (l : List Submitted). length l ≤ c.args.shape.n) (sym is) c.requires.fits.epochs)
     (subst (λ (l : List Submitted). rise (Some told.checkpoint.last) l ≡ true) (sym is) rising)
     (subst (λ (l : List Submitted). All (λ x. is_batch (inputs_of plan) x.batch ≡ true) l) (sym is) batches)
-    (first.durable lawful durable) (first.put lawful plan states durable none))
+    (first.durable lawful durable) (subst (λ (j : Journal). AreClosedAfter j 0 (g.D.Disk.state c.write_checkpoint.new.device).bytes) (sym c.ring_of-ring.ensures.ring) (first.closed lawful))
+    (first.put lawful plan states durable none))
 
 pub write_checkpoint-requires-clause-cells : goal.write_checkpoint-requires-clause-cells
 write_checkpoint-requires-clause-cells g c = subst (λ (j : Journal). 0 < j.n) c.ring_of-ring.ensures.ring c.ring_of-ring.ensures.cells
