@@ -6,6 +6,7 @@
 - Each write and each sync of NEW of a copy fails in turn, alone, and with all that follow, as on a full device. The copy is then refused with NEW's path,
   and with the cause where a second look meets it too; NEW is not there any more, and DISK is as it was, byte for byte.
 - A copy that succeeds takes as much room of its file system as a formatted disk of the same shape, so that none of it is lacking later.
+- A copy of three epochs makes as many syncs as one of two: the cells of all but the last are on the device by one.
 - A pipe is no disk: each command refuses it at once, by the words for files, and it stays."""
 
 import os
@@ -15,7 +16,6 @@ import subprocess
 import lib
 
 TD = lib.asked_td()
-FED = "0 7 5\n.\ncut\nreq 1\n0 7 1\n0 8 2\n.\n"
 SHAPE = ("4", "64", "1000")
 SECONDS = 10
 CALLS = {"pwrite64": ("write", "ENOSPC", "no space left on device"), "fsync": ("sync", "EIO", "input/output error")}
@@ -29,11 +29,12 @@ def copy(folder, *inject):
     return done.returncode, done.stderr, {name: len(re.findall(rf"(?m)^{name}\(", calls.read_text())) for name in CALLS}
 
 
-def made(folder):
-    """A disk with a checkpoint and an epoch after it."""
+def made(folder, epochs):
+    """A disk with a checkpoint and so many epochs after it, 3 at most."""
+    fed = "0 7 5\n.\ncut\n" + "".join(f"req {number}\n0 7 {number}\n0 8 2\n.\n" for number in range(1, epochs + 1))
     (folder / "plan").write_text(lib.TOTAL)
     subprocess.run([TD, "format", folder / "disk", folder / "plan", "4", "3", "3"], check=True)
-    subprocess.run([TD, "feed", folder / "disk", folder / "plan"], input=FED, text=True, stdout=subprocess.DEVNULL, check=True)
+    subprocess.run([TD, "feed", folder / "disk", folder / "plan"], input=fed, text=True, stdout=subprocess.DEVNULL, check=True)
     return (folder / "disk").read_bytes()
 
 
@@ -79,13 +80,18 @@ def take_pipe(folder):
 
 def main():
     with lib.folder() as folder:
-        image = made(folder)
+        image = made(folder, 3)
         take_pipe(folder)
         print("a pipe for a disk is refused by each command")
         if not lib.is_traced():
             return lib.skip("the copies of disk_files, since there is no strace that may trace here")
         counts = copy_whole(folder)
         fail_each(folder, image, counts)
+    with lib.folder() as folder:
+        made(folder, 2)
+        fewer = copy_whole(folder)
+        if fewer["fsync"] != counts["fsync"]:
+            lib.fail(f"a copy of 2 epochs makes {fewer['fsync']} syncs, and one of 3 makes {counts['fsync']}")
     print(f"a copy whose {counts['pwrite64']} writes and {counts['fsync']} syncs of NEW fail in turn is refused with NEW's path, and NEW is gone; a copy has all its room")
     return None
 
