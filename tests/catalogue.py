@@ -130,7 +130,8 @@ parameter_maps = {
 }
 plain_maps = {9000: "Exchanged", 9001: "Negated", 9002: "Absolute", 9003: "Packed", 9004: "Unpacked", 9005: "KeyAsValue"}
 plain_folds = {
-    9200: "GreatestSoFar", 9201: "LeastSoFar", 9202: "LastValue", 9203: "CountSoFar", 9204: "AverageSoFar", 9205: "TwoGreatest", 9206: "Balance", 9207: "Amount",
+    9200: "GreatestSoFar", 9201: "LeastSoFar", 9202: "LastValue", 9203: "CountSoFar", 9204: "AverageSoFar", 9205: "TwoGreatest",
+    9206: "Balance", 9207: "Amount",
 }
 
 

@@ -10,6 +10,7 @@ which codes there are, and not its reading. Several plans stand side by side in 
 
 import collections
 import concurrent.futures
+import itertools
 import random
 import subprocess
 import sys
@@ -425,6 +426,12 @@ def said_by(words, text):
     return done.returncode, done.stdout, done.stderr
 
 
+def first_difference(wanted, got):
+    """The first lines that are not the same in two texts."""
+    lines = itertools.zip_longest(wanted.splitlines(), got.splitlines())
+    return next((f"the meaning has the line {mine}, and td {other}" for mine, other in lines if mine != other), "the same lines")
+
+
 def compare(rng, plan):
     """Compares what `td` answers of a plan, and of some batches, with their meaning, and answers how many lines these have."""
     batches = [random_batch(rng, [v.number for v in vertices(plan) if isinstance(v.kind, Input)]) for _ in range(rng.randrange(1, 6))]
@@ -436,7 +443,7 @@ def compare(rng, plan):
     for words in (["batch"], ["run", "--workers", str(rng.choice(random_inputs.WORKERS))]):
         got = said_by(words, text)
         if got != (0, wanted, ""):
-            lib.fail(f"td {' '.join(words)}\n{text}\nthe meaning is\n{wanted}\ntd answers {got[0]} {got[2]}\n{got[1]}")
+            lib.fail(f"{text}\ntd {' '.join(words)}: status {got[0]}: {got[2]}{first_difference(wanted, got[1])}")
     return wanted.count("\n")
 
 

@@ -1,11 +1,12 @@
 #!/usr/bin/env python3
 """Compares the pages with what they speak of: needs nothing but the files.
 
-    tests/pages.py
+    tests/pages.py            compares
+    tests/pages.py --write    writes what docs/MEANING.md quotes of definitions anew; its sentences beside them are then yours to read again
 
 Each link of a page leads to a file, and to a heading of it where it names one. Each indented line of docs/CLOSURES.md and docs/SERVICE.md is a line of
 the crate that the page walks through (of its sources, its definitions, or what it prints); `..` stands for lines that are left out. Each quoted block of
-docs/MEANING.md, from a line of three back ticks to the next, stands word for word in the file of crates/ that is named last before it.
+docs/MEANING.md, from a line of three back ticks to the next, is whole definitions, word for word, of the file of crates/ that is named last before it.
 
 Each name that a page cites is one of the sources: a path as `Plan::read` or `laws::orders`, in the crate that it names, or that a section of docs/GUARANTEES.md is
 of; each word of code with `_` or a capital inside; each file. In docs/GUARANTEES.md so is each name behind `*Contract*`, and what stands in brackets
@@ -13,10 +14,12 @@ behind a function, as `Plan::read` (`ok`), are clauses of its contract, or defin
 
 import collections
 import re
+import sys
 
 from lib import ROOT, fail
 
 PAGES = [ROOT / "README.md", ROOT / "CHANGELOG.md", *sorted(ROOT.glob("docs/*.md")), *sorted(ROOT.glob("*/README.md"))]
+MEANING = ROOT / "docs/MEANING.md"
 WALKS = {"docs/CLOSURES.md": "example_closures", "docs/SERVICE.md": "example_service"}
 # A drawing in a page begins so.
 DRAWN = ("producer ──", "(thread)", "release_in     publishes", "▼", "pool: the hall", "▲", "workers (a thread")
@@ -68,41 +71,60 @@ def mistakes_of_walks():
                 yield f"{name}: no line of {crate}: {said}"
 
 
+BEGINS = re.compile(r"( *)(?:abbrev pub|pub record|pub data|pub fn) (\w+)")
+
+
+def definition_of(file, name):
+    """The lines of the definition of this name in a file; none where it has none, or several."""
+    lines = (ROOT / file).read_text(encoding="utf-8").splitlines() if file and (ROOT / file).is_file() else []
+    found = [(at, begin) for at, begin in enumerate(map(BEGINS.match, lines)) if begin and begin[2] == name]
+    if len(found) != 1:
+        return []
+    at, begin = found[0]
+    ends = re.compile(rf" *$| {{0,{len(begin[1])}}}(?:--|\{{)")
+    return lines[at:next((end for end in range(at + 1, len(lines)) if ends.match(lines[end])), len(lines))]
+
+
+def quotes_of(lines):
+    """The blocks that a page quotes: each from a line of three back ticks to the next, with the file that is named last before it."""
+    file, start = None, None
+    for at, line in enumerate(lines):
+        if start is None and line.startswith("```"):
+            start = at + 1
+        elif start is not None and line == "```":
+            yield file, start, at
+            start = None
+        elif start is None:
+            file = ([file] + re.findall(r"`(crates/[\w/]+\.(?:antt|rt))`", line))[-1]
+
+
+def names_in(lines):
+    """The names of the definitions that begin in some lines."""
+    return [begin[2] for begin in map(BEGINS.match, lines) if begin]
+
+
+def quoted_anew(file, lines):
+    """The block with the definitions of these names, as they stand in the file."""
+    return [line for name in names_in(lines) for line in ["", *definition_of(file, name)]][1:]
+
+
 def mistakes_of_definitions():
     """Blocks of docs/MEANING.md that do not stand, definition by definition, in the file that is named last before them."""
-    page = "docs/MEANING.md"
-    file, quoted = None, None
-    for number, line in enumerate((ROOT / page).read_text(encoding="utf-8").splitlines(), 1):
-        if quoted is None and line.startswith("```"):
-            quoted = []
-        elif quoted is None:
-            file = ([file] + re.findall(r"`(crates/[\w/]+\.(?:antt|rt))`", line))[-1]
-        elif line != "```":
-            quoted.append(line)
-        else:
-            wrong = [first for first, *more in definitions_in(quoted) if not is_quoted(file, [first, *more])]
-            yield from (f"{page}:{number}: it does not stand so in {file}: {first.strip()}" for first in wrong)
-            quoted = None
-    if quoted is not None:
-        yield f"{page}: the last quoted block has no end"
+    lines = MEANING.read_text(encoding="utf-8").splitlines()
+    for file, start, end in quotes_of(lines):
+        if lines[start:end] != quoted_anew(file, lines[start:end]) or not names_in(lines[start:end]):
+            wrong = [name for name in names_in(lines[start:end]) if "\n".join(["", *definition_of(file, name), ""]) not in "\n".join(["", *lines[start:end], ""])]
+            yield f"docs/MEANING.md:{start}: this does not stand so in {file}: {', '.join(wrong) or 'what is not of a definition'}"
 
 
-def definitions_in(lines):
-    """Lines as definitions, each from a line that begins one on."""
-    found = []
-    for line in lines:
-        if re.match(r" *(?:abbrev|pub record|pub data|pub fn)\b", line) or not found:
-            found.append([])
-        found[-1] += [line] * (line != "")
-    return found
-
-
-def is_quoted(file, lines):
-    """Whether lines are whole lines of a file, one after another, and the definition does not go on behind them."""
-    if file is None or not (ROOT / file).is_file():
-        return False
-    _, stands, behind = f"\n{(ROOT / file).read_text(encoding='utf-8')}".partition("\n" + "\n".join(lines) + "\n")
-    return bool(stands) and re.match(r"\n|\Z| *--|\{", behind) is not None
+def write_definitions():
+    """Writes the quoted blocks of docs/MEANING.md anew, each definition as it stands in its file. What is said beside them stays."""
+    lines = MEANING.read_text(encoding="utf-8").splitlines()
+    for file, start, end in reversed(list(quotes_of(lines))):
+        if missing := [name for name in names_in(lines[start:end]) if not definition_of(file, name)]:
+            fail(f"docs/MEANING.md:{start}: {file} has no definition {', '.join(missing)}")
+        lines[start:end] = quoted_anew(file, lines[start:end])
+    MEANING.write_text("\n".join([*lines, ""]), encoding="utf-8")
 
 
 class Function:
@@ -220,6 +242,8 @@ def mistakes_of_contracts(sources):
 
 
 def main():
+    if sys.argv[1:] == ["--write"]:
+        return write_definitions()
     sources = Sources()
     wrong = [*mistakes_of_links(), *mistakes_of_walks(), *mistakes_of_definitions(), *mistakes_of_names(sources), *mistakes_of_contracts(sources)]
     if wrong:
