@@ -2,6 +2,7 @@
 
 import os
 import pathlib
+import sys
 import tempfile
 
 from gate import said_by, shown
@@ -32,18 +33,20 @@ def commands_in(file):
 
 
 def printed_by(command, program, folder, seconds):
-    """What a command prints, with a program as `td`."""
-    done = said_by(["sh", "-c", command], seconds, cwd=folder, env={"PATH": f"{program.parent}:{os.defpath}", "LANG": "C.UTF-8"})
+    """What a command prints, with a program as `td`, and this Python."""
+    python = pathlib.Path(sys.executable).parent
+    done = said_by(["sh", "-c", command], seconds, cwd=folder, env={"PATH": f"{program.parent}:{python}:{os.defpath}", "LANG": "C.UTF-8"})
     return "nothing more within its time" if done is None else done[1]
 
 
 def run_document(tally, file, programs):
     """Runs the commands of a document one after another, with each build of the program as `td` in a folder of its own with the examples
-    in it, and compares what they print."""
+    and clients in it, and compares what they print."""
     commands, wrong = commands_in(file), set()
     for program in programs:
         with tempfile.TemporaryDirectory(prefix="td-document-") as folder:
-            (pathlib.Path(folder) / "examples").symlink_to(ROOT / "examples")
+            for name in ("examples", "clients"):
+                (pathlib.Path(folder) / name).symlink_to(ROOT / name)
             for number, (command, lines) in enumerate(commands):
                 wanted = "".join(f"{line}\n" for line in lines)
                 printed = printed_by(command, program, folder, tally.seconds(SECONDS_OF_A_COMMAND))

@@ -91,6 +91,7 @@ ON_FILES = [
     ("feed disk plan", b"0 9 4\n.\n0 9 4\n.\ncut\n0 7 1\n0 8 1\n.\n", 2),
     ("feed disk plan", b"req 3\n0 9 4\n.\nreq 3\n0 9 4\n.\ncut\nreq 4\n0 7 1\n0 8 1\n.\n", 3),
     ("stream disk plan --workers 2 --cut-every 2", b"req 3\n0 9 4\n.\nreq 4\n.\nreq 4\n0 9 4\n.\ncut\nreq 5\n0 7 1\n0 8 1\n.\n", 3),
+    ("stream disk plan --marks", b"req 3\n0 9 4\n.\nreq 4\n.\nreq 4\n.\ncut\nreq 5\n0 7 1\n0 8 1\n.\nreq 6\n.\n", 3),
 ]
 # Those of them that may change the disk though they are refused, but not what it tells, but to what they would make of it.
 WRITE = ("format", "upgrade")
@@ -183,7 +184,7 @@ class OnFiles:
         shown = self.shown("disk") or []
         kept, told = ([int(line.split()[1]) for line in shown if line.startswith(word)] for word in (b"kept ", b"told "))
         cuts = [int(line.split()[1]) for line in lines if line.startswith(b"cut ")]
-        epochs = [int(line.removeprefix(b"ack ").split()[0]) for line in lines if line.startswith(b"ack ") or line[:1].isdigit()]
+        epochs = [int(line.split()[1]) for line in lines if line.startswith(b"ack ")] + [out_epoch(line) for line in lines if is_out(line)]
         return bool(kept and told) and kept[0] >= max(cuts, default=0) and told[0] >= max(epochs, default=0)
 
     def refuse_each(self):
@@ -247,20 +248,29 @@ def is_as_written(got, want):
     return rest == want
 
 
+def is_out(line):
+    """Whether a line of a feed is an output, or the mark of an epoch."""
+    return line[:1].isdigit() or line.startswith(b"done ")
+
+
+def out_epoch(line):
+    return int(line.removeprefix(b"done ").split()[0])
+
+
 def is_fed_as(lines, want):
     """Whether a feed wrote what it writes otherwise, `want`, or was refused and wrote a beginning of it. An `ack` may come earlier or later than
-    the outputs of other epochs, as the groups are; so the outputs are compared by themselves, and all other lines by themselves. No output comes before
-    its own `ack`, and a cut comes behind all outputs of its epochs."""
+    the outputs of other epochs, as the groups are; so the outputs are compared by themselves, with marks, and all other lines by themselves. No output
+    comes before its own `ack`, and a cut comes behind all outputs of its epochs."""
     lines, want = ([line for line in each if line != MET] for each in (lines, want))
     refusal = lines[-1:] if lines[-1:] != want[-1:] and lines[-1:] in ([AGAIN], [FAILED]) else []
-    outs, wanted_outs = ([line for line in each if line[:1].isdigit()] for each in (lines, want))
-    said, wanted_said = ([line for line in each if not line[:1].isdigit()] for each in (lines[:len(lines) - len(refusal)], want))
+    outs, wanted_outs = ([line for line in each if is_out(line)] for each in (lines, want))
+    said, wanted_said = ([line for line in each if not is_out(line)] for each in (lines[:len(lines) - len(refusal)], want))
     if refusal and (outs, said) != (wanted_outs[:len(outs)], wanted_said[:len(said)]) or not refusal and (outs, said) != (wanted_outs, wanted_said):
         return False
     for at, line in enumerate(lines):
-        if line.startswith(b"cut ") and any(int(out.split()[0]) <= int(line.split()[1]) for out in wanted_outs[sum(it[:1].isdigit() for it in lines[:at]):]):
+        if line.startswith(b"cut ") and any(out_epoch(out) <= int(line.split()[1]) for out in wanted_outs[sum(map(is_out, lines[:at])):]):
             return False
-        if line[:1].isdigit() and b"ack " + line.split()[0] in lines[at:]:
+        if is_out(line) and b"ack %d" % out_epoch(line) in lines[at:]:
             return False
     return True
 

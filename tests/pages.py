@@ -29,7 +29,7 @@ DRAWN = ("producer ──", "(thread)", "release_in     publishes", "▼", "pool
 OUTSIDE = {"f64::total_cmp", "fmt::Error", "Iterator::any", "thread::scope", "Display", "Result", "Clone", "Send", "sync_data", "RandomState", "posix_fadvise",
            "FILE_FUNCTION_MISTAKE"}
 # The files whose words code on a page may be, beside sources and definitions.
-SOURCES = ("crates/*/proofs/**/*.antt", "bench/*", "tests/*", "rows/*", "examples/*", "check", "build",
+SOURCES = ("crates/*/proofs/**/*.antt", "bench/*", "tests/*", "rows/*", "examples/*", "clients/*", "check", "build",
            "crates.txt", "docs/draw.py")
 # Where the files stand that a page names without their folder.
 FOLDERS = ("", "crates/", "docs/", "crates/*/")

@@ -1,0 +1,219 @@
+#!/usr/bin/env python3
+"""Kills `td stream --marks`, its client clients/td.py, and both at once, at 300 moments: each output is stored, once.
+
+    tests/deliver.py [SEED [TD [CLIENT]]]       needs crates/td/out/td (see the README), or the program TD; of another client than clients/td.py
+
+The client sends the batches of a file, and stores their outputs in a table of sqlite3. In turn its stream gets SIGKILL, the client, and both at the
+same moment: most often a random while after the stream's start, of each eighth client after its own. A client that is killed alone leaves its stream
+behind. The next client is started at once, until one ends. Of two plans one has outputs in few epochs, the other several in most, two of them of one
+vertex and key. Disks have few cells, so that cuts are many. It is required that
+
+- at each kill of both, what is stored of an epoch is all of it, in order, and all is stored of the epochs up to the disk's last cut;
+- at the end the lines of `td batch` are stored, each once;
+- at the end `td show` prints what it prints of a disk to which all was fed once: each request number was put on the disk once.
+
+What comes when is another thing in each run, also for the same seed."""
+
+import contextlib
+import itertools
+import os
+import pathlib
+import random
+import re
+import signal
+import sqlite3
+import subprocess
+import sys
+import time
+
+import lib
+
+SEED = int(sys.argv[1]) if sys.argv[1:] else 1
+TD = lib.built(pathlib.Path(sys.argv[2]).resolve() if sys.argv[2:] else lib.TD)
+CLIENT = pathlib.Path(sys.argv[3]).resolve() if sys.argv[3:] else lib.ROOT / "clients/td.py"
+# Totals of great values, which few epochs have; totals and counts of all, and both at one output.
+PLANS = {"few": "0 input\n1 map 5085 0\n2 fold 40 1\n3 output 2\n", "most": "0 input\n1 fold 40 0\n2 group 20 0\n3 output 1\n4 output 1 2\n"}
+KILLS_OF_A_PLAN, EPOCHS, RECORDS, KEYS, STATES = 150, 500, 3, 6, 64
+# How many cells a round's disk has.
+CELLS = (8, 2, 4, 32)
+WAYS = ("the stream", "the client", "both")
+# A kill comes so long after a stream's start at most: one in so many parts of what all batches take. One client in so many is killed by its own
+# start, at most so many seconds after it.
+PARTS, BY_OWN_START, SECONDS_OF_A_START = 12, 8, 0.1
+SECONDS = 60
+# The status of `td dump` where another process has the disk.
+LOCKED = 7
+
+
+def td(*words, text=""):
+    """The lines that `td` prints, once no process that was killed or left behind has the disk; the script ends where it is refused."""
+    end = time.monotonic() + SECONDS
+    while True:
+        done = subprocess.run([TD, *map(str, words)], input=text, capture_output=True, text=True)
+        if done.returncode != LOCKED or time.monotonic() > end:
+            break
+        time.sleep(0.005)
+    if done.returncode != 0:
+        lib.fail(f"td {' '.join(map(str, words))}: status {done.returncode}: {done.stderr}")
+    return done.stdout.splitlines()
+
+
+def by_epoch(lines):
+    """The lines of each epoch that has some, in order."""
+    return {epoch: list(each) for epoch, each in itertools.groupby(lines, lambda line: int(line.split()[0]))}
+
+
+class Task:
+    """Batches of a plan, and what must come of them."""
+
+    def __init__(self, folder, which, made):
+        self.plan, self.batches, once = folder / "plan", folder / "batches", folder / "once"
+        epochs = [[f"0 {made.randrange(KEYS)} {made.randrange(-9, 99)}" for _ in range(made.randrange(RECORDS + 1))] + ["."] for _ in range(EPOCHS)]
+        numbered = [line for number, lines in enumerate(epochs, 1) for line in (f"req {number + number // 3}", *lines)]
+        self.plan.write_text(PLANS[which])
+        self.batches.write_text("".join(f"{line}\n" for line in numbered))
+        self.outputs = by_epoch(td("batch", text=PLANS[which] + "--\n" + "".join(f"{line}\n" for lines in epochs for line in lines)))
+        td("format", once, self.plan, RECORDS, EPOCHS, STATES)
+        td("feed", once, self.plan, text=self.batches.read_text() + "cut\n")
+        self.shown = td("show", once, self.plan)
+        has_twice = any(len({line.rsplit(" ", 1)[0] for line in lines}) < len(lines) for lines in self.outputs.values())
+        if not self.outputs or (2 * len(self.outputs) < EPOCHS, has_twice) != (which == "few", which == "most"):
+            lib.fail(f"{which}: {len(self.outputs)} of {EPOCHS} epochs have outputs; two of one vertex and key: {has_twice}")
+
+
+class Round:
+    """A fresh disk and table, and the clients that are started there one after another."""
+
+    def __init__(self, folder, task, cells):
+        self.task, self.disk, self.table, self.errors = task, folder / "disk", folder / "table", folder / "errors"
+        self.table.unlink(missing_ok=True)
+        td("format", self.disk, task.plan, RECORDS, cells, STATES)
+        self.start()
+
+    def start(self):
+        words = [sys.executable, "-B", CLIENT, self.disk, self.task.plan, self.task.batches, self.table, TD]
+        with open(self.errors, "a") as errors:
+            self.client = subprocess.Popen(words, stdin=subprocess.DEVNULL, stdout=errors, stderr=errors, start_new_session=True)
+
+    def stream(self):
+        """The process of the client's stream, once it is there; None where the client has ended."""
+        end = time.monotonic() + SECONDS
+        while self.client.poll() is None:
+            for pid in children_of(self.client.pid):
+                if b"\0stream\0" in bytes_of(f"/proc/{pid}/cmdline"):
+                    return pid
+            if time.monotonic() > end:
+                lib.fail(f"no stream was started in {SECONDS} s: {self.errors.read_text()[-2000:]}")
+            time.sleep(0.002)
+        return None
+
+    def kill(self, way):
+        """Kills the stream, the client or both: whether what is killed was there."""
+        if way == "the stream":
+            pid = self.stream()
+            return pid is not None and is_sent(os.kill, pid)
+        if self.client.poll() is not None:
+            return False
+        is_sent(os.killpg if way == "both" else os.kill, self.client.pid)
+        return self.client.wait() < 0
+
+    def stored(self):
+        """The lines of each epoch of which the table has some, in order."""
+        with contextlib.closing(sqlite3.connect(self.table)) as table:
+            if not table.execute("select name from sqlite_master").fetchall():
+                return {}
+            return by_epoch(" ".join(map(str, row)) for row in table.execute("select epoch, vertex, key, value from outputs order by epoch, place"))
+
+    def check_cut(self):
+        """What is stored of an epoch is all of it, and all is stored up to the last cut."""
+        stored, wanted = self.stored(), self.task.outputs
+        kept = int(re.match(r"# kept (\d+) ", td("dump", self.disk, self.task.plan)[0])[1])
+        for epoch in sorted({*stored, *(epoch for epoch in wanted if epoch <= kept)}):
+            if stored.get(epoch) != wanted.get(epoch):
+                lib.fail(f"with a cut at {kept}, of epoch {epoch} is stored {stored.get(epoch)}, and not {wanted.get(epoch)}")
+
+    def check_end(self):
+        """Each output is stored, and each batch is on the disk, once."""
+        if self.client.wait(SECONDS) != 0:
+            lib.fail(f"a client ended with status {self.client.returncode}: {self.errors.read_text()[-2000:]}")
+        stored, wanted = self.stored(), self.task.outputs
+        wrong = [epoch for epoch in sorted({*stored, *wanted}) if stored.get(epoch) != wanted.get(epoch)]
+        if wrong:
+            lib.fail(f"of {len(wrong)} epochs others are stored: of {wrong[0]} {stored.get(wrong[0])}, and not {wanted.get(wrong[0])}")
+        shown = td("show", self.disk, self.task.plan)
+        if shown != self.task.shown:
+            lib.fail(f"the disk shows {shown}, and not {self.task.shown}")
+
+
+def bytes_of(path):
+    """What such a file of a process has; nothing where that has ended."""
+    try:
+        return pathlib.Path(path).read_bytes()
+    except OSError:
+        return b""
+
+
+def children_of(pid):
+    return [int(word) for word in bytes_of(f"/proc/{pid}/task/{pid}/children").split()]
+
+
+def is_sent(kill, pid):
+    """Whether there was somebody to kill."""
+    try:
+        kill(pid, signal.SIGKILL)
+    except ProcessLookupError:
+        return False
+    return True
+
+
+def seconds_of(folder, task):
+    """How long a stream of all batches takes that is not killed."""
+    alone = Round(folder, task, CELLS[0])
+    alone.stream()
+    begun = time.monotonic()
+    alone.check_end()
+    return time.monotonic() - begun
+
+
+def kill_next(here, way, longest, made):
+    """Kills after a while: whether what is killed was there. A client that was killed is started again."""
+    if way != "the stream" and made.randrange(BY_OWN_START) == 0:
+        time.sleep(made.random() * SECONDS_OF_A_START)
+    else:
+        here.stream()
+        time.sleep(made.random() * longest)
+    if not here.kill(way):
+        return False
+    if way == "both":
+        here.check_cut()
+    if way != "the stream":
+        here.start()
+    return True
+
+
+def kill_rounds(folder, which, made):
+    """Kills round after round, until there were so many kills: how many rounds there were."""
+    task = Task(folder, which, made)
+    longest = seconds_of(folder, task) / PARTS
+    kills = rounds = 0
+    while kills < KILLS_OF_A_PLAN:
+        here = Round(folder, task, CELLS[rounds % len(CELLS)])
+        rounds += 1
+        while kills < KILLS_OF_A_PLAN and kill_next(here, WAYS[kills % len(WAYS)], longest, made):
+            kills += 1
+        here.check_end()
+    return rounds
+
+
+def main():
+    if not pathlib.Path(f"/proc/{os.getpid()}/task/{os.getpid()}/children").exists():
+        return lib.skip("this system does not list a process's children")
+    made = random.Random(SEED)
+    for which in PLANS:
+        with lib.folder(in_memory=True) as folder:
+            rounds = kill_rounds(folder, which, made)
+        print(f"outputs in {which} epochs: {KILLS_OF_A_PLAN} kills of the stream, the client and both, in {rounds} rounds of {EPOCHS} epochs: each output "
+              f"is stored once, and each batch is on the disk once (seed {SEED})")
+
+
+main()
