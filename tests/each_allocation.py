@@ -11,9 +11,9 @@ Without files it also runs the commands on disks and plans, and with closures in
 answers as with ample memory, or as above; a feed or a stream, which may have written a beginning of its lines, then left a disk that tells what these
 say, and the others one that tells what it told, or what they would make of it.
 
-Then it runs `engine_steps` on its rows (rows/steps.txt and rows/pointstamps.txt, and those of rows/keeper.txt,
-rows/groups.txt, rows/requests.txt and rows/threads.txt whose disk does not stop or fail), where a call that was refused is made once more. Each run
-must then answer as the row says, but for a line `refused: memory`; or, where the program itself lacked memory before the first
+Then it runs `engine_steps` and `feed_steps` on their rows (rows/steps.txt and rows/pointstamps.txt, and those of rows/keeper.txt,
+rows/groups.txt, rows/requests.txt, rows/threads.txt and rows/feeds.txt whose disk does not stop or fail), where a call that was refused is made once
+more. Each run must then answer as the row says, but for a line `refused: memory`; or, where the program itself lacked memory before the first
 call, end with status 1 and no answer.
 Where a feed was refused, which is not made once more, or the disk in memory could not grow its record of calls and failed, the
 run is made again up to there, and a recovery must then tell at least what was acknowledged. A feed and a drive have workers in
@@ -36,20 +36,21 @@ import sys
 
 import lib
 import rows
-from lib import ROOT, STEPS, TD
+from gate import program_of
+from lib import FEEDS, ROOT, STEPS, TD
 
-ROWS = ("rows/steps.txt", "rows/pointstamps.txt", "rows/keeper.txt", "rows/groups.txt", "rows/requests.txt", "rows/threads.txt")
+ROWS = ("rows/steps.txt", "rows/pointstamps.txt", "rows/keeper.txt", "rows/groups.txt", "rows/requests.txt", "rows/threads.txt", "rows/feeds.txt")
 # (a larger one makes thousands of allocations, and as many runs)
 EXAMPLES = [file for file in sorted((ROOT / "examples").glob("*.td")) if file.stat().st_size < 1000]
 REFUSED = (1, b"", b"td: memory\n")
-# What `engine_steps` prints for a call that is made once more, and how it ends where there was none to make again.
+# What these programs print for a call that is made once more, and how it ends where there was none to make again.
 AGAIN = b"refused: memory"
 BEFORE = (1, b"", b"Error: Memory\n")
-# What it prints where the disk in memory could not grow its record.
+# What they print where the disk in memory could not grow its record.
 FAILED = b"refused: device"
-# What it prints of a drive's command that was refused, or of a worker that was.
+# What they print of a drive's command that was refused, or of a worker that was.
 REFUSED_IN_DRIVE = re.compile(rb"(worker \d+ )?refused: memory(, back came.*)?")
-# How it ends where the hall is gone with a drive that was refused, and where the disk failed as it was formatted.
+# How they end where the hall is gone with a drive that was refused, and where the disk failed as it was formatted.
 ENDS_EARLY = ((1, b"Error: NoHall\n"), (1, b"Error: NoKeeper\n"))
 # Commands of rows that are not run: those of disks that stop or fail by themselves, and of workers that wait at the gate.
 LEFT_OUT = re.compile(rb"(?m)^(stop|fail|crash) |^drive meet$")
@@ -219,7 +220,7 @@ def refuse_all_on_files(library):
 
 
 def rows_of_steps():
-    """The rows of `engine_steps`, read as ./check reads them: their titles, and their commands."""
+    """The rows of `engine_steps` and `feed_steps`, read as ./check reads them: their titles, and their commands."""
     found = [row for file in ROWS for row in rows.read_rows(ROOT / file)]
     return [(row.title, row.commands()[0]) for row in found if not LEFT_OUT.search(row.commands()[0].given)]
 
@@ -276,12 +277,12 @@ def is_fed_as(lines, want):
 
 
 class Played:
-    """A row of `engine_steps` that is played with refusals."""
+    """A row of `engine_steps` or `feed_steps` that is played with refusals."""
 
     def __init__(self, library, row):
         self.library = library
         self.title, command = row
-        self.text = command.given
+        self.program, self.text = program_of(command.program), command.given
         self.plan, self.steps = steps_in(self.text)
         self.has_workers = any(step.startswith(WITH_WORKERS) for step in self.steps)
         if self.has_workers:
@@ -293,7 +294,7 @@ class Played:
             self.want = self.run(self.text)
 
     def run(self, text, **refused):
-        status, output, errors = answer(self.library, [], filled(text, self.length), STEPS, **refused)
+        status, output, errors = answer(self.library, [], filled(text, self.length), self.program, **refused)
         return status, output.splitlines(), errors
 
     def lines_after(self, count, **refused):
@@ -451,7 +452,7 @@ class Written(Played):
 
 def see_doctored():
     """The script ends where it takes what no feed may write for what a refused feed writes, or the other way round."""
-    command = rows.Command("engine_steps")
+    command = rows.Command("feed_steps")
     command.given = b"0 input\n--\n" + b"".join(step for step, _ in WRITTEN if step != b"recover\n")
     row = Written(None, ("a feed that stands in this script", command))
     for may, table in ((True, LAWFUL), (False, DOCTORED)):
@@ -462,16 +463,17 @@ def see_doctored():
 
 
 def refuse_all_steps(library):
-    """Prints how many calls were made again over all rows of `engine_steps`."""
-    lib.built(STEPS)
+    """Prints how many calls were made again over all rows of `engine_steps` and `feed_steps`."""
+    for program in (STEPS, FEEDS):
+        lib.built(program)
     see_doctored()
     played = rows_of_steps()
     with concurrent.futures.ThreadPoolExecutor() as pool:
         counts = list(pool.map(lambda row: Played(library, row).refuse_each(), played))
     numbers, again, failed = map(sum, zip(*counts))
     if again == 0 or failed == 0:
-        lib.fail(f"engine_steps: {again} calls were refused, and {failed} disks failed")
-    print(f"{len(played)} rows of engine_steps: {numbers} allocations, {again} calls made again, "
+        lib.fail(f"engine_steps and feed_steps: {again} calls were refused, and {failed} disks failed")
+    print(f"{len(played)} rows of engine_steps and feed_steps: {numbers} allocations, {again} calls made again, "
           f"{failed} disks failed or feeds and drives refused, no other answer")
 
 

@@ -1,10 +1,10 @@
 #!/usr/bin/env python3
 """Stops four feeds and three streams at each of their writes and syncs, and crashes them in five ways, the streams in seven.
 
-    tests/each_stop.py          needs crates/td/out/td and crates/engine_steps/out/engine_steps (see the README), and for the streams
+    tests/each_stop.py          needs crates/td/out/td and crates/feed_steps/out/feed_steps (see the README), and for the streams
                                 strace; without it says so, and stops the feeds alone
 
-The feeds are `engine_steps`' on a disk in memory. One has 40 epochs: a plan with two folds and a group, small batches, a ring
+The feeds are `feed_steps`' on a disk in memory. One has 40 epochs: a plan with two folds and a group, small batches, a ring
 of three cells, and a cut before it is full. Another is the running total of docs/TUTORIAL.md, two epochs and a cut after
 them, whose last lines stand here. The epochs up to a cut are put on the disk as a group, as many as the ring has free cells. A feed
 stops at the K-th write or sync, for each K until none is met; of each range that was
@@ -50,7 +50,7 @@ import re
 import subprocess
 
 import lib
-from lib import STEPS, TD, TOTAL, td
+from lib import FEEDS, TD, TOTAL, td
 
 FOLDS = "0 input\n1 fold 40 0\n2 fold 41 0\n3 group 20 1 2\n4 output 1\n5 output 2\n6 output 3\n"
 EPOCHS, NUMBERED_EPOCHS, STREAM_EPOCHS, RECORDS, KEYS = 40, 9, 12, 3, 3
@@ -205,13 +205,12 @@ class Feed:
         return [f"format {self.shape}", f"stop {stop}", "feed 2", *self.input_after(0), "end", f"crash {fill}", "show"]
 
     def played(self, parts):
-        """What the program answers to each of some lists of commands, with a mark between them: a `tell` of a hall."""
-        mark = ["open 1 1", "tell"]
-        text = self.plan + "--\n" + "".join(f"{line}\n" for part in parts for line in part + mark)
-        done = subprocess.run([STEPS], input=text, capture_output=True, text=True)
-        answers = re.split(r"(?m)^shards 1, .*\n", done.stdout)
+        """What the program answers to each of some lists of commands, with a mark between them: the refusal of a shape."""
+        text = self.plan + "--\n" + "".join(f"{line}\n" for part in parts for line in [*part, "format 0 1 1"])
+        done = subprocess.run([FEEDS], input=text, capture_output=True, text=True)
+        answers = re.split(r"(?m)^refused: shape\n", done.stdout)
         if done.returncode != 0 or len(answers) != len(parts) + 1 or answers[-1]:
-            lib.fail(f"engine_steps ended with {done.returncode}: {done.stderr} {done.stdout[-1000:]}")
+            lib.fail(f"feed_steps ended with {done.returncode}: {done.stderr} {done.stdout[-1000:]}")
         return [answer.splitlines() for answer in answers[:-1]]
 
 
@@ -580,7 +579,7 @@ def tell(feed, runs):
 
 
 def main():
-    for program in (TD, STEPS):
+    for program in (TD, FEEDS):
         lib.built(program)
     for feed in (Feed(FOLDS, "3 3 6", made_epochs(EPOCHS)), Feed(TOTAL, "4 2 3", TOTAL_EPOCHS, TOTAL_STATES),
                  NumberedFeed(FOLDS, "3 3 6", made_epochs(NUMBERED_EPOCHS)), NumberedFeed(TOTAL, "4 2 3", TOTAL_EPOCHS, TOTAL_STATES)):

@@ -12,7 +12,7 @@ import time
 from lib import ROOT
 
 # The programs that rows may name.
-PROGRAMS = ("td", "engine_steps")
+PROGRAMS = ("td", "engine_steps", "feed_steps")
 # Seconds for all that comes after `rt ci`.
 SECONDS = 1200
 

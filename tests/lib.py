@@ -11,6 +11,7 @@ import tempfile
 ROOT = pathlib.Path(__file__).resolve().parent.parent
 TD = ROOT / "crates/td/out/td"
 STEPS = ROOT / "crates/engine_steps/out/engine_steps"
+FEEDS = ROOT / "crates/feed_steps/out/feed_steps"
 # A file system in memory, if there is one: no device is waited for.
 MEMORY = "/dev/shm"
 # A running total of each key.

@@ -34,7 +34,7 @@ THREADS = "the system starts no thread"
 PASSED_ON = "a refusal for want of memory is passed on"
 # a text that is written into memory, where `fmt::Error` comes of its growth alone;
 WRITES = "a text could not grow"
-# and in the program of rows a disk in memory, whose making and whose record of calls grow.
+# and in the programs of rows a disk in memory, whose making and whose record of calls grow.
 FROM = "a disk in memory could not grow"
 PLACES = {
     GROWTHS: [
@@ -106,6 +106,8 @@ PLACES = {
     FROM: [
         "engine_steps/src/error.rt from: From<Fault>",
         "engine_steps/src/error.rt from: From<MakeError>",
+        "feed_steps/src/error.rt from: From<td_disk::Fault>",
+        "feed_steps/src/error.rt from: From<MakeError>",
     ],
 }
 

@@ -32,10 +32,6 @@ pub(crate) enum Command<'a> {
     Table(TableCall<'a>),
     /// `could POINTSTAMP to POINTSTAMP`: whether the first could result in the second.
     Could(&'a str),
-    /// `feed WORKERS`, with the lines that follow up to a line `end`.
-    Feed(u8, &'a str),
-    /// `meet WORKERS`, with the lines that follow up to a line `end`.
-    Meet(u8, &'a str),
     /// `drive GATE`, with the lines that follow up to a line `end`.
     Drive(Passage, &'a str),
     /// A call of the hall.
@@ -45,20 +41,11 @@ pub(crate) enum Command<'a> {
 /// The command of a line, and the lines after those that are its own.
 pub(crate) fn next_command<'a>(line: &'a str, rest: &'a str) -> Option<(Command<'a>, &'a str)> {
     let (name, words) = line.split_once(' ').unwrap_or((line, ""));
-    if name != "feed" && name != "meet" && name != "drive" {
+    if name != "drive" {
         return Some((command_of(name, words)?, rest));
     }
     let (lines, rest) = until_end(rest)?;
-    Some((command_with(name, words, lines)?, rest))
-}
-
-/// The command of this name, with lines of its own.
-fn command_with<'a>(name: &str, words: &str, lines: &'a str) -> Option<Command<'a>> {
-    match name {
-        "feed" => Some(Command::Feed(words.parse().ok()?, lines)),
-        "meet" => Some(Command::Meet(words.parse().ok()?, lines)),
-        _ => Some(Command::Drive(passage_of(words)?, lines)),
-    }
+    Some((Command::Drive(passage_of(words)?, lines), rest))
 }
 
 /// The command of this name.

@@ -23,8 +23,6 @@ pub(crate) enum DiskCall {
     Byte(u64, u8),
     /// `size BYTES`: so many bytes of it, with zeros behind them where it had fewer.
     Size(u64),
-    /// `show`: what the disk tells, in lines.
-    Show,
 }
 
 /// The call of this name.
@@ -39,7 +37,6 @@ pub(crate) fn disk_call_of(name: &str, words: &str) -> Option<DiskCall> {
         ("crash", fill) => Some(DiskCall::Crash(fill_of(fill)?)),
         ("byte", words) => byte_of(words),
         ("size", bytes) => Some(DiskCall::Size(bytes.parse().ok()?)),
-        ("show", "") => Some(DiskCall::Show),
         _ => None,
     }
 }

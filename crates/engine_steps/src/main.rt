@@ -18,7 +18,6 @@ mod keeper_calls;
 mod keeper_command;
 mod keeper_lines;
 mod lines;
-mod meeting;
 mod pool_command;
 mod region_calls;
 mod region_command;

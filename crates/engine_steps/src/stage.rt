@@ -16,21 +16,19 @@ use crate::lines::{
     print_cut, print_epochs, print_given, print_hall, print_refusal, print_run, print_taken,
     print_unpassed,
 };
-use crate::meeting::Meeting;
 use crate::pool_command::commands_of;
 use crate::region_calls::region_call;
 use crate::release::release;
 use crate::ring_calls::ring_call;
-use crate::store::{Store, print_fault};
+use crate::store::Store;
 use crate::table_calls::{could, table_call};
 use crate::watch::{attach, detach, read};
 use std::alloc::Global;
+use std::mem;
 use std::sync::Wait;
 use std::thread::Threads;
 use std::time::Clock;
-use std::{io, mem};
 use td_calls::{Closures, Stock};
-use td_console::StdWriter;
 use td_core::Hall;
 use td_core::laws::each_is_sound;
 use td_journal::Journal;
@@ -105,8 +103,6 @@ impl Stage {
                 table_call(rt, self.alloc, &self.plan, &mut self.table, call)
             }
             Command::Could(stamps) => could(rt, self.alloc, &self.plan, stamps),
-            Command::Feed(workers, input) => self.feed(rt, workers, input),
-            Command::Meet(workers, input) => self.meet(rt, workers, input),
             Command::Drive(passage, lines) => self.drive(rt, passage, lines),
             Command::Hall(call) => self.hall_call(rt, call),
         }
@@ -155,57 +151,6 @@ impl Stage {
     fn attach(&mut self, rt: &impl Print) -> Result<(), StepError> {
         self.reader = attach(rt, self.alloc, self.store.keeper()?)?;
         Ok(())
-    }
-
-    /// Feeds the disk by the catalogue.
-    fn feed<R: Print + Threads + Wait + Sync>(
-        &mut self,
-        rt: &R,
-        workers: u8,
-        input: &str,
-    ) -> Result<(), StepError> {
-        let calls = self.calls;
-        self.feed_by(rt, workers, input, &calls)
-    }
-
-    /// Feeds the disk by a map whose calls look for one another, and prints whether they met.
-    fn meet<R: Print + Threads + Wait + Sync>(
-        &mut self,
-        rt: &R,
-        workers: u8,
-        input: &str,
-    ) -> Result<(), StepError> {
-        let meeting = Meeting::new();
-        self.feed_by(rt, workers, input, &meeting)?;
-        if meeting.has_met() {
-            println!(rt; "met")?;
-        }
-        Ok(())
-    }
-
-    /// Feeds the disk. After `Memory` it is not done again: some of it may be done.
-    fn feed_by<C: Closures<Stock> + Sync, R: Print + Threads + Wait + Sync>(
-        &mut self,
-        rt: &R,
-        workers: u8,
-        input: &str,
-        calls: &C,
-    ) -> Result<(), StepError> {
-        if !(1..=16).contains(&workers) {
-            return Err(StepError::Syntax);
-        }
-        let (device, ended) = td_feed::feed::<_, _, _, Stock, C, _>(
-            rt,
-            self.alloc,
-            self.store.take()?,
-            &self.plan,
-            workers,
-            &mut input.as_bytes(),
-            &mut StdWriter(io::writer(rt)),
-            calls,
-        );
-        self.store = Store::Disk(device);
-        print_fault(rt, ended)
     }
 
     /// Drives the keeper beside a pool of the hall, which is there again if it was gathered. Once the pool is there, want of memory

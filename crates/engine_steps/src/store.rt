@@ -4,9 +4,8 @@ use crate::disk_command::DiskCall;
 use crate::error::StepError;
 use crate::keeper_lines::{print_keeper_refusal, print_opening};
 use std::alloc::Global;
-use std::{io, mem};
+use std::mem;
 use td_calls::Stock;
-use td_console::{Fault, StdWriter};
 use td_disk::{Disk, Fill, MemoryDisk};
 use td_head::Shape;
 use td_keeper::Keeper;
@@ -40,7 +39,6 @@ impl Store {
             DiskCall::Crash(fill) => self.crash(fill),
             DiskCall::Byte(at, byte) => self.set_byte(at, byte),
             DiskCall::Size(bytes) => self.resize(alloc, bytes),
-            DiskCall::Show => self.show(rt, alloc, plan),
         }
     }
 
@@ -158,17 +156,6 @@ impl Store {
             }
         }
     }
-
-    /// Prints what the disk tells, in lines.
-    fn show(&mut self, rt: &impl Print, alloc: Global, plan: &Plan) -> Result<(), StepError> {
-        let mut device = self.take()?;
-        let shown = td_feed::show(alloc, &mut device, plan, &mut StdWriter(io::writer(rt)));
-        *self = Store::Disk(device);
-        match shown {
-            Err(Fault::Memory) => Err(StepError::Memory),
-            shown => print_fault(rt, shown),
-        }
-    }
 }
 
 /// A fresh disk of a shape, formatted for a plan; or why it was not.
@@ -191,13 +178,5 @@ fn kept(
     match made {
         Ok(keeper) => (Store::Kept(keeper), Ok(())),
         Err((refusal, device)) => (Store::Disk(device), Err(refusal)),
-    }
-}
-
-/// `refused: ..`, where an engine answered a fault.
-pub(crate) fn print_fault(rt: &impl Print, ended: Result<(), Fault>) -> Result<(), StepError> {
-    match ended {
-        Ok(()) => Ok(()),
-        Err(fault) => Ok(println!(rt; "refused: {fault}")?),
     }
 }

@@ -55,7 +55,7 @@ impl Meeting {
 }
 
 impl Closures<Stock> for Meeting {
-    ghost use Rattle.engine_steps.specs.Codes.{has_meeting_map, has_no_code};
+    ghost use Rattle.feed_steps.specs.Codes.{has_meeting_map, has_no_code};
 
     ghost has_map = { has_meeting_map };
 
