@@ -69,7 +69,7 @@ TOTAL = lib.TOTAL.encode()
 LOOP = b"# a countdown\n0 input\nloop 3\n1 enter 0\n2 feedback 3\n3 map 2 1 2\n4 leave 3\nend\n5 output 4\n"
 # Closures in text, and a plan that has them.
 CLOSURES = b"map 10000 # twice\n  send key, val * 2 when val > 0\nfold 10001\n  let n = 0\n  item n = n + 1, a = a + val\n  send key, a / n\n"
-WRITTEN = b"0 input\n1 map 10000 0\n2 fold 10001 1\n3 output 2\n"
+CALLING = b"0 input\n1 map 10000 0\n2 fold 10001 1\n3 output 2\n"
 # How their disk is made, one command after another.
 MADE = [
     ("format disk plan 4 3 3", b""),
@@ -82,8 +82,8 @@ ON_FILES = [
     ("plan loop --dot", b"", 0),
     ("plan written --closures closures", b"", 0),
     ("plan written --closures closures --dot", b"", 0),
-    ("batch --closures closures", WRITTEN + b"--\n0 7 5\n0 7 -2\n.\n0 7 1\n.\n", 0),
-    ("run --workers 2 --closures closures", WRITTEN + b"--\n0 7 5\n0 7 -2\n.\n0 7 1\n.\n", 0),
+    ("batch --closures closures", CALLING + b"--\n0 7 5\n0 7 -2\n.\n0 7 1\n.\n", 0),
+    ("run --workers 2 --closures closures", CALLING + b"--\n0 7 5\n0 7 -2\n.\n0 7 1\n.\n", 0),
     ("format disk plan 4 3 3", b"", 0),
     ("show disk plan", b"", 2),
     ("dump disk plan", b"", 2),
@@ -142,7 +142,7 @@ class OnFiles:
         self.feeds = self.words[0] in ("feed", "stream")
         (folder / "plan").write_bytes(TOTAL)
         (folder / "loop").write_bytes(LOOP)
-        (folder / "written").write_bytes(WRITTEN)
+        (folder / "written").write_bytes(CALLING)
         (folder / "closures").write_bytes(CLOSURES)
         for each, given in MADE[:made]:
             done = subprocess.run([TD, *each.split()], input=given, capture_output=True, cwd=folder)

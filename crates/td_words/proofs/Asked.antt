@@ -71,7 +71,7 @@ only_run rows (Run w c) h = (w, c, refl, h.1.0, h.1.1)
 only_run rows _ h = let other = ap (bytes_eq (codes "run")) h.0 in cc
 
 pub only_sim : (rows : List Row) (job : Job) → IsOf (codes "sim") rows job → (w : ℕ) × (picks : Bor Text) × IsWorkers rows w × (first_of (codes "picks") rows ≡ Some picks.now)
-only_sim rows (Sim w picks c) h = (w, picks, h.1.0, h.1.1.0)
+only_sim rows (Sim w picks c) h = (w, picks, h.1.0, h.1.1)
 only_sim rows _ h = let other = ap (bytes_eq (codes "sim")) h.0 in cc
 
 pub only_format : (rows : List Row) (job : Job) → IsOf (codes "format") rows job → (disk : Bor Text) × (plan : Bor Text) × (m : ℕ) × (n : ℕ) × (k : ℕ) × (job ≡ Format disk plan m n k) × HasValues rows (Format disk plan m n k)
@@ -164,7 +164,7 @@ written id least most rows text n h at =
 -- the file of an option that is left out
 no_file : (rows : List Row) (file : Option (Bor Text)) → IsClosures rows file → first_of (codes "closures") rows ≡ None → file ≡ None
 no_file rows None h e = refl
-no_file rows (Some f) h e = cc
+no_file rows (Some f) h e = absurd (lacks (codes "closures") rows f.now e h)
 
 pub named_batch : (met : Option (Text × List Row)) (job : Job) → IsNamed met job → option_map (λ p. p.0) met ≡ Some (codes "batch") → option_map (λ p. first_of (codes "closures") p.1) met ≡ Some None → job ≡ Batch None
 named_batch met job n name value =

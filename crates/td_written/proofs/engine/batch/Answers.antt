@@ -1,4 +1,4 @@
 use Rattle.td_written.proofs.engine.batch.Goals as goal
 
 pub returns : goal.returns
-returns c = c.batch_by.ensures
+returns g c = c.batch_by.ensures

@@ -1,4 +1,4 @@
 use Rattle.td_written.proofs.engine.run.Goals as goal
 
 pub returns : goal.returns
-returns c = c.run_by.ensures
+returns g c = c.run_by.ensures

@@ -1,7 +1,7 @@
 use Rattle.td_written.proofs.engine.sim_by.Goals as goal
 
 pub returns : goal.returns
-returns c =
+returns g c =
     let answered = c.sim.ensures in record {
       ok = answered.ok;
       end = answered.end;
