@@ -49,7 +49,7 @@ EXAMPLE = "a worked example"
 SPACE, CODE, PIECE, GROUP, POWER = "the code of a blank", "the code of a closure", "the bytes of a piece that is read or written", "the weight of a hall's cut", "a power of two, or a shift"
 PLACES = {
     LIMIT: [
-        "td_copy/src/epochs.rt: 65536, 2",
+        "td_copy/src/epochs.rt: 65536, 4",
         "td_group/src/cells.rt: 65536, 4",
         "td_group/src/free.rt: 65536, 3",
         "td_group/src/group.rt: 65536, 4",
@@ -65,6 +65,7 @@ PLACES = {
         "td_standing/src/steps.rt: 65536, 1",
     ],
     WHERE: [
+        "td_copy/src/epochs.rt: 8258, 3",
         "td_copy/src/told.rt: 8258, 1",
         "td_copy/src/zeros.rt: 4129, 2",
         "td_copy/src/zeros.rt: 8257, 2",
