@@ -12,9 +12,13 @@ vertex and key. Disks have few cells, so that cuts are many. It is required that
 - at the end the lines of `td batch` are stored, each once;
 - at the end `td show` prints what it prints of a disk to which all was fed once: each request number was put on the disk once.
 
-What comes when is another thing in each run, also for the same seed."""
+What comes when is another thing in each run, also for the same seed.
+
+Before that the client is given a program in place of `td`, to see what it stores, and whether it starts a stream again, where a line has come in part,
+after each status, and where somebody else feeds the disk. No cut may be sent there before a store has returned."""
 
 import contextlib
+import importlib.util
 import itertools
 import os
 import pathlib
@@ -40,9 +44,33 @@ WAYS = ("the stream", "the client", "both")
 # A kill comes so long after a stream's start at most: one in so many parts of what all batches take. One client in so many is killed by its own
 # start, at most so many seconds after it.
 PARTS, BY_OWN_START, SECONDS_OF_A_START = 12, 8, 0.1
+# So long a store takes of a client that has a program in place of `td`.
+SECONDS_OF_A_STORE = 0.05
 SECONDS = 60
 # The status of `td dump` where another process has the disk.
 LOCKED = 7
+# A program in place of `td`. What its streams write, one after another, and how they end stands in files beside it: a status, or 9 for a kill.
+IN_PLACE = """#!/bin/sh
+cd "$(dirname "$0")"
+[ $1 != dump ] || exec echo '# kept 10 told 12 last 12, epochs 2 of 64, states 1 of 64'
+read at < at; echo $((at + 1)) > at
+cat said$at; read status < status$at
+[ $status != 0 ] || cat > read
+[ $status != 9 ] || kill -9 $$
+exit $status
+"""
+# What the last one writes, and what is stored then.
+WELL, STORED = ("11 2 7 5\ndone 11\ndone 12\n", 0), [(11, [(2, 7, 5)]), (12, [])]
+# What streams write, and their statuses; what is stored; and the status of the refusal, None where there is none.
+CASES = {
+    "a mark in part": ([("11 2 7 5\ndone 1", 9), WELL], STORED, None),
+    "an output in part, and a mark that comes twice": ([("11 2 7 5\ndone 11\n1", 9), WELL], STORED[:1] + STORED, None),
+    **{f"a status {status} that may pass": ([("", status), WELL], STORED, None) for status in (1, 6, 7)},
+    **{f"a status {status} that does not pass": ([("11 2 7 5\n", status)], [], status) for status in (2, 3, 4, 5, 8)},
+    "a status that may pass, again and again": ([("", 1)] * 4, [], 1),
+    "a batch that is there already": ([("11 2 7 5\ndone 11\ndone 12\nagain 13\n", 0)], STORED, 4),
+    "an epoch of somebody else": ([("11 2 7 5\ndone 11\ndone 12\nack 14\n", 0)], STORED, 4),
+}
 
 
 def td(*words, text=""):
@@ -79,6 +107,36 @@ class Task:
         has_twice = any(len({line.rsplit(" ", 1)[0] for line in lines}) < len(lines) for lines in self.outputs.values())
         if not self.outputs or (2 * len(self.outputs) < EPOCHS, has_twice) != (which == "few", which == "most"):
             lib.fail(f"{which}: {len(self.outputs)} of {EPOCHS} epochs have outputs; two of one vertex and key: {has_twice}")
+
+
+def play_cases(folder):
+    """Has the client work with a program in place of `td`; the script ends where it stores other outputs, or ends otherwise."""
+    spec = importlib.util.spec_from_file_location("client", CLIENT)
+    client = importlib.util.module_from_spec(spec)
+    spec.loader.exec_module(client)
+    program = folder / "program"
+    program.write_text(IN_PLACE)
+    program.chmod(0o755)
+    for name, (streams, wanted, refusal) in CASES.items():
+        for at, (said, status) in enumerate(streams):
+            (folder / f"said{at}").write_text(said)
+            (folder / f"status{at}").write_text(f"{status}\n")
+        (folder / "at").write_text("0\n")
+        (folder / "read").write_text("")
+        stored, ended = [], None
+
+        def store(epoch, outputs):
+            # A cut may come when this has returned, and no earlier.
+            time.sleep(SECONDS_OF_A_STORE)
+            stored.append((epoch, outputs, *(folder / "read").read_text().split()))
+
+        try:
+            client.Client(folder / "disk", "plan", lambda first: iter(()), store, program, tries=3).run()
+        except client.Stopped as stop:
+            ended = stop.status
+        starts = int((folder / "at").read_text())
+        if (stored, ended, starts) != (wanted, refusal, len(streams)):
+            lib.fail(f"{name}: after {starts} streams the client ended with {ended}, and stored {stored}")
 
 
 class Round:
@@ -199,15 +257,21 @@ def kill_rounds(folder, which, made):
     while kills < KILLS_OF_A_PLAN:
         here = Round(folder, task, CELLS[rounds % len(CELLS)])
         rounds += 1
-        while kills < KILLS_OF_A_PLAN and kill_next(here, WAYS[kills % len(WAYS)], longest, made):
-            kills += 1
-        here.check_end()
+        try:
+            while kills < KILLS_OF_A_PLAN and kill_next(here, WAYS[kills % len(WAYS)], longest, made):
+                kills += 1
+            here.check_end()
+        finally:
+            here.kill("both")
     return rounds
 
 
 def main():
     if not pathlib.Path(f"/proc/{os.getpid()}/task/{os.getpid()}/children").exists():
         return lib.skip("this system does not list a process's children")
+    with lib.folder() as folder:
+        play_cases(folder)
+    print(f"{len(CASES)} cases with a program in place of td: as they should be")
     made = random.Random(SEED)
     for which in PLANS:
         with lib.folder(in_memory=True) as folder:
