@@ -70,6 +70,11 @@ impl Store {
         }
     }
 
+    /// Puts another in the place of what is there.
+    fn put(&mut self, store: Store) {
+        *self = store;
+    }
+
     /// `M N K`: makes a disk of that shape, if there is such a shape, and formats it.
     fn format(
         &mut self,
@@ -83,14 +88,14 @@ impl Store {
             return Ok(println!(rt; "refused: shape")?);
         };
         let (store, formatted) = formatted(alloc, plan, shape)?;
-        *self = store;
+        self.put(store);
         Ok(formatted?)
     }
 
     /// Recovers the disk, and prints what it tells.
     fn recover(&mut self, rt: &impl Print, alloc: Global, plan: &Plan) -> Result<(), StepError> {
         let (store, recovered) = kept(Keeper::recover(alloc, self.take()?, plan));
-        *self = store;
+        self.put(store);
         recovered?;
         self.print_opening(rt)
     }
@@ -101,22 +106,26 @@ impl Store {
 
     /// Makes a disk of zeros.
     fn blank(&mut self, alloc: Global, bytes: u64) -> Result<(), StepError> {
-        *self = Store::Disk(sound(MemoryDisk::new(alloc, bytes)?));
+        let memory = MemoryDisk::new(alloc, bytes)?;
+        self.put(Store::Disk(sound(memory)));
         Ok(())
     }
 
     fn into_disk(&mut self) -> Result<(), StepError> {
-        *self = Store::Disk(self.take()?);
+        let device = self.take()?;
+        self.put(Store::Disk(device));
         Ok(())
     }
 
     fn stop(&mut self, k: u64) -> Result<(), StepError> {
-        *self = Store::Disk(stopping(memory_of(self.take()?), k));
+        let memory = memory_of(self.take()?);
+        self.put(Store::Disk(stopping(memory, k)));
         Ok(())
     }
 
     fn fail(&mut self, k: u64) -> Result<(), StepError> {
-        *self = Store::Disk(failing(memory_of(self.take()?), k));
+        let memory = memory_of(self.take()?);
+        self.put(Store::Disk(failing(memory, k)));
         Ok(())
     }
 
@@ -125,7 +134,7 @@ impl Store {
         let (at, byte) = byte_of(words).ok_or(StepError::Syntax)?;
         let mut memory = memory_of(self.take()?);
         let set = set_byte(&mut memory, at, byte);
-        *self = Store::Disk(sound(memory));
+        self.put(Store::Disk(sound(memory)));
         set
     }
 
@@ -133,11 +142,11 @@ impl Store {
         let memory = memory_of(self.take()?);
         match memory.crash(fill) {
             Ok(left) => {
-                *self = Store::Disk(sound(left));
+                self.put(Store::Disk(sound(left)));
                 Ok(())
             }
             Err(error) => {
-                *self = Store::Disk(sound(memory));
+                self.put(Store::Disk(sound(memory)));
                 Err(StepError::from(error))
             }
         }
@@ -147,11 +156,11 @@ impl Store {
         let mut memory = memory_of(self.take()?);
         match resized(alloc, &mut memory, bytes) {
             Ok(resized) => {
-                *self = Store::Disk(sound(resized));
+                self.put(Store::Disk(sound(resized)));
                 Ok(())
             }
             Err(error) => {
-                *self = Store::Disk(sound(memory));
+                self.put(Store::Disk(sound(memory)));
                 Err(error)
             }
         }
