@@ -120,9 +120,9 @@ fn gather_without_last<K: Crew>(
 ) -> Result<Refused<K>, StepError>
     requires { K.parts ≡ K.shards }
 {
-    let last = seats.pop().ok_or(StepError::Refused)?;
+    let last = seats.pop().ok_or(StepError::Unlike)?;
     match pool.gather(seats) {
-        Ok(_hall) => Err(StepError::Refused),
+        Ok(_hall) => Err(StepError::Unlike),
         Err(refused) => with_last(refused, last),
     }
 }

@@ -3,6 +3,8 @@ use std::alloc::{AllocError, AllocFailed};
 use std::io;
 use td_core::HallError;
 use td_disk::{Fault, MakeError};
+use td_gate::GateError;
+use td_journal::JournalError;
 use td_progress::ProgressError;
 use td_reach::ReachError;
 use td_stamp::StampError;
@@ -10,7 +12,7 @@ use td_standing::KeeperError;
 use td_task::TaskError;
 use td_watch::WatchError;
 
-/// Why a command was not done. A refusal that is no want of memory is an answer, but in the midst of many calls.
+/// Why a command was not done. That a call was refused is an answer.
 #[derive(Debug, Drop)]
 pub(crate) enum StepError {
     /// An allocation was refused: the command may be done again.
@@ -27,8 +29,18 @@ pub(crate) enum StepError {
     NoRing,
     /// No table was opened.
     NoTable,
-    /// One of many calls was refused.
-    Refused,
+    /// A hall refused.
+    Hall(HallError),
+    /// A task was not run.
+    Task(TaskError),
+    /// A keeper refused.
+    Keeper(KeeperError),
+    /// A region was not read.
+    Region(GateError),
+    /// A ring refused.
+    Ring(JournalError),
+    /// What a call answered is not what it was asked for.
+    Unlike,
     /// Standard input or standard output failed.
     Stream,
 }
@@ -55,7 +67,7 @@ impl From<HallError> for StepError {
     fn from(error: HallError) -> StepError {
         match error {
             HallError::Memory => StepError::Memory,
-            _ => StepError::Refused,
+            error => StepError::Hall(error),
         }
     }
 }
@@ -64,7 +76,7 @@ impl From<TaskError> for StepError {
     fn from(error: TaskError) -> StepError {
         match error {
             TaskError::Memory => StepError::Memory,
-            TaskError::NoCall(..) => StepError::Refused,
+            error => StepError::Task(error),
         }
     }
 }
@@ -73,7 +85,25 @@ impl From<KeeperError> for StepError {
     fn from(refusal: KeeperError) -> StepError {
         match refusal {
             KeeperError::Memory => StepError::Memory,
-            _ => StepError::Refused,
+            refusal => StepError::Keeper(refusal),
+        }
+    }
+}
+
+impl From<GateError> for StepError {
+    fn from(error: GateError) -> StepError {
+        match error {
+            GateError::Memory => StepError::Memory,
+            error => StepError::Region(error),
+        }
+    }
+}
+
+impl From<JournalError> for StepError {
+    fn from(error: JournalError) -> StepError {
+        match error {
+            JournalError::Memory => StepError::Memory,
+            error => StepError::Ring(error),
         }
     }
 }

@@ -1,7 +1,6 @@
 //! The tasks that are out: those that were taken, and those that were run.
 use crate::catalogue::Catalogue;
 use crate::error::StepError;
-use crate::hall_command::End;
 use std::alloc::Global;
 use std::collections::VecDeque;
 use td_calls::Stock;
@@ -58,30 +57,36 @@ impl Hands {
 
     /// Gives the first or the last of those that were run, if there is one, and answers whether there is. Where that is
     /// refused, it comes back.
-    pub(crate) fn give(&mut self, hall: &mut Hall<Stock>, end: End) -> Result<bool, HallError> {
-        let Some(done) = self.pop(end) else {
+    pub(crate) fn give(
+        &mut self,
+        hall: &mut Hall<Stock>,
+        is_first: bool,
+    ) -> Result<bool, HallError> {
+        let Some(done) = self.pop(is_first) else {
             return Ok(false);
         };
         match hall.give(done) {
             Ok(()) => Ok(true),
             Err((error, done)) => {
-                self.put_back(end, done)?;
+                self.put_back(is_first, done)?;
                 Err(error)
             }
         }
     }
 
-    fn pop(&mut self, end: End) -> Option<Done<Stock>> {
-        match end {
-            End::First => self.dones.pop_front(),
-            End::Last => self.dones.pop_back(),
+    fn pop(&mut self, is_first: bool) -> Option<Done<Stock>> {
+        if is_first {
+            self.dones.pop_front()
+        } else {
+            self.dones.pop_back()
         }
     }
 
-    fn put_back(&mut self, end: End, done: Done<Stock>) -> Result<(), HallError> {
-        match end {
-            End::First => self.dones.push_front(done)?,
-            End::Last => self.dones.push_back(done)?,
+    fn put_back(&mut self, is_first: bool, done: Done<Stock>) -> Result<(), HallError> {
+        if is_first {
+            self.dones.push_front(done)?;
+        } else {
+            self.dones.push_back(done)?;
         }
         Ok(())
     }
@@ -123,7 +128,7 @@ impl Hands {
 
     fn give_each(&mut self, hall: &mut Hall<Stock>) -> Result<(), HallError> {
         for _done in 0..self.dones.len() {
-            self.give(hall, End::Last)?;
+            self.give(hall, false)?;
         }
         Ok(())
     }

@@ -1,17 +1,9 @@
 //! The answers of a keeper.
 use crate::error::StepError;
-use crate::lines::{print_entries, print_epoch, print_states};
+use crate::lines::{print_entries, print_epoch, print_none, print_states};
 use td_keeper::{Group, GroupError, Receipt};
 use td_stamp::{Batch, EpochOut, States};
 use td_standing::KeeperError;
-
-/// `refused: ..`, but for want of memory.
-pub(crate) fn print_keeper_refusal(rt: &impl Print, refusal: KeeperError) -> Result<(), StepError> {
-    match refusal {
-        KeeperError::Memory => Err(StepError::Memory),
-        refusal => Ok(println!(rt; "refused: {refusal}")?),
-    }
-}
 
 /// `kept EPOCH:` and the states; and for each epoch after it `epoch EPOCH:` and its entries.
 pub(crate) fn print_opening(
@@ -94,45 +86,28 @@ pub(crate) fn print_group_back(
 }
 
 /// `upgraded`, or `none` where the disk was of version 2.
-pub(crate) fn print_upgraded(
-    rt: &impl Print,
-    upgraded: Result<bool, KeeperError>,
-) -> Result<(), StepError> {
-    match upgraded {
-        Ok(true) => Ok(println!(rt; "upgraded")?),
-        Ok(false) => Ok(println!(rt; "none")?),
-        Err(refusal) => print_keeper_refusal(rt, refusal),
-    }
+pub(crate) fn print_upgraded(rt: &impl Print, upgraded: bool) -> Result<(), StepError> {
+    let answer = if upgraded { "upgraded" } else { "none" };
+    Ok(println!(rt; "{answer}")?)
 }
 
 /// What was done, and how many, or which epoch.
-pub(crate) fn print_number(
-    rt: &impl Print,
-    done: &str,
-    answer: Result<u64, KeeperError>,
-) -> Result<(), StepError> {
-    match answer {
-        Ok(number) => Ok(println!(rt; "{done} {number}")?),
-        Err(refusal) => print_keeper_refusal(rt, refusal),
-    }
+pub(crate) fn print_number(rt: &impl Print, done: &str, number: u64) -> Result<(), StepError> {
+    Ok(println!(rt; "{done} {number}")?)
 }
 
 /// `epoch EPOCH:` and its outputs; or `none`.
 pub(crate) fn print_next_out(rt: &impl Print, out: Option<EpochOut>) -> Result<(), StepError> {
     match out {
         Some(out) => print_epoch(rt, &out),
-        None => Ok(println!(rt; "none")?),
+        None => print_none(rt),
     }
 }
 
 /// `written EPOCH`, or `none`.
-pub(crate) fn print_written(
-    rt: &impl Print,
-    written: Result<Option<u64>, KeeperError>,
-) -> Result<(), StepError> {
+pub(crate) fn print_written(rt: &impl Print, written: Option<u64>) -> Result<(), StepError> {
     match written {
-        Ok(Some(epoch)) => Ok(println!(rt; "written {epoch}")?),
-        Ok(None) => Ok(println!(rt; "none")?),
-        Err(refusal) => print_keeper_refusal(rt, refusal),
+        Some(epoch) => print_number(rt, "written", epoch),
+        None => print_none(rt),
     }
 }

@@ -4,15 +4,7 @@ use crate::hands::Hands;
 use td_calls::Stock;
 use td_core::{Cut, Hall, HallError};
 use td_stamp::{Batch, EpochOut, Rec, States, Time};
-use td_task::{Done, KeyAt, KeyedItems, Task, TaskError, Work};
-
-/// `refused: ..`, but for want of memory.
-pub(crate) fn print_refusal(rt: &impl Print, error: HallError) -> Result<(), StepError> {
-    match error {
-        HallError::Memory => Err(StepError::Memory),
-        error => Ok(println!(rt; "refused: {error}")?),
-    }
-}
+use td_task::{Done, KeyAt, KeyedItems, Task, Work};
 
 /// Why a batch came back, and its entries.
 pub(crate) fn print_back(
@@ -32,22 +24,16 @@ pub(crate) fn print_entries(rt: &impl Print, batch: &Batch) -> Result<(), StepEr
     Ok(println!(rt; "")?)
 }
 
-/// The task that was taken, which stands last; or `none`.
-pub(crate) fn print_taken(
-    rt: &impl Print,
-    taken: Result<bool, HallError>,
-    hands: &Hands,
-) -> Result<(), StepError> {
-    match taken {
-        Ok(taken) => print_last_task(rt, taken, hands),
-        Err(error) => print_refusal(rt, error),
-    }
+/// `none`: there is none of what was asked for.
+pub(crate) fn print_none(rt: &impl Print) -> Result<(), StepError> {
+    Ok(println!(rt; "none")?)
 }
 
-fn print_last_task(rt: &impl Print, taken: bool, hands: &Hands) -> Result<(), StepError> {
+/// The task that was taken, which stands last; or `none`.
+pub(crate) fn print_taken(rt: &impl Print, taken: bool, hands: &Hands) -> Result<(), StepError> {
     match hands.tasks.back() {
         Some(task) if taken => print_task(rt, task),
-        _ => Ok(println!(rt; "none")?),
+        _ => print_none(rt),
     }
 }
 
@@ -107,22 +93,10 @@ fn print_key(rt: &impl Print, at: KeyAt<'_>) -> Result<(), StepError> {
 }
 
 /// What the task that was run sends, which stands last; or `none`.
-pub(crate) fn print_run(
-    rt: &impl Print,
-    run: Result<bool, TaskError>,
-    hands: &Hands,
-) -> Result<(), StepError> {
-    match run {
-        Ok(run) => print_last_done(rt, run, hands),
-        Err(TaskError::Memory) => Err(StepError::Memory),
-        Err(error) => Ok(println!(rt; "refused: {error}")?),
-    }
-}
-
-fn print_last_done(rt: &impl Print, run: bool, hands: &Hands) -> Result<(), StepError> {
+pub(crate) fn print_run(rt: &impl Print, run: bool, hands: &Hands) -> Result<(), StepError> {
     match hands.dones.back() {
         Some(done) if run => print_done(rt, done),
-        _ => Ok(println!(rt; "none")?),
+        _ => print_none(rt),
     }
 }
 
@@ -133,17 +107,9 @@ fn print_done(rt: &impl Print, done: &Done<Stock>) -> Result<(), StepError> {
 }
 
 /// `given`, or `none` where none was run.
-pub(crate) fn print_given(
-    rt: &impl Print,
-    given: Result<bool, HallError>,
-) -> Result<(), StepError> {
-    match given {
-        Ok(given) => {
-            let answer = if given { "given" } else { "none" };
-            Ok(println!(rt; "{answer}")?)
-        }
-        Err(error) => print_refusal(rt, error),
-    }
+pub(crate) fn print_given(rt: &impl Print, given: bool) -> Result<(), StepError> {
+    let answer = if given { "given" } else { "none" };
+    Ok(println!(rt; "{answer}")?)
 }
 
 /// The outputs of each epoch; or `none`.
@@ -167,14 +133,9 @@ pub(crate) fn print_epoch(rt: &impl Print, out: &EpochOut) -> Result<(), StepErr
 }
 
 /// `cut EPOCH:`, and the states.
-pub(crate) fn print_cut(rt: &impl Print, made: Result<Cut, HallError>) -> Result<(), StepError> {
-    match made {
-        Ok(cut) => {
-            print!(rt; "cut {}:", cut.epoch)?;
-            print_states(rt, &cut.states)
-        }
-        Err(error) => print_refusal(rt, error),
-    }
+pub(crate) fn print_cut(rt: &impl Print, cut: &Cut) -> Result<(), StepError> {
+    print!(rt; "cut {}:", cut.epoch)?;
+    print_states(rt, &cut.states)
 }
 
 /// ` (VERTEX KEY A B)` for each, and the end of the line.
@@ -189,7 +150,7 @@ pub(crate) fn print_states(rt: &impl Print, states: &States) -> Result<(), StepE
 pub(crate) fn print_unpassed(rt: &impl Print, epoch: Option<u64>) -> Result<(), StepError> {
     match epoch {
         Some(epoch) => Ok(println!(rt; "unpassed {epoch}")?),
-        None => Ok(println!(rt; "none")?),
+        None => print_none(rt),
     }
 }
 

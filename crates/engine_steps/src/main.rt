@@ -5,37 +5,31 @@
 #![tactic(auto)]
 
 mod catalogue;
-mod command;
 mod device;
-mod disk_command;
 mod drive;
 mod error;
 mod gate;
-mod hall_command;
+mod hall_calls;
 mod hands;
 mod inputs;
 mod keeper_calls;
-mod keeper_command;
 mod keeper_lines;
 mod lines;
-mod pool_command;
 mod region_calls;
-mod region_command;
-mod release;
 mod replies;
 mod ring_calls;
-mod ring_command;
 mod stage;
 mod stamp_words;
 mod store;
 mod table_calls;
-mod table_command;
+mod told;
 mod watch;
+mod words;
 mod worker;
 
-use crate::command::{Command, next_command};
 use crate::error::StepError;
 use crate::stage::Stage;
+use crate::words::until_end;
 use std::alloc::Global;
 use std::io;
 use std::sync::Wait;
@@ -76,25 +70,49 @@ fn play<R: Print + Threads + Wait + Clock + Sync>(
         let (line, others) = rest.split_once('\n').unwrap_or((rest, ""));
         rest = others;
         if !line.is_empty() && !line.starts_with('#') {
-            let (command, others) = next_command(line, rest).ok_or(StepError::Syntax)?;
+            let (name, words) = line.split_once(' ').unwrap_or((line, ""));
+            let (lines, others) = lines_of(name, rest).ok_or(StepError::Syntax)?;
             rest = others;
-            step(rt, stage, command)?;
+            step(rt, stage, name, words, lines)?;
         }
     }
     Ok(())
+}
+
+/// The lines of a command of this name that are its own, those up to a line `end`, and the lines behind them.
+fn lines_of<'a>(name: &str, rest: &'a str) -> Option<(&'a str, &'a str)> {
+    if name == "drive" {
+        until_end(rest)
+    } else {
+        Some(("", rest))
+    }
 }
 
 /// Does a command, a second time where memory was refused.
 fn step<R: Print + Threads + Wait + Clock + Sync>(
     rt: &R,
     stage: &mut Stage,
-    command: Command<'_>,
+    name: &str,
+    words: &str,
+    lines: &str,
 ) -> Result<(), StepError> {
-    match stage.step(rt, command) {
+    match stage.step(rt, name, words, lines) {
         Err(StepError::Memory) => {
             println!(rt; "refused: memory")?;
-            stage.step(rt, command)
+            print_refusal(rt, stage.step(rt, name, words, lines))
         }
+        answer => print_refusal(rt, answer),
+    }
+}
+
+/// `refused: ..`, where a call was refused.
+fn print_refusal(rt: &impl Print, answer: Result<(), StepError>) -> Result<(), StepError> {
+    match answer {
+        Err(StepError::Hall(refusal)) => Ok(println!(rt; "refused: {refusal}")?),
+        Err(StepError::Task(refusal)) => Ok(println!(rt; "refused: {refusal}")?),
+        Err(StepError::Keeper(refusal)) => Ok(println!(rt; "refused: {refusal}")?),
+        Err(StepError::Region(refusal)) => Ok(println!(rt; "refused: {refusal}")?),
+        Err(StepError::Ring(refusal)) => Ok(println!(rt; "refused: {refusal}")?),
         answer => answer,
     }
 }

@@ -2,21 +2,28 @@
 ghost use Rattle.std.specs.Prelude.{◌+◌, ◌≤◌, IsTrue};
 
 use crate::error::StepError;
-use crate::region_command::RegionCall;
+use crate::words::{number_of, numbered};
 use std::alloc::Global;
 use td_disk::Disk;
-use td_gate::{GateError, Region};
+use td_gate::Region;
 
-/// Does a call, and prints its answer. Refusals: `Syntax`, where the disk ends before the region does, and `Memory`.
+/// Does the call of these words, `put AT TEXT` or `get AT LEN`, and prints its answer. Refusals: `Syntax`, where they are no call, or
+/// the disk ends before the region does; `Memory`; and those of the region.
 pub(crate) fn region_call<D: Disk>(
     rt: &impl Print,
     alloc: Global,
     device: &mut D,
-    call: RegionCall<'_>,
+    text: &str,
 ) -> Result<(), StepError> {
-    match call {
-        RegionCall::Put(at, text) => put(rt, device, at, text.as_bytes()),
-        RegionCall::Get(at, len) => get(rt, alloc, device, Region { at, len }),
+    let (name, words) = text.split_once(' ').ok_or(StepError::Syntax)?;
+    let (at, word) = numbered(words).ok_or(StepError::Syntax)?;
+    match name {
+        "put" => put(rt, device, at, word.as_bytes()),
+        "get" => {
+            let len = number_of(word)?;
+            get(rt, alloc, device, Region { at, len })
+        }
+        _ => Err(StepError::Syntax),
     }
 }
 
@@ -45,14 +52,12 @@ fn get<D: Disk>(
     if !has_region(device, region) {
         return Err(StepError::Syntax);
     }
-    match region.get(alloc, device) {
-        Ok(Some(payload)) => {
+    match region.get(alloc, device)? {
+        Some(payload) => {
             let text = String::from_utf8_lossy(alloc, &payload)?;
             Ok(println!(rt; "{text}")?)
         }
-        Ok(None) => Ok(println!(rt; "closed")?),
-        Err(GateError::Memory) => Err(StepError::Memory),
-        Err(refusal) => Ok(println!(rt; "refused: {refusal}")?),
+        None => Ok(println!(rt; "closed")?),
     }
 }
 

@@ -25,15 +25,15 @@ pub(crate) fn print_replies(rt: &impl Print, replies: Replies) -> Result<(), Ste
 
 fn print_reply(rt: &impl Print, reply: Reply) -> Result<(), StepError> {
     match reply {
-        Reply::Submitted(epoch) => print_number(rt, "ack", Ok(epoch)),
+        Reply::Submitted(epoch) => print_number(rt, "ack", epoch),
         Reply::SubmittedAs(receipt) => print_receipt(rt, receipt),
         Reply::SubmittedAll(first, end) => Ok(println!(rt; "ack from {first} up to {end}")?),
-        Reply::Released(count) => print_number(rt, "released", Ok(count)),
+        Reply::Released(count) => print_number(rt, "released", count),
         Reply::Settled => Ok(println!(rt; "settled")?),
-        Reply::Collected(count) => print_number(rt, "collected", Ok(count)),
+        Reply::Collected(count) => print_number(rt, "collected", count),
         Reply::Out(out) => print_next_out(rt, out),
-        Reply::CutTaken(epoch) => print_number(rt, "cut", Ok(epoch)),
-        Reply::Written(epoch) => print_written(rt, Ok(epoch)),
+        Reply::CutTaken(epoch) => print_number(rt, "cut", epoch),
+        Reply::Written(epoch) => print_written(rt, epoch),
         Reply::Closed => Ok(println!(rt; "closed")?),
         Reply::Refused { error, batch } => print_refused(rt, error, batch),
         Reply::RefusedAll { error, group } => print_group_back(rt, error, &group),

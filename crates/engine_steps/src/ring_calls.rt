@@ -5,45 +5,44 @@ ghost use Rattle.td_journal.specs.Cell.{ring_len};
 use crate::error::StepError;
 use crate::inputs::inputs_of;
 use crate::lines::print_entries;
-use crate::release::batch_of;
-use crate::ring_command::RingCall;
+use crate::words::{batch_of, number_of, numbered};
 use std::alloc::Global;
 use td_disk::Disk;
-use td_journal::{Journal, JournalError, Submitted};
+use td_journal::{Journal, Submitted};
 use td_plan::Plan;
 use td_stamp::EPOCHS_END;
 
-/// Does a call, and prints its answer. Refusals: `NoRing`; `Syntax`, where the call asks for what there cannot be; and `Memory`.
+/// Does the call of these words, and prints its answer. Refusals: `NoRing`; `Syntax`, where they are no call, or ask for what there
+/// cannot be; `Memory`; and those of the ring.
 pub(crate) fn ring_call<D: Disk>(
     rt: &impl Print,
     alloc: Global,
     plan: &Plan,
     device: &mut D,
     ring: &mut Option<Journal>,
-    call: RingCall<'_>,
+    text: &str,
 ) -> Result<(), StepError> {
-    match call {
-        RingCall::Open(at, m, n) => {
-            *ring = Some(Journal { at, m, n, kept: 0 });
-            Ok(())
-        }
-        RingCall::Append(epoch, request, entries) => {
-            append(rt, alloc, device, *ring_of(ring)?, epoch, request, entries)
-        }
-        RingCall::Keep(epoch) => keep(ring_of(ring)?, epoch),
-        RingCall::ReadFrom(checkpoint, floor) => {
+    let (name, words) = text.split_once(' ').ok_or(StepError::Syntax)?;
+    match name {
+        "open" => open(ring, words),
+        "append" => append(rt, alloc, device, *ring_of(ring)?, words),
+        "keep" => keep(ring_of(ring)?, number_of(words)?),
+        "read_from" => {
             let inputs = inputs_of(alloc, plan)?;
-            read_from(
-                rt,
-                alloc,
-                device,
-                *ring_of(ring)?,
-                &inputs,
-                checkpoint,
-                floor,
-            )
+            read_from(rt, alloc, device, *ring_of(ring)?, &inputs, words)
         }
+        _ => Err(StepError::Syntax),
     }
+}
+
+/// `AT M N`: N cells of M records from there on, with no epoch kept.
+fn open(ring: &mut Option<Journal>, words: &str) -> Result<(), StepError> {
+    let (at, words) = numbered(words).ok_or(StepError::Syntax)?;
+    let (m, n) = words.split_once(' ').ok_or(StepError::Syntax)?;
+    let m = m.parse().ok().ok_or(StepError::Syntax)?;
+    let n = n.parse().ok().ok_or(StepError::Syntax)?;
+    *ring = Some(Journal { at, m, n, kept: 0 });
+    Ok(())
 }
 
 /// The ring that was opened last.
@@ -54,24 +53,22 @@ fn ring_of(ring: &mut Option<Journal>) -> Result<&mut Journal, StepError> {
     }
 }
 
-/// Puts the batch of entries that a text writes into the cell of an epoch, and prints `appended`, or why not.
+/// `EPOCH REQUEST INPUT KEY VAL, ..`: puts a batch into the cell of an epoch, and prints `appended`.
 fn append<D: Disk>(
     rt: &impl Print,
     alloc: Global,
     device: &mut D,
     ring: Journal,
-    epoch: u64,
-    request: u64,
-    text: &str,
+    words: &str,
 ) -> Result<(), StepError> {
+    let (epoch, words) = numbered(words).ok_or(StepError::Syntax)?;
+    let (request, entries) = numbered(words).ok_or(StepError::Syntax)?;
     if !has_ring(device, ring) || epoch <= ring.kept || EPOCHS_END <= epoch {
         return Err(StepError::Syntax);
     }
-    let batch = batch_of(alloc, text)?;
-    match ring.append(alloc, device, epoch, request, &batch) {
-        Ok(()) => Ok(println!(rt; "appended")?),
-        Err(refusal) => print_refusal(rt, refusal),
-    }
+    let batch = batch_of(alloc, entries)?;
+    ring.append(alloc, device, epoch, request, &batch)?;
+    Ok(println!(rt; "appended")?)
 }
 
 /// From now on the epochs up to this one may be overwritten.
@@ -83,23 +80,30 @@ fn keep(ring: &mut Journal, epoch: u64) -> Result<(), StepError> {
     Ok(())
 }
 
-/// Prints what was submitted as the epochs after a checkpoint's.
+/// `CHECKPOINT FLOOR`, or without the floor, as in version 1 of the format: prints what was submitted as the epochs after a
+/// checkpoint's.
 fn read_from<D: Disk>(
     rt: &impl Print,
     alloc: Global,
     device: &mut D,
     ring: Journal,
     inputs: &[u8],
-    checkpoint: u64,
-    floor: Option<u64>,
+    words: &str,
 ) -> Result<(), StepError> {
+    let (checkpoint, floor) = checkpoint_of(words).ok_or(StepError::Syntax)?;
     if !has_ring(device, ring) || EPOCHS_END <= checkpoint {
         return Err(StepError::Syntax);
     }
-    match ring.read_from(alloc, device, inputs, checkpoint, floor) {
-        Ok(told) => print_told(rt, checkpoint, told.as_slice()),
-        Err(refusal) => print_refusal(rt, refusal),
-    }
+    let told = ring.read_from(alloc, device, inputs, checkpoint, floor)?;
+    print_told(rt, checkpoint, told.as_slice())
+}
+
+fn checkpoint_of(words: &str) -> Option<(u64, Option<u64>)> {
+    let Some((checkpoint, floor)) = words.split_once(' ') else {
+        return Some((words.parse().ok()?, None));
+    };
+    let floor = floor.parse().ok()?;
+    Some((checkpoint.parse().ok()?, Some(floor)))
 }
 
 /// Whether the numbers of a ring keep their limits, and a disk has all of its cells.
@@ -119,14 +123,6 @@ fn has_ring<D: Disk>(device: &D, ring: Journal) -> bool
     match ring.at.checked_add(bytes) {
         Some(end) => end <= device.size(),
         None => false,
-    }
-}
-
-/// `refused: ..`, but for want of memory.
-fn print_refusal(rt: &impl Print, refusal: JournalError) -> Result<(), StepError> {
-    match refusal {
-        JournalError::Memory => Err(StepError::Memory),
-        refusal => Ok(println!(rt; "refused: {refusal}")?),
     }
 }
 

@@ -1,8 +1,8 @@
 //! The disk of a stage, which a keeper may have.
 use crate::device::{Device, failing, memory_of, resized, set_byte, sound, stopping};
-use crate::disk_command::DiskCall;
 use crate::error::StepError;
-use crate::keeper_lines::{print_keeper_refusal, print_opening};
+use crate::keeper_lines::print_opening;
+use crate::words::{byte_of, fill_of, number_of, shape_of};
 use std::alloc::Global;
 use std::mem;
 use td_calls::Stock;
@@ -21,24 +21,26 @@ pub(crate) enum Store {
 }
 
 impl Store {
-    /// Does a call, and prints its answer. After `Memory` it may be done again.
+    /// Does the call of a name and its words, and prints its answer. After `Memory` it may be done again.
     pub(crate) fn call(
         &mut self,
         rt: &impl Print,
         alloc: Global,
         plan: &Plan,
-        call: DiskCall,
+        name: &str,
+        words: &str,
     ) -> Result<(), StepError> {
-        match call {
-            DiskCall::Format(m, n, k) => self.format(rt, alloc, plan, Shape::new(m, n, k)),
-            DiskCall::Blank(bytes) => self.blank(alloc, bytes),
-            DiskCall::Recover => self.recover(rt, alloc, plan),
-            DiskCall::IntoDisk => self.into_disk(),
-            DiskCall::Stop(k) => self.stop(k),
-            DiskCall::Fail(k) => self.fail(k),
-            DiskCall::Crash(fill) => self.crash(fill),
-            DiskCall::Byte(at, byte) => self.set_byte(at, byte),
-            DiskCall::Size(bytes) => self.resize(alloc, bytes),
+        match (name, words) {
+            ("format", shape) => self.format(rt, alloc, plan, shape),
+            ("blank", bytes) => self.blank(alloc, number_of(bytes)?),
+            ("recover", "") => self.recover(rt, alloc, plan),
+            ("into_disk", "") => self.into_disk(),
+            ("stop", k) => self.stop(number_of(k)?),
+            ("fail", k) => self.fail(number_of(k)?),
+            ("crash", fill) => self.crash(fill_of(fill).ok_or(StepError::Syntax)?),
+            ("byte", words) => self.set_byte(words),
+            ("size", bytes) => self.resize(alloc, number_of(bytes)?),
+            _ => Err(StepError::Syntax),
         }
     }
 
@@ -68,33 +70,34 @@ impl Store {
         }
     }
 
-    /// Makes a disk of a shape, if there is such a shape, and formats it.
+    /// Puts another in the place of what is there.
+    fn put(&mut self, store: Store) {
+        *self = store;
+    }
+
+    /// `M N K`: makes a disk of that shape, if there is such a shape, and formats it.
     fn format(
         &mut self,
         rt: &impl Print,
         alloc: Global,
         plan: &Plan,
-        shape: Option<Shape>,
+        words: &str,
     ) -> Result<(), StepError> {
-        let Some(shape) = shape else {
+        let (m, n, k) = shape_of(words).ok_or(StepError::Syntax)?;
+        let Some(shape) = Shape::new(m, n, k) else {
             return Ok(println!(rt; "refused: shape")?);
         };
         let (store, formatted) = formatted(alloc, plan, shape)?;
-        *self = store;
-        match formatted {
-            Ok(()) => Ok(()),
-            Err(refusal) => print_keeper_refusal(rt, refusal),
-        }
+        self.put(store);
+        Ok(formatted?)
     }
 
     /// Recovers the disk, and prints what it tells.
     fn recover(&mut self, rt: &impl Print, alloc: Global, plan: &Plan) -> Result<(), StepError> {
         let (store, recovered) = kept(Keeper::recover(alloc, self.take()?, plan));
-        *self = store;
-        match recovered {
-            Ok(()) => self.print_opening(rt),
-            Err(refusal) => print_keeper_refusal(rt, refusal),
-        }
+        self.put(store);
+        recovered?;
+        self.print_opening(rt)
     }
 
     fn print_opening(&mut self, rt: &impl Print) -> Result<(), StepError> {
@@ -103,29 +106,35 @@ impl Store {
 
     /// Makes a disk of zeros.
     fn blank(&mut self, alloc: Global, bytes: u64) -> Result<(), StepError> {
-        *self = Store::Disk(sound(MemoryDisk::new(alloc, bytes)?));
+        let memory = MemoryDisk::new(alloc, bytes)?;
+        self.put(Store::Disk(sound(memory)));
         Ok(())
     }
 
     fn into_disk(&mut self) -> Result<(), StepError> {
-        *self = Store::Disk(self.take()?);
+        let device = self.take()?;
+        self.put(Store::Disk(device));
         Ok(())
     }
 
     fn stop(&mut self, k: u64) -> Result<(), StepError> {
-        *self = Store::Disk(stopping(memory_of(self.take()?), k));
+        let memory = memory_of(self.take()?);
+        self.put(Store::Disk(stopping(memory, k)));
         Ok(())
     }
 
     fn fail(&mut self, k: u64) -> Result<(), StepError> {
-        *self = Store::Disk(failing(memory_of(self.take()?), k));
+        let memory = memory_of(self.take()?);
+        self.put(Store::Disk(failing(memory, k)));
         Ok(())
     }
 
-    fn set_byte(&mut self, at: u64, byte: u8) -> Result<(), StepError> {
+    /// `AT HH`: puts another byte there.
+    fn set_byte(&mut self, words: &str) -> Result<(), StepError> {
+        let (at, byte) = byte_of(words).ok_or(StepError::Syntax)?;
         let mut memory = memory_of(self.take()?);
         let set = set_byte(&mut memory, at, byte);
-        *self = Store::Disk(sound(memory));
+        self.put(Store::Disk(sound(memory)));
         set
     }
 
@@ -133,11 +142,11 @@ impl Store {
         let memory = memory_of(self.take()?);
         match memory.crash(fill) {
             Ok(left) => {
-                *self = Store::Disk(sound(left));
+                self.put(Store::Disk(sound(left)));
                 Ok(())
             }
             Err(error) => {
-                *self = Store::Disk(sound(memory));
+                self.put(Store::Disk(sound(memory)));
                 Err(StepError::from(error))
             }
         }
@@ -147,11 +156,11 @@ impl Store {
         let mut memory = memory_of(self.take()?);
         match resized(alloc, &mut memory, bytes) {
             Ok(resized) => {
-                *self = Store::Disk(sound(resized));
+                self.put(Store::Disk(sound(resized)));
                 Ok(())
             }
             Err(error) => {
-                *self = Store::Disk(sound(memory));
+                self.put(Store::Disk(sound(memory)));
                 Err(error)
             }
         }
@@ -166,7 +175,7 @@ fn formatted(
 ) -> Result<(Store, Result<(), KeeperError>), StepError> {
     let device = sound(MemoryDisk::new(alloc, shape.bytes())?);
     if device.size() < shape.bytes() {
-        return Err(StepError::Refused);
+        return Err(StepError::Unlike);
     }
     Ok(kept(Keeper::format(alloc, device, plan, shape)))
 }

@@ -7,30 +7,33 @@ ghost use Rattle.td_progress.specs.Bag.{input_stamp};
 use crate::error::StepError;
 use crate::inputs::inputs_of;
 use crate::stamp_words::{pair_of, stamp_of};
-use crate::table_command::TableCall;
+use crate::words::number_of;
 use std::alloc::Global;
 use td_plan::Plan;
 use td_progress::Table;
 use td_reach::{Place, Reach, Stamp};
 use td_stamp::Time;
 
-/// Does a call, and prints its answer. Refusals: `NoTable`; `Syntax`, where words are no pointstamp; and `Memory`.
+/// Does the call of these words, and prints its answer. Refusals: `NoTable`; `Syntax`, where they are no call, or no pointstamp;
+/// and `Memory`.
 pub(crate) fn table_call(
     rt: &impl Print,
     alloc: Global,
     plan: &Plan,
     table: &mut Option<Table>,
-    call: TableCall<'_>,
+    text: &str,
 ) -> Result<(), StepError> {
-    match call {
-        TableCall::Open(first) => {
-            *table = Some(opened(alloc, plan, first)?);
+    let (name, words) = text.split_once(' ').ok_or(StepError::Syntax)?;
+    match name {
+        "open" => {
+            *table = Some(opened(alloc, plan, number_of(words)?)?);
             Ok(())
         }
-        TableCall::Add(words) => add(rt, table_of(table)?, words),
-        TableCall::TakeOff(words) => take_off(rt, table_of(table)?, words),
-        TableCall::Precursors(words) => print_precursors(rt, table_of(table)?, words),
-        TableCall::InFrontier(words) => print_in_frontier(rt, table_of(table)?, words),
+        "add" => add(rt, table_of(table)?, words),
+        "take_off" => take_off(rt, table_of(table)?, words),
+        "precursors" => print_precursors(rt, table_of(table)?, words),
+        "in_frontier" => print_in_frontier(rt, table_of(table)?, words),
+        _ => Err(StepError::Syntax),
     }
 }
 
@@ -47,7 +50,7 @@ fn opened(alloc: Global, plan: &Plan, first: u64) -> Result<Table, StepError> {
     let inputs = inputs_of(alloc, plan)?;
     let reach = Reach::of(alloc, plan)?;
     if !has_each(&reach, &inputs, first) {
-        return Err(StepError::Refused);
+        return Err(StepError::Unlike);
     }
     Ok(Table::new(alloc, reach, &inputs, first)?)
 }
@@ -76,7 +79,7 @@ fn add(rt: &impl Print, table: &mut Table, words: &str) -> Result<(), StepError>
         return print_none_such(rt);
     }
     if table.occurrences(&stamp) == u128::MAX {
-        return Err(StepError::Refused);
+        return Err(StepError::Unlike);
     }
     Ok(table.add(&stamp)?)
 }

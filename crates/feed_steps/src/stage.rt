@@ -68,9 +68,9 @@ impl Stage {
         self.disk.take().ok_or(StepError::NoDisk)
     }
 
-    /// Puts back what stands on a disk, which does not stop from here on.
-    fn put_back(&mut self, memory: MemoryDisk) {
-        self.disk = Some(sound(memory));
+    /// Puts a disk in the place of the one that is there, if there is one.
+    fn put_back(&mut self, device: Device) {
+        self.disk = Some(device);
     }
 
     /// Makes a disk of a shape, if there is such a shape, and formats it.
@@ -79,20 +79,20 @@ impl Stage {
             return Ok(println!(rt; "refused: shape")?);
         };
         let (device, formatted) = formatted(self.alloc, &self.plan, shape)?;
-        self.disk = Some(device);
+        self.put_back(device);
         Ok(formatted?)
     }
 
     /// Makes a disk of zeros.
     fn blank(&mut self, bytes: u64) -> Result<(), StepError> {
         let memory = MemoryDisk::new(self.alloc, bytes)?;
-        self.put_back(memory);
+        self.put_back(sound(memory));
         Ok(())
     }
 
     fn stop(&mut self, k: u64) -> Result<(), StepError> {
         let memory = self.take()?.into_inner();
-        self.disk = Some(FuseDisk::stop_at(memory, k));
+        self.put_back(FuseDisk::stop_at(memory, k));
         Ok(())
     }
 
@@ -100,11 +100,11 @@ impl Stage {
         let memory = self.take()?.into_inner();
         match memory.crash(fill) {
             Ok(left) => {
-                self.put_back(left);
+                self.put_back(sound(left));
                 Ok(())
             }
             Err(error) => {
-                self.put_back(memory);
+                self.put_back(sound(memory));
                 Err(StepError::from(error))
             }
         }
@@ -114,7 +114,7 @@ impl Stage {
     fn set_byte(&mut self, at: u64, byte: u8) -> Result<(), StepError> {
         let mut memory = self.take()?.into_inner();
         let set = set_byte(&mut memory, at, byte);
-        self.put_back(memory);
+        self.put_back(sound(memory));
         set
     }
 
@@ -123,7 +123,7 @@ impl Stage {
         let mut device = self.take()?;
         let mut writer = StdWriter(io::writer(rt));
         let shown = td_feed::show(self.alloc, &mut device, &self.plan, &mut writer);
-        self.disk = Some(device);
+        self.put_back(device);
         Ok(shown?)
     }
 
@@ -141,7 +141,7 @@ impl Stage {
         match Keeper::<Device, Stock>::recover(self.alloc, device, &self.plan) {
             Ok(keeper) => Ok(keeper),
             Err((refusal, device)) => {
-                self.disk = Some(device);
+                self.put_back(device);
                 Err(StepError::from(refusal))
             }
         }
@@ -151,7 +151,7 @@ impl Stage {
     fn recover(&mut self, rt: &impl Print) -> Result<(), StepError> {
         let keeper = self.keeper()?;
         let opening = keeper.opening();
-        self.disk = Some(keeper.into_disk());
+        self.put_back(keeper.into_disk());
         print_opening(rt, opening)
     }
 
@@ -160,7 +160,7 @@ impl Stage {
         let batch = batch_of(self.alloc, text)?;
         let mut keeper = self.keeper()?;
         let submitted = keeper.submit(batch);
-        self.disk = Some(keeper.into_disk());
+        self.put_back(keeper.into_disk());
         match submitted {
             Ok(epoch) => Ok(println!(rt; "ack {epoch}")?),
             Err((refusal, _batch)) => Err(StepError::from(refusal)),
@@ -172,7 +172,7 @@ impl Stage {
         let keeper = self.keeper()?;
         let last = keeper.last_request();
         let version = keeper.version();
-        self.disk = Some(keeper.into_disk());
+        self.put_back(keeper.into_disk());
         Ok(println!(rt; "last {last}, version {version}")?)
     }
 
@@ -223,7 +223,7 @@ impl Stage {
             &mut StdWriter(io::writer(rt)),
             calls,
         );
-        self.disk = Some(device);
+        self.put_back(device);
         print_ended(rt, ended)
     }
 }

@@ -1,8 +1,7 @@
 //! Commands of a keeper beside the workers of a pool.
 use crate::error::StepError;
 use crate::gate::Passage;
-use crate::keeper_command::requested;
-use crate::release::{batch_of, group_of};
+use crate::words::{batch_of, group_of, numbered};
 use std::alloc::Global;
 use td_keeper::Command;
 
@@ -33,7 +32,7 @@ fn command_of(alloc: Global, line: &str) -> Result<Command, StepError> {
     match line.split_once(' ').unwrap_or((line, "")) {
         ("submit", entries) => Ok(Command::Submit(batch_of(alloc, entries)?)),
         ("submit_as", words) => {
-            let (request, entries) = requested(words).ok_or(StepError::Syntax)?;
+            let (request, entries) = numbered(words).ok_or(StepError::Syntax)?;
             Ok(Command::SubmitAs(request, batch_of(alloc, entries)?))
         }
         ("submit_all", group) => Ok(Command::SubmitAll(group_of(alloc, group)?)),
