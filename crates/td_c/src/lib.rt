@@ -46,7 +46,8 @@ pub extern "C" fn td_epoch(
     counts: &mut TdCounts,
     place: &mut u64,
 ) -> u32
-    ensures answer { Answered (EpochWritten text.now records.now states.old states.new outputs.old outputs.new counts.old counts.new) (EpochRefused text.now records.now states.old outputs.old counts.old counts.new) result place.new }
+    ensures answer { Answered (EpochWritten text.now records.now states.old states.new outputs.old outputs.new counts.old counts.new)
+        (EpochRefused text.now records.now states.old outputs.old counts.old counts.new) result place.new }
     ensures same_states { result ≢ 0 → states.new ≡ states.old }
     ensures same_outputs { result ≢ 0 → outputs.new ≡ outputs.old }
 {
