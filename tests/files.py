@@ -11,7 +11,8 @@ TRACKED = re.compile(r"""
     README\.md|CHANGELOG\.md|LICENSE-\w+|HANDLES|crates\.txt|check|build|install|\.gitignore|\.ci/run
     |crates/\w+/(src/.+\.rt|(specs|proofs)/.+\.antt|must-fail/[^/]+\.(edit|md)|stdin|stdout|args|status|data/.+)
     |docs/([^/]+\.(md|svg|dot|txt)|draw\.py)|rows/([^/]+\.txt|README\.md)|(bench|tests)/[^/]+\.(py|rattle|rs|c)|bench/(all|history\.tsv)
-    |examples/([^/]+\.(td|out)|README\.md|closures/[^/]+\.(td|closures|out))|clients/[^/]+\.py|tools/\w+
+    |examples/([^/]+\.(td|out)|README\.md|closures/[^/]+\.(td|closures|out))|tools/\w+
+    |clients/(\w+\.py|c/\w+\.[ch]|python/\w+\.py|rust/(Cargo\.toml|build\.rs|(src|examples)/\w+\.rs))
     """, re.VERBOSE)
 BYTES_OF_A_FILE = 200_000
 BYTES_OF_ALL = 15_000_000

@@ -84,9 +84,11 @@ def main():
     td = lib.asked_td()
     with lib.folder() as folder:
         done = run([sys.executable, "-B", lib.ROOT / "install", folder / "prefix", td])
-        if done.returncode != 0 or len(done.stdout.splitlines()) != 4:
+        installed = [pathlib.Path(line) for line in done.stdout.splitlines()]
+        library = [file.name for file in installed[4:]]
+        if done.returncode != 0 or len(installed) < 4 or library not in ([], ["td.h", "libtd.a", "libtd.so"]):
             lib.fail(f"./install: {done.stdout}{done.stderr}")
-        program, page, bash, zsh = map(pathlib.Path, done.stdout.splitlines())
+        program, page, bash, zsh = installed[:4]
         commands = commands_of(program)
         wrong = [*mistakes_of_page(page, commands), *mistakes_of_bash(bash, folder), *mistakes_of_zsh(zsh)]
     if any(not it.startswith("skipped: ") for it in wrong):

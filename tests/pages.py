@@ -29,7 +29,7 @@ DRAWN = ("producer ──", "(thread)", "release_in     publishes", "▼", "pool
 OUTSIDE = {"f64::total_cmp", "fmt::Error", "Iterator::any", "thread::scope", "Display", "Result", "Clone", "Send", "sync_data", "RandomState", "posix_fadvise",
            "FILE_FUNCTION_MISTAKE"}
 # The files whose words code on a page may be, beside sources and definitions.
-SOURCES = ("crates/*/proofs/**/*.antt", "bench/*", "tests/*", "rows/*", "examples/*", "clients/*", "check", "build",
+SOURCES = ("crates/*/proofs/**/*.antt", "bench/*", "tests/*", "rows/*", "examples/*", "clients/**/*.*", "check", "build",
            "crates.txt", "docs/draw.py")
 # Where the files stand that a page names without their folder.
 FOLDERS = ("", "crates/", "docs/", "crates/*/")
@@ -142,7 +142,7 @@ def functions_in(file, crate):
             types = set(re.findall(r"(?<!\w)[A-Z]\w*", re.sub(r"<[^<>{]*>", "", re.sub(r"<[^<>{]*>", "", block[1].split(" where ")[0]))))
         elif line.startswith("}"):
             types = set()
-        if function := re.match(r"\s*(?:pub(?:\([\w ]+\))? )?(?:const )?(?:ghost )?fn (\w+)", line):
+        if function := re.match(r'\s*(?:pub(?:\([\w ]+\))? )?(?:const )?(?:ghost )?(?:extern "C" )?fn (\w+)', line):
             found.append(Function(crate, types | {file.stem, file.parent.name, crate}, function[1]))
         for clause in re.findall(r"\b(?:ensures|requires) (\w+) \{", line):
             found[-1].clauses.add(clause)

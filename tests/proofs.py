@@ -23,7 +23,8 @@ def is_left_out(folder, names):
 
 
 def prove(tally):
-    """Runs `rt ci` on a copy of the repository, tries the must-fail edits over what it proves, and takes over the programs that it builds, those of tests too."""
+    """Runs `rt ci` on a copy of the repository, tries the must-fail edits over what it proves, and takes over the programs that it builds, those of tests too,
+    and the static libraries."""
     with tempfile.TemporaryDirectory(prefix="td-proof-") as folder:
         copy = pathlib.Path(folder) / "repository"
         shutil.copytree(ROOT, copy, ignore=is_left_out)
@@ -37,7 +38,7 @@ def prove(tally):
                 trials.begin(name)
         trials.end(tally)
         for build in copy.glob("crates/*/out/*"):
-            if build.is_file() and os.access(build, os.X_OK):
+            if build.is_file() and (os.access(build, os.X_OK) or build.suffix == ".a"):
                 folder = ROOT / build.parent.relative_to(copy)
                 folder.mkdir(exist_ok=True)
                 shutil.copy2(build, folder)

@@ -1,0 +1,79 @@
+/* One epoch of a plan at a time, in the caller's process: libtd, made by ./build --library. docs/LIBRARY.md is its reference.
+ *
+ * The caller keeps the states of a plan's folds, in an array, a file or a database, and hands them in at each epoch. The library
+ * keeps nothing between calls, opens no file, starts no thread and prints nothing. It allocates by malloc, and frees what it
+ * took before it returns. Calls in several threads at once are apart, as long as no two of them are given the same array.
+ *
+ * No pointer may be null, also where its length is 0, and no two of the arrays may overlap. */
+#ifndef TD_H
+#define TD_H
+
+#include <stddef.h>
+#include <stdint.h>
+
+#ifdef __cplusplus
+extern "C" {
+#endif
+
+/* A record. In an epoch's records `vertex` is the number of the input that it comes to, in its outputs that of the output. */
+struct td_record {
+    uint64_t vertex;
+    uint64_t key;
+    int64_t val;
+};
+
+/* What the fold `vertex` keeps for a key. */
+struct td_state {
+    uint64_t vertex;
+    uint64_t key;
+    int64_t a;
+    int64_t b;
+};
+
+/* How many states and outputs there are. */
+struct td_counts {
+    size_t states;
+    size_t outputs;
+};
+
+/* What a call answers, and what its `place` is then: a line of the text, from 1; the number of a vertex; the index of a record or
+ * state, from 0; or else 0. */
+enum td_answer {
+    TD_DONE = 0,
+    TD_SYNTAX = 1,       /* a line of the text has none of the forms of a line, or a loop is not ended; the line */
+    TD_NUMBER = 2,       /* a vertex does not have the next number; the line */
+    TD_ORDER = 3,        /* a source does not stand before its reader; the line */
+    TD_NEST = 4,         /* a vertex or a source stands in the wrong loop; the line */
+    TD_BOUND = 5,        /* the bound of a loop is not 1 to 1000; the line */
+    TD_FOLD_IN_LOOP = 6, /* the line */
+    TD_AGAIN = 7,        /* a feedback has not one source on its own loop; the line */
+    TD_TOO_MANY = 8,     /* a vertex, loop, source or edge too many; the line */
+    TD_NO_ENDS = 9,      /* the plan has no input or no output; 0 */
+    TD_MEMORY = 10,      /* an allocation was refused; 0 */
+    TD_TEXT = 11,        /* the text is no UTF-8; 0 */
+    TD_CLOSURE = 12,     /* the catalogue does not have the closure of a vertex; the vertex */
+    TD_INPUT = 13,       /* a record names no input of the plan; the index of the first such record */
+    TD_COUNT = 14,       /* counts->states is more than states_len; 0 */
+    TD_FOLD = 15,        /* a state names no fold of the plan; its index */
+    TD_DOUBLED = 16,     /* an earlier state has the same vertex and key; the index of the later one */
+    TD_ROOM = 17         /* more states or outputs than the arrays have places: `counts` has how many there would be; 0 */
+};
+
+/* Whether a text spells a plan whose closures are all in the catalogue. */
+uint32_t td_check(const uint8_t *text, size_t text_len, uint64_t *place);
+
+/* One epoch. The first counts->states of the states_len places of `states` are the states before it, in any order. After TD_DONE
+ * the first counts->states of them are those after it, sorted by (vertex, key), and the first counts->outputs of `outputs` are its
+ * outputs, sorted by (vertex, key, val); other places are as they were. After any other answer both arrays are as they were, and
+ * `counts` too, but for TD_ROOM. Whoever calls again after TD_ROOM has to put the number of the states before into counts->states. */
+uint32_t td_epoch(const uint8_t *text, size_t text_len,
+                  const struct td_record *records, size_t records_len,
+                  struct td_state *states, size_t states_len,
+                  struct td_record *outputs, size_t outputs_len,
+                  struct td_counts *counts, uint64_t *place);
+
+#ifdef __cplusplus
+}
+#endif
+
+#endif

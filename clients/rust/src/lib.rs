@@ -1,0 +1,127 @@
+//! One epoch of a dataflow plan at a time, by the proved library libtd. The caller keeps the states, and hands them in.
+//!
+//! `docs/LIBRARY.md` of the repository says what is proved of it.
+
+use std::fmt;
+
+/// A record of an epoch, where `vertex` is the input that it comes to, or of its outputs, where it is the output.
+#[derive(Clone, Copy, Debug, Default, PartialEq, Eq)]
+#[repr(C)]
+pub struct Record {
+    pub vertex: u64,
+    pub key: u64,
+    pub val: i64,
+}
+
+/// What the fold `vertex` keeps for a key.
+#[derive(Clone, Copy, Debug, Default, PartialEq, Eq)]
+#[repr(C)]
+pub struct State {
+    pub vertex: u64,
+    pub key: u64,
+    pub a: i64,
+    pub b: i64,
+}
+
+#[derive(Clone, Copy)]
+#[repr(C)]
+struct Counts {
+    states: usize,
+    outputs: usize,
+}
+
+extern "C" {
+    fn td_check(text: *const u8, text_len: usize, place: *mut u64) -> u32;
+    fn td_epoch(
+        text: *const u8,
+        text_len: usize,
+        records: *const Record,
+        records_len: usize,
+        states: *mut State,
+        states_len: usize,
+        outputs: *mut Record,
+        outputs_len: usize,
+        counts: *mut Counts,
+        place: *mut u64,
+    ) -> u32;
+}
+
+const DONE: u32 = 0;
+const ROOM: u32 = 17;
+
+/// Why a call did nothing: its number, as in `td.h`, and the line, vertex or index that goes with it.
+#[derive(Clone, Copy, Debug, PartialEq, Eq)]
+pub struct Refused {
+    pub number: u32,
+    pub place: u64,
+}
+
+impl fmt::Display for Refused {
+    fn fmt(&self, f: &mut fmt::Formatter<'_>) -> fmt::Result {
+        write!(f, "libtd answers {} at {}", self.number, self.place)
+    }
+}
+
+impl std::error::Error for Refused {}
+
+/// A plan that the library has read, and found without a fault.
+#[derive(Clone, Debug)]
+pub struct Plan {
+    text: String,
+}
+
+impl Plan {
+    pub fn new(text: impl Into<String>) -> Result<Plan, Refused> {
+        let text = text.into();
+        let mut place = 0;
+        // SAFETY: the text is as long as is said, and `place` is a place of its own.
+        let number = unsafe { td_check(text.as_ptr(), text.len(), &mut place) };
+        if number == DONE {
+            Ok(Plan { text })
+        } else {
+            Err(Refused { number, place })
+        }
+    }
+
+    /// One epoch: `states` are those before it, in any order, and become those after it. Its outputs are answered; both are sorted. A
+    /// refusal leaves the states as they were.
+    pub fn epoch(&self, states: &mut Vec<State>, records: &[Record]) -> Result<Vec<Record>, Refused> {
+        let before = states.len();
+        let mut outputs = vec![Record::default(); records.len()];
+        states.resize(before + records.len(), State::default());
+        loop {
+            let mut counts = Counts { states: before, outputs: 0 };
+            let mut place = 0;
+            // SAFETY: each array is as long as is said, no two overlap, and a slice's pointer is never null.
+            let number = unsafe {
+                td_epoch(
+                    self.text.as_ptr(),
+                    self.text.len(),
+                    records.as_ptr(),
+                    records.len(),
+                    states.as_mut_ptr(),
+                    states.len(),
+                    outputs.as_mut_ptr(),
+                    outputs.len(),
+                    &mut counts,
+                    &mut place,
+                )
+            };
+            match number {
+                DONE => {
+                    states.truncate(counts.states);
+                    outputs.truncate(counts.outputs);
+                    return Ok(outputs);
+                }
+                ROOM => {
+                    states.resize(counts.states.max(states.len()), State::default());
+                    outputs.resize(counts.outputs.max(outputs.len()), Record::default());
+                }
+                _ => {
+                    states.truncate(before);
+                    return Err(Refused { number, place });
+                }
+            }
+        }
+    }
+}

@@ -1,0 +1,5 @@
+pub mod Answered
+pub mod Epoch
+pub mod PlanRead
+pub mod Refusals
+pub mod Rows

@@ -1,0 +1,76 @@
+//! One epoch of a plan for C, by the closures of the catalogue: the caller keeps the states in arrays of its own.
+#![tactic(auto)]
+
+ghost use Rattle.std.specs.Prelude.{◌≡◌, ◌≢◌, take};
+ghost use Rattle.td_c.specs.Answered.{Answered};
+ghost use Rattle.td_c.specs.Epoch.{EpochWritten, EpochRefused};
+ghost use Rattle.td_c.specs.PlanRead.{HasPlan, PlanRefused};
+ghost use Rattle.td_c.specs.Refusals.{number_of, place_of};
+
+mod advance;
+mod reading;
+mod refusal;
+mod shelves;
+mod values;
+mod writing;
+
+use crate::advance::advance;
+use crate::reading::plan_of;
+pub use refusal::Refusal;
+pub use shelves::Shelves;
+use std::alloc::Global;
+pub use values::{TdCounts, TdRecord, TdState};
+
+/// Whether a text spells a plan whose closures are all in the catalogue. It answers 0, or a refusal's number with its place: a line of
+/// the text, a vertex, or 0.
+#[unsafe(no_mangle)]
+pub extern "C" fn td_check(alloc: Global, text: &[u8], place: &mut u64) -> u32
+    ensures { Answered (HasPlan text.now) (PlanRefused text.now) result place.new }
+{
+    match plan_of(alloc, text) {
+        Ok(_plan) => done(place),
+        Err(refusal) => refused(refusal, place),
+    }
+}
+
+/// One epoch of the plan that `text` spells. The first `counts.states` of `states` are those before it, in any order; those after it take their
+/// place, in order, and the outputs stand in `outputs`, in order. `counts` tells how many there are of both. It answers 0, or a refusal's
+/// number with its place: a line, a vertex, or the index of a record or state.
+#[unsafe(no_mangle)]
+pub extern "C" fn td_epoch(
+    alloc: Global,
+    text: &[u8],
+    records: &[TdRecord],
+    states: &mut [TdState],
+    outputs: &mut [TdRecord],
+    counts: &mut TdCounts,
+    place: &mut u64,
+) -> u32
+    ensures answer { Answered (EpochWritten text.now records.now states.old states.new outputs.old outputs.new counts.old counts.new)
+        (EpochRefused text.now records.now states.old outputs.old counts.old counts.new) result place.new }
+    ensures same_states { result ≢ 0 → states.new ≡ states.old }
+    ensures same_outputs { result ≢ 0 → outputs.new ≡ outputs.old }
+{
+    match advance(alloc, text, records, states, outputs, counts) {
+        Ok(()) => done(place),
+        Err(refusal) => refused(refusal, place),
+    }
+}
+
+/// The answer of a call that was done.
+fn done(place: &mut u64) -> u32
+    ensures number { result ≡ 0 }
+    ensures place { place.new ≡ 0 }
+{
+    *place = 0;
+    0
+}
+
+/// The answer of a call that was refused.
+fn refused(refusal: Refusal, place: &mut u64) -> u32
+    ensures number { result ≡ number_of refusal }
+    ensures place { place.new ≡ place_of refusal }
+{
+    *place = refusal.place();
+    refusal.number()
+}

@@ -1,0 +1,114 @@
+//! Why a call was refused, and the numbers by which C is told.
+ghost use Rattle.std.specs.Prelude.{◌≡◌};
+ghost use Rattle.td_stamp.specs.declared.error.StampError.{StampError as AnyStampError};
+ghost use Rattle.td_c.specs.declared.refusal.Refusal.TheVariants.{Plan, Memory};
+ghost use Rattle.td_c.specs.Refusals.{number_of, place_of, line_of};
+
+use std::alloc::{AllocError, AllocFailed};
+use td_batch::BatchError;
+use td_calls::CallsError;
+use td_plan::PlanError;
+use td_stamp::StampError;
+
+/// Why a call was refused.
+#[derive(Clone, Copy, Debug, PartialEq, Eq)]
+pub enum Refusal {
+    /// The text spells no plan; the place is its line, or 0.
+    Plan(PlanError),
+    /// The text is no UTF-8.
+    Text,
+    /// A vertex lacks its closure; the place is its number.
+    Closure(CallsError),
+    /// A record does not name an input of the plan; the place is its index.
+    Input(usize),
+    /// There are more states than the array has places.
+    Count,
+    /// A state does not name a fold of the plan; the place is its index.
+    Fold(usize),
+    /// An earlier state has the same vertex and key; the place is the index of the later one.
+    Doubled(usize),
+    /// The states or the outputs after the epoch are more than the arrays have places.
+    Room,
+    /// An allocation was refused.
+    Memory,
+}
+
+impl Refusal {
+    /// Its number: 1 to 9 are those of the faults of a plan.
+    pub(crate) fn number(self) -> u32
+        ensures { result ≡ number_of self }
+    {
+        match self {
+            Refusal::Plan(error) => u32::from(error.number()),
+            Refusal::Text => 11,
+            Refusal::Closure(_) => 12,
+            Refusal::Input(_) => 13,
+            Refusal::Count => 14,
+            Refusal::Fold(_) => 15,
+            Refusal::Doubled(_) => 16,
+            Refusal::Room => 17,
+            Refusal::Memory => 10,
+        }
+    }
+
+    /// Its place.
+    pub(crate) fn place(self) -> u64
+        ensures { result ≡ place_of self }
+    {
+        match self {
+            Refusal::Plan(error) => line(error),
+            Refusal::Closure(CallsError::NoCall(vertex, _code)) => u64::from(vertex),
+            Refusal::Input(index) | Refusal::Fold(index) | Refusal::Doubled(index) => index as u64,
+            _ => 0,
+        }
+    }
+}
+
+/// The line of a fault of a plan, or 0.
+fn line(error: PlanError) -> u64
+    ensures { result ≡ line_of error }
+{
+    match error {
+        PlanError::Syntax(line)
+        | PlanError::Number(line)
+        | PlanError::Order(line)
+        | PlanError::Nest(line)
+        | PlanError::Bound(line)
+        | PlanError::FoldInLoop(line)
+        | PlanError::Again(line)
+        | PlanError::TooMany(line) => line,
+        _ => 0,
+    }
+}
+
+impl From<StampError> for Refusal {
+    ghost from_gives = { λ _ e. e ≡ Memory };
+
+    fn from(_error: StampError) -> Refusal {
+        Refusal::Memory
+    }
+}
+
+impl From<BatchError> for Refusal {
+    ghost from_gives = { λ _ e. e ≡ Memory };
+
+    fn from(_error: BatchError) -> Refusal {
+        Refusal::Memory
+    }
+}
+
+impl From<AllocError> for Refusal {
+    ghost from_gives = { λ _ e. e ≡ Memory };
+
+    fn from(_error: AllocError) -> Refusal {
+        Refusal::Memory
+    }
+}
+
+impl<T: Drop> From<AllocFailed<T>> for Refusal {
+    ghost from_gives = { λ _ e. e ≡ Memory };
+
+    fn from(_failed: AllocFailed<T>) -> Refusal {
+        Refusal::Memory
+    }
+}

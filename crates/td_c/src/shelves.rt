@@ -1,0 +1,144 @@
+//! The closures of the catalogue, of both shelves, without a stored one: each is made of its code at each call.
+ghost use Rattle.std.specs.Prelude.{◌≡◌, IfSome, is_some};
+ghost use Rattle.td_plan.specs.declared.vertex.Kind.TheVariants.{Map, Group, Fold};
+ghost use Rattle.td_calls.specs.Stock.{stock, map_answers, group_answers, fold_answers};
+ghost use Rattle.td_catalogue.specs.Shelves.{in_catalogue, is_first};
+
+use td_calls::{Closures, stock};
+use td_catalogue::{Catalogue, FoldStep, GroupStep, MapStep};
+use td_stamp::{Few, Item, Rec, State};
+
+/// The closures of the catalogue.
+#[derive(Clone, Copy, Debug)]
+pub struct Shelves;
+
+impl Closures<Catalogue> for Shelves {
+    ghost has_map = { λ _ code. in_catalogue (Map code) };
+
+    ghost has_group = { λ _ code. in_catalogue (Group code) };
+
+    ghost has_fold = { λ _ code. in_catalogue (Fold code) };
+
+    fn map(&self, code: u16, port: u8, rec: Rec) -> Option<Few> {
+        match MapStep::of(code) {
+            Some(step) => Some(step.sent(rec)),
+            None => first_map(code, port, rec),
+        }
+    }
+
+    fn group(&self, code: u16, key: u64, items: &[Item]) -> Option<Few> {
+        match GroupStep::of(code) {
+            Some(step) => Some(step.sent(key, items)),
+            None => first_group(code, key, items),
+        }
+    }
+
+    fn fold(
+        &self,
+        code: u16,
+        key: u64,
+        state: Option<State>,
+        items: &[Item],
+    ) -> Option<(Option<State>, Few)> {
+        match FoldStep::of(code) {
+            Some(step) => Some(step.sent(key, state, items)),
+            None => first_fold(code, key, state, items),
+        }
+    }
+
+    fn contains_map(&self, code: u16) -> bool {
+        MapStep::of(code).is_some() || is_first_map(code)
+    }
+
+    fn contains_group(&self, code: u16) -> bool {
+        GroupStep::of(code).is_some() || is_first_group(code)
+    }
+
+    fn contains_fold(&self, code: u16) -> bool {
+        FoldStep::of(code).is_some() || is_first_fold(code)
+    }
+}
+
+/// What a map of the first shelf sends.
+fn first_map(code: u16, port: u8, rec: Rec) -> Option<Few>
+    ensures found { is_some result ≡ is_first map_answers code }
+    ensures law { IfSome result (λ sent. sent.items ≡ stock.emit code port rec) }
+{
+    let sent = match code {
+        1 => stock::same(port, rec),
+        2 => stock::less(port, rec),
+        3 => stock::even(port, rec),
+        4 => stock::odd(port, rec),
+        5 => stock::halved_key(port, rec),
+        6 => stock::twice(port, rec),
+        7 => stock::port(port, rec),
+        8 => stock::above_zero(port, rec),
+        9 => stock::next_key(port, rec),
+        _ => return None,
+    };
+    Some(sent)
+}
+
+/// What a group of the first shelf sends.
+fn first_group(code: u16, key: u64, items: &[Item]) -> Option<Few>
+    ensures found { is_some result ≡ is_first group_answers code }
+    ensures law { IfSome result (λ sent. sent.items ≡ stock.group code key items.now) }
+{
+    let sent = match code {
+        20 => stock::count(key, items),
+        21 => stock::sum(key, items),
+        22 => stock::least(key, items),
+        23 => stock::greatest(key, items),
+        24 => stock::join_least(key, items),
+        _ => return None,
+    };
+    Some(sent)
+}
+
+/// What a fold of the first shelf keeps and sends.
+fn first_fold(
+    code: u16,
+    key: u64,
+    state: Option<State>,
+    items: &[Item],
+) -> Option<(Option<State>, Few)>
+    ensures found { is_some result ≡ is_first fold_answers code }
+    ensures law { IfSome result (λ answer. (answer.0, answer.1.items) ≡ stock.fold code key state items.now) }
+{
+    let answer = match code {
+        40 => stock::totalled(key, state, items),
+        41 => stock::toggled(key, state, items),
+        _ => return None,
+    };
+    Some(answer)
+}
+
+/// Whether the first shelf has a map of this code.
+fn is_first_map(code: u16) -> bool
+    ensures { result ≡ is_first map_answers code }
+{
+    match code {
+        1..=9 => true,
+        _ => false,
+    }
+}
+
+/// Whether the first shelf has a group of this code.
+fn is_first_group(code: u16) -> bool
+    ensures { result ≡ is_first group_answers code }
+{
+    match code {
+        20..=24 => true,
+        _ => false,
+    }
+}
+
+/// Whether the first shelf has a fold of this code.
+fn is_first_fold(code: u16) -> bool
+    ensures { result ≡ is_first fold_answers code }
+{
+    match code {
+        40 | 41 => true,
+        _ => false,
+    }
+}

@@ -1,0 +1,208 @@
+#!/usr/bin/env python3
+"""Runs random plans by the proved library, as Python, C and Rust call it, beside `td batch` and the reading of tests/random_inputs.py.
+
+    tests/library.py [COUNT [SEED]]     needs crates/td_c/out/libtd_c.a, crates/td/out/td and a C compiler; by default 300 plans
+
+Each epoch is one call of td_epoch by the Python client, with the states that the call before left: its outputs must be those of `td batch`, its states
+those of the reading. The states go in in random order; too little room must change nothing, and tell how much is wanted. As many texts with
+mistakes must be refused by td_check as `td plan` refuses them. Then the example of C, and that of Rust where there is a cargo, must print
+what `td batch` prints, and valgrind, where there is one, must see nothing amiss in the example of C."""
+
+import collections
+import ctypes
+import importlib.machinery
+import importlib.util
+import os
+import random
+import shutil
+import subprocess
+import sys
+
+import lib
+import random_inputs as inputs
+
+ARCHIVE = lib.ROOT / "crates/td_c/out/libtd_c.a"
+CLIENTS = lib.ROOT / "clients"
+# Epochs of the running total, by the keys and values of their records.
+TOTALS = [[(7, 5), (8, -3), (7, 1)], [], [(8, 3)] * 40, [(key, key - 50) for key in range(200)], [(7, 2**63 - 1), (7, 9)]]
+
+
+def loaded(name, file):
+    """A file of Python as a module."""
+    loader = importlib.machinery.SourceFileLoader(name, str(file))
+    module = importlib.util.module_from_spec(importlib.util.spec_from_loader(name, loader))
+    loader.exec_module(module)
+    return module
+
+
+def run(words, given="", **more):
+    """The output of a command; the script ends where it fails."""
+    done = subprocess.run([str(word) for word in words], input=given, capture_output=True, text=True, **more)
+    if done.returncode != 0:
+        lib.fail(f"{' '.join(map(str, words))}: status {done.returncode}\n{done.stdout[-1000:]}{done.stderr[-3000:]}")
+    return done.stdout
+
+
+# Random plans
+
+
+def outputs_by_epoch(text):
+    """The outputs of each epoch that `td batch` prints for an input; or the fault that it prints."""
+    status, printed, fault = inputs.answered(["batch"], text)
+    if status != 0:
+        return None, fault.decode().removeprefix("td: ").strip()
+    found = collections.defaultdict(list)
+    for line in printed.decode().splitlines():
+        epoch, *rest = map(int, line.split())
+        found[epoch].append(tuple(rest))
+    return found, None
+
+
+def told(client, refused):
+    """A refusal of td_check as `td` tells it."""
+    what, where = client.ANSWERS[refused.number]
+    if where == client.VERTEX:
+        return f"vertex {refused.place}: {what}"
+    return f"plan {where.format(refused.place)}: {what}".replace("plan :", "plan:")
+
+
+def too_little_room(client, plan, states, records, wanted):
+    """Whether a call with too little room tells how much is wanted, and changes nothing."""
+    given = client.array_of(client.Record, records)
+    kept, outputs = client.array_of(client.State, states), client.array_of(client.Record, [(9, 9, 9)])
+    counts, place = client.Counts(len(states), 5), ctypes.c_uint64(1)
+    room = len(states), 0
+    answer = plan.library.td_epoch(plan.text, len(plan.text), given, len(records), kept, room[0], outputs, room[1], counts, place)
+    is_lacking = wanted[0] > room[0] or wanted[1] > room[1]
+    if not is_lacking:
+        return answer == client.DONE
+    same = client.rows_of(kept, len(states)) == states and client.rows_of(outputs, 1) == [(9, 9, 9)]
+    return answer == client.ROOM and place.value == 0 and (counts.states, counts.outputs) == wanted and same
+
+
+def run_plan(client, library, rng, text, met):
+    """One random plan: epoch by epoch beside `td batch` and the reading."""
+    outputs, fault = outputs_by_epoch(text)
+    lines = inputs.lines_of(text)
+    cut = lines.index(b"--")
+    spelled = b"\n".join(lines[:cut])
+    try:
+        plan = client.Plan(spelled, library)
+    except client.Refused as refused:
+        if told(client, refused) != (fault or "").split(" closure ")[0]:
+            lib.fail(f"{text!r}\ntd_check: {refused}\ntd batch: {fault}")
+        met["refused alike"] += 1
+        return
+    if fault is not None:
+        lib.fail(f"{text!r}\ntd_check takes it\ntd batch: {fault}")
+    reading, rows, kept = inputs.read_plan(lines[:cut], True), [], {}
+    for at, batch in enumerate(inputs.read_epochs(reading, lines[cut + 1:], cut + 2), 1):
+        rng.shuffle(rows)
+        epoch = inputs.Epoch(batch, kept)
+        epoch.turn(reading.outermost, 0, None, {})
+        wanted = [(vertex, key, *state) for (vertex, key), state in sorted(kept.items())]
+        if not too_little_room(client, plan, rows, batch, (len(wanted), len(outputs[at]))):
+            lib.fail(f"{text!r}\nepoch {at}: with too little room it does not answer as it must")
+        got = plan.epoch(rows, batch)
+        if got != (wanted, outputs[at]):
+            lib.fail(f"{text!r}\nepoch {at} of {rows} and {batch}:\n   has {got}\nwanted {wanted, outputs[at]}")
+        rows = got[0]
+        met["epochs"] += 1
+        met["states"] += len(rows)
+    met["plans"] += 1
+
+
+def is_short(text):
+    """Whether the reading answers an input soon: it leaves out those whose loops double records."""
+    try:
+        inputs.wanted(text, True)
+    except inputs.TooLarge:
+        return False
+    return True
+
+
+def run_plans(client, library, count, rng):
+    met = collections.Counter()
+    while met["plans"] < count:
+        text = inputs.random_input(rng, True)
+        if is_short(text):
+            run_plan(client, library, rng, text, met)
+        else:
+            met["left out, since their loops double records too often"] += 1
+    return met
+
+
+# Texts with mistakes
+
+
+def run_mistakes(client, library, count, rng):
+    """As many texts of plans with mistakes: td_check refuses what `td plan` refuses, at the same line."""
+    refusals = 0
+    for _ in range(count):
+        text = inputs.with_mistakes(rng, inputs.random_input(rng, True).split(b"\n--")[0])
+        done = subprocess.run([lib.TD, "batch"], input=text + b"\n--\n", capture_output=True)
+        wanted = done.stderr.decode().removeprefix("td: ").strip().split(" closure ")[0]
+        if b"--" in text or done.returncode == 0 and wanted:
+            continue
+        try:
+            client.Plan(text, library)
+            got = ""
+        except client.Refused as refused:
+            got = wanted if refused.number == 11 and wanted.endswith(": syntax") else told(client, refused)
+        if got != wanted:
+            lib.fail(f"{text!r}\ntd_check: {got}\n      td: {wanted}")
+        refusals += got != ""
+    return refusals
+
+
+# The examples
+
+
+def totals_text():
+    """The records of TOTALS as the examples take them, and an input of `td batch`."""
+    given = "".join("".join(f"{key} {val}\n" for key, val in epoch) + ".\n" for epoch in TOTALS)
+    batch = lib.TOTAL + "--\n" + "".join("".join(f"0 {key} {val}\n" for key, val in epoch) + ".\n" for epoch in TOTALS)
+    return given, run([lib.TD, "batch"], batch)
+
+
+def run_example(what, words, given, wanted, **more):
+    got = run(words, given, **more)
+    if got != wanted:
+        lib.fail(f"the example of {what} prints {got!r}, and td batch {wanted!r}")
+    return what
+
+
+def run_examples(folder):
+    """Builds and runs the examples; answers what ran."""
+    given, wanted = totals_text()
+    program = folder / "totals"
+    run([shutil.which("cc") or shutil.which("gcc") or shutil.which("clang"), "-std=c11", "-Wall", "-Wextra", "-Werror", "-I", CLIENTS / "c",
+         CLIENTS / "c/example.c", folder / "libtd.a", "-o", program])
+    ran = [run_example("C", [program], given, wanted)]
+    if shutil.which("valgrind"):
+        ran.append(run_example("C under valgrind", ["valgrind", "-q", "--error-exitcode=9", "--leak-check=full", program], given, wanted))
+    if shutil.which("cargo"):
+        shutil.copytree(CLIENTS / "rust", folder / "rust", ignore=shutil.ignore_patterns("target"))
+        run(["cargo", "build", "--offline", "--quiet", "--examples"], cwd=folder / "rust", env={**os.environ, "TD_LIBRARY": str(folder)})
+        ran.append(run_example("Rust", [folder / "rust/target/debug/examples/totals"], given, wanted))
+    return ran
+
+
+def main():
+    count = int(sys.argv[1]) if sys.argv[1:] else 300
+    rng = random.Random(sys.argv[2] if sys.argv[2:] else "td")
+    lib.built(lib.TD)
+    if not ARCHIVE.is_file():
+        lib.fail(f"{ARCHIVE} is not there: cd crates/td_c && rt lib")
+    client = loaded("td_c", CLIENTS / "python/td_c.py")
+    with lib.folder() as folder:
+        if not loaded("build", lib.ROOT / "build").link_library(ARCHIVE, folder):
+            return lib.skip("no C compiler, or no ar")
+        met = run_plans(client, folder / "libtd.so", count, rng)
+        refusals = run_mistakes(client, folder / "libtd.so", count, rng)
+        ran = run_examples(folder)
+    print(", ".join(f"{what}: {times}" for what, times in met.items()) + f"; {refusals} texts refused alike; examples: {', '.join(ran)}")
+
+
+if __name__ == "__main__":
+    main()
