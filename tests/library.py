@@ -14,6 +14,7 @@ import importlib.machinery
 import importlib.util
 import os
 import random
+import re
 import shutil
 import subprocess
 import sys
@@ -66,6 +67,11 @@ def told(client, refused):
     return f"plan {where.format(refused.place)}: {what}".replace("plan :", "plan:")
 
 
+def without_code(fault):
+    """A fault of `td` without the code of a closure that is lacking."""
+    return re.sub(r"(: no closure) \d+$", r"\1", fault)
+
+
 def too_little_room(client, plan, states, records, wanted):
     """Whether a call with too little room tells how much is wanted, and changes nothing."""
     given = client.array_of(client.Record, records)
@@ -89,7 +95,7 @@ def run_plan(client, library, rng, text, met):
     try:
         plan = client.Plan(spelled, library)
     except client.Refused as refused:
-        if told(client, refused) != (fault or "").split(" closure ")[0]:
+        if told(client, refused) != without_code(fault or ""):
             lib.fail(f"{text!r}\ntd_check: {refused}\ntd batch: {fault}")
         met["refused alike"] += 1
         return
@@ -141,7 +147,7 @@ def run_mistakes(client, library, count, rng):
     for _ in range(count):
         text = inputs.with_mistakes(rng, inputs.random_input(rng, True).split(b"\n--")[0])
         done = subprocess.run([lib.TD, "batch"], input=text + b"\n--\n", capture_output=True)
-        wanted = done.stderr.decode().removeprefix("td: ").strip().split(" closure ")[0]
+        wanted = without_code(done.stderr.decode().removeprefix("td: ").strip())
         if b"--" in text or done.returncode == 0 and wanted:
             continue
         try:
