@@ -1,6 +1,7 @@
 """Everything proved, by `rt ci` on a copy of the repository without the must-fail edits, and these tried over what it proves."""
 
 import concurrent.futures
+import copy
 import os
 import pathlib
 import re
@@ -26,20 +27,21 @@ def prove(tally):
     """Runs `rt ci` on a copy of the repository, tries the must-fail edits over what it proves, and takes over the programs that it builds, those of tests too,
     and the static libraries."""
     with tempfile.TemporaryDirectory(prefix="td-proof-") as folder:
-        copy = pathlib.Path(folder) / "repository"
-        shutil.copytree(ROOT, copy, ignore=is_left_out)
-        trials = Trials(copy)
+        top = pathlib.Path(folder) / "repository"
+        shutil.copytree(ROOT, top, ignore=is_left_out)
+        trials = Trials(top)
         for name in trials.crates:
             for file in set((ROOT / "crates" / name).glob("must-fail/*")) - set(edits_of(name)):
                 if file.suffix != ".md":
                     tally.fail(f"must-fail {name}/{file.name}", "an edit is a file whose name ends in .edit")
-        if run_rt_ci(tally, copy, trials):
+        if run_rt_ci(tally, top, trials):
             for name in trials.crates:
                 trials.begin(name)
+            build_archives(tally, trials.crates.values())
         trials.end(tally)
-        for build in copy.glob("crates/*/out/*"):
+        for build in top.glob("crates/*/out/*"):
             if build.is_file() and (os.access(build, os.X_OK) or build.suffix == ".a"):
-                folder = ROOT / build.parent.relative_to(copy)
+                folder = ROOT / build.parent.relative_to(top)
                 folder.mkdir(exist_ok=True)
                 shutil.copy2(build, folder)
 
@@ -71,6 +73,20 @@ def run_rt_ci(tally, top, trials):
     if run.returncode != 0 and int(counted[2]) == 0:
         tally.fail("rt ci", f"it ended with status {run.returncode}")
     return run.returncode == 0
+
+
+def build_archives(tally, crates):
+    """Builds the static libraries over the libraries that `rt ci` proved: it proves them too, and leaves no archive of one."""
+    for crate in (copy.copy(it) for it in crates if it.is_static):
+        os.makedirs(f"{crate.folder}/out", exist_ok=True)
+        with tempfile.TemporaryFile("w+") as crate.out:
+            status = crate.compile(["--jobs", "1"], f"out/lib{crate.name}.a")
+            crate.out.seek(0)
+            said = crate.out.read()
+        if status:
+            tally.fail(f"lib{crate.name}.a", said)
+        else:
+            print(f"check: lib{crate.name}.a is built", flush=True)
 
 
 def edits_of(name):
