@@ -129,7 +129,7 @@ class Reader:
         found = []
         while True:
             name = self.word()
-            if not self.is_name(name):
+            if not self.is_name(name) or self.words[self.at + 1:self.at + 2] != ["="]:
                 raise Fault("syntax")
             if is_let and (name in NAMES or name in self.names or not re.match("[A-Za-z_]", name)):
                 raise Fault("syntax" if is_number(name) else "name")
@@ -177,9 +177,10 @@ def add_line(closures, words):
         code = read.word()
         if code is None or not is_number(code):
             raise Fault("syntax")
-        if not 10000 <= int(read.take()) <= 65535:
-            raise Fault("code")
+        read.take()
         read.end()
+        if not 10000 <= int(code) <= 65535:
+            raise Fault("code")
         if any((it.kind, it.code) == (first, int(code)) for it in closures):
             raise Fault("code")
         closures.append(Closure(first, int(code)))
