@@ -59,7 +59,7 @@ OTHER_DISK = (b"format", b"blank", b"byte", b"size")
 # Those that have workers in threads.
 WITH_WORKERS = (b"feed ", b"meet ", b"drive ")
 # Those of them that write what `td feed` writes; and what a map adds whose calls have met.
-FEEDS = (b"feed ", b"meet ")
+FEEDINGS = (b"feed ", b"meet ")
 MET = b"met"
 SAID = (b"ack ", b"again ", b"cut ")
 # Those that two recoveries follow, of which one may be refused, in rows with workers.
@@ -338,7 +338,7 @@ class Played:
         if begin == done - 1:
             return True
         recovery = next((index for index, line in enumerate(lines) if index >= at and line.startswith(b"kept ")), len(lines))
-        if self.steps[done - 1].startswith(FEEDS) and not self.is_fed(lines[self.counts[done - 1]:], done):
+        if self.steps[done - 1].startswith(FEEDINGS) and not self.is_fed(lines[self.counts[done - 1]:], done):
             # (or it was the command before that failed, which says nothing otherwise, and the feed found no disk to write on)
             is_before = lines[at] == FAILED and self.counts[done - 2] == self.counts[done - 1]
             if not is_before or any(line.startswith(SAID) or line[:1].isdigit() for line in lines[at:recovery]):
