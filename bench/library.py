@@ -1,0 +1,108 @@
+#!/usr/bin/env python3
+"""Takes the time of an epoch of TOTAL by the library, as the Rust client calls it, beside the same epochs through a pipe to `td stream` and to `td batch`.
+
+    bench/library.py [FOLDER]       needs crates/td/out/td, crates/td_c/out/libtd_c.a, cargo and a C compiler; the disk lies in FOLDER
+
+All take the same records, and the sums of their outputs must be equal. The stream syncs each epoch, and the library and the batch nothing; so a FOLDER
+in memory (/dev/shm, by default) is the harder one for the library. The library is handed all states in each epoch, so keys cost. The best of three
+counts; what makes the keys first is taken off."""
+
+import os
+import pathlib
+import shutil
+import subprocess
+import sys
+import time
+
+sys.dont_write_bytecode = True
+sys.path.insert(0, str(pathlib.Path(__file__).resolve().parent.parent / "tests"))
+import lib
+from lib import ROOT, TOTAL
+from library import ARCHIVE, CLIENTS, loaded
+
+# Epochs, records of one, and keys.
+CASES = [(2000, 1, 10), (2000, 10, 1000), (1000, 1000, 10), (1000, 1000, 1000), (200, 1000, 100_000), (20, 1000, 1_000_000)]
+ROUNDS = 3
+
+
+def build(folder):
+    """The program of the Rust client."""
+    loaded("build", ROOT / "build").link_library(ARCHIVE, folder)
+    shutil.copytree(CLIENTS / "rust", folder / "rust", ignore=shutil.ignore_patterns("target"))
+    shutil.copy(ROOT / "bench/library.rs", folder / "rust/examples/speed.rs")
+    subprocess.run(["cargo", "build", "--release", "--offline", "--quiet", "--example", "speed"], cwd=folder / "rust",
+                   env={**os.environ, "TD_LIBRARY": str(folder)}, check=True)
+    return folder / "rust/target/release/examples/speed"
+
+
+def first_of(keys):
+    """A record of each key, in epochs of 1,000."""
+    return "".join(f"0 {key} 1\n" + (".\n" if key % 1000 == 999 or key == keys - 1 else "") for key in range(keys))
+
+
+def epochs_of(epochs, count, keys):
+    """The records that bench/library.rs makes, as lines."""
+    seed, lines = 1, []
+    for _ in range(epochs):
+        for _ in range(count):
+            seed = (seed * 6364136223846793005 + 1442695040888963407) % 2**64
+            lines.append(f"0 {(seed >> 33) % keys} 1\n")
+        lines.append(".\n")
+    return "".join(lines)
+
+
+def piped(words, text):
+    """The seconds of a command, and the sum of the values that it prints."""
+    begun = time.monotonic()
+    done = subprocess.run([lib.TD, *words], input=text, capture_output=True, text=True, check=True)
+    seconds = time.monotonic() - begun
+    return seconds, sum(int(line.rsplit(" ", 1)[1]) for line in done.stdout.splitlines() if line[0].isdigit())
+
+
+def streamed(folder, keys, text):
+    """The seconds of the epochs in `td stream` on a new disk that has the keys, and the sum of all outputs."""
+    disk, plan = folder / "disk", folder / "plan"
+    disk.unlink(missing_ok=True)
+    plan.write_text(TOTAL)
+    subprocess.run([lib.TD, "format", disk, plan, "1000", "4096", str(keys)], check=True, capture_output=True)
+    _, sum_of_first = piped(["feed", disk, plan], first_of(keys) + "cut\n")
+    none, _ = piped(["stream", disk, plan], "")
+    seconds, more = piped(["stream", disk, plan], text)
+    return seconds - none, sum_of_first + more
+
+
+def batched(keys, text):
+    head = f"{TOTAL}--\n{first_of(keys)}"
+    none, _ = piped(["batch"], head)
+    seconds, total = piped(["batch"], head + text)
+    return seconds - none, total
+
+
+def main():
+    at = pathlib.Path(sys.argv[1] if sys.argv[1:] else "/dev/shm")
+    if not ARCHIVE.is_file() or not shutil.which("cargo"):
+        sys.exit("library: needs crates/td_c/out/libtd_c.a (./build --library) and cargo")
+    with lib.folder() as folder:
+        program = build(folder)
+        place = at / f"td-library-{os.getpid()}"
+        place.mkdir()
+        try:
+            print("| Epochs | Records of one | Keys | by the library, ms | by td stream | by td batch |\n|---|---|---|---|---|---|")
+            for epochs, count, keys in CASES:
+                text = epochs_of(epochs, count, keys)
+                met = {"library": [], "stream": [], "batch": []}
+                for _ in range(ROUNDS):
+                    seconds, total = subprocess.run([program, *map(str, (epochs, count, keys))], capture_output=True, text=True, check=True).stdout.split()
+                    met["library"].append((float(seconds), int(total)))
+                    met["stream"].append(streamed(place, keys, text))
+                    met["batch"].append(batched(keys, text))
+                if len({total for runs in met.values() for _, total in runs}) != 1:
+                    lib.fail(f"{epochs} epochs of {count} records: the sums differ: {met}")
+                best = {who: 1000 * min(runs)[0] / epochs for who, runs in met.items()}
+                print(f"| {epochs} | {count} | {keys} | {best['library']:.3f} | {best['stream']:.3f} | {best['batch']:.3f} |", flush=True)
+        finally:
+            shutil.rmtree(place)
+
+
+if __name__ == "__main__":
+    main()
