@@ -41,7 +41,8 @@ fn print_port(text: &mut String, vertex: &Vertex, port: usize) -> Result<(), Pla
     Ok(())
 }
 
-/// Appends the look of an edge that leads to a feedback. Refusal: `Memory`.
+/// Appends the look of an edge that leads to a feedback. Refusal: `Memory`. Such an edge is dashed, and does not count where the
+/// vertices are placed.
 fn print_back(text: &mut String, vertex: &Vertex) -> Result<(), PlanError>
     ensures ok { OnOk result (string_bytes text.new ≡ string_bytes text.old ++ back_of vertex.now.vertex) }
     ensures err { IfErr result (λ e. e ≡ PlanError.Memory) }

@@ -73,7 +73,8 @@ fn look_of(kind: Kind) -> &'static str
     }
 }
 
-/// Appends the head of the loop of this number. Refusal: `Memory`.
+/// Appends the head of the loop of this number. Refusal: `Memory`. The colour lets through what is behind it, so a loop in a loop
+/// is darker.
 fn print_head(text: &mut String, number: u64, bound: u16) -> Result<(), PlanError>
     ensures ok { OnOk result (string_bytes text.new ≡ string_bytes text.old ++ head_of number bound) }
     ensures err { IfErr result (λ e. e ≡ PlanError.Memory) }

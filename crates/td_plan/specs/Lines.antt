@@ -1,4 +1,6 @@
--- A plan is the list of its lines.
+-- A plan is the list of its lines. A line stands in a scope (`Blocks`): the vertices so far with the loops round each, and the
+-- loops that are open. Definitions have the innermost loop first, and the code hands out the outermost first. Two blocks differ
+-- in the first numbers of their loops: two loops side by side share none, since a loop without a vertex is refused.
 use Rattle.std.specs.Prelude.{ℕ, List, [], ◌∷◌, ◌++◌, map, codes, decimal, flat_map, Bool, true, ◌&&◌, ◌==◌, nat_lt, nat_le, length}
 use Rattle.std.specs.List.{join_with_byte, list_all}
 use Rattle.td_plan.specs.declared.vertex.Kind.{Kind}

@@ -52,6 +52,8 @@ impl PlanError {
     }
 }
 
+// The texts are written by hand. What the derive of `thiserror` writes has no contract, and the program's contract cites these
+// (`specs/Refusals.antt`): so each text stands once.
 impl fmt::Display for PlanError {
     ghost output = { λ e. Some (refusal_text e) };
 

@@ -30,7 +30,9 @@ pub fn lines_by_words()
     ensures read_back { (line : Line) → has_form line ≡ true → words (join_with_byte 32 (words_of line)) ≡ words_of line }
 {}
 
-/// The canonical text of a plan spells that plan and no other, in at most 3,948 bytes.
+/// The canonical text of a plan spells that plan and no other, in at most 3,948 bytes. These are 64 lines of vertices with 15
+/// bytes, 128 sources with 3, and 186 loops with 14. At most three loops stand round a vertex, and none round an input or an
+/// output: so there are at most 186. No plan reaches the bound, since its first ten numbers have one digit.
 pub fn canonical_text()
     ensures spells { (plan : List Line) → IsPlan plan → PlanText (text_of plan) plan }
     ensures no_other { (p q : List Line) → IsPlan p → PlanText (text_of p) q → q ≡ p }
@@ -95,7 +97,8 @@ pub fn edges_by_number()
         → filter (λ e. e.reader == v) (edges plan) ≡ edges_to p }
 {}
 
-/// Each vertex of a plan's tree is found by its number, where it stands in the tree, with the edges that lead to it.
+/// Each vertex of a plan's tree is found by its number, where it stands in the tree, with the edges that lead to it. It goes
+/// along the tree, as the meaning of a plan by turns does; `look_ups` goes by number.
 pub fn laid()
     ensures { (plan : List Line) → IsPlan plan → AreLaid plan [] (tree_of plan) }
 {}

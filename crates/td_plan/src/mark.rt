@@ -1,4 +1,5 @@
-//! The lines of a plan, beside its vertices.
+//! The lines of a plan, beside its vertices. So a plan's text is printed line by line, and two plans are the same where marks and
+//! vertices are.
 ghost use Rattle.std.specs.Prelude.{◌≡◌, ◌↔◌, IsTrue};
 
 /// What a line of a plan is, beside the list of its vertices.

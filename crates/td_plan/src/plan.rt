@@ -25,6 +25,9 @@ use td_stamp::Batch;
 
 /// A plan: vertices in the order of their numbers, and the loops in which they stand. Contracts see the list of its
 /// lines.
+///
+/// Look-ups go by place: vertex v is the v-th. So the rule on edges is one test, whether the vertex of this number is read on
+/// this block.
 #[derive(Drop)]
 pub struct Plan {
     marks: Vec<Mark>,

@@ -1,4 +1,10 @@
 //! The reader of plan texts: a pass over the lines, and one over the feedbacks.
+//!
+//! The functions compute `answer_of` of `specs/Steps/Reading.antt`, word by word and line by line. Laws show that this is the one
+//! answer of the relations that say what a plan's text and its fault are. No definition of a plan rests on `specs/Steps`.
+//!
+//! A feedback's source may be any number until the second pass. So a draft keeps sources as they are written. After that pass
+//! each source is the number of a vertex, and a plan is made of the draft.
 ghost use Rattle.std.specs.Prelude.{◌≡◌, ◌⊎◌, ◌++◌, None, Ok, Err, true, IfOk, OnOk, IfErr, find, option_map};
 ghost use Rattle.std.specs.List.{list_any};
 ghost use Rattle.td_plan.specs.Lines.{has_form};

@@ -1,4 +1,5 @@
-//! What is in scope after some lines of a plan, and the faults of a further line.
+//! What is in scope after some lines of a plan, and the faults of a further line. `Scope` is the scope of the definitions, and
+//! the contract of `fault` names each of their rules.
 ghost use Rattle.std.specs.Prelude.{◌≡◌, ◌+◌, ◌<◌, ◌≤◌, None, [], ◌∷◌, length, reverse, IfOk, IfErr, option_map, true};
 ghost use Rattle.std.specs.Option.{option_copied};
 ghost use Rattle.std.specs.List.{slice_get};
@@ -252,7 +253,8 @@ impl Scope {
         self.edges + sources > EDGES
     }
 
-    /// Whether this is the number of a feedback whose source is no vertex, or is not read on the feedback's block.
+    /// Whether this is the number of a feedback whose source is no vertex, or is not read on the feedback's block. It is said by
+    /// the vertex's number, since the second pass knows a feedback by it.
     pub(crate) fn is_stray(&self, number: u32) -> bool
         ensures { result ≡ is_stray_at self.now.vertices number }
     {

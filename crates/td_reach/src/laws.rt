@@ -1,4 +1,7 @@
 //! Laws of the definitions. Each is the contract of a function that does nothing, or calls the laws that it follows from.
+//!
+//! The orders of counters are laws of td_stamp. What follows of a plan without a fault is a law of td_plan, and
+//! `proofs/Lawful.antt` proves some of it once more.
 ghost use Rattle.std.specs.Prelude.{[], ◌≡◌, ◌≤◌, ◌<◌, ◌↔◌, ℕ, List, length, Some, true};
 ghost use Rattle.std.specs.List.{slice_get};
 ghost use Rattle.td_stamp.specs.Time.{Timestamp, IsAtMost};

@@ -54,7 +54,8 @@ impl Reach {
         &self.plan
     }
 
-    /// Whether the plan has the place of a pointstamp, and its time is in as many loops as are open there.
+    /// Whether the plan has the place of a pointstamp, and its time is in as many loops as are open there. A caller with a plan
+    /// from a text cannot show the condition of `could` without it.
     pub fn has(&self, stamp: &Stamp) -> bool
         ensures { IsTrue result ↔ IsOf self.now stamp.now }
     {

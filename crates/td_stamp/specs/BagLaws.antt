@@ -1,4 +1,6 @@
--- What holds of bags and sets over any total order in which only equal members tie, also of members that no code has.
+-- What holds of bags and sets over any total order in which only equal members tie, also of members that no code has. They are
+-- one record, so that a proof takes one hypothesis for each order. No clause can speak of every predicate: that a set has no
+-- other members is said by `Contains`.
 use Rattle.std.specs.Prelude.{◌≡◌, ◌+◌, ◌⊎◌, ◌↔◌, ◌++◌, ◌∷◌, ◌||◌, Bool, true, false, List, filter, length}
 use Rattle.std.specs.List.{AllByRecursion, Contains}
 use Rattle.std.specs.List.Sorted.{IsStrictlySortedBy}

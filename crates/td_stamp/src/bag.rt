@@ -14,8 +14,10 @@ use std::marker::Model;
 
 /// A bag: a finite list whose order has no meaning and whose repeats count. Contracts see it as its sorted list.
 ///
-/// Members that come in order are kept in a list, at O(1) each on average. The first that belongs before another moves
-/// them into a tree, once; from then on each costs O(log n), wherever it belongs. Either way n members take O(n) memory.
+/// Members that come in order are kept in a list, at O(1) each on average. The first that belongs before another moves them into
+/// a tree, once; from then on each costs O(log n), wherever it belongs. Either way n members take O(n) memory. Records that come
+/// in order, as an epoch's outputs do, stay in the list. In both forms members can be listed in order, and two bags compared,
+/// without memory.
 #[derive(Debug, Drop)]
 pub struct Bag<T: Member> {
     // The members in order, as long as none came that belongs before another.
@@ -134,7 +136,8 @@ impl<T: Member> Bag<T> {
         Ok(())
     }
 
-    /// A bag of the members of both. Refusal: `Memory`.
+    /// A bag of the members of both. Refusal: `Memory`. Its members stand in a list, in order. A map in its place would cost a
+    /// look-up for each member.
     fn merged(&self, other: &Bag<T>) -> Result<Bag<T>, StampError>
         ensures { IfOk result (λ bag. bag ≡ join T.cmp other.now self.now) }
     {

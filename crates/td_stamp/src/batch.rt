@@ -33,8 +33,9 @@ impl<'a> Model for Records<'a> {
 }
 
 impl Bag<Entry> {
-    /// The bag of the records that the batch gives `input`, in order: they are found by search, in O(log n), in a batch
-    /// whose entries came in order. Takes no memory.
+    /// The bag of the records that the batch gives `input`, in order: they are found by search, in O(log n), in a batch whose
+    /// entries came in order. Takes no memory. In a batch whose entries came out of order they are picked out as it is listed. By
+    /// contract they come sorted, so no caller sorts or copies them.
     pub fn records(&self, input: u8) -> Records<'_>
         ensures all { result ≡ records_for input self.now }
         ensures bag { result ≡ bag_of rec_cmp (records_for input self.now) }

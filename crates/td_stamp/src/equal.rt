@@ -1,4 +1,5 @@
-//! Equality of bags and of kept states. It takes no memory.
+//! Equality of bags and of kept states. It takes no memory. A clause of its own says of `==` that it is true exactly where the
+//! two are the same. Two of different lengths differ at once.
 ghost use Rattle.std.specs.Prelude.{◌≡◌, ◌↔◌, ◌&&◌, IsTrue};
 ghost use Rattle.std.specs.Cmp.Lexicographic.{pointwise, lists_per, lists_equiv};
 ghost use Rattle.td_stamp.specs.States.{same_entry};

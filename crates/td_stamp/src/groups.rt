@@ -1,4 +1,5 @@
-//! The arrivals at a vertex, by key.
+//! The arrivals at a vertex, by key. An arrival is kept as its key and its item. So the derived order puts the items of a key
+//! together, and sorts them. Items have a port, and records have none: so `groups` is a call of the bag of arrivals.
 ghost use Rattle.std.specs.Prelude.{◌≡◌, ◌∷◌, ◌++◌, [], IfOk, OnOk, IsSome};
 ghost use Rattle.td_stamp.specs.Groups.{groups};
 ghost use Rattle.td_stamp.specs.Steps.{last_key, with_last_item};

@@ -1,4 +1,5 @@
-//! Laws of the definitions. Each is the contract of a function that does nothing.
+//! Laws of the definitions. Each is the contract of a function that does nothing. Laws of bags are generic over the members,
+//! since a clause cannot speak of every type.
 ghost use Rattle.std.specs.Prelude.{◌≡◌, ◌+◌, ◌<◌, ◌≤◌, ◌⊎◌, ◌↔◌, ℕ, Bool, List, [], ◌∷◌, ◌++◌, length, filter, true};
 ghost use Rattle.std.specs.List.{flat_map};
 ghost use Rattle.std.specs.List.Sorted.{IsPermutation, IsSorted};

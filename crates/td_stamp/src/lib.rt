@@ -1,4 +1,11 @@
 //! Records, timestamps, bags and kept states: the values of which the rest of the engine speaks.
+//!
+//! A bag has no order, since workers may deliver records in any. Contracts see it as its sorted list, so that equal bags are
+//! equal lists. Records, arrivals, entries and outputs all stand in bags, so `Bag<T>` is generic over its members. Kept states
+//! are a map from vertex and key to two numbers.
+//!
+//! The crate has no plan and no closures. Its laws of bags and times are contracts of the functions in `laws`, for the crates
+//! above. For example the bag of 2, 1, 2 and that of 1, 2, 2 are one list.
 #![tactic(auto)]
 
 mod bag;

@@ -12,6 +12,9 @@ use crate::values::{Arrival, Entry, Item, Output, Rec};
 /// A plain value that may be a member of a bag: its order tells different values apart, and a copy is the same value.
 ///
 /// Many members are sorted as numbers where each has one: numbers in order stand for members in order.
+///
+/// Records, arrivals, entries and outputs are members: a `Batch` is a `Bag<Entry>`, and an `EpochOut` has a `Bag<Output>`. So the
+/// records of an epoch come in order by their type alone.
 pub trait Member: Ord + Copy {
     ghost of_number: { Self → ℕ → Self };
 

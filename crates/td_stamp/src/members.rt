@@ -1,4 +1,4 @@
-//! The members of a bag, in order.
+//! The members of a bag, in order. `collect` makes a `Vec` of them where one is needed.
 ghost use Rattle.std.specs.Prelude.{◌≡◌, ◌++◌, length};
 ghost use Rattle.std.specs.Iterator.{at_most, YieldsFirst};
 ghost use Rattle.td_stamp.specs.Bag.{members};

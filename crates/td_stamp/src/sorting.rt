@@ -1,4 +1,4 @@
-//! Sorting members.
+//! Sorting members. They are sorted where they stand, in a fraction of the time and room that a tree takes.
 ghost use Rattle.std.specs.Prelude.{◌≡◌, IfSome, length, map, if◌then◌else◌};
 ghost use Rattle.td_stamp.specs.Bag.{bag_of};
 
@@ -8,8 +8,10 @@ use std::alloc::Global;
 /// How many members there are at least where they are sorted as numbers.
 const MANY: usize = 32;
 
-/// Sorts members: those in order are left as they are, in one pass. Many are sorted as numbers, where all have one and
-/// there is room.
+/// Sorts members: those in order are left as they are, in one pass. Many are sorted as numbers, where all have one and there is
+/// room. A member has a number where its value fits 32 bits and its key is below 2^28, or below 2^32 of a record alone. An
+/// arrival's port is below 16, and all vertices are of one block of 16. The numbers take 8 bytes each meanwhile. Without room for
+/// them the members are sorted as they are, so there is no refusal.
 pub(crate) fn sort<T: Member>(alloc: Global, members: &mut [T])
     ensures { members.new ≡ bag_of T.cmp members.old }
 {

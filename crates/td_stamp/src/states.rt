@@ -11,6 +11,13 @@ use std::marker::Model;
 
 /// The states that folds keep, by vertex and key. A state is found by the hash of these, at a cost that does not grow with how many
 /// there are; the vertices and keys stand in order beside, so that the states can be listed in it.
+///
+/// A fold finds a state twice in an epoch, to read it and to put it in its place. A descent in an ordered map of many keys costs
+/// several times as much as a look-up by hash. Only a key that comes or goes finds its way in the ordered set.
+///
+/// The hash has a fixed seed. Somebody who chooses keys can choose many that meet, and each of them then costs O(n). A service
+/// that takes keys from strangers needs keys that are hashed with a secret of its own. std's `RandomState` wants random bytes,
+/// which no call here has, and two runs would differ.
 #[derive(Debug, Drop)]
 pub struct States {
     kept: HashMap<(u8, u64), State>,

@@ -16,6 +16,9 @@ pub const EPOCHS_END: u64 = 1 << 63;
 ///
 /// The counters stand in the order in which they are printed, the outermost first. Contracts see them with the
 /// innermost first.
+///
+/// The fields are private, so no time has four counters. There is no `Ord`: its `<=` would be `total_cmp`, and would be taken for
+/// `le`.
 #[derive(Debug, Drop, PartialEq, Eq, Hash)]
 pub struct Time {
     epoch: u64,
@@ -70,7 +73,7 @@ impl Time {
         self.turns.len()
     }
 
-    /// The same time.
+    /// The same time. It stands in place of `Clone`, which in this toolchain may be refused memory.
     pub fn copy(&self) -> Self
         ensures { result ≡ self.now }
     {
@@ -103,8 +106,9 @@ impl Time {
         self.epoch <= other.epoch && self.turns().cmp(&other.turns()).is_le()
     }
 
-    /// The order in which lists of times are kept: by epoch, then by the counters as a list from the outermost, as slices
-    /// are compared, so that `1<0,0>` comes before `1<1>`. It is total; `le` orders fewer times, and none the other way.
+    /// The order in which lists of times are kept: by epoch, then by the counters as a list from the outermost, as slices are
+    /// compared, so that `1<0,0>` comes before `1<1>`. It is total; `le` orders fewer times, and none the other way.
+    /// Notifications come in this order.
     pub fn total_cmp(&self, other: &Time) -> Ordering
         ensures { result ≡ time_cmp self.now other.now }
     {
