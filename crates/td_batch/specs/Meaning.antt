@@ -68,8 +68,9 @@ abbrev pub over_turns : List Bags → ℕ → ℕ → Bags
 over_turns each v zero = []
 over_turns each v (suc n) = bag_of rec_cmp (flat_map (λ bags. emitted bags v) each) ∷ over_turns each (v + 1) n
 
--- ONE TURN OF A BLOCK: the bags so far, and then those of its vertices in the order of their numbers. A loop makes all
--- its turns within this one; outside, its leaves alone are read, and they emit what they emitted in all of them
+-- ONE TURN OF A BLOCK: the bags so far, and then those of its vertices in the order of their numbers. A loop makes all its turns
+-- within this one; outside, its leaves alone are read, and they emit what they emitted in all of them. The turn before is an
+-- argument, and no number of a turn is needed
 abbrev pub turn : EpochInput → Nodes → Option Bags → Bags → Bags
 turn epoch done before bags = bags
 turn epoch (node v rest) before bags = turn epoch rest before (bags ++ emission epoch before bags v ∷ [])

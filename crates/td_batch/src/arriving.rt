@@ -1,4 +1,7 @@
 //! What arrives at a vertex.
+//!
+//! One bag is in order, and so are its records as they arrive at port 0. So a group of an input goes over the batch itself. What
+//! arrives from several bags is put into one list, port by port, and sorted once.
 ghost use Rattle.std.specs.Prelude.{◌≡◌, ◌≤◌, ◌++◌, IfOk, IfSome, OnOk, map, length};
 ghost use Rattle.std.specs.Iterator.{at_most, YieldsFirst};
 ghost use Rattle.td_stamp.specs.Orders.{arrival_cmp};

@@ -1,4 +1,8 @@
 //! What a vertex emits in a turn of its block.
+//!
+//! A bag stands as long as a vertex still reads it. What is kept only has to be alike for those who read it
+//! (`specs/Steps/Tree.antt`), and a turn depends on nothing else (`proofs/Alike.antt`). Readers are looked for over the rest of
+//! the tree, for each vertex and each of its sources. In a turn that is at most the square of the loop's edges.
 ghost use Rattle.std.specs.Prelude.{ℕ, ◌≡◌, ◌==◌, ◌+◌, ◌∷◌, ◌++◌, [], ◌||◌, None, true, false, IsTrue, IfOk, OnOk, is_none, length, map};
 ghost use Rattle.std.specs.List.{list_any};
 ghost use Rattle.td_stamp.specs.States.{state_of};
@@ -29,6 +33,7 @@ pub(crate) struct Given<'g, C> {
 }
 
 /// What a vertex emits, where somebody asks for it: else it emits nothing, and its closure is not called. Refusal: `Memory`.
+/// Closures answer a law, so nobody can see the difference.
 pub(crate) fn emission_if_asked<'b, 'a, L: Law, C: Closures<L>>(
     alloc: Global,
     given: &Given<'a, C>,

@@ -20,7 +20,8 @@ use td_calls::{Closures, Law};
 use td_plan::Vertex;
 use td_stamp::Output;
 
-/// What an epoch brings: its outputs, in no order, and the states that folds are to keep.
+/// What an epoch brings: its outputs, in no order, and the states that folds are to keep. The states are changed at the end, in
+/// place. So each key is asked with its state before the epoch, and an epoch costs what it touches.
 #[derive(Drop)]
 pub(crate) struct Brought {
     pub outputs: Vec<Output>,

@@ -1,4 +1,7 @@
 //! The plain evaluator.
+//!
+//! No proof needs that batches are accepted by the plan. The condition stands so that no caller loses a record without notice: an
+//! entry at a vertex that is no input goes nowhere.
 ghost use Rattle.std.specs.Prelude.{◌≡◌, ◌≤◌, ◌<◌, ◌+◌, ◌^◌, ◌++◌, None, IsTrue, IfOk, OnOk, All, length, fold};
 ghost use Rattle.std.specs.List.{list_all};
 ghost use Rattle.td_stamp.specs.Bag.{bag_of};

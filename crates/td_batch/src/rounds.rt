@@ -1,4 +1,5 @@
-//! The turns of a loop.
+//! The turns of a loop. A loop ends when nothing returns. Later turns emit nothing (`laws::quiet_turns`), so that is the
+//! definition's answer.
 ghost use Rattle.std.specs.Prelude.{ℕ, ◌≡◌, ◌==◌, ◌+◌, ◌^◌, ◌≤◌, ◌<◌, ◌∷◌, ◌++◌, [], None, List, true, false, IfOk};
 ghost use Rattle.std.specs.Prelude.{OnOk, is_none, length, map};
 ghost use Rattle.std.specs.List.{list_any};

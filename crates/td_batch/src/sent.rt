@@ -1,4 +1,4 @@
-//! What vertices send of the records that arrive at them.
+//! What vertices send of the records that arrive at them. It is a list, sorted once when all is sent.
 ghost use Rattle.std.specs.Prelude.{◌≡◌, ◌++◌, [], None, false, IsTrue, IfOk, OnOk, map, flat_map, filter, not};
 ghost use Rattle.td_stamp.specs.Orders.{arrival_cmp, rec_cmp};
 ghost use Rattle.td_stamp.specs.Bag.{bag_of, set_of, has, IsBag};

@@ -1,4 +1,5 @@
-//! The tree of a plan: what stands in a loop is a part of it.
+//! The tree of a plan: what stands in a loop is a part of it. The evaluator walks it as the definition does: a loop is a call of
+//! the walk of its body for each turn. `built.rt` makes it of the plan's lines, the last one first, as the definition reads them.
 ghost use Rattle.std.specs.Prelude.{ℕ, ◌≡◌, ◌==◌, ◌++◌, [], Bool, None, IfOk, OnOk, IsTrue};
 ghost use Rattle.std.specs.List.{list_any, AllByRecursion};
 ghost use Rattle.td_plan.specs.Tree.{tree_of};

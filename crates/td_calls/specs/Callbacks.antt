@@ -12,7 +12,8 @@ use Rattle.td_plan.specs.declared.vertex.Kind.{Kind}
 use Rattle.td_plan.specs.declared.vertex.Kind.TheVariants.{Input, Map, Distinct, Group, Fold}
 use Rattle.td_calls.specs.Answers.{Answers}
 
--- what arrives at a vertex, where these are the bags at its ports 0, 1, ..
+-- what arrives at a vertex, where these are the bags at its ports 0, 1, .. They are one for each port, since two edges of one
+-- source may carry different records while messages fly
 abbrev pub arrivals : List (List Rec) → List Arrival
 arrivals bags = flat_map (λ b. map (arrival_of b.0) b.1) (enumerate_from 0 bags)
 
@@ -25,7 +26,7 @@ pub record Kept : Type 0 where
 abbrev pub nothing_kept : Kept
 nothing_kept = record { seen = []; buffered = [] }
 
--- What a callback adds to that, and what it sends
+-- What a callback adds to that, and what it sends. It is an addition, so that an engine can keep what it has as data
 pub record Added : Type 0 where
   pub seen : List Rec
   pub buffered : List Arrival
@@ -61,8 +62,8 @@ is_notified _ = false
 abbrev pub sent_when_notified : Answers → (ℕ → Option State) → Kind → List Arrival → List Rec
 sent_when_notified answers state kind arrived = flat_map (λ g. (on_notification answers kind g.0 (state g.0) g.1).1) (groups arrived)
 
--- All that a vertex sends at a time from now on, where it has kept this much of the time so far, and these records still
--- arrive, in whatever order
+-- All that a vertex sends at a time from now on, where it has kept this much of the time so far, and these records still arrive,
+-- in whatever order. The batch meaning and an engine share it, by the laws in `Laws`
 abbrev pub sends : Answers → (ℕ → Option State) → Kind → Kept → List Arrival → List Rec
 sends answers state Input kept arrived = []
 sends answers state (Map code) kept arrived = bag_of rec_cmp (flat_map (λ a. answers.emit code a.item.port (rec_of a)) arrived)

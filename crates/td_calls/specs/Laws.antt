@@ -47,8 +47,8 @@ module _ (answers : Answers) (state : ℕ → Option State) (kind : Kind) where
       sends answers state kind kept []
       ≡ join rec_cmp (sent_when_notified answers state kind (of_keys p kept.buffered)) (sends answers state kind (without_keys p kept) [])
 
-  -- No order matters: of a distinct, what it has seen, record by record; of a group and a fold, the bag of what they keep;
-  -- and the bag of what arrives
+  -- No order matters: of a distinct, what it has seen, record by record; of a group and a fold, the bag of what they keep; and
+  -- the bag of what arrives. An engine may keep either in the order that suits it
   abbrev pub SendsInAnyOrder : Type 0
   SendsInAnyOrder = (k l : Kept) (xs ys : List Arrival) →
       (kind ≡ Distinct → (r : Rec) → has rec_cmp r k.seen ≡ has rec_cmp r l.seen) →

@@ -11,7 +11,8 @@ use std::alloc::Global;
 use td_plan::{Kind, Plan};
 use td_stamp::{Few, Item, Rec, State};
 
-/// Closures that answer a law, whatever keeps them. Each kind has its own codes.
+/// Closures that answer a law, whatever keeps them. Each kind has its own codes. How they are kept is hidden from the crates
+/// above. `fits` is provided, so every keeper of closures has it with its contract.
 pub trait Closures<L: Law> {
     /// Whether a map's closure of this code is stored.
     ghost has_map: { Self → ℕ → Bool };
@@ -83,6 +84,10 @@ pub trait Closures<L: Law> {
 }
 
 /// Stored closures of all three kinds. Each kind has its own codes.
+///
+/// There is no type for no closures of a kind. A type without values makes functions that no call can reach, which the gate
+/// refuses. A type with values cannot answer a law that it does not know. So a program writes a closure that sends nothing, as
+/// `example_closures` does.
 #[derive(Drop)]
 pub struct Calls<M, G, F> {
     pub maps: Stored<M>,

@@ -1,4 +1,8 @@
 //! What closures answer, and closures that answer it.
+//!
+//! A kind of closure is a trait whose one call keeps the law. There is no one struct of boxed closures for every law: its fact on
+//! what the box answers could not speak of a type parameter. So boxes stand in structs of one law, as `StockMap`, and `Calls` is
+//! generic over these.
 ghost use Rattle.std.specs.Prelude.{◌≡◌, ℕ};
 ghost use Rattle.td_calls.specs.Answers.{Answers, AnswerFew};
 
@@ -14,6 +18,9 @@ pub trait Law {
 }
 
 /// A closure that is stored under a code.
+///
+/// A closure has its code itself, and it is no argument of a call that stores it. That a closure answers the law is a fact on
+/// this one code, and a code that is passed beside could be another.
 pub trait Coded {
     ghost code_of: { Self → ℕ };
 

@@ -8,8 +8,9 @@ ghost use Rattle.td_calls.specs.Laws.{SendsOneByOne, SendsBySeveral, SendsOneMor
 
 use td_stamp::{Arrival, Rec, laws};
 
-/// What a vertex sends of what arrives is what its callbacks send: of one record and the rest, of several and the rest, and
-/// of a record that arrives after others.
+/// What a vertex sends of what arrives is what its callbacks send: of one record and the rest, of several and the rest, and of a
+/// record that arrives after others. An engine may count from either end. `one_more` holds only where no notification is waited
+/// for. What a group sends of its records is not the sum of what it sends of each.
 pub fn arrivals()
     ensures one { (answers : Answers) (state : ℕ → Option State) (kind : Kind) → SendsOneByOne answers state kind }
     ensures several { (answers : Answers) (state : ℕ → Option State) (kind : Kind) → SendsBySeveral answers state kind }

@@ -19,6 +19,7 @@ impl Law for Catalogue {
 }
 
 /// The closures of the catalogue: those of the first shelf are stored, those of the second are made of their code at each call.
+/// To store those of the second shelf would take more than 8,000 boxes at each start of the program.
 #[derive(Drop)]
 pub struct CatalogueCalls {
     pub stock: StockCalls,

@@ -161,7 +161,8 @@ fn with_third(two: State, val: i64) -> State
     }
 }
 
-/// The two values are kept and sent; a second one that is the least of all stands for none.
+/// The two values are kept and sent; a second one that is the least of all stands for none. A state is two numbers, and has no
+/// third one for how many there are.
 fn two_greatest(key: u64, two: State) -> (Option<State>, Few)
     ensures { (result.0, result.1.items) ≡ two_greatest key two }
 {
@@ -195,7 +196,8 @@ fn amount(key: u64, last: Option<i64>, items: &[Item]) -> Few
     }
 }
 
-/// The values of port 0 of the numbers 8 i to 8 i + 7, each as a key with the last value of port 1.
+/// The values of port 0 of the numbers 8 i to 8 i + 7, each as a key with the last value of port 1. An item before the first
+/// value of port 1 is not joined, and not kept for later: a state is two numbers, and no list.
 fn joined(i: u8, last: Option<i64>, items: &[Item]) -> Few
     ensures { result.items ≡ eight_from i (joined_at last items.now) }
 {

@@ -1,4 +1,7 @@
 //! The groups of the second shelf: which one a code is, and what it sends.
+//!
+//! Groups speak of items as they come: the last ones have the greatest values of one source. To sort the values of several
+//! sources anew would take memory, which a closure does not have. A `map 1` before the group makes one source of several.
 ghost use Rattle.std.specs.Prelude.{◌≡◌, ◌≤◌, ◌<◌, ◌^◌, ◌+◌, length, map, min, flat_map, option_to_list};
 ghost use Rattle.std.specs.List.{range_with_len};
 ghost use Rattle.td_catalogue.specs.Codes.{group_of};
@@ -59,7 +62,8 @@ pub(crate) fn averaged(key: u64, sum: i64, count: i64) -> Few
     }
 }
 
-/// The pairs of the numbers 8 i to 8 i + 7.
+/// The pairs of the numbers 8 i to 8 i + 7. A closure answers at most eight records, so a plan that needs more pairs has several
+/// groups. Pairs behind the last group of a plan are left out, and nothing says so.
 fn pairs(i: u8, items: &[Item]) -> Few
     ensures { result.items ≡ eight_from i (pair_at items.now) }
 {

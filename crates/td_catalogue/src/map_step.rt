@@ -46,6 +46,7 @@ impl MapStep {
             MapStep::ValueDivided(p) => {
                 single(rec.key, rec.val.div_euclid(i64::from(divisor(p))))
             }
+            // Bit by bit: nothing is lost at either end, and exchanging twice gives the record back.
             MapStep::Exchanged => single(rec.val.cast_unsigned(), rec.key.cast_signed()),
             MapStep::Negated => single(rec.key, rec.val.saturating_neg()),
             MapStep::Absolute => single(rec.key, rec.val.saturating_abs()),

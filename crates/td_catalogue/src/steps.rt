@@ -1,4 +1,7 @@
 //! The closures of the second shelf. A number in them is the parameter P that stands in a code.
+//!
+//! A parameter that divides stands for 1,000 where it is 0: so nothing is divided by 0, and 1,000 has a code. Division and
+//! remainder round down, below 0 too, as time and money need it: second -1 is in minute -1.
 
 /// A map.
 #[derive(Clone, Copy, Debug, PartialEq, Eq)]

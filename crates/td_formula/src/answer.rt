@@ -11,7 +11,7 @@ use crate::lines::{send, with_changes, with_lets};
 use crate::outgoing::Outgoing;
 use td_stamp::{FEW, Few, Item, Rec, State};
 
-/// The first eight lines, or all where there are no more.
+/// The first eight lines, or all where there are no more. The reader of a text refuses more.
 fn first_eight(lines: &[Pair]) -> &[Pair]
     ensures { result.now ≡ take 8 lines.now }
 {
@@ -77,7 +77,8 @@ impl Closure {
         (at, out)
     }
 
-    /// What it keeps and sends, where the names stand for this at first.
+    /// What it keeps and sends, where the names stand for this at first. `keep` stands in every closure: a fold without such a
+    /// line keeps `a` and `b`, and a map and a group do not use it.
     fn answer(&self, start: Environment, items: &[Item]) -> (Option<State>, Few)
         ensures { (result.0, result.1.items) ≡ answer self.now (named start) items.now }
     {

@@ -28,7 +28,8 @@ pub struct Pair {
     pub when: Expression,
 }
 
-/// A closure. A line without a condition has one that is 1.
+/// A closure. A map is a group without items: so there is one meaning for the three kinds. A line without a condition has one
+/// that is 1, so the meaning knows lines of one form.
 #[derive(Drop)]
 pub struct Closure {
     pub kind: ClosureKind,

@@ -10,7 +10,7 @@ use std::marker::Model;
 const NAMES: usize = 18;
 
 impl Name {
-    /// Its place among the numbers of an environment.
+    /// Its place among the numbers of an environment. A register counts modulo 8, so that each number is a register's.
     fn place(self) -> usize
         ensures place { result ≡ place self }
         ensures within { result < 18 }
@@ -31,7 +31,8 @@ impl Name {
     }
 }
 
-/// What each name stands for: a contract sees the numbers in the order of the names' places, and `named` reads them.
+/// What each name stands for: a contract sees the numbers in the order of the names' places, and `named` reads them. It is no
+/// function there, since what a contract sees of a struct cannot be one.
 #[derive(Drop)]
 pub struct Environment {
     numbers: [i128; NAMES],

@@ -21,7 +21,7 @@ impl Assignment {
     }
 }
 
-/// The registers at the start: each line sees those before it.
+/// The registers at the start: each line sees those before it. It is so in all three kinds.
 pub(crate) fn with_lets(lines: &[Assignment], start: Environment) -> Environment
     ensures { named result ≡ with_lets lines.now (named start) }
 {

@@ -22,7 +22,8 @@ impl Outgoing {
         }
     }
 
-    /// One record more, if there is one. It goes out where fewer than `room` do by now, and else it is lost.
+    /// One record more, if there is one. It goes out where fewer than `room` do by now, and else it is lost. The count of those
+    /// stops at the end of its type, as each step does.
     pub(crate) fn add(&mut self, room: usize, rec: Option<Rec>)
         requires { room ≤ 8 }
         ensures { (self.new.few.items, self.new.lost) ≡ fold (with_record room) (self.old.few.items, self.old.lost) (option_to_list rec) }
