@@ -73,6 +73,6 @@ module _ (S : HallState) where
   abbrev pub released_after : ℕ → List ℕ
   released_after e = numbers_from (e + 1) (S.next - (e + 1))
 
-  -- the least released epoch that has not passed
+  -- the least released epoch that has not passed. The epochs up to the base have passed
   abbrev pub unpassed : Option ℕ
   unpassed = find (λ e. not (has_passed e)) (released_after S.base)

@@ -1,4 +1,5 @@
--- FOR PROOFS: what the laws of the crates below say of what stands here. `laws_below` has it from their contracts.
+-- FOR PROOFS: what the laws of the crates below say of what stands here. `laws_below` has it from their contracts. Proofs take it
+-- as an argument, and cite no proof of another crate.
 use Rattle.std.specs.Prelude.{◌≡◌, ℕ, ◌≤◌, ◌<◌, true, List, [], ◌∷◌, ◌++◌, length, Some, slice_get}
 use Rattle.std.specs.List.{AllByRecursion}
 use Rattle.std.specs.Ordering.{nat_cmp}

@@ -168,8 +168,9 @@ module _ (S : HallState) where
   abbrev pub collect_step : Answer × HallState
   collect_step = (has_collected (map (λ e. record { epoch = e; recs = outputs_at e }) to_collect), collected_to (S.collected + length to_collect))
 
-  -- CUT: the states after an epoch become the base, and what belongs to epochs up to it is let go: batches, what folds left and what
-  -- distincts have seen (Naiad, section 3.4, Checkpoint)
+  -- CUT: the states after an epoch become the base, and what belongs to epochs up to it is let go: batches, what folds left and
+  -- what distincts have seen (Naiad, section 3.4, Checkpoint). No record arrives in an epoch up to the base any more, so nothing
+  -- asks for them again
   abbrev pub cut_to : ℕ → HallState
   cut_to e = record S {
     base = e;
@@ -205,7 +206,8 @@ module _ (S : HallState) where
   abbrev pub is_for : Notification → Message → Bool
   is_for a c = is_eq (notification_cmp a (asked_of S.workers c))
 
-  -- the items that wait for a notification, by key, with the states kept before its epoch
+  -- the items that wait for a notification, by key, with the states kept before its epoch. A group has the states too, and
+  -- ignores them: so a shard looks up states without asking for the kind
   abbrev pub with_state_of : ℕ → Timestamp → ℕ × List Item → KeyItems
   with_state_of v t g = record { key = g.0; items = g.1; state = state_of (states_at S (t.epoch - 1)) v g.0 }
 
@@ -213,8 +215,9 @@ module _ (S : HallState) where
   abbrev pub to_notify : ℕ → ℕ → Timestamp → List KeyItems
   to_notify s v t = map (with_state_of v t) (groups (map arrival (filter (is_for (asked_at s v t)) S.buffered)))
 
-  -- records that are messages now, of the shard, of one edge and time, and 64 at most; or a notification that was asked for and is
-  -- in the frontier, with what waits for it
+  -- records that are messages now, of the shard, of one edge and time, and 64 at most; or a notification that was asked for and
+  -- is in the frontier, with what waits for it. Messages have no order here: a task may have any of them, in any order, and
+  -- confluence holds of every choice
   abbrev pub IsContent : ℕ → ℕ → Timestamp → Content → Type 0
   IsContent s v t (messages port recs) = (0 < length recs) × (length recs ≤ task_size) × AllByRecursion (λ r. shard_of_key S.workers r.key ≡ s) recs
       × ((rest : List Message) × (S.messages ≡ join message_cmp (coming v port t recs) rest))

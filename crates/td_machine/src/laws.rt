@@ -1,5 +1,9 @@
 //! Laws of the definitions. Each is the contract of a function that does nothing, or calls the laws that it follows
 //! from.
+//!
+//! The invariant is a history of the play: what arrived, was sent and was notified, and what folds left (`proofs/History.antt`).
+//! The lists of a state follow from it, and what a vertex sent answers what arrived. At a passed epoch such a history solves the
+//! flat equations of the batch meaning, which have one solution. It says nothing of what is still to arrive.
 ghost use Rattle.std.specs.Prelude.{◌≡◌, ◌+◌, ◌≤◌, ◌++◌, ℕ, List, true};
 ghost use Rattle.std.specs.List.{AllByRecursion};
 ghost use Rattle.td_stamp.specs.States.{StateList, AreStates};

@@ -3,7 +3,8 @@ ghost use Rattle.std.specs.Prelude.{◌≡◌};
 
 use td_stamp::Time;
 
-/// The edge to a port of a vertex, and a time.
+/// The edge to a port of a vertex, and a time. The hash map compares lanes by the derived `==`, and `laws::edges` says what that
+/// means.
 #[derive(Debug, Drop, PartialEq, Eq, Hash)]
 pub(crate) struct Lane {
     pub vertex: u8,

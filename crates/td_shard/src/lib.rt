@@ -1,4 +1,9 @@
 //! A shard of a hall: what waits there for the vertices of a plan, and what they keep.
+//!
+//! Messages wait in a mailbox, in the order posted, and items wait for notifications beside. After `reserve` a post takes no
+//! memory, so that a hall can refuse a call before it has changed anything. What distincts have seen and folds left is found by
+//! record and key, and stands once for all shards of a hall. For example of four shards the second has the records whose keys
+//! leave 1 when divided by 4.
 #![tactic(auto)]
 
 mod append;

@@ -1,4 +1,10 @@
 //! The runs of messages of a mailbox.
+//!
+//! Runs are linked, and not a map of queues ordered by their heads: std cannot reserve for such a map, and links need no growth.
+//! So a post after `reserve` cannot be refused, and what contracts see is the list of messages itself.
+//!
+//! A message that is picked in the middle of its run is first moved before the run's others. A run whose records are all taken
+//! stays until it is the first. Where each message is a run of its own, it costs 64 bytes beside its record.
 ghost use Rattle.std.specs.Prelude.{◌≡◌, ◌+◌, ◌-◌, ◌^◌, ◌<◌, ◌≤◌, ◌++◌, [], ℕ, length, take, drop, max, vec_len, vec_capacity};
 ghost use Rattle.std.specs.Prelude.{◌↔◌, OnOk, OnErr, IsTrue, false, map};
 ghost use Rattle.std.specs.List.{HoldsAt};

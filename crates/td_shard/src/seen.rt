@@ -94,7 +94,8 @@ impl Seen {
     }
 }
 
-/// Puts records into a set, and those that were not there at the end of `new`. Refusal: `Memory`, with the set unchanged.
+/// Puts records into a set, and those that were not there at the end of `new`. Refusal: `Memory`, with the set unchanged. What
+/// was put in is then taken out again, which needs no memory.
 fn put_in(set: &mut BTreeSet<Rec>, recs: &[Rec], new: &mut Vec<Rec>) -> Result<(), ShardError>
     requires none { new.old.items ≡ [] }
     requires room { length recs.now ≤ vec_capacity new.old }

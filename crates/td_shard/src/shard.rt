@@ -10,6 +10,8 @@ use std::alloc::Global;
 ///
 /// What distincts have seen (`Seen`) and what folds left (`Versions`) is found by record and by key, each of which is of one
 /// shard: a hall keeps them once for all of its shards.
+///
+/// Its calls are those of its parts: a method here would only hand on.
 #[derive(Drop)]
 pub struct Shard {
     pub mailbox: Mailbox,

@@ -17,8 +17,8 @@ use td_stamp::{State, States};
 
 /// What folds left for their keys, above a base. Contracts see it as the core machine has it: in the order of epochs.
 ///
-/// It is kept by the hash of vertex and key, each with its versions in the order of epochs: a look-up finds the last of them up to
-/// its epoch by halving.
+/// It is kept by the hash of vertex and key, each with its versions in the order of epochs: a look-up finds the last of them up
+/// to its epoch by halving. Their order is an invariant of the type, with no condition on a caller.
 #[derive(Drop)]
 pub struct Versions {
     versions: HashMap<(u8, u64), Vec<Version>>,

@@ -15,7 +15,8 @@ use td_stamp::{Arrival, Rec, Time};
 /// The items that wait for notifications, and the notifications that are asked for (Naiad, section 2.2: NotifyAt). Contracts
 /// see the notifications in their order, each with its items as they came.
 ///
-/// The items of a vertex and time are pushed into one list, and stand there as they came.
+/// The items of a vertex and time are pushed into one list, and stand there as they came. They are sorted once, when the
+/// notification is taken.
 #[derive(Drop)]
 pub struct Waiting {
     asked: BTreeMap<Noted, Vec<Arrival>>,

@@ -46,8 +46,8 @@ impl Task {
     }
 }
 
-/// A task that was run, with exactly the law's answers for it. Contracts see the task: its answers are those that the
-/// law has for it.
+/// A task that was run, with exactly the law's answers for it. Contracts see the task: its answers are those that the law has for
+/// it. A `Task` has no law in its type, since it holds no answers.
 #[derive(Drop)]
 pub struct Done<L: Law> {
     task: Task,

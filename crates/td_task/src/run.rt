@@ -1,4 +1,7 @@
 //! What closures answer tasks.
+//!
+//! Memory is taken by `Answers::room`, eight records for each answer, and `answer` works in it and has no refusal. Records that
+//! arrive at other kinds than a map have no answers: the hall passes them on or keeps them.
 ghost use Rattle.std.specs.Prelude.{◌≡◌, ◌*◌, ◌≤◌, [], None, IsTrue, IfOk, IfErr, map, length, vec_capacity};
 ghost use Rattle.td_calls.specs.Fits.{lacking_code};
 ghost use Rattle.td_plan.specs.declared.vertex.Kind.TheVariants.{Group, Fold};

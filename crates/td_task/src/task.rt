@@ -46,7 +46,9 @@ impl Model for Task {
 }
 
 impl Task {
-    /// The task with this number of a shard, for a vertex with its kind and a time.
+    /// The task with this number of a shard, for a vertex with its kind and a time. The caller makes the `Arc`, and gets the work
+    /// back where that is refused: so there is no refusal here. That records are 1 to 64 is a fact of the type. A drain's count
+    /// rests on it, and the room to put a task back.
     pub fn new(shard: u8, number: u64, vertex: u8, kind: Kind, time: Time, work: Arc<Work>) -> Task
         requires sized { IsSized (content_of (arc_value work)) }
         ensures { result ≡ record { shard = shard; number = number; vertex = vertex; kind = kind; time = time; content = content_of (arc_value work) } }
