@@ -1,5 +1,7 @@
--- Which of the tasks that a shard may take a pick names, and how many records it has. Messages stand in no order in a state, so which
--- of them is not told here.
+-- Which of the tasks that a shard may take a pick names, and how many records it has. Messages stand in no order in a state, so
+-- which of them is not told here. `take` says by its public clause which notification, and that a smaller pick takes a message.
+-- Which message is a private clause, of the mailbox as it was posted. A list of messages in that order would make each law of the
+-- machine speak of it.
 use Rattle.std.specs.Prelude.{◌≡◌, ℕ, ◌+◌, ◌-◌, ◌%◌, ◌==◌, ◌<◌, ◌≤◌, ◌&&◌, Bool, true, min, List, filter, length, Some, Contains, ◌↔◌}
 use Rattle.std.specs.List.{slice_get}
 use Rattle.std.specs.List.Sorted.{IsStrictlySortedBy}

@@ -20,9 +20,10 @@ use td_progress::laws::in_any_order;
 use td_stamp::EpochOut;
 
 impl<L: Law> Hall<L> {
-    /// The outputs of the epochs that have passed since the last call, epoch by epoch, also those in which nothing came out.
-    /// They are let go. Those of epochs after the base are what the batch meaning of the batches that were released since
-    /// gives. Refusal: `Memory`, with nothing changed.
+    /// The outputs of the epochs that have passed since the last call, epoch by epoch, also those in which nothing came out. They
+    /// are let go. Those of epochs after the base are what the batch meaning of the batches that were released since gives.
+    /// Refusal: `Memory`, with nothing changed. Of an epoch that was cut before it is collected the clause says nothing, since
+    /// the batches up to a cut are dropped.
     pub fn collect(&mut self) -> Result<Vec<EpochOut>, HallError>
         ensures ok { IfOk result (λ outs. collect_step self.old ≡ (has_collected outs.items, self.new)) }
         ensures meaning { IfOk result (λ outs. IsMeant L.answers self.old outs.items) }

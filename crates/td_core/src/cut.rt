@@ -69,7 +69,8 @@ impl<L: Law> Hall<L> {
     }
 }
 
-/// Cuts a hall's parts at an epoch. Refusal: `Memory`, with nothing changed.
+/// Cuts a hall's parts at an epoch. Refusal: `Memory`, with nothing changed. Both copies of the states are made before anything
+/// is dropped: one becomes the base, and one is handed out.
 fn cut_floor(floor: &mut Floor, epoch: u64) -> Result<Cut, HallError>
     requires { floor.old.base ≤ epoch }
     ensures epoch { IfOk result (λ cut. cut.epoch ≡ epoch) }

@@ -1,4 +1,7 @@
 //! Draining: all that can be taken is taken, run and given.
+//!
+//! A task whose run or give is refused is put back, and room for that is made before each take. So no task is out after a
+//! refusal, and a later drain goes on.
 ghost use Rattle.std.specs.Prelude.{◌≡◌, ◌↔◌, ◌<◌, ◌∷◌, [], ℕ, length, true, None, IsTrue, HoldsAt, IfOk, IfErr, OnOk, OnErr, IsErrAnd};
 ghost use Rattle.td_plan.specs.Blocks.{vertices};
 ghost use Rattle.td_calls.specs.Fits.{first_lack};

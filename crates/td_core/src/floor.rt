@@ -8,7 +8,8 @@ use td_shard::{Seen, Shard, Versions};
 use td_stamp::{Batch, States};
 use td_task::Task;
 
-/// The parts of a hall.
+/// The parts of a hall. `Hall` is these with the law. So what a call does to the parts is a contract on plain values, and the
+/// hall's invariant (`IsHall`) is stated once.
 #[derive(Drop)]
 pub(crate) struct Floor {
     /// The plan, and the active pointstamps.

@@ -11,8 +11,9 @@ use td_stamp::{Batch, States};
 /// The engine on one thread: batches are released into it epoch by epoch, its shards' tasks are taken, run and given back in
 /// any order, and what came to the outputs of epochs that have passed is collected (Naiad, sections 2.2 and 2.3).
 ///
-/// Contracts see the state of the core machine, and each call is one of its steps. By its type each hall is in a state that
-/// plays reach: so its outputs and its states are those of the batch meaning.
+/// Contracts see the state of the core machine, and each call is one of its steps. By its type each hall is in a state that plays
+/// reach: so its outputs and its states are those of the batch meaning. A step from such a state leads to one
+/// (`td_machine::laws::reached`), so a call that keeps its step keeps the invariant.
 #[derive(Drop)]
 pub struct Hall<L: Law> {
     pub(crate) floor: Floor,

@@ -1,4 +1,6 @@
-//! Laws of halls. Each is the contract of a function that calls the laws that it follows from.
+//! Laws of halls. Each is the contract of a function that calls the laws that it follows from. That outputs and states are the
+//! batch meaning's is said by `collect`, `cut` and `cut_at` of their own answers, and here of any hall. The law is for a caller
+//! that finds a hall behind a lock and knows nothing of it but its type.
 ghost use Rattle.td_machine.specs.Reached.{IsReached};
 ghost use Rattle.td_machine.specs.Sound.{Confluence, Sound};
 

@@ -1,4 +1,15 @@
 //! The hall: the engine itself, on one thread.
+//!
+//! A hall takes batches epoch by epoch, gives out tasks, takes them back, and hands out the outputs of epochs that have passed.
+//! Each call is a step of the core machine (`td_machine`), and by its type a hall is in a state that plays reach. So what a
+//! reached state has right follows from laws and not from this code. Outputs and states are those of the batch meaning, whatever
+//! order tasks fall in.
+//!
+//! A call refuses before it changes anything, and a drain between two tasks. It makes room first, raises occurrence counts by the
+//! most that may come, and makes its one other growth last; what follows takes no memory. So a call that was refused can be made
+//! again.
+//!
+//! With one shard, `release`, `drain` and `collect` in turn run a plan epoch by epoch, as `td run` does.
 #![tactic(auto)]
 
 mod close;

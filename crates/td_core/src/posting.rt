@@ -72,7 +72,9 @@ pub(crate) fn make_room_for(
     Ok(())
 }
 
-/// Posts records to each of some outlets at a time, record by record. Takes no memory: room was made by `make_room`.
+/// Posts records to each of some outlets at a time, record by record. Takes no memory: room was made by `make_room`. Records go
+/// to one outlet in runs of one shard. To several they go one by one on each, since a mailbox keeps the order by record and then
+/// by edge. Each message is then a run of its own.
 pub(crate) fn post(shards: &mut Vec<Shard>, outlets: &[Outlet], time: &Time, recs: &[Rec])
     requires some { 1 ≤ length shards.old.items }
     requires few { length shards.old.items ≤ 16 }

@@ -1,4 +1,5 @@
-//! Raising the occurrences of several pointstamps, all or none.
+//! Raising the occurrences of several pointstamps, all or none. Counts are raised before the last growth that may be refused, and
+//! lowered again after a refusal.
 ghost use Rattle.std.specs.Prelude.{◌≡◌, ◌≤◌, ◌++◌, map, replicate, IfOk, IfErr, OnOk, OnErr};
 ghost use Rattle.std.specs.List.{AllByRecursion};
 ghost use Rattle.td_reach.specs.declared.stamp.Stamp.{Stamp as AnyStamp};

@@ -41,7 +41,8 @@ impl<L: Law> Hall<L> {
     /// input (Naiad, section 2.2, SendBy of an input). The messages are O(n) for n entries, and so is what they cost.
     ///
     /// Refusals, with the batch handed back and nothing changed: `Closed`, where the inputs are; else `Epochs`, where the last
-    /// number of an epoch, 2^63 - 1, is used; and `Memory`.
+    /// number of an epoch, 2^63 - 1, is used; and `Memory`. `Memory` has a clause of its own, since the crates above need not
+    /// take it apart from the others.
     pub fn release(&mut self, batch: Batch) -> Result<u64, (HallError, Batch)>
         requires { accepts self.old.plan batch ≡ true }
         ensures released { IfOk result (λ epoch. release_step self.old batch ≡ (has_released epoch, self.new)) }

@@ -1,4 +1,5 @@
-//! What a hall looks up of each vertex of its plan.
+//! What a hall looks up of each vertex of its plan. It is made once, when a hall is opened, so a task costs no walk over the
+//! plan's edges.
 ghost use Rattle.std.specs.Prelude.{◌≡◌, ◌<◌, IfOk, unwrap_or};
 ghost use Rattle.std.specs.List.{slice_get};
 ghost use Rattle.std.specs.Option.{option_to_list};

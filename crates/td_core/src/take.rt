@@ -164,7 +164,8 @@ fn is_busy(out: &[Task], shard: u8) -> bool
     out.iter().any(|task| task.shard() == shard)
 }
 
-/// Takes the task that a pick names, of a shard at which none is out. Refusals, with nothing changed: `Spent` and `Memory`.
+/// Takes the task that a pick names, of a shard at which none is out. Refusals, with nothing changed: `Spent` and `Memory`. A
+/// task is read before its messages are removed, since nothing that may be refused comes after the mailbox has changed.
 fn take_there(floor: &mut Floor, shard: u8, pick: u64) -> Result<Option<Task>, HallError>
     requires within { shard < length floor.old.shards.items }
     requires asked { HoldsAt (λ s. AreAsked floor.old.table (asked_at s)) floor.old.shards.items shard }
@@ -277,7 +278,9 @@ fn ready_at(table: &Table, sites: &Sites, waiting: &Waiting, place: u64) -> Opti
     next
 }
 
-/// The first notification of a shard that is in the frontier and comes after another, or the first of all.
+/// The first notification of a shard that is in the frontier and comes after another, or the first of all. No list of what is
+/// ready is kept for a shard: it would stand in the hall's invariant, with each call's proof. A walk looks once at each place of
+/// the plan and at the counters in loops that are active, however many epochs are open.
 fn next_ready(
     table: &Table,
     sites: &Sites,

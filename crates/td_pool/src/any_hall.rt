@@ -15,6 +15,9 @@ use td_stamp::{Batch, EpochOut};
 
 /// A hall, or what lends one for as long as it is held, as the guard of a pool does: what may be done with it by who does not work
 /// in it. Each call is the hall's own.
+///
+/// The hall is not lent whole: `&mut Hall` could be exchanged for another, and given to without the seats' counts. There is no
+/// take: a worker takes by `Pool::work`, whose seat holds what was taken.
 pub trait AnyHall<L: Law> {
     /// The state of the hall.
     ghost state: { Self → HallState };

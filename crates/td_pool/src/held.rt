@@ -29,11 +29,17 @@ use td_stamp::{Batch, EpochOut};
 use td_task::Done;
 
 /// What a take counts for in the ledger, where a give counts 1.
+///
+/// That is more than all gives of a hall. So the sum of all seats says both, and a seat alone shows that its gives fit a `u64`. A
+/// second ledger would be one more type parameter. No field has the takes of a seat: they are its gives, its strays and what it
+/// holds.
 pub(crate) const TAKE_WEIGHT: u64 = u64::MAX;
 
-/// The hall of a pool, for as long as its lock is held. Contracts see the hall's state, and whether the pool is stopped. By its type
-/// it stays the hall with which the pool was made, to which as many tasks were given since as its seats have counted, and of which no
-/// more are out than its seats hold or have lost: it cannot be exchanged, and `give` alone gives to it.
+/// The hall of a pool, for as long as its lock is held. Contracts see the hall's state, and whether the pool is stopped. By its
+/// type it stays the hall with which the pool was made, to which as many tasks were given since as its seats have counted, and of
+/// which no more are out than its seats hold or have lost: it cannot be exchanged, and `give` alone gives to it. A public hall
+/// would be tied to the pool by its counts alone, and another one with the same counts could take its place. What does not count
+/// gives stands at `AnyHall` alone, so its clauses are not stated a third time.
 #[derive(Drop)]
 pub struct Held<K: Crew, L: Law> {
     hall: Hall<L>,

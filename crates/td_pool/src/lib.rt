@@ -1,6 +1,12 @@
-//! The pool: a hall behind a lock, and a seat for each of its shards, from which a worker in a thread of its own takes tasks, runs
-//! them outside the lock and gives them back. Its contract: the gives of the hall rose by the sum of the seats' counts, and no task that was
-//! taken is lost.
+//! The pool: a hall behind a lock, and a seat for each of its shards. From a seat a worker in a thread of its own takes tasks,
+//! runs them outside the lock and gives them back. Its contract: the gives of the hall rose by the sum of the seats' counts, and
+//! no task that was taken is lost.
+//!
+//! No contract can say what a thread did to a hall under a lock. So the counts are tokens: each give and take adds to a seat's
+//! part of a ledger, and `gather` has the sum of all parts. The hall itself is sealed, and lent call by call.
+//!
+//! No contract says that a worker is woken, since std has no clause on a notification. A flag that is wrong is proved too, and
+//! rows with workers then do not end. A hall of four shards, for example, is worked on from four seats, by four workers at most.
 #![tactic(auto)]
 
 mod any_hall;

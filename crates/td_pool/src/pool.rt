@@ -21,6 +21,9 @@ use td_core::laws::each_is_sound;
 use td_machine::laws::reached_in_order;
 
 /// A hall behind a lock, on which workers in threads of their own work, each from a seat of this pool.
+///
+/// A worker that is to wait sets its flag under the lock. A give then wakes those alone whose shards have a task: one that brings
+/// nobody a task wakes nobody. A worker that finds nothing to take while all released epochs have passed wakes `settle`.
 #[derive(Drop)]
 pub struct Pool<K: Crew, L: Law> {
     pub(crate) held: Mutex<Held<K, L>>,
@@ -33,8 +36,9 @@ pub struct Pool<K: Crew, L: Law> {
 }
 
 impl<K: Crew, L: Law> Pool<K, L> {
-    /// A pool over a hall, and a seat for each of its shards, in order. `blank` is the name of the pool and its seats, with a part
-    /// for each shard. The tasks that are out are strays of the first seat. Refusal, with the hall handed back: `Memory`.
+    /// A pool over a hall, and a seat for each of its shards, in order. `blank` is the name of the pool and its seats, with a
+    /// part for each shard. The tasks that are out are strays of the first seat. Refusal, with the hall handed back: `Memory`.
+    /// The caller makes `blank` and picks the name `K`, and gathers in a function that is generic in it.
     pub fn new(
         alloc: Global,
         hall: Hall<L>,
@@ -81,7 +85,8 @@ impl<K: Crew, L: Law> Pool<K, L> {
         self.held.lock(rt)
     }
 
-    /// Wakes the workers that wait for something to take, as is to be done after a release.
+    /// Wakes the workers that wait for something to take, as is to be done after a release. It wakes all, without the lock: a
+    /// guard cannot signal a condition beside its own lock, and several batches may be released under one.
     pub fn wake(&self) {
         for has_work in &self.has_work {
             has_work.notify_all();
@@ -145,9 +150,10 @@ impl<K: Crew, L: Law> Pool<K, L> {
         unreachable!()
     }
 
-    /// The hall, where all seats are there and free. Since the pool was made as many tasks were given to it as the seats have counted, and
-    /// no more tasks are out than the seats have as strays. Refusal, with the pool and the seats handed back: `NotAll`, exactly where seats
-    /// are missing, or one holds a task, or a task that was run and not given.
+    /// The hall, where all seats are there and free. Since the pool was made as many tasks were given to it as the seats have
+    /// counted, and no more tasks are out than the seats have as strays. Refusal, with the pool and the seats handed back:
+    /// `NotAll`, exactly where seats are missing, or one holds a task, or a task that was run and not given. It owns the pool, so
+    /// it takes the lock without waiting.
     pub fn gather(
         self,
         seats: Vec<Seat<K, L>>,

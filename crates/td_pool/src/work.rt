@@ -1,4 +1,6 @@
 //! What a worker does.
+//!
+//! A turn takes or finishes, and each of the two says by its contract that no task is lost. So the loop has nothing to lose.
 ghost use Rattle.std.specs.Prelude.{◌≡◌, ◌⊎◌, ◌+◌, ◌≤◌, ◌<◌, true, false, not, Some, OnOk, OnErr, IfOk, IfErr, IsErrAnd};
 ghost use Rattle.crossbeam_utils.specs.Padded.{padded_value};
 ghost use Rattle.td_calls.specs.Fits.{lacking_code};
