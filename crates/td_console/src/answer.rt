@@ -53,7 +53,8 @@ pub fn print_epoch(text: &mut String, epoch: &EpochOut) -> Result<(), Fault>
     Ok(())
 }
 
-/// Appends the line of an output record. Refusal: `Memory`.
+/// Appends the line of an output record. Refusal: `Memory`. `itoa` writes the digits, for which `write!` takes over twice as
+/// long.
 fn print_output(text: &mut String, epoch: u64, output: Output) -> Result<(), Fault>
     ensures ok { OnOk result (string_bytes text.new ≡ string_bytes text.old ++ output_line epoch output) }
     ensures err { IfErr result (λ f. f ≡ Fault.Memory) }

@@ -1,4 +1,7 @@
 //! What can go wrong, and what is printed of it.
+//!
+//! A fault's text is a hand-written `Display`, pinned by a contract. The texts of refusals of lower crates are derived, and
+//! tested.
 ghost use Rattle.std.specs.Prelude.{◌≡◌, ◌++◌, [], ◌∷◌, IfOk, codes, string_bytes, Some};
 ghost use Rattle.td_console.specs.declared.faults.Fault.TheVariants.{Memory};
 ghost use Rattle.td_console.specs.Refusals.{number_of, fault_text, line_fault_text, keeper_fault, make_fault};

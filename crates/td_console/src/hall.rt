@@ -27,8 +27,9 @@ use td_stamp::{Batch, EpochOut, States};
 const WEIGHT: usize = 65_536;
 
 /// The output lines of a run from no states, the epochs numbered from 1, by a hall of so many shards. One batch after another is
-/// released, drained and printed, and the hall is cut as records have come; so it holds one epoch, and what was left since the cut.
-/// Refusals: `Memory`; `Spent`.
+/// released, drained and printed, and the hall is cut as records have come; so it holds one epoch, and what was left since the
+/// cut. Refusals: `Memory`; `Spent`. All lines are kept until the last epoch has run, since nothing is written where there is a
+/// fault.
 pub(crate) fn hall_text<L: Law, C: Closures<L>>(
     alloc: Global,
     plan: &Plan,
@@ -118,7 +119,8 @@ fn run_epoch<L: Law, C: Closures<L>>(
     }
 }
 
-/// A hall of so many shards, into which these batches were released from epoch 1 on. Refusal: `Memory`.
+/// A hall of so many shards, into which these batches were released from epoch 1 on. Refusal: `Memory`. `td sim` releases all
+/// first, as its answer is defined.
 pub(crate) fn released<L: Law>(
     alloc: Global,
     plan: &Plan,

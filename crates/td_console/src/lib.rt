@@ -1,5 +1,11 @@
 //! The engines behind commands of the program `td`, over any reader and writer. Their one contract:
 //! `batch`, `run` and `sim` write exactly the answer text of what they read, `sim` after its notes, or answer its first fault.
+//!
+//! Each engine reads all, computes one text, and writes it: so a fault leaves nothing written. Reader and writer are type
+//! parameters, so that the answer is proved for any. What they may do wrong has words in their traits (`Source`, `Sink`). Over a
+//! slice of fewer than 2^32 bytes and a vector with room for the answer, nothing of `batch` stays open but want of memory.
+//!
+//! For example `1 input` in place of `0 input` as the first line of a plan is the fault `plan line 1: number`.
 #![tactic(auto)]
 
 mod answer;

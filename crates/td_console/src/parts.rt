@@ -63,8 +63,8 @@ fn is_separator(line: &str) -> bool
     }
 }
 
-/// The fault of the first line with a byte above 127, of which there is one: one of the plan before the first separator, and of the
-/// data after it.
+/// The fault of the first line with a byte above 127, of which there is one: one of the plan before the first separator, and of
+/// the data after it. The lines are looked at only where a byte of the whole input is above 127.
 pub(crate) fn find_wide_fault(input: &[u8]) -> Fault
     requires bound { length input.now < 2 ^ 64 }
     requires wide { list_all is_ascii input.now ≡ false }

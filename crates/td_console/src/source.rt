@@ -1,4 +1,6 @@
 //! Readers, with words for one that does not fail.
+//!
+//! std has no word for a reader that does not fail. An interruption is no failure: such a read is made again, and counts as one.
 ghost use Rattle.std.specs.Prelude.{ℕ, suc, zero, ◌<◌, List, Option, None, Some, length};
 ghost use Rattle.std.specs.Io.{ReadsAtMost};
 ghost use Rattle.std.specs.Io.KnownBytes.{ReadConsumes};
