@@ -1,4 +1,8 @@
 // A disk that is read a block at a time. It is lawful where the inner one is.
+//
+// It is a disk over a disk, and no part of `FileDisk`, of which nothing is proved. A block that is answered after it was written
+// over would be lost data. A submit reads the gate of the cell behind and then its own. The second read takes a block, which is
+// dropped at the write.
 ghost use Rattle.std.specs.Prelude.{◌≡◌, ◌+◌, ◌≤◌, ◌↔◌, length, IfSome};
 ghost use Rattle.td_disk.specs.Disk.{bytes_at, NoNewImages, TimePasses};
 

@@ -1,4 +1,7 @@
 // What every lawful disk keeps to. Of a disk that claims no law nothing is said of its bytes.
+//
+// Lawfulness is a premise inside the clauses on bytes, and never a `requires`. So the program runs the same code over a file,
+// which claims no law. Clauses on size, on failures and on lawfulness itself have no such premise.
 ghost use Rattle.std.specs.Prelude.{◌≡◌, ◌+◌, ◌-◌, ◌^◌, ◌<◌, ◌≤◌, ◌↔◌, ℕ, List, length, Result, OnOk, IsErr, ⊤};
 ghost use Rattle.td_disk.specs.declared.error.Fault.{Fault as AnyFault};
 ghost use Rattle.td_disk.specs.Disk.{DiskState, bytes_at, SameOutside, ImagesFollow, NoNewImages, IsDurable, TimePasses, CountsFailures};
@@ -11,17 +14,20 @@ pub trait Disk {
     /// How many bytes the disk has.
     ghost capacity: { Self → ℕ };
 
-    /// How many calls have failed, a count that stops at the top of a `u64`.
+    /// How many calls have failed, a count that stops at the top of a `u64`. An answer other than a failure leaves it as it was:
+    /// so a call above that answers `Memory` has met no failed call.
     ghost failures: { Self → ℕ };
 
     /// The disk is claimed to keep the laws below.
     ghost is_lawful: { Self → Type 0 };
 
-    /// What the disk holds, and what a crash may leave of that.
+    /// What the disk holds, and what a crash may leave of that. It is one member and not four, so that a definition takes two
+    /// values of it.
     ghost state: { Self → DiskState };
 
-    /// What a kind of disk promises of a read beyond the clauses below: of the disk before, the
-    /// offset, the bytes given, the answer and the disk after.
+    /// What a kind of disk promises of a read beyond the clauses below: of the disk before, the offset, the bytes given, the
+    /// answer and the disk after. Clauses on the methods of an `impl` would replace those here, and generic code would not see
+    /// them.
     ghost read_gives: { Self → ℕ → List ℕ → Result ⊤ AnyFault → Self → Type 0 } = { λ _ _ _ _ _. Unit {0} };
 
     /// The same of a write, of the bytes written.

@@ -28,6 +28,8 @@ impl Fault {
 }
 
 /// Why no disk was made.
+///
+/// No clause of std says which errors a file gives, so none here says when `create` and `open` refuse which.
 #[derive(Clone, Copy, Debug, PartialEq, Eq, Error)]
 pub enum MakeError {
     /// The file could not be made, opened, sized, synced or measured, or another has locked it.

@@ -1,4 +1,7 @@
 // A disk one call of which fails. It is lawful where the inner one is.
+//
+// It stands beside the fuse, since each has one count and one rule. One type for both would have two rules at each call. This one
+// counts reads too.
 ghost use Rattle.std.specs.Prelude.{◌≡◌};
 
 use crate::{Disk, Fault};

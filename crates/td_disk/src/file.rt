@@ -13,6 +13,10 @@ use std::{fs, io};
 /// the operating system, the device below it and whoever else writes the file make it so, which no
 /// contract claims. A sync that failed is final, and every later call fails: the system may have
 /// dropped what was not yet on the device, and would answer the next sync with success.
+///
+/// A new `FileDisk` of the file begins anew. It may read the system's memory of bytes that the device does not have, until the
+/// machine is started again. Nothing in a program can know that. So the documents say what an operator has to do before the file
+/// is used again.
 #[derive(Drop)]
 pub struct FileDisk {
     file: File,
@@ -23,7 +27,7 @@ pub struct FileDisk {
 }
 
 /// Opens a file as it stands to be read and written, and locks it. A folder, a device or a pipe is no file here: a sync of one
-/// fails, or says nothing.
+/// fails, or says nothing. The lock keeps out only those who ask for it.
 fn open_locked<R: Files<File = File>>(
     rt: &R,
     path: &str,

@@ -29,6 +29,9 @@ impl Display for FileCall {
 
 /// A call of a file that failed: what the operating system said of it. Its text is the call and the cause, as `write: no space left on
 /// device`.
+///
+/// `Fault::Device` has no cause, since a disk is not always a file. A full file system and a failed sync need opposite deeds of
+/// an operator.
 #[derive(Clone, Copy, Debug, PartialEq, Eq)]
 pub struct FileFailure {
     /// The call.

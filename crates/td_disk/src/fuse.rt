@@ -5,6 +5,10 @@ use crate::{Disk, Fault};
 
 /// A disk that stops at its k-th write or sync. That call fails: a write still reaches the inner
 /// disk, where it stays pending, and a sync does not. Every later call fails and reaches nothing.
+///
+/// It stops in the middle of that write, and the fill of a crash says what became of it. A sync that was cut off has made nothing
+/// durable. Its failures are a count of its own: no code reads the inner count. So no sum of both could fail every call at its
+/// top.
 #[derive(Drop)]
 pub struct FuseDisk<D: Disk> {
     inner: D,

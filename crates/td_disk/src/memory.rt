@@ -29,8 +29,8 @@ pub enum Fill {
     All(u8),
 }
 
-/// A disk in memory. It keeps a record of all its calls, and a refused growth of that record is a
-/// failure of the disk.
+/// A disk in memory. It keeps a record of all its calls, and a refused growth of that record is a failure of the disk. A call of
+/// it that failed changes nothing, though the law of a disk allows it.
 #[derive(Drop)]
 pub struct MemoryDisk {
     alloc: Global,

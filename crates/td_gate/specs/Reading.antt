@@ -1,4 +1,4 @@
--- What was written is read back.
+-- What was written is read back. The crates above rest on it: another crate's `proofs` are closed to them.
 use Rattle.std.proofs.Common.{◌≡◌, ℕ, suc, ◌+◌, ◌*◌, ◌<◌, ◌≤◌, ◌^◌, mul-zero, mul-suc, ℤ, pos, negsuc, FitsSigned, List, [], ◌∷◌, ◌++◌, length, take, drop, refl, sym, ap, ◌∙◌, arith}
 use Rattle.std.specs.Prelude.{flat_map}
 use Rattle.std.specs.Int.{cast_signed, cast_unsigned, w64}

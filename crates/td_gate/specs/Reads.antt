@@ -1,4 +1,4 @@
--- What a call that writes nothing leaves of a disk.
+-- What a call that writes nothing leaves of a disk. Reads compose by one law (`reads_in_turn`).
 use Rattle.std.specs.Prelude.{◌≡◌, ◌↔◌, ℕ}
 use Rattle.td_disk.specs.Disk.{DiskState, IsDurable}
 use Rattle.td_gate.specs.CrashSafe.{CrashSafe, Unchanged}

@@ -1,4 +1,5 @@
--- What a put in progress holds: its region, and the reference to its disk.
+-- What a put in progress holds: its region, and the reference to its disk. Clauses name it by these words, so that none names a
+-- private field.
 use Rattle.std.proofs.Common.{MutBor}
 use Rattle.td_gate.specs.declared.region.Region.{Region}
 use Rattle.td_gate.specs.declared.region.Closed.{Closed}

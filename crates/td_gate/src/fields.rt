@@ -1,4 +1,6 @@
 //! Numbers in a payload, as each part of a disk spells them: big endian, and an i64 in two's complement.
+//!
+//! They stand here since each part of a disk needs them. A list's front is one struct, and definitions take that struct itself.
 ghost use Rattle.std.specs.Prelude.{◌≡◌, ◌==◌, ◌+◌, ◌≤◌, ◌++◌, true, false, length, OnOk, IfSome, IfNone};
 ghost use Rattle.std.specs.List.{list_any};
 ghost use Rattle.td_gate.specs.Fields.{number_at, number_bytes, signed_at, signed_bytes};

@@ -1,5 +1,7 @@
 //! What holds of regions by their definitions, for every lawful disk. A caller that needs one of
 //! these calls it, which does nothing, and learns its clause.
+//!
+//! They speak of sequences of puts, since a clause cannot range over steps of any kind.
 ghost use Rattle.std.specs.Prelude.{◌≡◌, ◌<◌, ◌^◌, ◌++◌, [], ◌∷◌, ℕ, ℤ, FitsSigned, List, length, drop};
 ghost use Rattle.std.specs.Int.{w64};
 ghost use Rattle.td_disk.specs.Disk.{ImagesFollow, NoNewImages, TimePasses, IsDurable};

@@ -25,6 +25,10 @@ pub struct Region {
 }
 
 /// A region whose gate is closed, with its disk, which nobody else can use.
+///
+/// A step that fails hands the disk back beside its refusal. A clause on what a lent disk ends with gets no proof where the
+/// lender is a type parameter's `&mut D`. A caller binds it by a name, as `_device`, and by a `match`: the borrow checker does
+/// not cover `_` or `map_err` there.
 #[derive(Drop)]
 pub struct Closed<'a, D: Disk> {
     region: Region,
@@ -129,8 +133,8 @@ impl Region {
         }
     }
 
-    /// Closes the gate as `close` does, for good: no payload is to follow, and no state is handed
-    /// on. It refuses `Device` alone.
+    /// Closes the gate as `close` does, for good: no payload is to follow, and no state is handed on. It refuses `Device` alone.
+    /// It is a call of its own, since what the disk is after a state was dropped could not be said by `close`.
     pub fn shut<D: Disk>(&self, device: &mut D) -> Result<(), Fault>
         requires { self.now.at + self.now.len + 1 ≤ D.capacity device.old }
         ensures size { D.capacity device.new ≡ D.capacity device.old }
@@ -151,6 +155,9 @@ impl Region {
     /// region, four into a closed one. On a settled region of a lawful disk a crash at any moment of
     /// the call leaves the old payload, none, or the new one, and no other byte changes. It refuses
     /// `Device` alone.
+    ///
+    /// Of a region that is not settled nothing is promised but size, failures and lawfulness. After a failed put it is not
+    /// settled, and a sync that succeeds settles every region. So after a put that succeeded the disk is durable in either case.
     pub fn put<D: Disk>(&self, device: &mut D, payload: &[u8]) -> Result<(), Fault>
         requires room { self.now.at + self.now.len + 1 ≤ D.capacity device.old }
         requires len { length payload.now ≡ self.now.len }

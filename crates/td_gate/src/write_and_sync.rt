@@ -1,4 +1,5 @@
-// A write that is synced.
+// A write that is synced. No clause counts a disk's calls: fuses test how many a step has, and `tests/put_calls.py` counts them
+// on a real file.
 ghost use Rattle.std.specs.Prelude.{◌≡◌, ◌+◌, ◌≤◌, ◌↔◌, length, OnOk};
 ghost use Rattle.td_disk.specs.Disk.{bytes_at, SameOutside, IsDurable, CountsFailures};
 ghost use Rattle.td_gate.specs.CrashSafe.{CrashSafe};

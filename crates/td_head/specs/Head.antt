@@ -1,4 +1,5 @@
--- What the heads of a disk tell.
+-- What the heads of a disk tell. That a text is canonical is a relation, so `headed` takes the answer to it, and `IsHeaded` holds
+-- that together with what decides it. An image has one answer (`laws::heads_tell`).
 use Rattle.std.specs.Prelude.{◌≡◌, ℕ, ◌+◌, ◌-◌, Bool, true, false, ◌&&◌, ◌||◌, ◌==◌, nat_lt, nat_le, List, [], ◌++◌, length, drop, take, replicate, codes, bytes_eq, Option, Some, None, Result, Ok, Err, Decides}
 use Rattle.td_gate.specs.Fields.{number_bytes, number_at}
 use Rattle.td_gate.specs.Region.{opened}

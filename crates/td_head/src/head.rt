@@ -54,7 +54,8 @@ fn can_read(version: u32) -> bool
     version == 1 || version == 2
 }
 
-/// What a head that counts tells for a plan, on a disk of this size.
+/// What a head that counts tells for a plan, on a disk of this size. The text is parsed also where it is the plan's own: one that
+/// is not canonical is damage, and only then is another plan's refused.
 fn told(alloc: Global, plan: &Plan, size: u64, side: u8, payload: &[u8]) -> Result<Head, HeadError>
     requires { length payload.now ≡ 4128 }
     ensures told { IfOk result (λ h. IsFieldsTold plan.now size (fields_in side payload.now) (Headed h)) }

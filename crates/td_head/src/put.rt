@@ -101,6 +101,9 @@ pub fn put_first<D: Disk>(
 /// Puts the head that follows one into the other place: of version 2, with the next generation, the same plan and the
 /// same shape. What stood there does not count, since its generation is not greater. It refuses `LastGeneration` where
 /// no generation follows, then `Memory`, and in both cases has not called the disk; then `Device`.
+///
+/// It never touches the standing head, so a stop in its middle leaves that one. A head of version 2 may be raised too: whether to
+/// raise is the keeper's to see to.
 pub fn raise<D: Disk>(
     alloc: Global,
     device: &mut D,

@@ -77,6 +77,11 @@ impl Journal {
 
     /// Closes the cell of an epoch where it is open and bears that epoch, and writes nothing else. Of the cell it reads
     /// the gate and the epoch's eight bytes. It refuses `Memory` before it has written, and `Device`.
+    ///
+    /// A cell that bears the epoch after the next one would count once the next one is put. No run from a format leaves such a
+    /// cell, but a lawful disk may hold it. So a caller that puts an epoch clears the cell behind first, valid or not: one that
+    /// is not valid would make the disk damaged. It is no part of `append`, whose clause is on one cell and whose want of memory
+    /// comes before any write.
     pub fn clear<D: Disk>(
         &self,
         alloc: Global,
@@ -275,6 +280,8 @@ impl Journal {
     ///
     /// It stands for one who keeps a ring alone. A keeper weighs `Full` and `TooManyRecords` itself, and calls
     /// `payload`, `clear` and `Region::put` in turn, since the cell behind is to be closed between the first and the last.
+    ///
+    /// It looks at no request number: that one is above those before is asked by `laws::next_is_put`.
     pub fn append<D: Disk>(
         &self,
         alloc: Global,

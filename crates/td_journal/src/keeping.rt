@@ -1,4 +1,8 @@
 //! What a reading of a ring keeps of an epoch.
+//!
+//! One loop reads a ring (`read_each`), and one sweep a payload, with the last record alone in its hand. What takes the records
+//! is a type parameter. So what is valid, which refusal comes first and where the list ends is written and proved once. All
+//! answers are functions of one definition's list (`told_after`).
 ghost use Rattle.std.specs.Prelude.{◌≡◌};
 ghost use Rattle.td_journal.specs.Counts.{counts_of};
 

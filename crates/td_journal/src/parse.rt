@@ -39,7 +39,8 @@ fn goes_on(last: Option<Entry>, entry: &Entry) -> bool
     }
 }
 
-/// What is kept of a payload, if it is valid after epochs with this floor. It refuses want of memory alone.
+/// What is kept of a payload, if it is valid after epochs with this floor. It refuses want of memory alone. A request number
+/// belongs to a cell's validity, by the floor.
 pub(crate) fn kept_by<K: Keeping>(
     alloc: Global,
     inputs: &[u8],

@@ -18,8 +18,8 @@ use td_gate::Region;
 use td_gate::fields::{FRONT_LEN, Front};
 use td_stamp::States;
 
-/// A checkpoint: the slot in which it stands, its epoch, the greatest request number of the epochs up to it (0 for
-/// none), and the kept states after it.
+/// A checkpoint: the slot in which it stands, its epoch, the greatest request number of the epochs up to it (0 for none), and the
+/// kept states after it. It is also the definition's answer, so the clause of `newest` is one equation.
 #[derive(Debug, Drop)]
 pub struct Checkpoint {
     pub slot: u8,
@@ -73,6 +73,9 @@ impl Slots {
     /// Puts the states after an epoch, and the greatest request number of the epochs up to it (0 for none), into the
     /// slot that is not the newest. It refuses `TooManyKeys` where there are more states than a slot holds, then
     /// `Memory`, and in both cases has written nothing; then `Device`.
+    ///
+    /// Any epoch may be put, also one that is not greater: slot 0 counts on a tie (`after_write`). Any request number may be put;
+    /// that it is 0 in version 1 is the caller's part.
     pub fn write<D: Disk>(
         &self,
         alloc: Global,
@@ -153,6 +156,9 @@ impl Slots {
     /// lowest slot that is open and holds no states of these folds (before version 2 also where it has a request
     /// number), `NoSlot` where none is open, `Device` and `Memory`. It reads each slot once, and takes up the states of
     /// the newest alone.
+    ///
+    /// Both payloads are looked at before states are taken up, so it holds two payloads at most, or one and the states of it.
+    /// `Damaged` and `NoSlot` are said of the bytes only where neither `Device` nor `Memory` came before.
     pub fn newest<D: Disk>(
         &self,
         alloc: Global,
