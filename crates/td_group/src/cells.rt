@@ -1,4 +1,7 @@
 //! Cells that are written behind a closed one.
+//!
+//! Such a cell may be torn and open, as long as the first is closed. That no payload is written over an open gate holds for each
+//! cell that may count: the first one, and one that is put alone.
 ghost use Rattle.std.specs.Prelude.{◌≡◌, ◌⊎◌, ◌↔◌, ◌+◌, ◌*◌, ◌^◌, ◌<◌, ◌≤◌, ◌++◌, length, OnOk, IfOk, IfErr};
 ghost use Rattle.td_disk.specs.Disk.{bytes_at, CountsFailures, IsDurable, SameOutside};
 ghost use Rattle.td_gate.specs.CrashSafe.{CrashSafe};

@@ -1,4 +1,11 @@
 //! Closing the cells that no told epoch uses.
+//!
+//! A cut leaves the cells that it frees open, and a submit into an open cell takes three syncs in place of two. A caller that
+//! submits soon closes those that come next at once, with one sync, for a read of one byte each. `td stream` closes after each
+//! cut as many as that freed, and `td feed` none.
+//!
+//! A stop in the middle of a group leaves open cells behind the end, with the numbers of epochs that do not count. Each epoch
+//! that is put clears the next of them, and a group the one behind it.
 ghost use Rattle.std.specs.Prelude.{◌≡◌, ◌↔◌, ◌+◌, ◌^◌, ◌<◌, ◌≤◌, ℕ, List, false, None, OnOk, IfOk};
 ghost use Rattle.td_disk.specs.Disk.{CountsFailures, IsDurable, SameOutside};
 ghost use Rattle.td_gate.specs.CrashSafe.{CrashSafe, Unchanged};

@@ -1,4 +1,8 @@
 //! Putting a group of epochs on a ring.
+//!
+//! The cell behind the group is cleared first, unless the group fills the ring. That cell is then of an epoch that counts, or of
+//! the group, and bears another number. The first payload is written after the sync of the other cells. It could go with them,
+//! since its gate is closed, for one sync less.
 ghost use Rattle.std.specs.Prelude.{◌≡◌, ◌⊎◌, ◌↔◌, ◌+◌, ◌-◌, ◌^◌, ◌<◌, ◌≤◌, ◌==◌, ◌∷◌, nat_le, ℕ, suc, List, length, false, true, OnOk, IfErr, IsErrOf};
 ghost use Rattle.td_disk.specs.Disk.{IsDurable, Rises};
 ghost use Rattle.td_gate.specs.CrashSafe.{CrashSafe, Unchanged};

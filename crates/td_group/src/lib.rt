@@ -1,5 +1,13 @@
 //! A group of epochs that is put on a disk's ring at once: each image since the start of the call tells what was told before, or that and the
 //! whole group. And cells that no told epoch uses, which are closed at once.
+//!
+//! A ring counts up to the first cell that is closed or bears another epoch. So a group is opened by one gate, that of its first
+//! cell. Until that is open nothing of the group counts, whatever a crash left of the cells behind. With the gates of all cells
+//! opened before one sync a stop could leave any beginning of the group. All or nothing leaves less to think of, and its syncs do
+//! not grow with its size.
+//!
+//! Of three epochs, for example, the second and third are written with their gates and synced once. Then the first is put as any
+//! epoch is.
 #![tactic(auto)]
 
 mod cells;

@@ -39,7 +39,8 @@ pub enum Reply {
     Submitted(u64),
     /// What the submit under a request number came to.
     SubmittedAs(Receipt),
-    /// The group is acknowledged as the epochs from the first number up to, and without, the second.
+    /// The group is acknowledged as the epochs from the first number up to, and without, the second. So a group of none is said
+    /// as well as any.
     SubmittedAll(u64, u64),
     /// So many epochs were released.
     Released(u64),

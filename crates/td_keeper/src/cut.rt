@@ -1,4 +1,5 @@
-//! Taking cuts.
+//! Taking cuts. A cut's states are never copied here: they are the keeper's base, and become the checkpoint's when they are
+//! written.
 ghost use Rattle.std.specs.Prelude.{◌≡◌, ◌⊎◌, ◌-◌, ◌≤◌, Some, None, IfOk, IfErr};
 ghost use Rattle.td_plan.specs.Tree.{tree_of};
 ghost use Rattle.td_batch.specs.Meaning.{states_after};

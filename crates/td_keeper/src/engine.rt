@@ -26,6 +26,9 @@ use td_standing::KeeperError;
 /// By its type the hall is the keeper's: its plan, its base and what was collected are the keeper's, and its batches are a beginning
 /// of the keeper's since that base. So nothing is compared: a release and a collect cost what is new, however many states and epochs
 /// there are. A cut copies the kept states.
+///
+/// Its hall has one shard: on one thread more of them would only cost. `Obey` is what it has in common with a keeper beside a
+/// pool, so a feed is written once over both.
 #[derive(Drop)]
 pub struct Engine<'a, D: Disk, L: Law, C: Closures<L>> {
     keeper: Keeper<D, L>,

@@ -45,6 +45,9 @@ impl Group {
 }
 
 /// Why a group was not submitted.
+///
+/// `submit_as` answers `Already` to a repeated number. Of a group the other batches would be lost with it, so the whole comes
+/// back.
 #[derive(Clone, Copy, Debug, PartialEq, Eq, Error)]
 pub enum GroupError {
     /// A request number is not above all before it, on the disk and in the group.

@@ -34,6 +34,9 @@ pub(crate) struct Taken {
 /// The epochs of a plan on a disk, and what a hall that works on them has collected. Contracts see it as a `Keeping`. A lawful
 /// disk keeps its standing, whatever a crash leaves of it: an image tells that standing; where the device failed in a call that
 /// writes, an image tells an advance of it that holds all of its epochs.
+///
+/// What it knows of its disk is one fact: a crash leaves what is read, and that tells the standing. No fact on single regions is
+/// kept. It has a copy of the plan, so later calls are handed none.
 #[derive(Drop)]
 pub struct Keeper<D: Disk, L: Law> {
     pub(crate) alloc: Global,

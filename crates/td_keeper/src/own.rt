@@ -1,4 +1,8 @@
 //! Whether a hall works on a keeper's epochs.
+//!
+//! A hall is compared by what it holds, without a copy and without memory, but each time anew. The type of the next hall says
+//! only that it is sound, and shared pointers cannot be compared by address. So a call costs all states of the base and the
+//! records since. A caller that releases when as much is new as was compared before pays for twice the records in all.
 ghost use Rattle.std.specs.Prelude.{◌≡◌, ◌++◌, ◌-◌, ◌≤◌, ◌↔◌, List, drop, length, map, IsTrue};
 ghost use Rattle.td_stamp.specs.declared.values.Entry.{Entry};
 ghost use Rattle.td_standing.specs.Standing.{batches_of};

@@ -32,7 +32,8 @@ impl<D: Disk, L: Law> Keeper<D, L> {
     /// Refusals, with the batch handed back, the first that holds: `Broken`, where the device failed in an earlier call that
     /// writes; `NoSuchInput`, where a record names no input of the plan; `TooManyRecords`, where there are more than a cell
     /// holds; `Epochs`, where the last number of an epoch is used; `Full`, where no cell is free. Then `Memory`; in all these
-    /// cases nothing is written. Then `Device`: the keeper is broken, and the epoch may stand on the disk or not.
+    /// cases nothing is written. Then `Device`: the keeper is broken, and the epoch may stand on the disk or not. A batch without
+    /// a number is one of number 0, put in the same way.
     pub fn submit(&mut self, batch: Batch) -> Result<u64, (KeeperError, Batch)>
         ensures acknowledged { IfOk result (λ epoch. epoch ≡ last_epoch self.new.standing) }
         ensures submitted { IfOk result (λ _. self.new ≡ with_batch self.old self.new.device 0 batch) }
@@ -81,6 +82,14 @@ impl<D: Disk, L: Law> Keeper<D, L> {
     ///
     /// Refusals, with the batch handed back, the first that holds: `Broken`; `OldVersion`, where the disk is of version 1 of the
     /// format, which has no numbers (`upgrade`); and, where the answer is not `Already`, those of `submit`.
+    ///
+    /// `Already` comes before all that is refused of a batch. It needs no room, so a producer that sends again has its answer
+    /// where the journal is full. The batch is not compared with what was put first, which is gone after a cut. One number on the
+    /// disk answers, also for a number that was left out. The ring knows single numbers since the last cut alone, so a finer
+    /// answer would change with a cut.
+    ///
+    /// A batch under 0 is never `Already`. To take it for a repeat would drop the first batch of a producer that counts from 0,
+    /// without a word. Such a producer doubles it when it sends again.
     pub fn submit_as(&mut self, request: u64, batch: Batch) -> Result<Receipt, (KeeperError, Batch)>
         ensures received { IfOk result (λ receipt. IsReceived request batch receipt self.old self.new) }
         ensures accepted { IfOk result (λ _. submit_as_refusal self.old request batch ≡ None) }

@@ -101,7 +101,8 @@ impl<D: Disk, L: Law> Keeper<D, L> {
     }
 
     /// Puts a group that may come next on the journal, and answers the number of its first epoch. Refusals, with the group handed
-    /// back: `Memory`, and nothing is written; `Device`.
+    /// back: `Memory`, and nothing is written; `Device`. `submit` and `submit_as` put a group of one by it, at a small allocation
+    /// each beside their syncs.
     pub(crate) fn put_next(
         &mut self,
         group: Vec<Submitted>,

@@ -1,4 +1,7 @@
 //! The watch beside a keeper: other threads follow how far it has come.
+//!
+//! A writer is the keeper's own while it is attached. A `cut` publishes too, where it brings in what `collect` would. No epoch is
+//! collected before it is acknowledged, so the three words are in order by the keeper's type.
 ghost use Rattle.std.specs.Prelude.{◌≡◌, ◌<◌, ◌≤◌, ◌^◌, Some, None, IfSome};
 ghost use Rattle.td_watch.specs.Words.{IsAtMost, KeepsOrder, acked};
 ghost use Rattle.td_standing.specs.Standing.{last_epoch, standing_from};

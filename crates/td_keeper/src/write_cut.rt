@@ -24,8 +24,9 @@ impl<D: Disk, L: Law> Keeper<D, L> {
     /// it is the checkpoint, and the cells of the epochs up to it are free. A writer that is attached publishes it.
     ///
     /// Refusals, the first that holds: `Broken`, where the device failed in an earlier call that writes; `TooManyKeys`, where
-    /// there are more states than a slot holds: the cut waits no more. Then `Memory`, and the cut waits still; in all these
-    /// cases nothing is written. Then `Device`: the keeper is broken, and the checkpoint on the disk is the old or the new.
+    /// there are more states than a slot holds: the cut waits no more. Then `Memory`, and the cut waits still; in all these cases
+    /// nothing is written. Then `Device`: the keeper is broken, and the checkpoint on the disk is the old or the new. A cut with
+    /// too many states stays the keeper's base, as it is the hall's.
     pub fn write_cut(&mut self) -> Result<Option<u64>, KeeperError>
         ensures written { IfOk result (λ written. (written ≡ None) ⊎ ((written ≡ Some self.old.base) × (self.new ≡ with_checkpoint self.old self.new.device))) }
         ensures none { (result ≡ Ok None) ↔ ((self.old.broken ≡ false) × (self.old.waiting ≡ false)) }

@@ -37,8 +37,8 @@ ghost use Rattle.td_standing.specs.Tells.{Tells, EachTells, TellsSince, IsFormat
 use td_calls::Law;
 use td_disk::Disk;
 
-/// What a disk tells after a stop is a beginning of what was submitted: of all since a format, where what it told before
-/// stood for all of before.
+/// What a disk tells after a stop is a beginning of what was submitted: of all since a format, where what it told before stood
+/// for all of before. So any number of stops is covered.
 pub fn advance_stands<L: Law>()
     ensures first { (nodes : Nodes) → Stands (λ b x. (run L.answers nodes b x).states) nothing_told [] }
     ensures each { (nodes : Nodes) (s t : Standing) (history submitted : List AnySubmitted)
@@ -81,8 +81,9 @@ pub fn advances_join<L: Law>()
     td_batch::laws::run_joins::<L>();
 }
 
-/// The last request number never falls: not where a disk tells an advance that holds all epochs of before, not by a
-/// submit, and not by a cut; and it is at least that of each batch submitted.
+/// The last request number never falls: not where a disk tells an advance that holds all epochs of before, not by a submit, and
+/// not by a cut; and it is at least that of each batch submitted. An advance that cuts off epochs of before may have a smaller
+/// one: so it is asked that all of them are held.
 pub fn last_request_never_falls<L: Law>()
     ensures told { (nodes : Nodes) (s t : Standing) (submitted : List AnySubmitted)
         → Advance (λ b y. (run L.answers nodes b y).states) (with_more s submitted) t

@@ -1,4 +1,7 @@
 //! Where the slots and the cells of a disk lie.
+//!
+//! The layout has its home in `td_head`: heads, `Shape::slots_at` and `cells_at`. These two calls make `Slots` and a `Journal` of
+//! a shape, with the definition's contract.
 ghost use Rattle.std.specs.Prelude.{◌≡◌, ◌+◌, ◌*◌, ◌<◌, ◌≤◌};
 ghost use Rattle.td_head.specs.Layout.{size_of};
 ghost use Rattle.td_slots.specs.Slot.{slot_len};

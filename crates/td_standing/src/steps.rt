@@ -25,6 +25,9 @@ use td_stamp::{Batch, States};
 
 /// Puts the next epoch's batch and its request number (0 for none) into its cell, after the cell behind it was closed
 /// where it bears the epoch behind it. It refuses `Memory`, and then has written nothing; then `Device`.
+///
+/// It does not go through `Journal::append`. The payload is made first, since want of memory comes before any write. Then the
+/// cell behind is cleared, and then the payload is put.
 pub fn submit_batch<D: Disk>(
     alloc: Global,
     journal: &Journal,
@@ -84,6 +87,9 @@ pub fn submit_batch<D: Disk>(
 
 /// Puts the states after a cut, with the greatest request number of the epochs up to it, into the slot beside the newest.
 /// It refuses `TooManyKeys`, then `Memory`, and in these cases has not called the disk; then `Device`.
+///
+/// A cut at the checkpoint's own epoch while slot 0 is the newest goes into slot 1. Slot 0 stays the newest, since a tie is slot
+/// 0's.
 pub fn write_states<D: Disk>(
     alloc: Global,
     slots: &Slots,
