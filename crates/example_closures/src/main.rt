@@ -1,4 +1,7 @@
 //! The coldest reading of each room, epoch by epoch, by closures of its own: an example of a program over the engine.
+//!
+//! What such a program needs is a law, closures that answer it, and calls of the engine. The proof that they answer it is the
+//! check's own, without a proof file. `docs/CLOSURES.md` goes through it.
 #![tactic(auto)]
 
 mod closures;

@@ -1,5 +1,8 @@
 //! Counts the visits of pages, as a service: a keeper with its disk in a file, and beside it workers, a producer and a follower, each in
 //! a thread of its own. It is stopped after 120 requests and started again; the producer then sends 200, from the first on.
+//!
+//! One thread owns the keeper, and requests reach it through a bounded channel. So no lock is held while the disk is written, and
+//! the producer waits where the keeper is behind. `docs/SERVICE.md` goes through it.
 #![tactic(auto)]
 
 mod service;

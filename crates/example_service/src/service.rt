@@ -68,8 +68,9 @@ impl<R: Wait> Beside<Visits, R> for Intake<'_> {
     }
 }
 
-/// Waits until all that was released has passed, and puts the outputs of the epochs that `outs` lacks behind it: after a start those
-/// since the checkpoint come again. Refusals: those of the keeper.
+/// Waits until all that was released has passed, and puts the outputs of the epochs that `outs` lacks behind it: after a start
+/// those since the checkpoint come again. Refusals: those of the keeper. It goes by their count: a loop over `next_out` would
+/// need a measure in a proof file.
 fn hand_out<K: Crew, R: Wait>(
     rt: &R,
     keeper: &mut VisitsKeeper,
@@ -114,7 +115,9 @@ pub(crate) fn run<R: Print + Threads + Wait + Clock + AllocGlobal + Sync>(
     Ok(())
 }
 
-/// Takes requests in by a hall, beside the threads. Answers how many were on the disk already, and which epoch the follower saw done.
+/// Takes requests in by a hall, beside the threads. Answers how many were on the disk already, and which epoch the follower saw
+/// done. The keeper is lent, and the scope lends the flag alone to threads, since the borrow checker does not cover two variables
+/// lent so. The flag ends the follower: a reader cannot know that its writer has gone.
 fn serve<R: Threads + Wait + Clock + AllocGlobal + Sync>(
     rt: &R,
     keeper: &mut VisitsKeeper,

@@ -1,4 +1,6 @@
 //! The closure of this program, and the law that it answers.
+//!
+//! It counts records and adds up no values: a fold without a loop needs no proof file. `stock.rt` of td_calls has folds with one.
 ghost use Rattle.std.specs.Prelude.{◌==◌, false};
 ghost use Rattle.example_service.specs.Visits.{visits, visits_few};
 

@@ -1,4 +1,4 @@
-//! Copying a disk.
+//! Copying a disk. A disk with a head is refused, since nobody can mean to lose it.
 ghost use Rattle.std.specs.Prelude.{◌≡◌, ◌↔◌, None, IfErr, IfOk};
 ghost use Rattle.td_gate.specs.CrashSafe.{CrashSafe, Unchanged};
 ghost use Rattle.td_standing.specs.Standing.{Standing};

@@ -1,4 +1,7 @@
 //! What a disk tells up to an epoch.
+//!
+//! So an epoch that no evaluator gets past, and those after it, can be left out. No epoch below the checkpoint's can be named,
+//! since a checkpoint is not taken apart.
 ghost use Rattle.std.specs.Prelude.{◌≡◌, ◌+◌, ◌^◌, ◌<◌, length, None, Some, OnOk, IfErr};
 ghost use Rattle.td_standing.specs.Read.{standing_of};
 ghost use Rattle.td_copy.specs.Until.{told_until, until_fault};

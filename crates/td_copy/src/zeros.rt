@@ -1,4 +1,7 @@
 //! Zeros over a disk that has no head: they take the room of all its parts before anything is told, and close all slots and cells.
+//!
+//! On most file systems the room of the whole disk is taken then. So a copy that finds too little of it ends with `device`, and
+//! no later feed does.
 ghost use Rattle.std.specs.Prelude.{◌≡◌, ◌⊎◌, ◌↔◌, ◌<◌, ◌≤◌, ℕ, length, slice_index, OnOk, IfErr};
 ghost use Rattle.td_disk.specs.Disk.{CountsDevice, CountsFailures, IsDurable};
 ghost use Rattle.td_head.specs.Layout.{size_of};

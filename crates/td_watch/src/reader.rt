@@ -1,4 +1,7 @@
 //! A reader of a watch.
+//!
+//! No clause says how recent a read is. An atomic step could say it only by a note from the writer, and no call hands one on. So
+//! a body that answers its last words again, where these are in order, is refused by a test in one thread alone.
 ghost use Rattle.std.specs.Prelude.{◌≡◌};
 ghost use Rattle.td_watch.specs.Words.{IsAtMost, KeepsOrder};
 ghost use Rattle.td_watch.specs.View.{view_of};

@@ -1,4 +1,8 @@
 //! The table of the three words: the rule that it keeps at all times, and the kinds of step on it.
+//!
+//! Beside stores by the writer and loads by readers there are three kinds of step. A new reader's seat is split from the
+//! writer's. A seat that comes back is joined to it. A join says nothing of the words, so the writer's view keeps what was joined
+//! until its next load compares that.
 use atomic_table::{Join, Play, Seat, Split, Table, TableRule};
 use std::alloc::Global;
 use std::collections::LinkedList;
@@ -12,7 +16,8 @@ pub const DONE: usize = 1;
 /// The place of kept.
 pub const KEPT: usize = 2;
 
-/// What the table knows of a seat. No value of it is made.
+/// What the table knows of a seat. No value of it is made. The table wants a Rust type for views, and a clause reads
+/// `LinkedList<u64>` as a plain list: it costs no memory and no code.
 pub struct SeatView {
     /// Whether the seat is the writer's.
     pub is_writer: bool,

@@ -8,6 +8,8 @@ use crate::writer::Writer;
 use std::alloc::Global;
 
 /// A watch's one writer and its readers, each of which may move to a thread of its own.
+///
+/// Nothing else belongs to a watch. The table of words is shared by these, and goes with the last of them.
 #[derive(Drop)]
 pub struct Watch {
     pub writer: Writer,

@@ -1,4 +1,7 @@
 //! Workers in threads, and work beside them.
+//!
+//! A thread that cannot be made refuses before the work begins: with fewer workers than shards the tasks of some shard would wait
+//! for ever.
 ghost use Rattle.std.specs.Prelude.{◌≡◌, All, IfOk, IfErr};
 ghost use Rattle.td_calls.specs.Fits.{lacking_code};
 ghost use Rattle.td_pool.specs.declared.error.PoolError.TheVariants.{Memory};
