@@ -1,4 +1,6 @@
--- Bags of pointstamps: lists in which each stands as often as it occurs, and whose order has no meaning.
+-- Bags of pointstamps: lists in which each stands as often as it occurs, and whose order has no meaning. A sorted list would need
+-- an order of pointstamps and its laws. A finite map would hide the list on which frontier and passed are defined. `AreAlike` of
+-- td_machine says the same of two lists, for any test.
 use Rattle.std.specs.Prelude.{◌≡◌, ◌==◌, ◌&&◌, nat_eq, ℕ, Bool, false, List, [], count_by}
 use Rattle.std.specs.Cmp.Lexicographic.{pointwise}
 use Rattle.td_stamp.specs.Time.{Timestamp}

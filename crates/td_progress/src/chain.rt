@@ -18,8 +18,9 @@ pub(crate) enum Step {
     Down,
 }
 
-/// The epochs of pointstamps of one place and counters, each with its gap: how many precursors it has that the one before
-/// has not, itself counted too.
+/// The epochs of pointstamps of one place and counters, each with its gap: how many precursors it has that the one before has
+/// not, itself counted too. So a pointstamp is in the frontier exactly where it is the first and its gap is one. Sums of gaps
+/// stop at the ends of a `u64`, and the proof shows that neither end is met.
 #[derive(Drop)]
 pub(crate) struct Chain {
     gaps: BTreeMap<u64, u64>,

@@ -29,6 +29,12 @@ use td_reach::{Reach, Stamp};
 ///
 /// The places of the plan stand first, in no loop, at their numbers, and stay there where none of their pointstamps is active. So a
 /// change looks at the places that lead to its own, or to which it leads, and at the counters in loops that are active, alone.
+///
+/// One that comes between two others takes its gap from the later one, and one that goes gives it back. A departure counts
+/// nothing and takes no memory. An arrival counts its own gap, by a walk that is not longer than that gap.
+///
+/// Two other forms were rejected. A part that the places share, added when it is asked for, is quadratic where epochs leave from
+/// the middle. First pointstamps alone would have no counts for the others.
 #[derive(Drop)]
 pub(crate) struct Held {
     // Each place and counters, as the pointstamp of epoch 0.
@@ -71,6 +77,7 @@ impl Held {
         ensures ok { OnOk result (IsSameBag (held self.new) (stamp.now ∷ held self.old)) }
         ensures err { OnErr result (self.new ≡ self.old) }
     {
+        // `precursors` answers a `u64`, and no machine has the memory for so many.
         let Some(active) = self.active.checked_add(1) else {
             return Err(AllocError);
         };

@@ -81,7 +81,8 @@ impl Table {
         self.tally.plan()
     }
 
-    /// Whether the plan has the place of a pointstamp, and its time is in as many loops as are open there.
+    /// Whether the plan has the place of a pointstamp, and its time is in as many loops as are open there. Without it and
+    /// `occurrences` a caller with a plan from a text could not show the conditions of the other calls.
     pub fn has(&self, stamp: &Stamp) -> bool
         ensures { IsTrue result ↔ IsOf self.now.plan stamp.now }
     {
@@ -106,7 +107,7 @@ impl Table {
         self.add_many(stamp, 1)
     }
 
-    /// A pointstamp this many times more. Refusal: `Memory`, with the table unchanged.
+    /// A pointstamp this many times more. Refusal: `Memory`, with the table unchanged. Zero times is nothing.
     pub fn add_many(&mut self, stamp: &Stamp, times: u64) -> Result<(), ProgressError>
         requires of_plan { IsOf self.old.plan stamp.now }
         requires fits { occurrences stamp.now self.old.stamps + times < 2 ^ 128 }
@@ -120,6 +121,7 @@ impl Table {
         if self.tally.occurrences(stamp) > 0 {
             return self.tally.add_many(stamp, times);
         }
+        // It becomes active before it is counted: where the count is refused it goes again, which takes no memory.
         self.held.come(self.tally.ways(), stamp)?;
         if let Err(refused) = self.tally.add_many(stamp, times) {
             self.held.go(self.tally.ways(), stamp);

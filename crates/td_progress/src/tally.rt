@@ -16,6 +16,9 @@ use td_reach::Stamp;
 
 /// The active pointstamps of a plan, by epoch, with how often each occurs: its occurrence count (Naiad, section 2.3). Contracts
 /// see the plan, and a list in which each stands as often as it occurs.
+///
+/// They stand by epoch, since the least open epoch says whether one has passed. The map of an epoch is dropped with its last
+/// pointstamp. A new one is made before it is put in, so a refusal has nothing to undo.
 #[derive(Drop)]
 pub(crate) struct Tally {
     ways: Ways,

@@ -44,7 +44,8 @@ impl Numbers {
 /// A plan, with what could result in what, and with the places that lead to each of its places and those to which it leads.
 /// Contracts see the plan.
 ///
-/// A plan has at most 64 vertices and 128 edges, so at most 192 places, each with two rows of numbers of 2 bytes.
+/// A plan has at most 64 vertices and 128 edges, so at most 192 places, each with two rows of numbers of 2 bytes. These are at
+/// most 147 KB, and 73,728 look-ups in the table of effects, once for a table of pointstamps.
 #[derive(Drop)]
 pub(crate) struct Ways {
     reach: Reach,
@@ -122,7 +123,8 @@ impl Ways {
     }
 }
 
-/// How many places of a plan have a number.
+/// How many places of a plan have a number. Edges are numbered up to 256, as a `u8` names them: the limit of 128 is no clause of
+/// td_plan, and none is needed.
 fn places(reach: &Reach) -> u16
     ensures { result ≡ places_of reach.now }
 {
