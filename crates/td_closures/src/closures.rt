@@ -1,4 +1,4 @@
-//! The reader of closures in text.
+//! The reader of closures in text. A contract sees a list of closures as what each says.
 ghost use Rattle.std.specs.Prelude.{◌≡◌, ◌⊎◌, List, map, IfOk, IfErr};
 ghost use Rattle.td_plan.specs.Text.{text_lines};
 ghost use Rattle.td_closures.specs.Drafts.{Said, no_draft};

@@ -1,4 +1,6 @@
 //! What stands before an expression that is being read.
+//!
+//! An expression is put together as soon as what follows binds no tighter. So a chain, as `1 + 2 + 3`, is not nested.
 ghost use Rattle.std.specs.Prelude.{◌≡◌, nat_lt, IfOk, IfErr};
 ghost use Rattle.td_closures.specs.declared.fault.Wrong.TheVariants.{Memory};
 ghost use Rattle.td_closures.specs.Phrase.{tree_of, prefix, infix', choice, operator_level, sign_level};
@@ -34,7 +36,7 @@ pub(crate) enum Context {
     Otherwise(Expression, Expression, Box<Context>),
 }
 
-/// How tight an operator binds.
+/// How tight an operator binds. All tests are of one level.
 pub(crate) fn operator_level(operator: Operator) -> u8
     ensures { result ≡ operator_level operator }
 {
@@ -53,7 +55,7 @@ pub(crate) fn operator_level(operator: Operator) -> u8
     }
 }
 
-/// How tight a sign binds.
+/// How tight a sign binds. `abs` is a sign, and its parentheses are those of any expression.
 pub(crate) fn sign_level(sign: Sign) -> u8
     ensures { result ≡ sign_level sign }
 {

@@ -65,7 +65,7 @@ fn sign(alloc: Global, around: Context, level: u8, sign: Sign) -> Result<Progres
     Ok(Progress::Wanted(Context::Signed(sign, Box::new(alloc, around)?)))
 }
 
-/// `if`.
+/// `if`. It is the loosest form, and may not stand behind an operator. So no `else` reaches further than it seems to.
 fn begin_test(alloc: Global, around: Context) -> Result<Progress, Wrong>
     ensures { Steps result (pushed 0 (around_of around) (test (around_of around))) }
 {

@@ -40,7 +40,8 @@ impl<T: Drop> From<AllocFailed<T>> for Wrong {
     }
 }
 
-/// Why a text spells no closures: the number of its first line with a fault, from 1, and what is wrong with it.
+/// Why a text spells no closures: the number of its first line with a fault, from 1, and what is wrong with it. A refusal for
+/// want of memory has a line too.
 #[derive(Clone, Copy, Debug, PartialEq, Eq)]
 pub struct Fault {
     pub line: u64,

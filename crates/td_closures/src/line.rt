@@ -21,7 +21,7 @@ pub(crate) enum WrittenLine {
     Keep(Pair),
 }
 
-/// How many names a line gives a value at most.
+/// How many names a line gives a value at most. The reader of them calls itself.
 const CHANGES: usize = 64;
 
 /// An expression, and what follows it. Refusals as `read_expression`.
@@ -84,7 +84,7 @@ fn may_change(name: Name) -> bool
     matches!(name, Name::A | Name::B | Name::Register(_))
 }
 
-/// The register that a `let` names. Refusals: `TooMany`, for the ninth; `Name`; `Syntax`.
+/// The register that a `let` names. Refusals: `TooMany`, for the ninth; `Name`; `Syntax`. A `let` names what is new.
 fn new_target(token: Token) -> Result<Name, Wrong>
     ensures { result ≡ target_of Verb.Let token }
 {

@@ -44,7 +44,7 @@ fn are_joined(b: u8, c: u8) -> bool
     (is_of_word(b) && is_of_word(c)) || ((b == 60 || b == 62 || b == 33) && c == 61)
 }
 
-/// A character, or `?` for one that is not printable ASCII.
+/// A character, or `?` for one that is not printable ASCII. That is in no word.
 fn shown(b: u8) -> u8
     ensures shown { result ≡ shown b }
     ensures ascii { result < 128 }
@@ -290,7 +290,8 @@ fn number_of(registers: &[String], word: &str) -> Option<usize>
     None
 }
 
-/// The registers that a closure names so far: eight at most. A contract sees their names.
+/// The registers that a closure names so far: eight at most. A contract sees their names. A register is there from the word on by
+/// which its line names it, and is 0 until its value is computed.
 #[derive(Drop)]
 pub struct Registers {
     names: Vec<String>,
