@@ -1,8 +1,7 @@
 //! Putting what was read of a disk on another one: zeros first, then the parts behind the heads, and the head last.
 //!
 //! A copy is as a format leaves a disk: the checkpoint in slot 0, version 2, generation 1. Which slot and head the old disk uses,
-//! and what stands in parts that do not count, is not copied. The parts are put by the calls of a keeper and of a format, which
-//! sync each by itself. One sync for all cells would do, since nothing reads the new disk before its head is there.
+//! and what stands in parts that do not count, is not copied.
 ghost use Rattle.std.specs.Prelude.{◌≡◌, ◌⊎◌, ◌↔◌, ◌+◌, ◌*◌, ◌^◌, ◌<◌, ◌≤◌, [], ◌∷◌, true, false, All, List, ℕ, length, None, Some, OnOk, IfOk, IfErr, IsErrOf};
 ghost use Rattle.td_plan.specs.Lines.{Line};
 ghost use Rattle.td_disk.specs.Disk.{CountsDevice, CountsFailures, IsDurable};
