@@ -100,6 +100,12 @@ class Edit:
         return [*above[-1:], *re.findall(r"\bfn (\w+)", self.text[begin:])]
 
 
+def misread(file, crate, rt):
+    """Why an edit cannot be tried as it says: its text cannot be applied, or it names another function than it changes. None where it can."""
+    _, why = rt.edited(pathlib.Path(file).read_text(encoding="utf-8"), crate.folder)
+    return why or Edit(file, crate, rt).wrong
+
+
 def module_of(path):
     """The module that a source file is."""
     module = path.removeprefix("src/").removesuffix(".rt").split("/")

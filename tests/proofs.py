@@ -30,10 +30,8 @@ def prove(tally):
         top = pathlib.Path(folder) / "repository"
         shutil.copytree(ROOT, top, ignore=is_left_out)
         trials = Trials(top)
-        for name in trials.crates:
-            for file in set((ROOT / "crates" / name).glob("must-fail/*")) - set(edits_of(name)):
-                if file.suffix != ".md":
-                    tally.fail(f"must-fail {name}/{file.name}", "an edit is a file whose name ends in .edit")
+        if not are_readable(tally, trials):
+            return
         if run_rt_ci(tally, top, trials):
             for name in trials.crates:
                 trials.begin(name)
@@ -87,6 +85,19 @@ def build_archives(tally, crates):
             tally.fail(f"lib{crate.name}.a", said)
         else:
             print(f"check: lib{crate.name}.a is built", flush=True)
+
+
+def are_readable(tally, trials):
+    """Whether each must-fail edit can be tried as it says, which is seen before anything is proved."""
+    failed = tally.failed
+    for name, crate in trials.crates.items():
+        for file in set((ROOT / "crates" / name).glob("must-fail/*")) - set(edits_of(name)):
+            if file.suffix != ".md":
+                tally.fail(f"must-fail {name}/{file.name}", "an edit is a file whose name ends in .edit")
+        for file in edits_of(name):
+            if why := edits.misread(file, crate, trials.rt):
+                tally.fail(f"must-fail {name}/{file.stem}", why)
+    return tally.failed == failed
 
 
 def edits_of(name):
