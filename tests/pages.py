@@ -10,7 +10,9 @@ docs/MEANING.md, from a line of three back ticks to the next, is whole definitio
 
 Each name that a page cites is one of the sources: a path as `Plan::read` or `laws::orders`, in the crate that it names, or that a section of docs/GUARANTEES.md is
 of; each word of code with `_` or a capital inside; each file. In docs/GUARANTEES.md so is each name behind `*Contract*`, and what stands in brackets
-behind a function, as `Plan::read` (`ok`), are clauses of its contract, or definitions of its crate."""
+behind a function, as `Plan::read` (`ok`), are clauses of its contract, or definitions of its crate.
+
+Each file that docs/FILES.md names under a crate's heading is one of that crate's, and each crate of crates.txt stands in the table of docs/ARCHITECTURE.md."""
 
 import collections
 import re
@@ -241,11 +243,28 @@ def mistakes_of_contracts(sources):
                     yield f"{place(found)}: a contract {name} stands nowhere in the sources"
 
 
+def mistakes_of_files():
+    """Files that docs/FILES.md names and the crates of the heading above lack; crates that docs/ARCHITECTURE.md leaves out."""
+    crates = []
+    for number, line in enumerate((ROOT / "docs/FILES.md").read_text(encoding="utf-8").splitlines(), 1):
+        if line.startswith("#"):
+            crates = re.findall(r"\btd(?:_\w+)?\b", line)
+        for name in re.findall(r"`((?:proofs/)?\w+\.(?:rt|antt))`", line) if crates else []:
+            named = {*crates, *re.findall(r"\b(?:of|Of) `?(td_\w+)", line), *re.findall(r"`(td(?:_\w+)?)/", line)}
+            if not any(list((ROOT / "crates" / crate).glob(folder + name)) for crate in named for folder in ("", "src/", "specs/")):
+                yield f"docs/FILES.md:{number}: no file {name} in {', '.join(sorted(named))}"
+    table = (ROOT / "docs/ARCHITECTURE.md").read_text(encoding="utf-8")
+    for crate in re.findall(r"(?m)^(\w+)[^#\n]*:", (ROOT / "crates.txt").read_text(encoding="utf-8")):
+        if f"\n| `{crate}` |" not in table:
+            yield f"docs/ARCHITECTURE.md: the table of crates lacks {crate}"
+
+
 def main():
     if sys.argv[1:] == ["--write"]:
         return write_definitions()
     sources = Sources()
-    wrong = [*mistakes_of_links(), *mistakes_of_walks(), *mistakes_of_definitions(), *mistakes_of_names(sources), *mistakes_of_contracts(sources)]
+    wrong = [*mistakes_of_links(), *mistakes_of_walks(), *mistakes_of_definitions(), *mistakes_of_names(sources), *mistakes_of_contracts(sources),
+             *mistakes_of_files()]
     if wrong:
         fail("\n".join(wrong))
     print(f"{len(PAGES)} pages: links lead somewhere, what is quoted of crates stands there, and each name, clause and file that is cited is there")
