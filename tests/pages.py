@@ -10,9 +10,7 @@ docs/MEANING.md, from a line of three back ticks to the next, is whole definitio
 
 Each name that a page cites is one of the sources: a path as `Plan::read` or `laws::orders`, in the crate that it names, or that a section of docs/GUARANTEES.md is
 of; each word of code with `_` or a capital inside; each file. In docs/GUARANTEES.md so is each name behind `*Contract*`, and what stands in brackets
-behind a function, as `Plan::read` (`ok`), are clauses of its contract, or definitions of its crate.
-
-Each file that docs/FILES.md names under a crate's heading is one of that crate's, and each crate of crates.txt stands in the table of docs/ARCHITECTURE.md."""
+behind a function, as `Plan::read` (`ok`), are clauses of its contract, or definitions of its crate."""
 
 import collections
 import re
@@ -202,6 +200,22 @@ def plain(said):
     return re.sub(r"\(.*\)$", "", re.sub(r"<[^<>]*>", "", said))
 
 
+def mistakes_of_files():
+    """Files that docs/FILES.md names and the crates of the heading above lack; crates of crates.txt that are not in the table of docs/ARCHITECTURE.md."""
+    crates = []
+    for number, line in enumerate((ROOT / "docs/FILES.md").read_text(encoding="utf-8").splitlines(), 1):
+        if line.startswith("#"):
+            crates = re.findall(r"\btd(?:_\w+)?\b", line)
+        for name in re.findall(r"`((?:proofs/)?\w+\.(?:rt|antt))`", line) if crates else []:
+            named = {*crates, *re.findall(r"\b(?:of|Of) `?(td_\w+)", line), *re.findall(r"`(td(?:_\w+)?)/", line)}
+            if not any(list((ROOT / "crates" / crate).glob(folder + name)) for crate in named for folder in ("", "src/", "specs/")):
+                yield f"docs/FILES.md:{number}: no file {name} in {', '.join(sorted(named))}"
+    table = (ROOT / "docs/ARCHITECTURE.md").read_text(encoding="utf-8")
+    for crate in re.findall(r"(?m)^(\w+)[^#\n]*:", (ROOT / "crates.txt").read_text(encoding="utf-8")):
+        if f"\n| `{crate}` |" not in table:
+            yield f"docs/ARCHITECTURE.md: the table of crates lacks {crate}"
+
+
 def mistakes_of_names(sources):
     """Paths, words of code and files that a page cites and nothing has."""
     for page in PAGES:
@@ -219,6 +233,7 @@ def mistakes_of_names(sources):
                     yield f"{page.relative_to(ROOT)}:{number}: {said} stands nowhere in the sources"
                 elif is_file and not any(list(ROOT.glob(folder + said + ".antt" * ("." not in said))) for folder in FOLDERS):
                     yield f"{page.relative_to(ROOT)}:{number}: there is no file {said}"
+    yield from mistakes_of_files()
 
 
 def mistakes_of_contracts(sources):
@@ -243,28 +258,11 @@ def mistakes_of_contracts(sources):
                     yield f"{place(found)}: a contract {name} stands nowhere in the sources"
 
 
-def mistakes_of_files():
-    """Files that docs/FILES.md names and the crates of the heading above lack; crates that docs/ARCHITECTURE.md leaves out."""
-    crates = []
-    for number, line in enumerate((ROOT / "docs/FILES.md").read_text(encoding="utf-8").splitlines(), 1):
-        if line.startswith("#"):
-            crates = re.findall(r"\btd(?:_\w+)?\b", line)
-        for name in re.findall(r"`((?:proofs/)?\w+\.(?:rt|antt))`", line) if crates else []:
-            named = {*crates, *re.findall(r"\b(?:of|Of) `?(td_\w+)", line), *re.findall(r"`(td(?:_\w+)?)/", line)}
-            if not any(list((ROOT / "crates" / crate).glob(folder + name)) for crate in named for folder in ("", "src/", "specs/")):
-                yield f"docs/FILES.md:{number}: no file {name} in {', '.join(sorted(named))}"
-    table = (ROOT / "docs/ARCHITECTURE.md").read_text(encoding="utf-8")
-    for crate in re.findall(r"(?m)^(\w+)[^#\n]*:", (ROOT / "crates.txt").read_text(encoding="utf-8")):
-        if f"\n| `{crate}` |" not in table:
-            yield f"docs/ARCHITECTURE.md: the table of crates lacks {crate}"
-
-
 def main():
     if sys.argv[1:] == ["--write"]:
         return write_definitions()
     sources = Sources()
-    wrong = [*mistakes_of_links(), *mistakes_of_walks(), *mistakes_of_definitions(), *mistakes_of_names(sources), *mistakes_of_contracts(sources),
-             *mistakes_of_files()]
+    wrong = [*mistakes_of_links(), *mistakes_of_walks(), *mistakes_of_definitions(), *mistakes_of_names(sources), *mistakes_of_contracts(sources)]
     if wrong:
         fail("\n".join(wrong))
     print(f"{len(PAGES)} pages: links lead somewhere, what is quoted of crates stands there, and each name, clause and file that is cited is there")
