@@ -10,10 +10,10 @@ use Rattle.td_reach.specs.declared.stamp.Stamp.{Stamp}
 use Rattle.td_reach.specs.Paths.{IsOf}
 use Rattle.td_reach.specs.Tables.{could_test}
 use Rattle.td_progress.specs.Bag.{is_stamp}
-use Rattle.td_progress.specs.Gaps.{within, start_of, changed_from, plus, minus, with_epoch, without_epoch, AreGaps}
-use Rattle.td_progress.specs.Held.{total, between, chain_at, with_stamp, without_stamp, shifted, IsChain}
+use Rattle.td_progress.specs.Gaps.{Mark, timed, within, start_of, changed_from, plus, minus, with_epoch, without_epoch, AreGaps}
+use Rattle.td_progress.specs.Held.{total, between, chain_at, with_stamp, without_stamp, timed_stamp, shifted, IsChain}
 use Rattle.td_progress.proofs.Same.{Decides-is_stamp}
-use Rattle.td_progress.proofs.Gaps.{Gaps, covers, Splits, gaps_raised, gaps_lowered, gaps_same, gaps_with, gaps_without, within_le, within_splits, within_changed, within_with, within_without, length_changed, length_without}
+use Rattle.td_progress.proofs.Gaps.{Gaps, covers, Splits, gaps_raised, gaps_lowered, gaps_same, gaps_with, gaps_without, within_le, within_splits, within_changed, within_with, within_without, within_timed, length_changed, length_without, length_timed, gaps_timed}
 
 abbrev pub Chains : Type 0
 Chains = List (Stamp × Gaps)
@@ -59,11 +59,11 @@ module _ (plan : List Line) where
   abbrev pub counts_one : Stamp → Stamp → ℕ → ℕ → ℕ → ℕ
   counts_one c d e lo f = cond (could_test plan c d) (covers e lo f) 0
 
-  if_with : (b : Bool) (lo f e n : ℕ) (gs : Gaps) → cond b (within lo f (with_epoch e n gs)) 0 ≡ cond b (within lo f gs) 0 + cond b (covers e lo f) 0
+  if_with : (b : Bool) (lo f e : ℕ) (n : Mark) (gs : Gaps) → cond b (within lo f (with_epoch e n gs)) 0 ≡ cond b (within lo f gs) 0 + cond b (covers e lo f) 0
   if_with true lo f e n gs = within_with lo f e n gs
   if_with false lo f e n gs = refl
 
-  pub between_with : (ks : Chains) (c : Stamp) (e n : ℕ) (d : Stamp) (lo f : ℕ) → between plan (with_stamp c e n ks) d lo f ≡ between plan ks d lo f + counts_one c d e lo f
+  pub between_with : (ks : Chains) (c : Stamp) (e : ℕ) (n : Mark) (d : Stamp) (lo f : ℕ) → between plan (with_stamp c e n ks) d lo f ≡ between plan ks d lo f + counts_one c d e lo f
   between_with [] c e n d lo f =
       let a = between-cons (c, with_epoch e n []) [] d lo f in
       let b = if_with (could_test plan c d) lo f e n [] in
@@ -149,18 +149,18 @@ module _ (plan : List Line) where
 
   -- What the chains keep
   module _ (count : Stamp → ℕ → ℕ → ℕ) where
-    pub kept_with : ((d : Stamp) → Splits (count d)) → (ks : Chains) (c : Stamp) (e n : ℕ) → IsOf plan c → c.time.epoch ≡ 0 → n ≡ count c (start_of 0 e (chain_at c ks)) e
+    pub kept_with : ((d : Stamp) → Splits (count d)) → (ks : Chains) (c : Stamp) (e : ℕ) (n : Mark) → IsOf plan c → c.time.epoch ≡ 0 → n.gap ≡ count c (start_of 0 e (chain_at c ks)) e
         → HasNot e (chain_at c ks) → AllByRecursion (IsChain plan count) ks → AllByRecursion (IsChain plan count) (with_stamp c e n ks)
     kept_with splits [] c e n of_plan class is new h =
         (record { of_plan = λ l. of_plan; class = class; gaps = gaps_with (count c) (splits c) e n 0 [] (omega arith) is new tt }, tt)
     kept_with splits (k ∷ ks) c e n of_plan class is new h = by (is_stamp c k.0) refl (λ i j. kept_with splits ks c e n of_plan class i j h.1)
       where
         by : (b : Bool) → is_stamp c k.0 ≡ b
-            → (n ≡ count c (start_of 0 e (chain_at c ks)) e → HasNot e (chain_at c ks) → AllByRecursion (IsChain plan count) (with_stamp c e n ks)) → AllByRecursion (IsChain plan count) (cond b ((k.0, with_epoch e n k.1) ∷ ks) (k ∷ with_stamp c e n ks))
+            → (n.gap ≡ count c (start_of 0 e (chain_at c ks)) e → HasNot e (chain_at c ks) → AllByRecursion (IsChain plan count) (with_stamp c e n ks)) → AllByRecursion (IsChain plan count) (cond b ((k.0, with_epoch e n k.1) ∷ ks) (k ∷ with_stamp c e n ks))
         by true same rest =
             let own : chain_at c (k ∷ ks) ≡ k.1 = ap (λ b. unwrap_or (cond b (Some k.1) (lookup (is_stamp c) ks)) []) same in
             let it = (Decides-is_stamp c k.0).0 same in
-            let is' : n ≡ count k.0 (start_of 0 e k.1) e = is ∙ ap (λ gs. count c (start_of 0 e gs) e) own ∙ ap (λ s. count s (start_of 0 e k.1) e) it in (
+            let is' : n.gap ≡ count k.0 (start_of 0 e k.1) e = is ∙ ap (λ gs. count c (start_of 0 e gs) e) own ∙ ap (λ s. count s (start_of 0 e k.1) e) it in (
               record {
                 of_plan = λ l. subst (IsOf plan) it of_plan;
                 class = h.0.class;
@@ -214,3 +214,70 @@ module _ (plan : List Line) where
               gaps_lowered (count k.0) (after k.0) e (λ lo f. more k.0 lo f ∙ ap (λ b. count k.0 lo f + cond b (covers e lo f) 0) could) 0 k.1 (omega arith) h.0.gaps
           by false not =
               gaps_same (after k.0) (count k.0) (λ lo f. let m = more k.0 lo f ∙ ap (λ b. count k.0 lo f + cond b (covers e lo f) 0) not in omega (arith, m)) 0 k.1 h.0.gaps
+
+  -- One that occurs more often, or less
+  if_timed : (b : Bool) (lo f e : ℕ) (h : ℕ → ℕ) (gs : Gaps) → cond b (within lo f (timed e h gs)) 0 ≡ cond b (within lo f gs) 0
+  if_timed true lo f e h gs = within_timed lo f e h gs
+  if_timed false lo f e h gs = refl
+
+  pub between_timed : (ks : Chains) (c : Stamp) (e : ℕ) (h : ℕ → ℕ) (d : Stamp) (lo f : ℕ) → between plan (timed_stamp c e h ks) d lo f ≡ between plan ks d lo f
+  between_timed [] c e h d lo f = refl
+  between_timed (k ∷ ks) c e h d lo f = by (is_stamp c k.0) (between_timed ks c e h d lo f)
+    where
+      by : (b : Bool) → between plan (timed_stamp c e h ks) d lo f ≡ between plan ks d lo f
+          → between plan (cond b ((k.0, timed e h k.1) ∷ ks) (k ∷ timed_stamp c e h ks)) d lo f ≡ between plan (k ∷ ks) d lo f
+      by true rest =
+          let a = between-cons (k.0, timed e h k.1) ks d lo f in
+          let b = between-cons k ks d lo f in
+          let here = if_timed (could_test plan k.0 d) lo f e h k.1 in
+          omega (arith, a, b, here)
+      by false rest =
+          let a = between-cons k (timed_stamp c e h ks) d lo f in
+          let b = between-cons k ks d lo f in
+          omega (arith, a, b, rest)
+
+  pub kept_timed : (count after : Stamp → ℕ → ℕ → ℕ) → ((d : Stamp) (lo f : ℕ) → after d lo f ≡ count d lo f) → (ks : Chains) (c : Stamp) (e : ℕ) (h : ℕ → ℕ)
+      → AllByRecursion (IsChain plan count) ks → AllByRecursion (IsChain plan after) (timed_stamp c e h ks)
+  kept_timed count after same [] c e h each = tt
+  kept_timed count after same (k ∷ ks) c e h each = by (is_stamp c k.0) (kept_timed count after same ks c e h each.1)
+    where
+      stays : (j : Stamp × Gaps) → IsChain plan count j → IsChain plan after j
+      stays j is = record { of_plan = is.of_plan; class = is.class; gaps = gaps_same (count j.0) (after j.0) (same j.0) 0 j.1 is.gaps }
+
+      all_stay : (js : Chains) → AllByRecursion (IsChain plan count) js → AllByRecursion (IsChain plan after) js
+      all_stay [] h' = tt
+      all_stay (j ∷ js) h' = (stays j h'.0, all_stay js h'.1)
+
+      by : (b : Bool) → AllByRecursion (IsChain plan after) (timed_stamp c e h ks) → AllByRecursion (IsChain plan after) (cond b ((k.0, timed e h k.1) ∷ ks) (k ∷ timed_stamp c e h ks))
+      by true rest = (
+        record {
+          of_plan = λ l. each.0.of_plan (subst (λ n. 0 < n) (length_timed e h k.1) l);
+          class = each.0.class;
+          gaps = gaps_same (count k.0) (after k.0) (same k.0) 0 (timed e h k.1) (gaps_timed (count k.0) 0 e h k.1 each.0.gaps);
+        },
+        all_stay ks each.1,
+      )
+      by false rest = (stays k each.0, rest)
+
+  pub keys_timed : (ks : Chains) (c : Stamp) (e : ℕ) (h : ℕ → ℕ) → keys_of (timed_stamp c e h ks) ≡ keys_of ks
+  keys_timed [] c e h = refl
+  keys_timed (k ∷ ks) c e h = by (is_stamp c k.0) (keys_timed ks c e h)
+    where
+      by : (b : Bool) → keys_of (timed_stamp c e h ks) ≡ keys_of ks → keys_of (cond b ((k.0, timed e h k.1) ∷ ks) (k ∷ timed_stamp c e h ks)) ≡ k.0 ∷ keys_of ks
+      by true rest = refl
+      by false rest = ap (λ js. k.0 ∷ js) rest
+
+  pub total_timed : (ks : Chains) (c : Stamp) (e : ℕ) (h : ℕ → ℕ) → total (timed_stamp c e h ks) ≡ total ks
+  total_timed [] c e h = refl
+  total_timed (k ∷ ks) c e h = by (is_stamp c k.0) (total_timed ks c e h)
+    where
+      by : (b : Bool) → total (timed_stamp c e h ks) ≡ total ks → total (cond b ((k.0, timed e h k.1) ∷ ks) (k ∷ timed_stamp c e h ks)) ≡ total (k ∷ ks)
+      by true rest =
+          let a = sum_by-cons (λ (j : Stamp × Gaps). length j.1) (k.0, timed e h k.1) ks in
+          let b = sum_by-cons (λ (j : Stamp × Gaps). length j.1) k ks in
+          let d = length_timed e h k.1 in
+          omega (arith, a, b, d)
+      by false rest =
+          let a = sum_by-cons (λ (j : Stamp × Gaps). length j.1) k (timed_stamp c e h ks) in
+          let b = sum_by-cons (λ (j : Stamp × Gaps). length j.1) k ks in
+          omega (arith, a, b, rest)

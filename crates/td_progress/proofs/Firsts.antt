@@ -1,6 +1,5 @@
 -- The frontier, from the first of each place and counters.
-use Rattle.std.proofs.Common.{length, ◌<◌, ◌≡◌, ◌==◌, ℕ, zero, suc, Bool, true, false, cond, List, [], ◌∷◌, slice_get, Option, Some, None, option_map, unwrap_or, Contains, refl, sym, ap, ◌∙◌, subst, true≢false, arith}
-use Rattle.std.proofs.lemmas.Bool.{eqb-true}
+use Rattle.std.proofs.Common.{length, ◌<◌, ◌≡◌, ℕ, zero, suc, Bool, true, false, cond, List, [], ◌∷◌, Option, Some, None, option_map, unwrap_or, Contains, refl, sym, ap, ◌∙◌, subst, true≢false, arith}
 use Rattle.std.specs.List.{AllByRecursion, IsDistinct, cons_option}
 use Rattle.std.specs.Map.{keys_of, lookup}
 use Rattle.td_plan.specs.Lines.{Line}
@@ -39,24 +38,6 @@ no_chain c (k ∷ ks) h = by (is_stamp c k.0) h.0 (no_chain c ks h.1)
     by true e rest = absurd (true≢false e)
     by false e rest = rest
 
--- the first epoch alone, and where it stands
-alone_first : (gs : Gaps) (e : ℕ) → first_alone gs ≡ Some e → slice_get gs 0 ≡ Some (e, 1)
-alone_first [] e h = absurd (none_is_some h)
-alone_first (g ∷ gs) e h = by (g.1 == 1) refl h
-  where
-    some : (x y : ℕ) → Some x ≡ Some y → x ≡ y
-    some x y s = ap (λ o. unwrap_or o x) s
-
-    by : (b : Bool) → (g.1 == 1) ≡ b → cond b (Some g.0) None ≡ Some e → slice_get (g ∷ gs) 0 ≡ Some (e, 1)
-    by true one s = ap Some (λ i. (some g.0 e s i, eqb-true g.1 1 one i))
-    by false more s = absurd (none_is_some s)
-
-first_is_alone : (gs : Gaps) (e : ℕ) → slice_get gs 0 ≡ Some (e, 1) → first_alone gs ≡ Some e
-first_is_alone [] e h = absurd (none_is_some h)
-first_is_alone (g ∷ gs) e h =
-    let same : g ≡ (e, 1) = ap (λ o. unwrap_or o g) h in
-    ap (λ x. first_alone (x ∷ gs)) same
-
 module _ (p : Stamp) where
   -- in a list whose head's chain is of another place or other counters
   other_chain : (k : Stamp × Gaps) (ks : Chains) → is_stamp (class_of p) k.0 ≡ false → chain_at (class_of p) (k ∷ ks) ≡ chain_at (class_of p) ks
@@ -73,7 +54,7 @@ module _ (p : Stamp) where
       by true same =
           let is : class_of p ≡ k = (Decides-is_stamp (class_of p) k).0 same in
           let none = no_chain (class_of p) ks (subst (λ c. AllByRecursion (λ l. is_stamp c l ≡ false) (keys_of ks)) (sym is) others) in
-          absurd (none_is_some (sym (ap (λ gs. slice_get gs 0) none) ∙ first))
+          absurd (none_is_some (sym (ap first_alone none) ∙ first))
       by false other = refl
 
 module _ (plan : List Line) (count : Stamp → ℕ → ℕ → ℕ) where
@@ -84,7 +65,7 @@ module _ (plan : List Line) (count : Stamp → ℕ → ℕ → ℕ) where
   is_a_first p (k ∷ ks) once each h = by (first_alone k.1) refl h (is_a_first p ks once.1 each.1)
     where
       later : (Contains (firsts ks) p → IsFirst p ks) → Contains (firsts ks) p → IsFirst p (k ∷ ks)
-      later rest g = ap (λ gs. slice_get gs 0) (other_chain p k ks (not_of p k.0 ks once.0 (rest g))) ∙ rest g
+      later rest g = ap first_alone (other_chain p k ks (not_of p k.0 ks once.0 (rest g))) ∙ rest g
 
       by : (o : Option ℕ) → first_alone k.1 ≡ o → Contains (cons_option (option_map (λ e. at e k.0) o) (firsts ks)) p → (Contains (firsts ks) p → IsFirst p ks) → IsFirst p (k ∷ ks)
       by None alone g rest = later rest g
@@ -92,7 +73,7 @@ module _ (plan : List Line) (count : Stamp → ℕ → ℕ → ℕ) where
           let class : class_of p ≡ k.0 = ap class_of (sym is) ∙ at_class k.0 each.0.class in
           let own = own_chain p k ks ((Decides-is_stamp (class_of p) k.0).1 class) in
           let epoch : e ≡ p.time.epoch = ap (λ (q : Stamp). q.time.epoch) is in
-          ap (λ gs. slice_get gs 0) own ∙ alone_first k.1 e alone ∙ ap (λ x. Some (x, 1)) epoch
+          ap first_alone own ∙ alone ∙ ap Some epoch
       by (Some e) alone (suc i, l, is) rest = later rest (i, omega (arith, l), is)
 
   pub is_among : (p : Stamp) (ks : Chains) → AllByRecursion (IsChain plan count) ks → IsFirst p ks → Contains (firsts ks) p
@@ -106,10 +87,10 @@ module _ (plan : List Line) (count : Stamp → ℕ → ℕ → ℕ) where
       by : (b : Bool) → is_stamp (class_of p) k.0 ≡ b → (IsFirst p ks → Contains (firsts ks) p) → Contains (firsts (k ∷ ks)) p
       by true same rest =
           let class : class_of p ≡ k.0 = (Decides-is_stamp (class_of p) k.0).0 same in
-          let alone = first_is_alone k.1 p.time.epoch (sym (ap (λ gs. slice_get gs 0) (own_chain p k ks same)) ∙ h) in
+          let alone = sym (ap first_alone (own_chain p k ks same)) ∙ h in
           subst (λ o. Contains (cons_option (option_map (λ e. at e k.0) o) (firsts ks)) p) (sym alone)
           (at_head (at p.time.epoch k.0) p (firsts ks) (ap (at p.time.epoch) (sym class)))
-      by false other rest = in_either (first_alone k.1) (rest (sym (ap (λ gs. slice_get gs 0) (other_chain p k ks other)) ∙ h))
+      by false other rest = in_either (first_alone k.1) (rest (sym (ap first_alone (other_chain p k ks other)) ∙ h))
 
   -- each is of the plan
   pub first_of_plan : (p : Stamp) (ks : Chains) → AllByRecursion (IsChain plan count) ks → Contains (firsts ks) p → IsOf plan p

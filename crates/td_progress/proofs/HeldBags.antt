@@ -12,7 +12,7 @@ use Rattle.std.proofs.lemmas.Map.Entries.{none_past_head}
 use Rattle.td_plan.specs.Lines.{Line}
 use Rattle.td_reach.specs.declared.stamp.Stamp.{Stamp}
 use Rattle.td_progress.specs.Bag.{is_stamp, occurrences}
-use Rattle.td_progress.specs.Gaps.{has_epoch, changed_from, plus, minus, with_epoch, without_epoch, gap_at, AreGaps}
+use Rattle.td_progress.specs.Gaps.{Mark, with_gap, has_epoch, changed_from, plus, minus, with_epoch, without_epoch, gap_at, AreGaps}
 use Rattle.td_progress.specs.Held.{at, class_of, held, total, chain_at, with_stamp, without_stamp, shifted, IsChain}
 use Rattle.td_progress.proofs.Same.{Decides-is_stamp, is_stamp-equiv}
 use Rattle.td_progress.proofs.Counted.{one, occurrences-cons, occurrences-append}
@@ -27,7 +27,7 @@ stamps_changed : (k : Stamp) (e : ℕ) (h : ℕ → ℕ) (gs : Gaps) → stamps_
 stamps_changed k e h [] = refl
 stamps_changed k e h (g ∷ gs) = by (nat_le e g.0) (stamps_changed k e h gs)
   where
-    by : (b : Bool) → stamps_of k (changed_from e h gs) ≡ stamps_of k gs → stamps_of k (cond b ((g.0, h g.1) ∷ gs) (g ∷ changed_from e h gs)) ≡ stamps_of k (g ∷ gs)
+    by : (b : Bool) → stamps_of k (changed_from e h gs) ≡ stamps_of k gs → stamps_of k (cond b ((g.0, with_gap h g.1) ∷ gs) (g ∷ changed_from e h gs)) ≡ stamps_of k (g ∷ gs)
     by true rest = refl
     by false rest = ap (λ xs. at g.0 k ∷ xs) rest
 
@@ -43,18 +43,18 @@ held_shifted plan (k ∷ ks) c e h = (λ i. here i ++ held_shifted plan ks c e h
     here = by _
 
 module _ (q : Stamp) where
-  occurs_with : (k : Stamp) (e n : ℕ) (gs : Gaps) → occurrences q (stamps_of k (with_epoch e n gs)) ≡ one (is_stamp q (at e k)) + occurrences q (stamps_of k gs)
+  occurs_with : (k : Stamp) (e : ℕ) (n : Mark) (gs : Gaps) → occurrences q (stamps_of k (with_epoch e n gs)) ≡ one (is_stamp q (at e k)) + occurrences q (stamps_of k gs)
   occurs_with k e n [] = occurrences-cons q (at e k) []
   occurs_with k e n (g ∷ gs) = by (nat_lt e g.0) (occurs_with k e n gs)
     where
-      by : (b : Bool) → occurrences q (stamps_of k (with_epoch e n gs)) ≡ one (is_stamp q (at e k)) + occurrences q (stamps_of k gs) → occurrences q (stamps_of k (cond b ((e, n) ∷ (g.0, minus n g.1) ∷ gs) (g ∷ with_epoch e n gs))) ≡ one (is_stamp q (at e k)) + occurrences q (stamps_of k (g ∷ gs))
+      by : (b : Bool) → occurrences q (stamps_of k (with_epoch e n gs)) ≡ one (is_stamp q (at e k)) + occurrences q (stamps_of k gs) → occurrences q (stamps_of k (cond b ((e, n) ∷ (g.0, with_gap (minus n.gap) g.1) ∷ gs) (g ∷ with_epoch e n gs))) ≡ one (is_stamp q (at e k)) + occurrences q (stamps_of k (g ∷ gs))
       by true b = occurrences-cons q (at e k) (stamps_of k (g ∷ gs))
       by false b =
           let a = occurrences-cons q (at g.0 k) (stamps_of k (with_epoch e n gs)) in
           let c = occurrences-cons q (at g.0 k) (stamps_of k gs) in
           omega (arith, a, b, c)
 
-  pub bag_with : (ks : Chains) (c : Stamp) (e n : ℕ) → occurrences q (held (with_stamp c e n ks)) ≡ one (is_stamp q (at e c)) + occurrences q (held ks)
+  pub bag_with : (ks : Chains) (c : Stamp) (e : ℕ) (n : Mark) → occurrences q (held (with_stamp c e n ks)) ≡ one (is_stamp q (at e c)) + occurrences q (held ks)
   bag_with [] c e n = occurrences-cons q (at e c) []
   bag_with (k ∷ ks) c e n = by (is_stamp c k.0) refl (bag_with ks c e n)
     where
@@ -113,7 +113,7 @@ module _ (q : Stamp) where
           omega (arith, a, b, d)
 
 -- how many there are
-pub total_with : (ks : Chains) (c : Stamp) (e n : ℕ) → total (with_stamp c e n ks) ≡ suc (total ks)
+pub total_with : (ks : Chains) (c : Stamp) (e : ℕ) (n : Mark) → total (with_stamp c e n ks) ≡ suc (total ks)
 total_with [] c e n = refl
 total_with (k ∷ ks) c e n = by (is_stamp c k.0) (total_with ks c e n)
   where
@@ -161,7 +161,7 @@ Decides-at x p k class = by (is_at (nat_cmp p.time.epoch) x) refl (is_stamp (cla
         (λ h. absurd (true≢false (sym h)), λ h. absurd (true≢false (sym ((Decides-is_stamp (class_of p) k).1 (ap class_of h ∙ at_class k class)) ∙ f)))
     by false e b f = (λ h. absurd (true≢false (sym h)), λ h. absurd (at_not p.time.epoch x e (ap (λ s. s.time.epoch) h)))
 
-is_stamp-at : (x : ℕ) (p k : Stamp) → k.time.epoch ≡ 0 → is_stamp p (at x k) ≡ (is_at (nat_cmp p.time.epoch) x && is_stamp (class_of p) k)
+pub is_stamp-at : (x : ℕ) (p k : Stamp) → k.time.epoch ≡ 0 → is_stamp p (at x k) ≡ (is_at (nat_cmp p.time.epoch) x && is_stamp (class_of p) k)
 is_stamp-at x p k class = same_from_decides _ _ (Decides-is_stamp p (at x k)) (Decides-at x p k class)
 
 module _ (count : ℕ → ℕ → ℕ) (p k : Stamp) (class : k.time.epoch ≡ 0) where

@@ -1,5 +1,6 @@
 -- What is held of precursor counts is what the definitions say.
-use Rattle.std.proofs.Common.{◌≡◌, ℕ, zero, suc, ◌+◌, ◌-◌, ◌<◌, ◌≤◌, Bool, true, false, not, ◌&&◌, cond, List, [], ◌∷◌, length, filter, slice_get, Option, Some, None, is_some, unwrap_or, Contains, refl, sym, ap, ◌∙◌, subst, true≢false, arith, nat_le}
+use Rattle.std.proofs.Common.{◌≡◌, ℕ, zero, suc, ◌+◌, ◌-◌, ◌<◌, ◌≤◌, Bool, true, false, not, ◌&&◌, ◌==◌, cond, List, [], ◌∷◌, length, filter, slice_get, Option, Some, None, is_some, unwrap_or, Contains, refl, sym, ap, ◌∙◌, subst, true≢false, arith, nat_le}
+use Rattle.std.proofs.lemmas.Bool.{eqb-true}
 use Rattle.std.proofs.lemmas.List.Sums.{sum_by-cons, sum_by-append, length-filter}
 use Rattle.std.specs.List.{AllByRecursion, count_by}
 use Rattle.std.specs.Map.{lookup}
@@ -16,8 +17,8 @@ use Rattle.td_reach.specs.Paths.{IsOf, IsOfPlace, HasDepth, Could}
 use Rattle.td_reach.specs.Tables.{could_test}
 use Rattle.td_reach.specs.Frontier.{Frontier, IsFree, IsPrecursor, Precursors}
 use Rattle.td_progress.specs.Bag.{is_stamp, occurrences}
-use Rattle.td_progress.specs.Gaps.{has_epoch, within, sum_to, with_epoch, AreGaps}
-use Rattle.td_progress.specs.Held.{at, class_of, held, total, between, with_stamp, chain_at, count_of, IsFirst, IsOfPlan, IsChain, AreHeld}
+use Rattle.td_progress.specs.Gaps.{Mark, has_epoch, within, sum_to, with_epoch, AreGaps}
+use Rattle.td_progress.specs.Held.{at, class_of, held, total, between, with_stamp, chain_at, count_of, first_alone, IsFirst, IsOfPlan, IsChain, AreHeld}
 use Rattle.td_progress.proofs.Same.{Decides-is_stamp}
 use Rattle.td_progress.proofs.Counted.{one, none_is_some, occurrences-cons, occurs, stands}
 use Rattle.td_progress.proofs.Free.{all-has, has-all, all-append}
@@ -29,6 +30,17 @@ use Rattle.td_progress.proofs.Could.{could_in}
 pub one_is : (b : Bool) → 0 < one b → b ≡ true
 one_is true h = refl
 one_is false h = absurd (omega (arith, h))
+
+-- the first of a chain, with a gap of one
+alone_is : (g : ℕ × Mark) (gs : Gaps) (e : ℕ) → first_alone (g ∷ gs) ≡ Some e → (g.0 ≡ e) × (g.1.gap ≡ 1)
+alone_is g gs e h = by (g.1.gap == 1) refl h
+  where
+    by : (b : Bool) → (g.1.gap == 1) ≡ b → cond b (Some g.0) None ≡ Some e → (g.0 ≡ e) × (g.1.gap ≡ 1)
+    by true only s = (ap (λ o. unwrap_or o g.0) s, eqb-true g.1.gap 1 only)
+    by false more s = absurd (none_is_some s)
+
+is_alone : (g : ℕ × Mark) (gs : Gaps) (e : ℕ) → g.0 ≡ e → g.1.gap ≡ 1 → first_alone (g ∷ gs) ≡ Some e
+is_alone g gs e same only = (λ i. cond (only i == 1) (Some (same i)) None)
 
 -- another epoch, and still of the plan
 pub other_epoch : (plan : List Line) (p : Stamp) (e : ℕ) → IsOf plan p → IsOf plan (at e p)
@@ -85,7 +97,7 @@ module _ (plan : List Line) (p : Stamp) where
       by : (b : Bool) → count_by could_be (stamps_of k gs) ≡ cond b (within 0 p.time.epoch gs) 0
           → one (nat_le g.0 p.time.epoch && b) + count_by could_be (stamps_of k gs) ≡ cond b (within 0 p.time.epoch (g ∷ gs)) 0
       by true rest =
-          let a = sum_by-cons (λ (h : ℕ × ℕ). one (nat_le 0 h.0 && nat_le h.0 p.time.epoch)) g gs in
+          let a = sum_by-cons (λ (h : ℕ × Mark). one (nat_le 0 h.0 && nat_le h.0 p.time.epoch)) g gs in
           let b = yes (nat_le g.0 p.time.epoch) in
           let low : one (nat_le 0 g.0 && nat_le g.0 p.time.epoch) ≡ one (nat_le g.0 p.time.epoch) = ap (λ b. one (b && nat_le g.0 p.time.epoch)) (is_le 0 g.0 (omega arith)) in
           let whole : within 0 p.time.epoch (g ∷ gs) ≡ one (nat_le 0 g.0 && nat_le g.0 p.time.epoch) + within 0 p.time.epoch gs = a in
@@ -301,14 +313,14 @@ module _ (plan : List Line) (tested : (p q : Stamp) → IsOf plan p → IsOf pla
   first_is_free first = by chain refl chain_gaps
     where
       by : (gs : Gaps) → chain ≡ gs → AreGaps (count (class_of p)) 0 gs → Frontier plan (held ks) p
-      by [] is gaps = absurd (none_is_some (sym (ap (λ gs. slice_get gs 0) is) ∙ first))
+      by [] is gaps = absurd (none_is_some (sym (ap first_alone is) ∙ first))
       by (g ∷ gs) is gaps =
-          let same : g ≡ (p.time.epoch, 1) = ap (λ o. unwrap_or o g) (sym (ap (λ gs. slice_get gs 0) is) ∙ first) in
-          let here : is_at (nat_cmp p.time.epoch) g.0 ≡ true = is_at_same p.time.epoch g.0 (sym (ap (λ h. h.0) same)) in
+          let alone = alone_is g gs p.time.epoch (sym (ap first_alone is) ∙ first) in
+          let here : is_at (nat_cmp p.time.epoch) g.0 ≡ true = is_at_same p.time.epoch g.0 (sym alone.0) in
           let there : HasEpoch p.time.epoch chain = ap (has_epoch p.time.epoch) is ∙ ap (λ b. is_some (cond b (Some g.1) (lookup (is_at (nat_cmp p.time.epoch)) gs))) here in
           let s = sum_is (count (class_of p)) (between_splits plan ks (class_of p)) p.time.epoch 0 chain there chain_gaps in
-          let e = ap (λ x. count (class_of p) 0 x) (ap (λ h. h.0) same) in
-          let n = ap (λ h. h.1) same in
+          let e = ap (λ x. count (class_of p) 0 x) alone.0 in
+          let n = alone.1 in
           let active = active_once ∙ ap one there in
           record { is_active = stands p (held ks) (omega (arith, active)); is_free = free_if_one (omega (arith, s, e, n, gaps.1)) there }
 
@@ -347,8 +359,8 @@ module _ (plan : List Line) (tested : (p q : Stamp) → IsOf plan p → IsOf pla
               let s = sum_is (count (class_of p)) (between_splits plan ks (class_of p)) p.time.epoch 0 chain there chain_gaps in
               let w = without_itself there in
               let x = ap (λ y. count (class_of p) 0 y) e in
-              let n : g.1 ≡ 1 = omega (arith, s, w, x, no_others, gaps.1) in
-              ap (λ gs. slice_get gs 0) is ∙ (λ i. Some (sym e i, n i))
+              let n : g.1.gap ≡ 1 = omega (arith, s, w, x, no_others, gaps.1) in
+              ap first_alone is ∙ is_alone g gs p.time.epoch (sym e) n
           at_first false apart =
               let later : HasEpoch p.time.epoch gs = sym (ap (λ b. is_some (cond b (Some g.1) (lookup (is_at (nat_cmp p.time.epoch)) gs))) apart) ∙ sym (ap (has_epoch p.time.epoch) is) ∙ there in
               let above = has_above (count (class_of p)) p.time.epoch (suc g.0) gs gaps.2 later in
@@ -358,7 +370,7 @@ module _ (plan : List Line) (tested : (p q : Stamp) → IsOf plan p → IsOf pla
               ((tested first p (other_epoch plan p g.0 of_plan) of_plan).0 could))
 
 -- the places and counters, with another
-pub keys_with : (plan : List Line) (ks : Chains) → AreHeld plan ks → (p : Stamp) → IsOf plan p → (n : ℕ) → AllByRecursion (IsOfPlan plan) (with_stamp (class_of p) p.time.epoch n ks)
+pub keys_with : (plan : List Line) (ks : Chains) → AreHeld plan ks → (p : Stamp) → IsOf plan p → (n : Mark) → AllByRecursion (IsOfPlan plan) (with_stamp (class_of p) p.time.epoch n ks)
 keys_with plan ks kept p of_plan n = along ks (keys_of_plan plan (between plan ks) ks kept.each)
   where
     of_class : IsOf plan (class_of p)

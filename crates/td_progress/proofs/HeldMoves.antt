@@ -11,7 +11,7 @@ use Rattle.td_reach.specs.declared.stamp.Stamp.{Stamp}
 use Rattle.td_reach.specs.Paths.{IsOf}
 use Rattle.td_reach.specs.Tables.{could_test}
 use Rattle.td_progress.specs.Bag.{is_stamp, occurrences, IsSameBag}
-use Rattle.td_progress.specs.Gaps.{has_epoch, within, start_of, changed_from, plus, minus}
+use Rattle.td_progress.specs.Gaps.{Mark, with_gap, has_epoch, within, start_of, changed_from, plus, minus}
 use Rattle.td_progress.specs.Held.{at, class_of, held, total, between, chain_at, with_stamp, without_stamp, IsChain, IsLaidOut, AreHeld}
 use Rattle.td_progress.proofs.Counted.{one, occurrences-cons, stands}
 use Rattle.td_progress.proofs.Free.{all-has}
@@ -30,7 +30,7 @@ module _ (plan : List Line) (ks : Chains) (kept : AreHeld plan ks) (p : Stamp) w
   pub new_epoch : occurrences p (held ks) ≡ 0 → HasNot p.time.epoch (chain_at (class_of p) ks)
   new_epoch none = one_not _ (sym (occurs_held plan (between plan ks) p ks kept.once kept.each) ∙ none)
 
-  module _ (n : ℕ) where
+  module _ (n : Mark) where
     abbrev pub come_to : Chains
     come_to = all_shifted plan (class_of p) p.time.epoch (plus 1) (with_stamp (class_of p) p.time.epoch n ks)
 
@@ -43,7 +43,7 @@ module _ (plan : List Line) (ks : Chains) (kept : AreHeld plan ks) (p : Stamp) w
         between_shifted plan (with_stamp (class_of p) p.time.epoch n ks) (class_of p) p.time.epoch (plus 1) d lo f
         ∙ between_with plan ks (class_of p) p.time.epoch n d lo f
 
-    pub come_kept : IsOf plan p → occurrences p (held ks) ≡ 0 → n ≡ between plan ks (class_of p) (start_of 0 p.time.epoch (chain_at (class_of p) ks)) p.time.epoch
+    pub come_kept : IsOf plan p → occurrences p (held ks) ≡ 0 → n.gap ≡ between plan ks (class_of p) (start_of 0 p.time.epoch (chain_at (class_of p) ks)) p.time.epoch
         → total ks + 1 < 2 ^ 64 → IsDistinct is_stamp (keys_of (with_stamp (class_of p) p.time.epoch n ks)) → AreHeld plan come_to
     come_kept of_plan none is fits once = record {
       once = subst (λ js. IsDistinct is_stamp js) (sym (keys_shifted plan (with_stamp (class_of p) p.time.epoch n ks) (class_of p) p.time.epoch (plus 1))) once;
@@ -63,13 +63,13 @@ module _ (plan : List Line) (ks : Chains) (kept : AreHeld plan ks) (p : Stamp) w
 
   -- One goes
   module _ (some : 0 < occurrences p (held ks)) where
-    there : HasEpoch p.time.epoch (chain_at (class_of p) ks)
+    pub there : HasEpoch p.time.epoch (chain_at (class_of p) ks)
     there = one_is _ (subst (λ n. 0 < n) (occurs_held plan (between plan ks) p ks kept.once kept.each) some)
 
     pub go_of_plan : IsOf plan (class_of p)
     go_of_plan = other_epoch plan p 0 (all-has (IsOf plan) (held ks) p (all_of_plan plan (between plan ks) ks kept.each) (stands p (held ks) some))
 
-    abbrev lowered : Chains
+    abbrev pub lowered : Chains
     lowered = all_shifted plan (class_of p) p.time.epoch (minus 1) ks
 
     abbrev pub go_to : Chains
@@ -80,10 +80,10 @@ module _ (plan : List Line) (ks : Chains) (kept : AreHeld plan ks) (p : Stamp) w
     there_changed x (g ∷ gs) = by (nat_le x g.0) (there_changed x gs)
       where
         by : (b : Bool) → has_epoch p.time.epoch (changed_from x (minus 1) gs) ≡ has_epoch p.time.epoch gs
-            → has_epoch p.time.epoch (cond b ((g.0, minus 1 g.1) ∷ gs) (g ∷ changed_from x (minus 1) gs)) ≡ has_epoch p.time.epoch (g ∷ gs)
+            → has_epoch p.time.epoch (cond b ((g.0, with_gap (minus 1) g.1) ∷ gs) (g ∷ changed_from x (minus 1) gs)) ≡ has_epoch p.time.epoch (g ∷ gs)
         by true rest = same (is_at (nat_cmp p.time.epoch) g.0)
           where
-            same : (b : Bool) → is_some (cond b (Some (minus 1 g.1)) (lookup (is_at (nat_cmp p.time.epoch)) gs)) ≡ is_some (cond b (Some g.1) (lookup (is_at (nat_cmp p.time.epoch)) gs))
+            same : (b : Bool) → is_some (cond b (Some (with_gap (minus 1) g.1)) (lookup (is_at (nat_cmp p.time.epoch)) gs)) ≡ is_some (cond b (Some g.1) (lookup (is_at (nat_cmp p.time.epoch)) gs))
             same true = refl
             same false = refl
         by false rest = same (is_at (nat_cmp p.time.epoch) g.0)

@@ -1,16 +1,18 @@
 -- What the code of held pointstamps does to its map, in the words of its contracts.
-use Rattle.std.proofs.Common.{◌≡◌, ℕ, zero, suc, Bool, true, false, ◌&&◌, cond, List, [], ◌∷◌, slice_get, Option, Some, None, is_some, unwrap_or, Result, Ok, Err, refl, sym, ap, ◌∙◌, true≢false}
+use Rattle.std.proofs.Common.{◌≡◌, ℕ, zero, suc, ◌+◌, ◌<◌, Bool, true, false, not, ◌&&◌, cond, length, position, nat_lt, List, [], ◌∷◌, slice_get, Option, Some, None, is_some, is_none, unwrap_or, Result, Ok, Err, refl, sym, ap, ◌∙◌, subst, true≢false, arith}
 use Rattle.std.specs.Result.{OnOk, OnErr}
-use Rattle.std.specs.Map.{values_of, lookup, set_value}
+use Rattle.std.specs.List.{AllByRecursion, IsDistinct, position_or_len}
+use Rattle.std.specs.Map.{keys_of, values_of, lookup, set_value}
 use Rattle.indexmap.specs.IndexMap.{insert_entry, set_value_at}
 use Rattle.td_plan.specs.Lines.{Line}
 use Rattle.td_reach.specs.declared.stamp.Stamp.{Stamp}
 use Rattle.td_reach.specs.Tables.{could_test}
 use Rattle.td_progress.specs.Bag.{is_stamp}
-use Rattle.td_progress.specs.Gaps.{first_from, changed_from, with_epoch, without_epoch}
-use Rattle.td_progress.specs.Held.{with_stamp, without_stamp, shifted_at, is_ahead}
+use Rattle.td_progress.specs.Gaps.{Mark, has_epoch, timed, first_from, changed_from, with_epoch, without_epoch}
+use Rattle.td_progress.specs.Held.{with_stamp, without_stamp, timed_stamp, shifted_at, is_ahead, chain_at, gaps_at, IsPosition}
+use Rattle.td_progress.proofs.Same.{Decides-is_stamp, is_stamp-equiv}
 use Rattle.td_progress.proofs.Counted.{none_is_some}
-use Rattle.td_progress.proofs.Gaps.{Gaps}
+use Rattle.td_progress.proofs.Gaps.{Gaps, le_is}
 use Rattle.td_progress.proofs.ChainSteps.{none_from}
 use Rattle.td_progress.proofs.Between.{Chains}
 
@@ -32,7 +34,7 @@ same_gaps {a} e = ap (λ o. unwrap_or o a) e
 no_some : {X : Type 0} {x : X} → Some x ≡ None → ⊥
 no_some e = none_is_some (sym e)
 
-module _ (c : Stamp) (e n : ℕ) where
+module _ (c : Stamp) (e : ℕ) (n : Mark) where
   pub set_with : (es : Chains) (v : Gaps) → Some v ≡ lookup (is_stamp c) es → set_value (is_stamp c) es (with_epoch e n v) ≡ with_stamp c e n es
   set_with [] v h = absurd (no_some h)
   set_with (k ∷ es) v h = by (is_stamp c k.0) (set_with es v) h
@@ -97,3 +99,106 @@ module _ (plan : List Line) (c : Stamp) (e : ℕ) (f : ℕ → ℕ) where
       by true None is h = sym (none_from e f k.1 is)
       by true (Some x) is h = absurd (true≢false h)
   not_shifted (k ∷ es) (suc i) ahead = ap (λ r. k ∷ r) (not_shifted es i ahead)
+
+-- At a position: the place and counters of a key stand there once
+module _ (c : Stamp) where
+  own_key : {x : Stamp} → Some x ≡ Some c → is_stamp c x ≡ true
+  own_key {x} e = (Decides-is_stamp c x).1 (sym (ap (λ o. unwrap_or o x) e))
+
+  all_keys : (P : Stamp → Type 0) (xs : List Stamp) → AllByRecursion P xs → (i : ℕ) → slice_get xs i ≡ Some c → P c
+  all_keys P [] h i at = absurd (none_is_some at)
+  all_keys P (x ∷ xs) h zero at = subst P (ap (λ o. unwrap_or o x) at) h.0
+  all_keys P (x ∷ xs) h (suc i) at = all_keys P xs h.1 i at
+
+  another_key : (k : Stamp × Gaps) (es : Chains) (i : ℕ) → IsDistinct is_stamp (keys_of (k ∷ es)) → slice_get (keys_of es) i ≡ Some c → is_stamp c k.0 ≡ false
+  unfolding IsDistinct
+  another_key k es i once at = is_stamp-equiv.symm c k.0 ∙ all_keys (λ s. is_stamp k.0 s ≡ false) (keys_of es) once.0 i at
+
+  others_once : (k : Stamp × Gaps) (es : Chains) → IsDistinct is_stamp (keys_of (k ∷ es)) → IsDistinct is_stamp (keys_of es)
+  unfolding IsDistinct
+  others_once k es once = once.1
+
+  pub found_at : (es : Chains) (i : ℕ) → IsDistinct is_stamp (keys_of es) → slice_get (keys_of es) i ≡ Some c → lookup (is_stamp c) es ≡ slice_get (values_of es) i
+  found_at [] i once at = absurd (none_is_some at)
+  found_at (k ∷ es) zero once at = ap (λ b. cond b (Some k.1) (lookup (is_stamp c) es)) (own_key at)
+  found_at (k ∷ es) (suc i) once at =
+      ap (λ b. cond b (Some k.1) (lookup (is_stamp c) es)) (another_key k es i once at) ∙ found_at es i (others_once k es once) at
+
+  pub set_at : (es : Chains) (i : ℕ) (w : Gaps) → IsDistinct is_stamp (keys_of es) → slice_get (keys_of es) i ≡ Some c → set_value_at es i w ≡ set_value (is_stamp c) es w
+  set_at [] i w once at = absurd (none_is_some at)
+  set_at (k ∷ es) zero w once at = sym (ap (λ b. cond b ((k.0, w) ∷ es) (k ∷ set_value (is_stamp c) es w)) (own_key at))
+  set_at (k ∷ es) (suc i) w once at =
+      ap (λ r. k ∷ r) (set_at es i w (others_once k es once) at) ∙ sym (ap (λ b. cond b ((k.0, w) ∷ es) (k ∷ set_value (is_stamp c) es w)) (another_key k es i once at))
+
+  pub gaps_found : (es : Chains) (o : Option ℕ) → IsDistinct is_stamp (keys_of es) → IsPosition c es o → gaps_at o es ≡ chain_at c es
+  gaps_found es None once at = ap (λ o. unwrap_or o []) (sym at)
+  gaps_found es (Some i) once at = ap (λ o. unwrap_or o []) (sym (found_at es i once at))
+
+  pub set_timed : (e : ℕ) (f : ℕ → ℕ) (es : Chains) (v : Gaps) → Some v ≡ lookup (is_stamp c) es → set_value (is_stamp c) es (timed e f v) ≡ timed_stamp c e f es
+  set_timed e f [] v h = absurd (no_some h)
+  set_timed e f (k ∷ es) v h = by (is_stamp c k.0) (set_timed e f es v) h
+    where
+      by : (b : Bool) → (Some v ≡ lookup (is_stamp c) es → set_value (is_stamp c) es (timed e f v) ≡ timed_stamp c e f es) → Some v ≡ cond b (Some k.1) (lookup (is_stamp c) es)
+          → cond b ((k.0, timed e f v) ∷ es) (k ∷ set_value (is_stamp c) es (timed e f v)) ≡ cond b ((k.0, timed e f k.1) ∷ es) (k ∷ timed_stamp c e f es)
+      by true rest i = ap (λ g. (k.0, timed e f g) ∷ es) (same_gaps i)
+      by false rest i = ap (λ r. k ∷ r) (rest i)
+
+  -- the first that passes, where one does
+  first_found : (xs : List Stamp) → position_or_len (is_stamp c) xs < length xs → slice_get xs (position_or_len (is_stamp c) xs) ≡ Some c
+  first_found [] h = absurd (omega (arith, h))
+  first_found (x ∷ xs) h = by (is_stamp c x) refl h (first_found xs)
+    where
+      by : (b : Bool) → is_stamp c x ≡ b → cond (not b) (1 + position_or_len (is_stamp c) xs) 0 < suc (length xs) → (position_or_len (is_stamp c) xs < length xs → slice_get xs (position_or_len (is_stamp c) xs) ≡ Some c)
+          → slice_get (x ∷ xs) (cond (not b) (1 + position_or_len (is_stamp c) xs) 0) ≡ Some c
+      by true same l rest = ap Some (sym ((Decides-is_stamp c x).0 same))
+      by false other l rest =
+          let next : suc (position_or_len (is_stamp c) xs) ≡ 1 + position_or_len (is_stamp c) xs = omega arith in
+          subst (λ j. slice_get (x ∷ xs) j ≡ Some c) next (rest (omega (arith, l)))
+
+  position_found : (xs : List Stamp) (i : ℕ) → Some i ≡ position (is_stamp c) xs → slice_get xs i ≡ Some c
+  position_found xs i h = by (nat_lt (position_or_len (is_stamp c) xs) (length xs)) refl h
+    where
+      by : (b : Bool) → nat_lt (position_or_len (is_stamp c) xs) (length xs) ≡ b → Some i ≡ cond b (Some (position_or_len (is_stamp c) xs)) None → slice_get xs i ≡ Some c
+      by true l s = subst (λ j. slice_get xs j ≡ Some c) (sym (ap (λ o. unwrap_or o i) s)) (first_found xs (le_is (suc (position_or_len (is_stamp c) xs)) (length xs) l))
+      by false l s = absurd (none_is_some (sym s))
+
+  pub position_is : (es : Chains) (o : Option ℕ) → o ≡ position (is_stamp c) (keys_of es) → is_some o ≡ is_some (lookup (is_stamp c) es) → IsPosition c es o
+  position_is es None is there = by (lookup (is_stamp c) es) there
+    where
+      by : (o : Option Gaps) → false ≡ is_some o → o ≡ None
+      by None h = refl
+      by (Some v) h = absurd (true≢false (sym h))
+  position_is es (Some i) is there = position_found (keys_of es) i is
+
+  -- a value that is put back, and a position where nothing stands
+  pub set_same : (es : Chains) (i : ℕ) (v : Gaps) → Some v ≡ slice_get (values_of es) i → set_value_at es i v ≡ es
+  set_same [] i v h = absurd (no_some h)
+  set_same (k ∷ es) zero v h = ap (λ g. (k.0, g) ∷ es) (same_gaps h)
+  set_same (k ∷ es) (suc i) v h = ap (λ r. k ∷ r) (set_same es i v h)
+
+  pub nowhere : (es : Chains) (i : ℕ) → slice_get (keys_of es) i ≡ Some c → None ≡ slice_get (values_of es) i → ⊥
+  nowhere [] i at none = none_is_some at
+  nowhere (k ∷ es) zero at none = none_is_some none
+  nowhere (k ∷ es) (suc i) at none = nowhere es i at none
+
+  pub keys_set : (es : Chains) (i : ℕ) (v : Gaps) → keys_of (set_value_at es i v) ≡ keys_of es
+  keys_set [] i v = refl
+  keys_set (k ∷ es) zero v = refl
+  keys_set (k ∷ es) (suc i) v = ap (λ r. k.0 ∷ r) (keys_set es i v)
+
+  pub not_there : (e : ℕ) (es : Chains) → lookup (is_stamp c) es ≡ None → has_epoch e (chain_at c es) ≡ true → ⊥
+  not_there e es none there = true≢false (sym there ∙ ap (λ o. has_epoch e (unwrap_or o [])) none)
+
+  pub none_at : (es : Chains) → IsPosition c es None → None ≡ lookup (is_stamp c) es
+  none_at es at = sym at
+
+  pub empty_there : (es : Chains) (i : ℕ) → IsDistinct is_stamp (keys_of es) → slice_get (keys_of es) i ≡ Some c → chain_at c es ≡ [] → slice_get (values_of es) i ≡ Some []
+  empty_there es i once at empty = by (slice_get (values_of es) i) refl
+    where
+      by : (o : Option Gaps) → slice_get (values_of es) i ≡ o → o ≡ Some []
+      by None is = absurd (nowhere es i at (sym is))
+      by (Some v) is = ap Some (ap (λ o. unwrap_or o []) (sym (found_at es i once at ∙ is)) ∙ empty)
+
+pub some_unless : {X : Type 0} (o : Option X) → is_none o ≡ false → is_some o ≡ true
+some_unless None h = absurd (true≢false h)
+some_unless (Some x) h = refl

@@ -12,9 +12,9 @@ use Rattle.td_plan.specs.Blocks.{vertices}
 use Rattle.td_reach.specs.declared.stamp.Place.TheVariants as places
 use Rattle.td_reach.specs.declared.stamp.Stamp.{Stamp}
 use Rattle.td_progress.specs.Bag.{is_stamp}
-use Rattle.td_progress.specs.Gaps.{with_epoch, without_epoch}
+use Rattle.td_progress.specs.Gaps.{Mark, with_epoch, without_epoch}
 use Rattle.td_progress.specs.Ways.{places_of, place_at, number_of, outside}
-use Rattle.td_progress.specs.Held.{held, total, between, with_stamp, without_stamp, IsChain, IsLaidOut, AreHeld, empty_chains}
+use Rattle.td_progress.specs.Held.{all_marked, total, between, with_stamp, without_stamp, IsChain, IsLaidOut, AllTimed, AreHeld, empty_chains}
 use Rattle.td_progress.proofs.Same.{Decides-is_stamp}
 use Rattle.td_progress.proofs.Counted.{none_is_some}
 use Rattle.td_progress.proofs.Gaps.{Gaps}
@@ -25,7 +25,7 @@ some_same : {x y : Stamp} → Some x ≡ Some y → x ≡ y
 some_same {x} e = ap (λ o. unwrap_or o x) e
 
 -- each key stays where it stands
-keys_with_at : (c : Stamp) (e n : ℕ) (ks : Chains) (i : ℕ) (s : Stamp) → slice_get (keys_of ks) i ≡ Some s → slice_get (keys_of (with_stamp c e n ks)) i ≡ Some s
+keys_with_at : (c : Stamp) (e : ℕ) (n : Mark) (ks : Chains) (i : ℕ) (s : Stamp) → slice_get (keys_of ks) i ≡ Some s → slice_get (keys_of (with_stamp c e n ks)) i ≡ Some s
 keys_with_at c e n [] i s h = absurd (none_is_some h)
 keys_with_at c e n (k ∷ ks) i s h = by (is_stamp c k.0) i h (λ j g. keys_with_at c e n ks j s g)
   where
@@ -35,7 +35,7 @@ keys_with_at c e n (k ∷ ks) i s h = by (is_stamp c k.0) i h (λ j g. keys_with
     by false zero g rest = g
     by false (suc j) g rest = rest j g
 
-keys_without : (c : Stamp) (e : ℕ) (ks : Chains) → keys_of (without_stamp c e ks) ≡ keys_of ks
+pub keys_without : (c : Stamp) (e : ℕ) (ks : Chains) → keys_of (without_stamp c e ks) ≡ keys_of ks
 keys_without c e [] = refl
 keys_without c e (k ∷ ks) = by (is_stamp c k.0) (keys_without c e ks)
   where
@@ -72,10 +72,10 @@ module _ (plan : List Line) where
       by true same = absurd (let e = ap (λ (s : Stamp). depth s.time) ((Decides-is_stamp c (outside plan i)).0 same) in omega (arith, e, deep))
       by false other = other
 
-  pub laid_come : (c : Stamp) (e n : ℕ) (f : ℕ → ℕ) (ks : Chains) → IsLaidOut plan (keys_of ks) → IsLaidOut plan (keys_of (all_shifted plan c e f (with_stamp c e n ks)))
+  pub laid_come : (c : Stamp) (e : ℕ) (n : Mark) (f : ℕ → ℕ) (ks : Chains) → IsLaidOut plan (keys_of ks) → IsLaidOut plan (keys_of (all_shifted plan c e f (with_stamp c e n ks)))
   laid_come c e n f ks h i lt = ap (λ js. slice_get js i) (keys_shifted plan (with_stamp c e n ks) c e f) ∙ keys_with_at c e n ks i (outside plan i) (h i lt)
 
-  pub laid_with : (c : Stamp) (e n : ℕ) (ks : Chains) → IsLaidOut plan (keys_of ks) → IsLaidOut plan (keys_of (with_stamp c e n ks))
+  pub laid_with : (c : Stamp) (e : ℕ) (n : Mark) (ks : Chains) → IsLaidOut plan (keys_of ks) → IsLaidOut plan (keys_of (with_stamp c e n ks))
   laid_with c e n ks h i lt = keys_with_at c e n ks i (outside plan i) (h i lt)
 
   pub laid_go : (c : Stamp) (e : ℕ) (f : ℕ → ℕ) (ks : Chains) → IsLaidOut plan (keys_of ks) → IsLaidOut plan (keys_of (without_stamp c e (all_shifted plan c e f ks)))
@@ -130,16 +130,23 @@ module _ (plan : List Line) where
   each_empty count [] = tt
   each_empty count (i ∷ is) = (record { of_plan = λ l. absurd (omega (arith, l)); class = refl; gaps = tt }, each_empty count is)
 
-  held_none : (is : List ℕ) → held (map empty_at is) ≡ []
-  held_none [] = refl
-  held_none (i ∷ is) = held_none is
+  marked_none : (is : List ℕ) → all_marked (map empty_at is) ≡ []
+  marked_none [] = refl
+  marked_none (i ∷ is) = marked_none is
+
+  timed_none : (is : List ℕ) → AllTimed (map empty_at is)
+  timed_none [] = tt
+  timed_none (i ∷ is) = (tt, timed_none is)
 
   total_none : (is : List ℕ) → total (map empty_at is) ≡ 0
   total_none [] = refl
   total_none (i ∷ is) = let a = sum_by-cons (λ (j : Stamp × Gaps). length j.1) (empty_at i) (map empty_at is) in let rest = total_none is in omega (arith, a, rest)
 
-  pub nothing_held : held (empty_chains plan) ≡ []
-  nothing_held = held_none (range_with_len 0 (places_of plan))
+  pub nothing_marked : all_marked (empty_chains plan) ≡ []
+  nothing_marked = marked_none (range_with_len 0 (places_of plan))
+
+  pub nothing_timed : AllTimed (empty_chains plan)
+  nothing_timed = timed_none (range_with_len 0 (places_of plan))
 
   pub nothing_in_all : total (empty_chains plan) ≡ 0
   nothing_in_all = total_none (range_with_len 0 (places_of plan))

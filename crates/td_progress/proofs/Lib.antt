@@ -1,5 +1,4 @@
 pub mod Same
-pub mod Kept
 pub mod Counted
 pub mod Gaps
 pub mod ChainSteps
@@ -14,7 +13,5 @@ pub mod Firsts
 pub mod HeldSteps
 pub mod HeldMoves
 pub mod Marked
-pub mod Updates
-pub mod Epochs
-pub mod Passed
+pub mod Times
 pub mod Free

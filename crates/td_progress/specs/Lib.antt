@@ -1,5 +1,5 @@
 pub mod Bag
-pub mod Entries
+pub mod Cells
 pub mod Gaps
 pub mod Held
 pub mod Ways

@@ -1,12 +1,14 @@
 //! The active pointstamps of one place and counters.
-ghost use Rattle.std.specs.Prelude.{◌≡◌, ◌^◌, ◌<◌, ◌≤◌, ◌↔◌, true, false, IsTrue, OnOk, OnErr, Some, [], slice_get};
-ghost use Rattle.std.specs.List.{AllByRecursion};
-ghost use Rattle.td_progress.specs.Gaps.{within, sum_to, first_from, start_of, changed_at, changed_from, plus, minus};
-ghost use Rattle.td_progress.specs.Gaps.{has_epoch, count_to, with_epoch, without_epoch};
+ghost use Rattle.std.specs.Prelude.{◌≡◌, ◌+◌, ◌-◌, ◌^◌, ◌<◌, ◌≤◌, ◌↔◌};
+ghost use Rattle.std.specs.Prelude.{true, false, IsTrue, OnOk, OnErr, Some, [], length, is_none, nat_lt};
+ghost use Rattle.std.specs.List.{list_all};
+ghost use Rattle.td_progress.specs.Gaps.{within, sum_to, first_from, start_of, changed_from, changed_at, place};
+ghost use Rattle.td_progress.specs.Gaps.{has_epoch, count_to, with_epoch, without_epoch, times_at, timed, plus, minus};
+ghost use Rattle.td_progress.specs.Cells.{gaps_of};
 ghost use Rattle.td_progress.specs.Held.{stepped, first_alone};
 
 use std::alloc::{AllocError, Global};
-use std::collections::BTreeMap;
+use std::collections::VecDeque;
 use std::marker::Model;
 
 /// By how much a gap changes.
@@ -18,29 +20,45 @@ pub(crate) enum Step {
     Down,
 }
 
-/// The epochs of pointstamps of one place and counters, each with its gap: how many precursors it has that the one before has
-/// not, itself counted too. So a pointstamp is in the frontier exactly where it is the first and its gap is one. Sums of gaps
-/// stop at the ends of a `u64`, and the proof shows that neither end is met.
+/// An epoch, its gap, and how often its pointstamp occurs.
+#[derive(Clone, Copy, Debug, PartialEq, Eq)]
+struct Cell {
+    epoch: u64,
+    gap: u64,
+    times: u128,
+}
+
+/// The epochs of pointstamps of one place and counters, each with its gap, how many precursors it has that the one before
+/// has not, itself counted too; and with how often it occurs. So a pointstamp is in the frontier exactly where it is the first and
+/// its gap is one. A gap that changes stops at the ends of a `u64`, and the proof shows that neither end is met.
+///
+/// Epochs come behind and go in front, so that most are found at one end, and else by halving. What was allocated stays for those
+/// to come.
 #[derive(Drop)]
 pub(crate) struct Chain {
-    gaps: BTreeMap<u64, u64>,
+    // The epochs rise.
+    cells: VecDeque<Cell>,
 }
 
 impl Model for Chain {
     ghost use Rattle.std.specs.Prelude.{ℕ, List};
+    ghost use Rattle.td_progress.specs.Gaps.{Mark, AreRising};
+    ghost use Rattle.td_progress.specs.Cells.{gaps_of};
 
-    ghost Value = { List (ℕ × ℕ) };
+    ghost Value = { List (ℕ × Mark) };
 
-    ghost view = { λ c. c.gaps.entries };
+    ghost view = { λ c. gaps_of c.cells.items };
+
+    ghost invariant = { λ c. AreRising 0 (gaps_of c.cells.items) };
 }
 
 impl Chain {
-    /// No pointstamps, in a map that allocates with `alloc`.
+    /// No pointstamps, in a queue that allocates with `alloc`.
     pub(crate) fn new(alloc: Global) -> Chain
         ensures { result ≡ [] }
     {
         Chain {
-            gaps: BTreeMap::new(alloc),
+            cells: VecDeque::new(alloc),
         }
     }
 
@@ -48,33 +66,89 @@ impl Chain {
     pub(crate) fn is_empty(&self) -> bool
         ensures { IsTrue result ↔ (self.now ≡ []) }
     {
-        self.gaps.is_empty()
-    }
-
-    /// Whether there is one of this epoch.
-    fn has(&self, epoch: u64) -> bool
-        ensures { result ≡ has_epoch epoch self.now }
-    {
-        self.gaps.contains_key(&epoch)
+        self.cells.is_empty()
     }
 
     /// Whether this is the first epoch, with a gap of one.
     pub(crate) fn is_first(&self, epoch: u64) -> bool
-        ensures { IsTrue result ↔ (slice_get self.now 0 ≡ Some (epoch, 1)) }
+        ensures { IsTrue result ↔ (first_alone self.now ≡ Some epoch) }
     {
-        match self.gaps.first_key_value() {
-            Some((first, gap)) => *first == epoch && *gap == 1,
-            None => false,
-        }
+        self.first_alone() == Some(epoch)
     }
 
     /// The first epoch, where its gap is one.
     pub(crate) fn first_alone(&self) -> Option<u64>
         ensures { result ≡ first_alone self.now }
     {
-        match self.gaps.first_key_value() {
-            Some((first, gap)) if *gap == 1 => Some(*first),
+        match self.cells.front() {
+            Some(first) if first.gap == 1 => Some(first.epoch),
             _ => None,
+        }
+    }
+
+    /// Where the first epoch stands, or is to stand, that is not before this one.
+    fn place(&self, epoch: u64) -> usize
+        ensures is { result ≡ place epoch self.now }
+        ensures within { result ≤ length self.now }
+    {
+        if self.is_before(epoch) {
+            return self.cells.len();
+        }
+        if self.begins_from(epoch) {
+            return 0;
+        }
+        self.cells.partition_point(|cell| cell.epoch < epoch)
+    }
+
+    /// Whether all epochs are before this one.
+    pub(crate) fn is_before(&self, epoch: u64) -> bool
+        ensures { result ≡ is_none (first_from epoch self.now) }
+    {
+        match self.cells.back() {
+            Some(last) => last.epoch < epoch,
+            None => true,
+        }
+    }
+
+    /// Whether all epochs are after this one.
+    pub(crate) fn is_after(&self, epoch: u64) -> bool
+        ensures { result ≡ list_all (λ g. nat_lt epoch g.0) self.now }
+    {
+        match self.cells.front() {
+            Some(first) => epoch < first.epoch,
+            None => true,
+        }
+    }
+
+    /// Whether no epoch is before this one.
+    fn begins_from(&self, epoch: u64) -> bool
+        ensures { IsTrue result → place epoch self.now ≡ 0 }
+    {
+        match self.cells.front() {
+            Some(first) => epoch <= first.epoch,
+            None => true,
+        }
+    }
+
+    /// Whether an epoch is there, where it stands or is to stand.
+    fn is_at(&self, at: usize, epoch: u64) -> bool
+        requires { at ≡ place epoch self.now }
+        ensures is { result ≡ has_epoch epoch self.now }
+        ensures within { IsTrue result → at < length self.now }
+    {
+        match self.cells.get(at) {
+            Some(cell) => cell.epoch == epoch,
+            None => false,
+        }
+    }
+
+    /// How often the pointstamp of an epoch occurs.
+    pub(crate) fn times(&self, epoch: u64) -> u128
+        ensures { result ≡ times_at epoch self.now }
+    {
+        match self.cells.get(self.place(epoch)) {
+            Some(cell) if cell.epoch == epoch => cell.times,
+            _ => 0,
         }
     }
 
@@ -83,20 +157,10 @@ impl Chain {
         requires { has_epoch epoch self.now ≡ true → (0 < sum_to epoch self.now) × (sum_to epoch self.now < 2 ^ 64) }
         ensures { result ≡ count_to epoch self.now }
     {
-        if self.has(epoch) {
+        if self.is_at(self.place(epoch), epoch) {
             Some(self.sum_to(epoch) - 1)
         } else {
             None
-        }
-    }
-
-    /// The first epoch that is not before this one.
-    pub(crate) fn first_from(&self, epoch: u64) -> Option<u64>
-        ensures { result ≡ first_from epoch self.now }
-    {
-        match self.gaps.range(epoch..).next() {
-            Some((first, _)) => Some(*first),
-            None => None,
         }
     }
 
@@ -104,60 +168,27 @@ impl Chain {
     pub(crate) fn start_of(&self, epoch: u64) -> u64
         ensures { result ≡ start_of 0 epoch self.now }
     {
-        match self.gaps.range(..epoch).next_back() {
-            Some((last, _)) => *last + 1,
+        let place = self.place(epoch);
+        if place == 0 {
+            return 0;
+        }
+        match self.cells.get(place - 1) {
+            Some(last) => last.epoch + 1,
             None => 0,
         }
     }
 
-    /// Whether some epoch is in this range.
-    pub(crate) fn is_within(&self, from: u64, upto: u64) -> bool
-        requires { from ≤ upto }
-        ensures { IsTrue result ↔ (0 < within from upto self.now) }
-    {
-        match self.gaps.range(from..=upto).next() {
-            Some(_) => true,
-            None => false,
-        }
-    }
-
-    /// How many epochs are in this range: where all are, without a walk.
+    /// How many epochs are in this range.
     pub(crate) fn count(&self, from: u64, upto: u64) -> u64
         requires { from ≤ upto }
         ensures { result ≡ within from upto self.now }
     {
-        if self.begins_from(from) && self.ends_by(upto) {
-            return self.gaps.len() as u64;
+        if self.cells.is_empty() {
+            return 0;
         }
-        self.walk(from, upto)
-    }
-
-    /// Whether no epoch is before this one.
-    fn begins_from(&self, from: u64) -> bool
-        ensures { IsTrue result → AllByRecursion (λ g. from ≤ g.0) self.now }
-    {
-        match self.gaps.first_key_value() {
-            Some((first, _)) => from <= *first,
-            None => false,
-        }
-    }
-
-    /// Whether no epoch is after this one.
-    fn ends_by(&self, upto: u64) -> bool
-        ensures { IsTrue result → AllByRecursion (λ g. g.0 ≤ upto) self.now }
-    {
-        match self.gaps.last_key_value() {
-            Some((last, _)) => *last <= upto,
-            None => false,
-        }
-    }
-
-    /// How many epochs are in this range, one after the other.
-    fn walk(&self, from: u64, upto: u64) -> u64
-        requires { from ≤ upto }
-        ensures { result ≡ within from upto self.now }
-    {
-        self.gaps.range(from..=upto).count() as u64
+        let end = self.place(upto);
+        let own = u64::from(self.is_at(end, upto));
+        end as u64 + own - self.place(from) as u64
     }
 
     /// What the gaps up to an epoch add up to.
@@ -166,82 +197,88 @@ impl Chain {
         ensures { result ≡ sum_to epoch self.now }
     {
         let mut sum = 0;
-        for (other, gap) in self.gaps.iter() {
-            if epoch < *other {
+        for cell in self.cells.iter() {
+            if epoch < cell.epoch {
                 break;
             }
-            sum += *gap;
+            sum += cell.gap;
         }
         sum
     }
 
     /// Puts an epoch in, whose gap the next one has no more. Refusal: nothing has changed.
-    pub(crate) fn put(&mut self, epoch: u64, gap: u64) -> Result<(), AllocError>
+    pub(crate) fn put(&mut self, epoch: u64, gap: u64, times: u128) -> Result<(), AllocError>
         requires { has_epoch epoch self.old ≡ false }
-        ensures ok { OnOk result (self.new ≡ with_epoch epoch gap self.old) }
+        ensures ok { OnOk result (self.new ≡ with_epoch epoch (record { gap = gap; times = times }) self.old) }
         ensures err { OnErr result (self.new ≡ self.old) }
     {
-        let next = self.first_from(epoch);
-        self.gaps.insert(epoch, gap)?;
-        if let Some(next) = next {
-            self.lower(next, gap);
-        }
+        let place = self.place(epoch);
+        self.cells.insert(place, Cell { epoch, gap, times })?;
+        lower(&mut self.cells, place + 1, gap);
         Ok(())
+    }
+
+    /// The pointstamp of an epoch occurs this many times more.
+    pub(crate) fn add(&mut self, epoch: u64, times: u64)
+        requires there { has_epoch epoch self.old ≡ true }
+        requires fits { times_at epoch self.old + times < 2 ^ 128 }
+        ensures { self.new ≡ timed epoch (λ n. n + times) self.old }
+    {
+        let place = self.place(epoch);
+        if let Some(cell) = self.cells.get_mut(place) {
+            cell.times += u128::from(times);
+        }
+    }
+
+    /// The pointstamp of an epoch occurs this many times less.
+    pub(crate) fn take_off(&mut self, epoch: u64, times: u64)
+        requires there { has_epoch epoch self.old ≡ true }
+        requires enough { times ≤ times_at epoch self.old }
+        ensures { self.new ≡ timed epoch (λ n. n - times) self.old }
+    {
+        let place = self.place(epoch);
+        if let Some(cell) = self.cells.get_mut(place) {
+            cell.times -= u128::from(times);
+        }
     }
 
     /// Takes an epoch out, whose gap the next one has too from then on.
     pub(crate) fn take(&mut self, epoch: u64)
+        requires { has_epoch epoch self.old ≡ true }
         ensures { self.new ≡ without_epoch epoch self.old }
     {
-        let gap = self.gaps.remove(&epoch).unwrap_or(0);
-        self.raise_from(epoch, gap);
+        let place = self.place(epoch);
+        if let Some(cell) = self.cells.remove(place) {
+            raise(&mut self.cells, place, cell.gap);
+        }
     }
 
     /// Changes the first gap that is not before an epoch by one.
     pub(crate) fn step_from(&mut self, epoch: u64, step: Step)
         ensures { self.new ≡ changed_from epoch (stepped step) self.old }
     {
+        let place = self.place(epoch);
         match step {
-            Step::Up => self.raise_from(epoch, 1),
-            Step::Down => self.lower_from(epoch, 1),
+            Step::Up => raise(&mut self.cells, place, 1),
+            Step::Down => lower(&mut self.cells, place, 1),
         }
     }
+}
 
-    /// Adds to the first gap that is not before an epoch.
-    fn raise_from(&mut self, epoch: u64, by: u64)
-        ensures { self.new ≡ changed_from epoch (plus by) self.old }
-    {
-        if let Some(first) = self.first_from(epoch) {
-            self.raise(first, by);
-        }
+/// Adds to the gap at a place, if one is there.
+fn raise(cells: &mut VecDeque<Cell>, place: usize, by: u64)
+    ensures { gaps_of cells.new.items ≡ changed_at place (plus by) (gaps_of cells.old.items) }
+{
+    if let Some(cell) = cells.get_mut(place) {
+        cell.gap = cell.gap.saturating_add(by);
     }
+}
 
-    /// Takes from the first gap that is not before an epoch.
-    fn lower_from(&mut self, epoch: u64, by: u64)
-        ensures { self.new ≡ changed_from epoch (minus by) self.old }
-    {
-        if let Some(first) = self.first_from(epoch) {
-            self.lower(first, by);
-        }
-    }
-
-    /// Adds to the gap of an epoch.
-    fn raise(&mut self, epoch: u64, by: u64)
-        ensures { self.new ≡ changed_at epoch (plus by) self.old }
-    {
-        let Some(gap) = self.gaps.get_mut(&epoch) else {
-            return;
-        };
-        *gap = gap.saturating_add(by);
-    }
-
-    /// Takes from the gap of an epoch.
-    fn lower(&mut self, epoch: u64, by: u64)
-        ensures { self.new ≡ changed_at epoch (minus by) self.old }
-    {
-        let Some(gap) = self.gaps.get_mut(&epoch) else {
-            return;
-        };
-        *gap = gap.saturating_sub(by);
+/// Takes from the gap at a place, if one is there.
+fn lower(cells: &mut VecDeque<Cell>, place: usize, by: u64)
+    ensures { gaps_of cells.new.items ≡ changed_at place (minus by) (gaps_of cells.old.items) }
+{
+    if let Some(cell) = cells.get_mut(place) {
+        cell.gap = cell.gap.saturating_sub(by);
     }
 }

@@ -1,17 +1,18 @@
-//! The active pointstamps, each once, with what their precursor counts are made of.
-ghost use Rattle.std.specs.Prelude.{◌≡◌, ◌+◌, ◌-◌, ◌<◌, ◌≤◌, ◌∷◌, ◌^◌, ◌↔◌, ◌⊎◌, true, false, cond, IsTrue, IfOk, OnOk, OnErr, Some, None, [], length, map, slice_get, is_some};
+//! The active pointstamps, each with how often it occurs and with what its precursor count is made of.
+ghost use Rattle.std.specs.Prelude.{◌≡◌, ◌+◌, ◌-◌, ◌<◌, ◌≤◌, ◌++◌, ◌^◌, ◌↔◌, ◌⊎◌};
+ghost use Rattle.std.specs.Prelude.{true, false, cond, IsTrue, IfOk, OnOk, OnErr, Some, None, [], length, map, replicate, slice_get, option_map};
 ghost use Rattle.std.specs.List.{AllByRecursion, IsDistinct, range_with_len};
-ghost use Rattle.std.specs.Map.{keys_of, lookup, remove_entry};
-ghost use Rattle.std.specs.BTreeMap.{is_at};
-ghost use Rattle.std.specs.Ordering.{nat_cmp};
+ghost use Rattle.std.specs.Option.{unwrap_or};
+ghost use Rattle.std.specs.Map.{keys_of, values_of, lookup, remove_entry};
 ghost use Rattle.td_stamp.specs.Time.{depth};
 ghost use Rattle.td_reach.specs.Paths.{IsOf};
-ghost use Rattle.td_progress.specs.Bag.{is_stamp, occurrences, IsSameBag};
-ghost use Rattle.td_progress.specs.Gaps.{has_epoch, sum_to, start_of, within};
+ghost use Rattle.td_reach.specs.Frontier.{has_passed};
 ghost use Rattle.td_reach.specs.Tables.{could_test};
-ghost use Rattle.td_progress.specs.Held.{class_of, held, total, between, chain_at, with_stamp, without_stamp};
-ghost use Rattle.td_progress.specs.Held.{stepped, shifted, shifted_at, all_shifted_at, is_ahead, AreHeld, IsFirst, IsCounted, count_of, firsts};
-ghost use Rattle.td_progress.specs.Held.{IsOfPlan, IsLaidOut, empty_chains, count_in, count_among};
+ghost use Rattle.td_progress.specs.Bag.{is_stamp, occurrences, IsSameBag};
+ghost use Rattle.td_progress.specs.Gaps.{has_epoch, start_of, within, without_epoch, timed, times_at};
+ghost use Rattle.td_progress.specs.Held.{class_of, held, all_marked, total, between, chain_at, with_stamp, without_stamp, timed_stamp};
+ghost use Rattle.td_progress.specs.Held.{stepped, shifted, shifted_at, all_shifted_at, is_ahead, AreHeld, AllTimed, IsFirst, IsCounted, count_of, firsts};
+ghost use Rattle.td_progress.specs.Held.{IsOfPlan, IsLaidOut, IsPosition, gaps_at, empty_chains, count_in, count_among};
 ghost use Rattle.td_progress.specs.Ways.{places_of, number_of, row};
 ghost use Rattle.td_progress.specs.declared.ways.Side.TheVariants as Side;
 
@@ -24,14 +25,15 @@ use std::marker::Model;
 use td_reach::laws::{could_leads, could_tested};
 use td_reach::{Reach, Stamp};
 
-/// The active pointstamps, each once, by place and counters and then by epoch. Each has its gap: how many precursors it has
-/// that the one of the epoch before has not, itself counted too.
+/// The active pointstamps, each once, by place and counters and then by epoch. Each has its gap, how many precursors it has that
+/// the one of the epoch before has not, itself counted too; and how often it occurs.
 ///
-/// The places of the plan stand first, in no loop, at their numbers, and stay there where none of their pointstamps is active. So a
-/// change looks at the places that lead to its own, or to which it leads, and at the counters in loops that are active, alone.
+/// The places of the plan stand first, in no loop, at their numbers, and stay there where none of their pointstamps is active: so
+/// they are found by number. Those in loops stand behind, where any is active, and are found by one hash. A change looks at the
+/// places that lead to its own, or to which it leads, and at the counters in loops that are active, alone.
 ///
 /// One that comes between two others takes its gap from the later one, and one that goes gives it back. A departure counts
-/// nothing and takes no memory. An arrival counts its own gap, by a walk that is not longer than that gap.
+/// nothing and takes no memory. An arrival counts its own gap: in each chain that it looks at, the epochs in a range.
 ///
 /// Two other forms were rejected. A part that the places share, added when it is asked for, is quadratic where epochs leave from
 /// the middle. First pointstamps alone would have no counts for the others.
@@ -46,20 +48,21 @@ pub(crate) struct Held {
 impl Model for Held {
     ghost use Rattle.std.specs.Prelude.{ℕ, List, ◌≡◌, ◌<◌, ◌^◌};
     ghost use Rattle.td_reach.specs.declared.stamp.Stamp.{Stamp};
-    ghost use Rattle.td_progress.specs.Held.{total};
+    ghost use Rattle.td_progress.specs.Gaps.{Mark};
+    ghost use Rattle.td_progress.specs.Held.{total, AllTimed};
 
-    ghost Value = { List (Stamp × List (ℕ × ℕ)) };
+    ghost Value = { List (Stamp × List (ℕ × Mark)) };
 
     ghost view = { λ h. h.chains.entries };
 
-    ghost invariant = { λ h. (h.active ≡ total h.chains.entries) × (total h.chains.entries < 2 ^ 64) };
+    ghost invariant = { λ h. (h.active ≡ total h.chains.entries) × (total h.chains.entries < 2 ^ 64) × AllTimed h.chains.entries };
 }
 
 impl Held {
     /// No pointstamps of a plan, in maps that allocate with `alloc`.
     pub(crate) fn new(alloc: Global, ways: &Ways) -> Result<Held, AllocError>
         ensures kept { IfOk result (AreHeld ways.now) }
-        ensures none { IfOk result (λ h. held h ≡ []) }
+        ensures none { IfOk result (λ h. all_marked h ≡ []) }
     {
         Ok(Held {
             chains: laid_out(alloc, ways)?,
@@ -68,13 +71,52 @@ impl Held {
         })
     }
 
-    /// A pointstamp becomes active. Refusal: nothing has changed.
-    pub(crate) fn come(&mut self, ways: &Ways, stamp: &Stamp) -> Result<(), AllocError>
+    /// How often a pointstamp occurs.
+    pub(crate) fn times(&self, ways: &Ways, stamp: &Stamp) -> u128
+        requires kept { AreHeld ways.now self.now }
+        requires of_plan { IsOf ways.now stamp.now }
+        ensures is { result ≡ times_at stamp.now.time.epoch (chain_at (class_of stamp.now) self.now) }
+        ensures timed { AllTimed self.now }
+    {
+        match self.chain_of(ways, stamp) {
+            Some(chain) => chain.times(stamp.time.epoch()),
+            None => 0,
+        }
+    }
+
+    /// A pointstamp that is active occurs this many times more.
+    pub(crate) fn add(&mut self, ways: &Ways, stamp: &Stamp, times: u64)
+        requires kept { AreHeld ways.now self.old }
+        requires there { 0 < occurrences stamp.now (all_marked self.old) }
+        requires fits { occurrences stamp.now (all_marked self.old) + times < 2 ^ 128 }
+        ensures kept { AreHeld ways.now self.new }
+        ensures more { IsSameBag (all_marked self.new) (replicate times stamp.now ++ all_marked self.old) }
+    {
+        let class = class_of(stamp);
+        let index = position(ways, &self.chains, &class);
+        add_at(&mut self.chains, &class, index, stamp.time.epoch(), times);
+    }
+
+    /// A pointstamp occurs this many times less, and is active still.
+    pub(crate) fn take_off(&mut self, ways: &Ways, stamp: &Stamp, times: u64)
+        requires kept { AreHeld ways.now self.old }
+        requires enough { times < occurrences stamp.now (all_marked self.old) }
+        ensures kept { AreHeld ways.now self.new }
+        ensures less { IsSameBag (all_marked self.old) (replicate times stamp.now ++ all_marked self.new) }
+    {
+        let class = class_of(stamp);
+        let index = position(ways, &self.chains, &class);
+        take_off_at(&mut self.chains, &class, index, stamp.time.epoch(), times);
+    }
+
+    /// A pointstamp becomes active, and occurs this many times. Refusal: nothing has changed.
+    pub(crate) fn come(&mut self, ways: &Ways, stamp: &Stamp, times: u64) -> Result<(), AllocError>
         requires kept { AreHeld ways.now self.old }
         requires of_plan { IsOf ways.now stamp.now }
-        requires new { occurrences stamp.now (held self.old) ≡ 0 }
+        requires new { occurrences stamp.now (all_marked self.old) ≡ 0 }
+        requires some { 0 < times }
         ensures kept { OnOk result (AreHeld ways.now self.new) }
-        ensures ok { OnOk result (IsSameBag (held self.new) (stamp.now ∷ held self.old)) }
+        ensures ok { OnOk result (IsSameBag (all_marked self.new) (replicate times stamp.now ++ all_marked self.old)) }
         ensures err { OnErr result (self.new ≡ self.old) }
     {
         // `precursors` answers a `u64`, and no machine has the memory for so many.
@@ -83,33 +125,47 @@ impl Held {
         };
         let class = class_of(stamp);
         let epoch = stamp.time.epoch();
-        let gap = gap_for(ways, &self.chains, &class, epoch);
-        put(self.alloc, &mut self.chains, &class, epoch, gap)?;
+        let index = position(ways, &self.chains, &class);
+        let gap = gap_for(ways, &self.chains, &class, index, epoch);
+        put(
+            self.alloc,
+            &mut self.chains,
+            &class,
+            index,
+            epoch,
+            gap,
+            times,
+        )?;
         step_from(ways, &mut self.chains, &class, epoch, Step::Up);
         self.active = active;
         Ok(())
     }
 
-    /// A pointstamp is active no more.
-    pub(crate) fn go(&mut self, ways: &Ways, stamp: &Stamp)
+    /// A pointstamp that occurs this many times is active no more.
+    pub(crate) fn go(&mut self, ways: &Ways, stamp: &Stamp, times: u64)
         requires kept { AreHeld ways.now self.old }
-        requires there { 0 < occurrences stamp.now (held self.old) }
+        requires there { 0 < times }
+        requires all { occurrences stamp.now (all_marked self.old) ≡ times }
         ensures kept { AreHeld ways.now self.new }
-        ensures less { IsSameBag (held self.old) (stamp.now ∷ held self.new) }
+        ensures less { IsSameBag (all_marked self.old) (replicate times stamp.now ++ all_marked self.new) }
     {
         let class = class_of(stamp);
         let epoch = stamp.time.epoch();
+        let index = position(ways, &self.chains, &class);
         step_from(ways, &mut self.chains, &class, epoch, Step::Down);
-        take(&mut self.chains, &class, epoch);
-        drop_empty(&mut self.chains, &class);
+        take(&mut self.chains, &class, index, epoch);
+        drop_empty(&mut self.chains, &class, index);
         self.active -= 1;
     }
 
     /// Whether a pointstamp is the first of its place and counters, with nothing but itself in its gap.
-    pub(crate) fn is_first(&self, stamp: &Stamp) -> bool
-        ensures { IsTrue result ↔ IsFirst stamp.now self.now }
+    pub(crate) fn is_first(&self, ways: &Ways, stamp: &Stamp) -> bool
+        requires kept { AreHeld ways.now self.now }
+        requires of_plan { IsOf ways.now stamp.now }
+        ensures is { IsTrue result ↔ IsFirst stamp.now self.now }
+        ensures timed { AllTimed self.now }
     {
-        match self.chains.get(&class_of(stamp)) {
+        match self.chain_of(ways, stamp) {
             Some(chain) => chain.is_first(stamp.time.epoch()),
             None => false,
         }
@@ -117,20 +173,49 @@ impl Held {
 
     /// The first of each place and counters, where it has nothing but itself in its gap.
     pub(crate) fn firsts(&self) -> FrontierStamps<'_>
-        ensures { result ≡ firsts self.now }
+        ensures is { result ≡ firsts self.now }
+        ensures timed { AllTimed self.now }
     {
         FrontierStamps::of(&self.chains)
     }
 
     /// What the gaps up to a pointstamp add up to, without itself, where it is active.
-    pub(crate) fn count(&self, stamp: &Stamp) -> Option<u64>
-        requires { IsCounted stamp.now self.now }
-        ensures { result ≡ count_of stamp.now self.now }
+    pub(crate) fn count(&self, ways: &Ways, stamp: &Stamp) -> Option<u64>
+        requires kept { AreHeld ways.now self.now }
+        requires of_plan { IsOf ways.now stamp.now }
+        requires fits { IsCounted stamp.now self.now }
+        ensures is { result ≡ count_of stamp.now self.now }
+        ensures timed { AllTimed self.now }
     {
-        match self.chains.get(&class_of(stamp)) {
+        match self.chain_of(ways, stamp) {
             Some(chain) => chain.count_to(stamp.time.epoch()),
             None => None,
         }
+    }
+
+    /// Whether no pointstamp has an epoch that is not after this one. It looks at the first of each chain.
+    pub(crate) fn passed(&self, epoch: u64) -> bool
+        ensures { result ≡ has_passed (all_marked self.now) epoch }
+    {
+        for (_, chain) in self.chains.iter() {
+            if !chain.is_after(epoch) {
+                return false;
+            }
+        }
+        true
+    }
+
+    /// The chain of a pointstamp's place and counters.
+    fn chain_of(&self, ways: &Ways, stamp: &Stamp) -> Option<&Chain>
+        requires kept { AreHeld ways.now self.now }
+        requires of_plan { IsOf ways.now stamp.now }
+        ensures is { unwrap_or (option_map (λ c. c.now) result) [] ≡ chain_at (class_of stamp.now) self.now }
+        ensures fits { total self.now < 2 ^ 64 }
+        ensures timed { AllTimed self.now }
+    {
+        let class = class_of(stamp);
+        let index = position(ways, &self.chains, &class);
+        chain_in(&self.chains, index)
     }
 }
 
@@ -156,26 +241,54 @@ fn laid_out(alloc: Global, ways: &Ways) -> Result<IndexMap<Stamp, Chain>, AllocE
     Ok(chains)
 }
 
+/// Where a place and counters stand, if they do: in no loop at the number of the place.
+fn position(ways: &Ways, chains: &IndexMap<Stamp, Chain>, class: &Stamp) -> Option<usize>
+    requires class { IsOf ways.now class.now }
+    requires zeroth { class.now.time.epoch ≡ 0 }
+    requires laid { IsLaidOut ways.now (keys_of chains.now.entries) }
+    ensures { IsPosition class.now chains.now.entries result }
+{
+    could_leads();
+    match class.time.depth() {
+        0 => Some(ways.number(class.place)),
+        _ => chains.get_index_of(class),
+    }
+}
+
 /// How many of the epochs up to this one could result in a place and counters that could not in the one before.
-fn gap_for(ways: &Ways, chains: &IndexMap<Stamp, Chain>, class: &Stamp, epoch: u64) -> u64
+fn gap_for(
+    ways: &Ways,
+    chains: &IndexMap<Stamp, Chain>,
+    class: &Stamp,
+    index: Option<usize>,
+    epoch: u64,
+) -> u64
     requires class { IsOf ways.now class.now }
     requires each { AllByRecursion (IsOfPlan ways.now) chains.now.entries }
     requires laid { IsLaidOut ways.now (keys_of chains.now.entries) }
     requires fits { total chains.now.entries < 2 ^ 64 }
-    ensures { result ≡ between ways.now chains.now.entries class.now (start_of 0 epoch (chain_at class.now chains.now.entries)) epoch }
+    ensures { result ≡ between ways.now chains.now.entries class.now (start_of 0 epoch (gaps_at index chains.now.entries)) epoch }
 {
-    let from = start_in(chains, class, epoch);
+    let from = start_in(chains, index, epoch);
     count_within(ways, chains, class, from, epoch)
 }
 
 /// The epoch from which a gap counts: after the last in the chain that is before this one.
-fn start_in(chains: &IndexMap<Stamp, Chain>, class: &Stamp, epoch: u64) -> u64
-    ensures { result ≡ start_of 0 epoch (chain_at class.now chains.now.entries) }
+fn start_in(chains: &IndexMap<Stamp, Chain>, index: Option<usize>, epoch: u64) -> u64
+    ensures { result ≡ start_of 0 epoch (gaps_at index chains.now.entries) }
 {
-    match chains.get(class) {
+    match chain_in(chains, index) {
         Some(chain) => chain.start_of(epoch),
         None => 0,
     }
+}
+
+/// The chain at a position.
+fn chain_in(chains: &IndexMap<Stamp, Chain>, index: Option<usize>) -> Option<&Chain>
+    ensures { unwrap_or (option_map (λ c. c.now) result) [] ≡ gaps_at index chains.now.entries }
+{
+    let (_, chain) = chains.get_index(index?)?;
+    Some(chain)
 }
 
 /// How many pointstamps of these epochs could result in a place and counters: those at places that lead there, and those in
@@ -274,8 +387,9 @@ fn counted(reach: &Reach, other: &Stamp, chain: &Chain, class: &Stamp, from: u64
     requires forward { from ≤ upto }
     ensures { result ≡ cond (could_test reach.now other.now class.now) (within from upto chain.now) 0 }
 {
-    if chain.is_within(from, upto) && could(reach, other, class) {
-        chain.count(from, upto)
+    let count = chain.count(from, upto);
+    if count > 0 && could(reach, other, class) {
+        count
     } else {
         0
     }
@@ -292,55 +406,135 @@ fn could(reach: &Reach, from: &Stamp, to: &Stamp) -> bool
     reach.could(from, to)
 }
 
-/// Puts an epoch into a chain, or into a new one. Refusal: nothing has changed.
+/// Puts an epoch into the chain at a position, or into a new one. Refusal: nothing has changed.
 fn put(
     alloc: Global,
     chains: &mut IndexMap<Stamp, Chain>,
     class: &Stamp,
+    index: Option<usize>,
     epoch: u64,
     gap: u64,
+    times: u64,
 ) -> Result<(), AllocError>
-    requires { has_epoch epoch (chain_at class.now chains.old.entries) ≡ false }
-    ensures ok { OnOk result (chains.new.entries ≡ with_stamp class.now epoch gap chains.old.entries) }
+    requires position { IsPosition class.now chains.old.entries index }
+    requires new { has_epoch epoch (chain_at class.now chains.old.entries) ≡ false }
+    ensures ok { OnOk result (chains.new.entries ≡ with_stamp class.now epoch (record { gap = gap; times = times }) chains.old.entries) }
     ensures once { OnOk result (IsDistinct is_stamp (keys_of chains.new.entries)) }
     ensures err { OnErr result (chains.new.entries ≡ chains.old.entries) }
 {
-    if let Some(chain) = chains.get_mut(class) {
-        return chain.put(epoch, gap);
+    if let Some(index) = index {
+        return put_at(chains, class, index, epoch, gap, times);
     }
     let mut chain = Chain::new(alloc);
-    chain.put(epoch, gap)?;
+    chain.put(epoch, gap, u128::from(times))?;
     chains.insert(class.copy(), chain)?;
     Ok(())
 }
 
-/// Takes an epoch out of its chain.
-fn take(chains: &mut IndexMap<Stamp, Chain>, class: &Stamp, epoch: u64)
+/// Puts an epoch into the chain at a position. Refusal: nothing has changed.
+fn put_at(
+    chains: &mut IndexMap<Stamp, Chain>,
+    class: &Stamp,
+    index: usize,
+    epoch: u64,
+    gap: u64,
+    times: u64,
+) -> Result<(), AllocError>
+    requires position { slice_get (keys_of chains.old.entries) index ≡ Some class.now }
+    requires new { has_epoch epoch (chain_at class.now chains.old.entries) ≡ false }
+    ensures ok { OnOk result (chains.new.entries ≡ with_stamp class.now epoch (record { gap = gap; times = times }) chains.old.entries) }
+    ensures once { OnOk result (IsDistinct is_stamp (keys_of chains.new.entries)) }
+    ensures err { OnErr result (chains.new.entries ≡ chains.old.entries) }
+{
+    match chains.get_index_mut(index) {
+        Some(chain) => chain.put(epoch, gap, u128::from(times)),
+        None => Ok(()),
+    }
+}
+
+/// The pointstamp of an epoch, of the chain at a position, occurs this many times more.
+fn add_at(
+    chains: &mut IndexMap<Stamp, Chain>,
+    class: &Stamp,
+    index: Option<usize>,
+    epoch: u64,
+    times: u64,
+)
+    requires position { IsPosition class.now chains.old.entries index }
+    requires there { has_epoch epoch (chain_at class.now chains.old.entries) ≡ true }
+    requires fits { times_at epoch (chain_at class.now chains.old.entries) + times < 2 ^ 128 }
+    ensures { chains.new.entries ≡ timed_stamp class.now epoch (λ n. n + times) chains.old.entries }
+{
+    let Some(index) = index else {
+        return;
+    };
+    if let Some(chain) = chains.get_index_mut(index) {
+        chain.add(epoch, times);
+    }
+}
+
+/// The pointstamp of an epoch, of the chain at a position, occurs this many times less.
+fn take_off_at(
+    chains: &mut IndexMap<Stamp, Chain>,
+    class: &Stamp,
+    index: Option<usize>,
+    epoch: u64,
+    times: u64,
+)
+    requires position { IsPosition class.now chains.old.entries index }
+    requires there { has_epoch epoch (chain_at class.now chains.old.entries) ≡ true }
+    requires enough { times ≤ times_at epoch (chain_at class.now chains.old.entries) }
+    ensures { chains.new.entries ≡ timed_stamp class.now epoch (λ n. n - times) chains.old.entries }
+{
+    let Some(index) = index else {
+        return;
+    };
+    if let Some(chain) = chains.get_index_mut(index) {
+        chain.take_off(epoch, times);
+    }
+}
+
+/// Takes an epoch out of the chain at a position.
+fn take(chains: &mut IndexMap<Stamp, Chain>, class: &Stamp, index: Option<usize>, epoch: u64)
+    requires position { IsPosition class.now chains.old.entries index }
+    requires there { has_epoch epoch (chain_at class.now chains.old.entries) ≡ true }
     ensures once { IsDistinct is_stamp (keys_of chains.new.entries) }
     ensures entries { chains.new.entries ≡ without_stamp class.now epoch chains.old.entries }
 {
-    let Some(chain) = chains.get_mut(class) else {
+    let Some(index) = index else {
         return;
     };
-    chain.take(epoch);
+    if let Some(chain) = chains.get_index_mut(index) {
+        chain.take(epoch);
+    }
 }
 
-/// Takes a chain out that has no epochs, where it is in a loop.
-fn drop_empty(chains: &mut IndexMap<Stamp, Chain>, class: &Stamp)
+/// Takes the chain at a position out that has no epochs, where it is in a loop.
+fn drop_empty(chains: &mut IndexMap<Stamp, Chain>, class: &Stamp, index: Option<usize>)
+    requires position { IsPosition class.now chains.old.entries index }
     requires once { IsDistinct is_stamp (keys_of chains.old.entries) }
     ensures entries { (chains.new.entries ≡ chains.old.entries) ⊎ ((0 < depth class.now.time) × (chain_at class.now chains.old.entries ≡ []) × (chains.new.entries ≡ remove_entry (is_stamp class.now) chains.old.entries)) }
     ensures none { 0 < depth class.now.time → chain_at class.now chains.old.entries ≡ [] → lookup (is_stamp class.now) chains.new.entries ≡ None }
     ensures once { IsDistinct is_stamp (keys_of chains.new.entries) }
 {
+    let Some(index) = index else {
+        return;
+    };
     if class.time.depth() == 0 {
         return;
     }
-    let is_empty = match chains.get(class) {
-        Some(chain) => chain.is_empty(),
-        None => false,
-    };
-    if is_empty {
+    if is_empty_at(chains, index) {
         chains.shift_remove(class);
+    }
+}
+
+/// Whether the chain at a position has no epochs.
+fn is_empty_at(chains: &IndexMap<Stamp, Chain>, index: usize) -> bool
+    ensures { IsTrue result ↔ (slice_get (values_of chains.now.entries) index ≡ Some []) }
+{
+    match chains.get_index(index) {
+        Some((_, chain)) => chain.is_empty(),
+        None => false,
     }
 }
 
@@ -435,9 +629,7 @@ fn leads_on(
     ensures { result ≡ is_ahead ways.now class.now epoch (slice_get chains.now.entries index) }
 {
     match chains.get_index(index) {
-        Some((other, chain)) => {
-            chain.first_from(epoch).is_some() && could(ways.reach(), class, other)
-        }
+        Some((other, chain)) => { !chain.is_before(epoch) && could(ways.reach(), class, other) }
         None => false,
     }
 }

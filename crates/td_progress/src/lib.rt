@@ -9,13 +9,11 @@
 #![tactic(auto)]
 
 mod chain;
-mod counts;
 mod error;
 mod frontier;
 mod held;
 pub mod laws;
 mod table;
-mod tally;
 mod ways;
 
 pub use error::ProgressError;

@@ -1,5 +1,6 @@
 //! The table of active pointstamps.
-ghost use Rattle.std.specs.Prelude.{◌≡◌, ◌+◌, ◌^◌, ◌<◌, ◌≤◌, ◌∷◌, ◌++◌, ◌↔◌, IsTrue, IfOk, IfSome, OnOk, OnErr, None, Contains, map, replicate};
+ghost use Rattle.std.specs.Prelude.{◌≡◌, ◌+◌, ◌^◌, ◌<◌, ◌≤◌, ◌∷◌, ◌++◌, ◌↔◌};
+ghost use Rattle.std.specs.Prelude.{IsTrue, IfOk, IfSome, OnOk, OnErr, None, Contains, map, replicate};
 ghost use Rattle.std.specs.List.{AllByRecursion, IsDistinct};
 ghost use Rattle.td_reach.specs.declared.stamp.Stamp.{Stamp as AnyStamp};
 ghost use Rattle.td_reach.specs.Paths.{IsOf};
@@ -9,7 +10,6 @@ ghost use Rattle.td_progress.specs.Bag.{is_stamp, occurrences, IsSameBag, input_
 use crate::error::ProgressError;
 use crate::frontier::FrontierStamps;
 use crate::held::Held;
-use crate::tally::Tally;
 use crate::ways::Ways;
 use std::alloc::Global;
 use std::marker::Model;
@@ -25,24 +25,26 @@ use td_stamp::Time;
 /// before, so that the gaps up to a pointstamp add up to its count. One field each with the whole count would have to change in
 /// all later epochs whenever a pointstamp comes or goes; a gap changes once in each place and counters downstream.
 ///
-/// With e epochs open and c places and counters active, a change costs O(log e) where a pointstamp stays active, and else
-/// O(c log e), with a step for each precursor in the gap of one that comes between two others; whether a pointstamp is in the
-/// frontier costs O(log e).
+/// With e epochs open, a change costs O(log e) where a pointstamp stays active. Else it costs O(log e) for each place of the plan
+/// from which a path leads to its own, or to which one leads, and for each counters in loops that are active. One that comes or
+/// goes between two others moves those of its chain on the shorter side. A pointstamp in no loop is found by the number of its
+/// place, and one in loops by its hash. Nothing is allocated but for more epochs at a place than there were before, and for new
+/// counters. Which place leads to which is found once, by `new`. Whether a pointstamp is in the frontier costs O(1).
 #[derive(Drop)]
 pub struct Table {
-    tally: Tally,
+    ways: Ways,
     held: Held,
 }
 
 impl Model for Table {
     ghost use Rattle.td_progress.specs.Bag.{Active};
-    ghost use Rattle.td_progress.specs.Held.{AreHeld, AreMarked};
+    ghost use Rattle.td_progress.specs.Held.{all_marked, AreHeld};
 
     ghost Value = { Active };
 
-    ghost view = { λ t. t.tally };
+    ghost view = { λ t. record { plan = t.ways; stamps = all_marked t.held } };
 
-    ghost invariant = { λ t. AreHeld t.tally.plan t.held × AreMarked t.held t.tally.stamps };
+    ghost invariant = { λ t. AreHeld t.ways t.held };
 }
 
 impl Table {
@@ -60,10 +62,7 @@ impl Table {
     {
         let ways = Ways::of(alloc, reach)?;
         let held = Held::new(alloc, &ways)?;
-        let mut table = Table {
-            tally: Tally::new(alloc, ways),
-            held,
-        };
+        let mut table = Table { ways, held };
         for input in inputs {
             table.add(&Stamp {
                 time: Time::new(first),
@@ -78,7 +77,8 @@ impl Table {
         ensures plan { result.now ≡ self.now.plan }
         ensures each { AllByRecursion (IsOf self.now.plan) self.now.stamps }
     {
-        self.tally.plan()
+        let _ = &self.held;
+        self.ways.reach().plan()
     }
 
     /// Whether the plan has the place of a pointstamp, and its time is in as many loops as are open there. Without it and
@@ -86,14 +86,18 @@ impl Table {
     pub fn has(&self, stamp: &Stamp) -> bool
         ensures { IsTrue result ↔ IsOf self.now.plan stamp.now }
     {
-        self.tally.has(stamp)
+        self.ways.reach().has(stamp)
     }
 
     /// How often a pointstamp occurs, 0 where it is not active. It takes no memory.
     pub fn occurrences(&self, stamp: &Stamp) -> u128
         ensures { result ≡ occurrences stamp.now self.now.stamps }
     {
-        self.tally.occurrences(stamp)
+        if self.has(stamp) {
+            self.held.times(&self.ways, stamp)
+        } else {
+            0
+        }
     }
 
     /// One pointstamp more. Refusal: `Memory`, with the table unchanged.
@@ -118,15 +122,11 @@ impl Table {
         if times == 0 {
             return Ok(());
         }
-        if self.tally.occurrences(stamp) > 0 {
-            return self.tally.add_many(stamp, times);
+        if self.held.times(&self.ways, stamp) > 0 {
+            self.held.add(&self.ways, stamp, times);
+            return Ok(());
         }
-        // It becomes active before it is counted: where the count is refused it goes again, which takes no memory.
-        self.held.come(self.tally.ways(), stamp)?;
-        if let Err(refused) = self.tally.add_many(stamp, times) {
-            self.held.go(self.tally.ways(), stamp);
-            return Err(refused);
-        }
+        self.held.come(&self.ways, stamp, times)?;
         Ok(())
     }
 
@@ -148,10 +148,10 @@ impl Table {
         if times == 0 {
             return;
         }
-        self.tally.take_off_many(stamp, times);
-        if self.tally.occurrences(stamp) == 0 {
-            let ways = self.tally.ways();
-            self.held.go(ways, stamp);
+        if self.held.times(&self.ways, stamp) > u128::from(times) {
+            self.held.take_off(&self.ways, stamp, times);
+        } else {
+            self.held.go(&self.ways, stamp, times);
         }
     }
 
@@ -162,19 +162,19 @@ impl Table {
     {
         could_tested();
         could_order();
-        let _plan = self.tally.ways().reach().plan().vertices();
-        self.held.is_first(stamp)
+        let _plan = self.ways.reach().plan().vertices();
+        self.held.is_first(&self.ways, stamp)
     }
 
     /// The frontier: each active pointstamp that no other active one could result in, once, in no certain order. It takes no memory,
-    /// and looks at each place and counters once that have active pointstamps, however many epochs are open there.
+    /// and looks once at each place of the plan, and at each counters in loops that are active, however many epochs are open there.
     pub fn frontier(&self) -> FrontierStamps<'_>
         ensures each { (p : AnyStamp) → Contains result p ↔ Frontier self.now.plan self.now.stamps p }
         ensures once { IsDistinct is_stamp result }
     {
         could_tested();
         could_order();
-        let _plan = self.tally.ways().reach().plan().vertices();
+        let _plan = self.ways.reach().plan().vertices();
         self.held.firsts()
     }
 
@@ -187,15 +187,15 @@ impl Table {
     {
         could_tested();
         could_order();
-        let _plan = self.tally.ways().reach().plan().vertices();
-        self.held.count(stamp)
+        let _plan = self.ways.reach().plan().vertices();
+        self.held.count(&self.ways, stamp)
     }
 
-    /// Whether an epoch has passed: no active pointstamp has an epoch that is not after it. It takes no memory, and O(log e)
-    /// time with e epochs open.
+    /// Whether an epoch has passed: no active pointstamp has an epoch that is not after it. It takes no memory, and looks once at
+    /// each place of the plan, and at each counters in loops that are active, however many epochs are open there.
     pub fn passed(&self, epoch: u64) -> bool
         ensures { result ≡ has_passed self.now.stamps epoch }
     {
-        self.tally.passed(epoch)
+        self.held.passed(epoch)
     }
 }

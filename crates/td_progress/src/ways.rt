@@ -104,6 +104,15 @@ impl Ways {
         }
     }
 
+    /// The number of a place.
+    pub(crate) fn number(&self, place: Place) -> usize
+        requires { HasPlace self.now place }
+        ensures is { result ≡ number_of self.now place }
+        ensures within { result < places_of self.now }
+    {
+        number_of(&self.reach, place)
+    }
+
     /// The numbers of the places on one side of a place.
     pub(crate) fn row(&self, side: Side, place: Place) -> &[u16]
         requires { HasPlace self.now place }

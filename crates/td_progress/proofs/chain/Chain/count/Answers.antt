@@ -1,9 +1,15 @@
-use Rattle.std.proofs.Common.{length, rules, sym, ap, ◌∙◌}
-use Rattle.td_progress.proofs.Gaps.{within_all}
+use Rattle.std.proofs.Common.{subst, arith}
+use Rattle.std.proofs.lemmas.Grind.{common_steps}
+use Rattle.td_progress.specs.Gaps.{AreRising}
+use Rattle.td_progress.proofs.ChainSteps.{count_is}
 use Rattle.td_progress.proofs.chain.Chain.count.Goals as goal
 
-pub returns-then-ends_by : goal.returns-then-ends_by
-returns-then-ends_by c =
-    c.len.ensures.len
-    ∙ ap length c.self.view_is
-    ∙ sym (within_all c.args.from c.args.upto c.args.self.now (c.begins_from.ensures (search rules)) (c.ends_by.ensures (search rules)))
+pub overflow_sub-result : goal.overflow_sub-result
+overflow_sub-result c =
+    let all = count_is 0 c.args.upto c.args.from c.args.self.now (subst (AreRising 0) c.self.view_is c.self.invariant) c.requires in
+    grind (arith, common_steps, all, c.place-end.ensures.is, c.is_at.ensures.is, c.from-own.ensures, c.place.ensures.is)
+
+pub returns : goal.returns
+returns c =
+    let all = count_is 0 c.args.upto c.args.from c.args.self.now (subst (AreRising 0) c.self.view_is c.self.invariant) c.requires in
+    grind (arith, common_steps, all, c.place-end.ensures.is, c.is_at.ensures.is, c.from-own.ensures, c.place.ensures.is)

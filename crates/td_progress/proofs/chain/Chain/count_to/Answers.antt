@@ -3,12 +3,12 @@ use Rattle.td_progress.specs.Gaps.{sum_to}
 use Rattle.td_progress.proofs.chain.Chain.count_to.Goals as goal
 
 pub sum_to-requires : goal.sum_to-requires
-sum_to-requires c = (c.requires (sym c.has.ensures ∙ c.if-has.true)).1
+sum_to-requires c = (c.requires (sym c.is_at.ensures.is ∙ c.if-is_at.true)).1
 
-pub returns-then-has : goal.returns-then-has
-returns-then-has c =
+pub returns-then-is_at : goal.returns-then-is_at
+returns-then-is_at c =
     ap (λ n. Some (n - 1)) c.sum_to.ensures
-    ∙ sym (ap (λ b. cond b (Some (sum_to c.args.epoch c.args.self.now - 1)) None) (sym c.has.ensures ∙ c.if-has.true))
+    ∙ sym (ap (λ b. cond b (Some (sum_to c.args.epoch c.args.self.now - 1)) None) (sym c.is_at.ensures.is ∙ c.if-is_at.true))
 
-pub returns-else-has : goal.returns-else-has
-returns-else-has c = sym (ap (λ b. cond b (Some (sum_to c.args.epoch c.args.self.now - 1)) None) (sym c.has.ensures ∙ c.if-has.false))
+pub returns-else-is_at : goal.returns-else-is_at
+returns-else-is_at c = sym (ap (λ b. cond b (Some (sum_to c.args.epoch c.args.self.now - 1)) None) (sym c.is_at.ensures.is ∙ c.if-is_at.false))

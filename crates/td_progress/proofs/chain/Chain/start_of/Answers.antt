@@ -1,17 +1,22 @@
-use Rattle.std.proofs.Common.{ℕ, sym, ap, ◌∙◌, arith}
-use Rattle.td_progress.specs.Gaps.{start_of}
-use Rattle.td_progress.proofs.ChainSteps.{start_is, no_start}
+use Rattle.std.proofs.Common.{◌-◌, sym, ap, arith}
+use Rattle.td_progress.specs.Gaps.{start_of, place}
+use Rattle.td_progress.proofs.ChainSteps.{start_first, start_after}
 use Rattle.td_progress.proofs.chain.Chain.start_of.Goals as goal
+
+pub returns-then-place-eq0 : goal.returns-then-place-eq0
+returns-then-place-eq0 c = sym (start_first c.args.epoch 0 c.args.self.now (omega (arith, c.place-place.ensures.is, c.if-place-eq0.true)))
+
+pub overflow_add-result : goal.overflow_add-result
+overflow_add-result c =
+    let cs = c.self.inside.cells.items in
+    let same = ap (place c.args.epoch) c.self.view_is in
+    let r = start_after c.args.epoch 0 (c.place-place.result - 1) cs c.in-Some.last.now (omega (arith, same, c.place-place.ensures.is, c.if-place-eq0.false)) c.in-Some.ensures.lookup in
+    omega (arith, r.1, c.ranges.epoch.fits)
 
 pub returns-in-Some : goal.returns-in-Some
 returns-in-Some c =
-    let l : ℕ × ℕ = (c.in-Some.last.now, c.in-Some.field-0-1.now) in
-    let whole = sym (c.range.ensures.between tt) ∙ c.in-Some.ensures.steps in
-    let is = start_is c.args.epoch 0 c.self.inside.gaps.entries c.next_back.new.self l c.range.ensures.ordered whole in
-    let all = ap (start_of 0 c.args.epoch) (sym c.self.view_is) ∙ is in
-    omega (arith, all)
-
-pub returns-in-None : goal.returns-in-None
-returns-in-None c =
-    let whole = sym (c.range.ensures.between tt) ∙ c.in-None.ensures.steps.0 in
-    sym (ap (start_of 0 c.args.epoch) (sym c.self.view_is) ∙ no_start c.args.epoch 0 c.self.inside.gaps.entries whole)
+    let cs = c.self.inside.cells.items in
+    let same = ap (place c.args.epoch) c.self.view_is in
+    let r = start_after c.args.epoch 0 (c.place-place.result - 1) cs c.in-Some.last.now (omega (arith, same, c.place-place.ensures.is, c.if-place-eq0.false)) c.in-Some.ensures.lookup in
+    let all = ap (start_of 0 c.args.epoch) c.self.view_is in
+    omega (arith, r.0, all)

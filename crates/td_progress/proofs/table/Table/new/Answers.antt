@@ -1,12 +1,10 @@
-use Rattle.std.proofs.Common.{◌≡◌, ◌+◌, ◌<◌, ◌≤◌, ◌∷◌, [], List, map, take, length, ℕ, ap, sym, ◌∙◌, subst, arith, slice_index_or}
+use Rattle.std.proofs.Common.{◌≡◌, ◌+◌, ◌<◌, ◌≤◌, ◌∷◌, [], List, map, take, length, ℕ, ap, ◌∙◌, arith, slice_index_or}
 use Rattle.std.proofs.lemmas.List.{length-take-le, length-map, map-append, take_more, take_all}
 use Rattle.td_stamp.specs.Time.{Timestamp}
 use Rattle.td_reach.specs.declared.stamp.Stamp.{Stamp}
 use Rattle.td_reach.specs.declared.stamp.Place.TheVariants as places
 use Rattle.td_progress.specs.Bag.{occurrences, input_stamp}
 use Rattle.td_progress.proofs.Counted.{occurrences-cons, occurrences-append, occurrences-le}
-use Rattle.td_progress.specs.Held.{AreHeld, AreMarked}
-use Rattle.td_progress.proofs.Marked.{marked_nothing}
 use Rattle.td_progress.proofs.table.Table.new.Goals as goal
 
 -- an input's pointstamp more, at the end or at the front
@@ -35,6 +33,12 @@ add-requires-clause-fits c =
     let most = few s c.args.first c.args.inputs.now c.loop-input.input-index c.loop-input.auto.input-index-end c.loop-input.table.stamps (c.loop-input.invariant.stamps s) in
     omega (arith, most)
 
+pub loop-input-init : goal.loop-input-init
+loop-input-init c = record {
+  plan = c.in_ok-ways.ensures;
+  stamps = λ p. ap (occurrences p) c.in_ok-held.ensures.none;
+}
+
 pub loop-input-preserved : goal.loop-input-preserved
 loop-input-preserved c =
     let x = slice_index_or c.args.inputs.now c.loop-input.input-index 0 in
@@ -51,9 +55,3 @@ pub returns-clause-inputs : goal.returns-clause-inputs
 returns-clause-inputs c p =
     c.loop-input.invariant.stamps p
     ∙ ap (λ xs. occurrences p (map (input_stamp c.args.first) xs)) (take_all c.loop-input.input-index c.args.inputs.now c.loop-input-test.false)
-
-pub invariant_of-table : goal.invariant_of-table
-invariant_of-table c = (
-  subst (λ l. AreHeld l c.in_ok-held.held) (sym (ap (λ a. a.plan) c.new-2.ensures)) c.in_ok-held.ensures.kept,
-  subst (λ a. AreMarked c.in_ok-held.held a.stamps) (sym c.new-2.ensures) (marked_nothing c.in_ok-held.held c.in_ok-held.ensures.none),
-)

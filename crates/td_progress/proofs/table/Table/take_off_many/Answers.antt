@@ -1,35 +1,32 @@
-use Rattle.std.proofs.Common.{◌++◌, replicate, sym, ◌∙◌, subst, arith}
-use Rattle.td_progress.specs.Bag.{IsSameBag}
-use Rattle.td_progress.specs.Held.{AreHeld}
-use Rattle.td_progress.proofs.Marked.{of_itself, is_held, marked_gone, marked_less}
+use Rattle.std.proofs.Common.{◌++◌, replicate, ap, subst, arith}
+use Rattle.td_progress.specs.Bag.{occurrences, IsSameBag}
+use Rattle.td_progress.specs.Held.{all_marked}
+use Rattle.td_progress.proofs.Times.{occurs_at, of_plan_where}
 use Rattle.td_progress.proofs.table.Table.take_off_many.Goals as goal
 
-pub returns-then-occurrences-eq0-clause-stamps : goal.returns-then-occurrences-eq0-clause-stamps
-returns-then-occurrences-eq0-clause-stamps c =
-    subst (λ a. IsSameBag a.stamps (replicate c.args.times c.args.stamp.now ++ c.take_off_many.new.self.stamps)) c.self.view_is c.take_off_many.ensures.stamps
+pub times-requires-clause-of_plan : goal.times-requires-clause-of_plan
+times-requires-clause-of_plan c =
+    let same = ap (λ a. occurrences c.args.stamp.now a.stamps) c.self.view_is in
+    of_plan_where c.self.inside.ways c.self.inside.held c.self.invariant c.args.stamp.now (omega (arith, same, c.requires, c.if-times-eq0.false))
 
-pub returns-else-occurrences-eq0-clause-stamps : goal.returns-else-occurrences-eq0-clause-stamps
-returns-else-occurrences-eq0-clause-stamps c =
-    subst (λ a. IsSameBag a.stamps (replicate c.args.times c.args.stamp.now ++ c.take_off_many.new.self.stamps)) c.self.view_is c.take_off_many.ensures.stamps
+pub take_off-requires-clause-enough : goal.take_off-requires-clause-enough
+take_off-requires-clause-enough c =
+    let is = occurs_at c.self.inside.ways c.self.inside.held c.self.invariant c.args.stamp.now in
+    omega (arith, is, c.times.ensures.is, c.from.ensures, c.if-times-from.true)
+
+pub returns-then-times-from-clause-stamps : goal.returns-then-times-from-clause-stamps
+returns-then-times-from-clause-stamps c =
+    subst (λ a. IsSameBag a.stamps (replicate c.args.times c.args.stamp.now ++ all_marked c.take_off.new.self)) c.self.view_is c.take_off.ensures.less
 
 pub go-requires-clause-there : goal.go-requires-clause-there
-go-requires-clause-there c =
-    let p = c.args.stamp.now in
-    let before = of_itself p c.args.times c.take_off_many.new.self.stamps c.self.inside.tally.stamps c.take_off_many.ensures.stamps in
-    is_held c.self.inside.tally.plan c.self.inside.held c.self.inside.tally.stamps c.self.invariant.1 p (omega (arith, before, c.if-times-eq0.false))
+go-requires-clause-there c = omega (arith, c.if-times-eq0.false)
 
-pub invariant_of-self : goal.invariant_of-self
-invariant_of-self c =
-    let p = c.args.stamp.now in (
-      subst (λ l. AreHeld l c.go.new.self) c.ways-ways.ensures c.go.ensures.kept,
-      marked_gone p c.args.times c.take_off_many.new.self.stamps c.self.inside.tally.stamps c.take_off_many.ensures.stamps c.go.new.self c.self.inside.held c.go.ensures.less
-          (omega (arith, c.if-times-eq0.false)) (sym c.occurrences.ensures ∙ c.if-occurrences-eq0.true) c.self.invariant.1,
-    )
+pub go-requires-clause-all : goal.go-requires-clause-all
+go-requires-clause-all c =
+    let is = occurs_at c.self.inside.ways c.self.inside.held c.self.invariant c.args.stamp.now in
+    let same = ap (λ a. occurrences c.args.stamp.now a.stamps) c.self.view_is in
+    omega (arith, is, same, c.times.ensures.is, c.from.ensures, c.if-times-from.false, c.requires)
 
-pub invariant_of-self-else-occurrences-eq0 : goal.invariant_of-self-else-occurrences-eq0
-invariant_of-self-else-occurrences-eq0 c =
-    let p = c.args.stamp.now in (
-      subst (λ l. AreHeld l c.self.inside.held) (sym c.take_off_many.ensures.plan) c.self.invariant.0,
-      marked_less p c.args.times c.take_off_many.new.self.stamps c.self.inside.tally.stamps c.take_off_many.ensures.stamps c.self.inside.held
-          (omega (arith, c.occurrences.ensures, c.if-occurrences-eq0.false)) c.self.invariant.1,
-    )
+pub returns-else-times-from-clause-stamps : goal.returns-else-times-from-clause-stamps
+returns-else-times-from-clause-stamps c =
+    subst (λ a. IsSameBag a.stamps (replicate c.args.times c.args.stamp.now ++ all_marked c.go.new.self)) c.self.view_is c.go.ensures.less
