@@ -4,7 +4,7 @@
     tests/disk_files.py [TD]        needs crates/td/out/td (see the README), or the program that is named, and strace; without it says so
 
 - Each write and each sync of NEW of a copy fails in turn, alone, and with all that follow, as on a full device. The copy is then refused with NEW's path,
-  and with the cause where a second look meets it too; NEW is not there any more, and DISK is as it was, byte for byte.
+  and with the cause where a second look meets it too; NEW is not there any more, and DISK is as it was, byte for byte. So it is of NEW.closures.
 - A copy that succeeds takes as much room of its file system as a formatted disk of the same shape, so that none of it is lacking later.
 - A copy of three epochs makes as many syncs as one of two: the cells of all but the last are on the device by one.
 - A pipe is no disk: each command refuses it at once, by the words for files, and it stays."""
@@ -21,10 +21,10 @@ SECONDS = 10
 CALLS = {"pwrite64": ("write", "ENOSPC", "no space left on device"), "fsync": ("sync", "EIO", "input/output error")}
 
 
-def copy(folder, *inject):
-    """What a copy ends with, its error text, and how often it called NEW by each call."""
+def copy(folder, *inject, file="new"):
+    """What a copy ends with, its error text, and how often it called NEW, or another file, by each call."""
     disk, plan, new, calls = (folder / name for name in ("disk", "plan", "new", "calls"))
-    strace = ["strace", "-qq", "-P", new, "-e", "signal=none", "-e", f"trace={','.join(CALLS)}", *inject, "-o", calls]
+    strace = ["strace", "-qq", "-P", folder / file, "-e", "signal=none", "-e", f"trace={','.join(CALLS)}", *inject, "-o", calls]
     done = subprocess.run([*strace, TD, "copy", disk, plan, new, *SHAPE], stdin=subprocess.DEVNULL, capture_output=True, text=True)
     return done.returncode, done.stderr, {name: len(re.findall(rf"(?m)^{name}\(", calls.read_text())) for name in CALLS}
 
@@ -66,6 +66,24 @@ def fail_each(folder, image, counts):
             lib.fail(f"{call} {number} of NEW failed{' alone' if is_alone else ''}: {found}, and NEW is {'' if new.exists() else 'not '}there")
 
 
+def fail_closures(folder):
+    """Has each call of NEW.closures fail, alone: its last write and sync say what failed, and its first sync is of its making."""
+    (folder / "disk.closures").write_text("map 10000\n  send key, val\n")
+    status, _, counts = copy(folder, file="new.closures")
+    new, closures = folder / "new", folder / "new.closures"
+    if (status, counts) != (0, {"pwrite64": 1, "fsync": 2}) or closures.read_bytes() != (folder / "disk.closures").read_bytes():
+        lib.fail(f"a copy with closures ended with status {status}, after {counts} of NEW.closures")
+    made = (7, f"td: file: {closures}: cannot be made\n")
+    for call, number, wanted_end in (("pwrite64", 1, None), ("fsync", 1, made), ("fsync", 2, None)):
+        new.unlink(missing_ok=True)
+        closures.unlink(missing_ok=True)
+        *found, _ = copy(folder, "-e", f"inject={call}:error={CALLS[call][1]}:when={number}", file="new.closures")
+        named, _, cause = CALLS[call]
+        if tuple(found) != (wanted_end or (3, f"td: device: {closures}: {named}: {cause}\n")) or new.exists() or closures.exists():
+            lib.fail(f"{call} {number} of NEW.closures failed: {found}, and of NEW and NEW.closures are there {[it.name for it in (new, closures) if it.exists()]}")
+    (folder / "disk.closures").unlink()
+
+
 def take_pipe(folder):
     """Gives each command a pipe for a disk; the script ends where one does otherwise than refuse it."""
     pipe, plan = folder / "pipe", folder / "plan"
@@ -87,12 +105,15 @@ def main():
             return lib.skip("the copies of disk_files, since there is no strace that may trace here")
         counts = copy_whole(folder)
         fail_each(folder, image, counts)
+        (folder / "new").unlink(missing_ok=True)
+        fail_closures(folder)
     with lib.folder() as folder:
         made(folder, 2)
         fewer = copy_whole(folder)
         if fewer["fsync"] != counts["fsync"]:
             lib.fail(f"a copy of 2 epochs makes {fewer['fsync']} syncs, and one of 3 makes {counts['fsync']}")
-    print(f"a copy whose {counts['pwrite64']} writes and {counts['fsync']} syncs of NEW fail in turn is refused with NEW's path, and NEW is gone; a copy has all its room")
+    print(f"a copy whose {counts['pwrite64']} writes and {counts['fsync']} syncs of NEW fail in turn is refused with NEW's path, and NEW is gone; so it is where "
+          "those of NEW.closures fail; a copy has all its room")
     return None
 
 

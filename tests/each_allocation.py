@@ -76,23 +76,30 @@ MADE = [
     ("feed disk plan", b"0 7 5\n.\ncut\n0 7 -2\n0 8 1\n.\n"),
     ("upgrade disk plan", b""),
 ]
-# What they are: their words, their input, and how many of these commands come before.
+# The same with closures in text of its own.
+MADE_WITH_CLOSURES = [(MADE[0][0] + " --closures closures", b""), *MADE[1:]]
+# What they are: their words, their input, and which commands come before.
 ON_FILES = [
-    ("plan loop", b"", 0),
-    ("plan loop --dot", b"", 0),
-    ("plan written --closures closures", b"", 0),
-    ("plan written --closures closures --dot", b"", 0),
-    ("batch --closures closures", CALLING + b"--\n0 7 5\n0 7 -2\n.\n0 7 1\n.\n", 0),
-    ("run --workers 2 --closures closures", CALLING + b"--\n0 7 5\n0 7 -2\n.\n0 7 1\n.\n", 0),
-    ("format disk plan 4 3 3", b"", 0),
-    ("show disk plan", b"", 2),
-    ("dump disk plan", b"", 2),
-    ("copy disk plan new 5 4 3", b"", 2),
-    ("upgrade disk plan", b"", 2),
-    ("feed disk plan", b"0 9 4\n.\n0 9 4\n.\ncut\n0 7 1\n0 8 1\n.\n", 2),
-    ("feed disk plan", b"req 3\n0 9 4\n.\nreq 3\n0 9 4\n.\ncut\nreq 4\n0 7 1\n0 8 1\n.\n", 3),
-    ("stream disk plan --workers 2 --cut-every 2", b"req 3\n0 9 4\n.\nreq 4\n.\nreq 4\n0 9 4\n.\ncut\nreq 5\n0 7 1\n0 8 1\n.\n", 3),
-    ("stream disk plan --marks", b"req 3\n0 9 4\n.\nreq 4\n.\nreq 4\n.\ncut\nreq 5\n0 7 1\n0 8 1\n.\nreq 6\n.\n", 3),
+    ("plan loop", b"", []),
+    ("plan loop --dot", b"", []),
+    ("plan written --closures closures", b"", []),
+    ("plan written --closures closures --dot", b"", []),
+    ("batch --closures closures", CALLING + b"--\n0 7 5\n0 7 -2\n.\n0 7 1\n.\n", []),
+    ("run --workers 2 --closures closures", CALLING + b"--\n0 7 5\n0 7 -2\n.\n0 7 1\n.\n", []),
+    ("format disk plan 4 3 3", b"", []),
+    ("format disk plan 4 3 3 --closures closures", b"", []),
+    ("format disk plan 4 3 3", b"", MADE_WITH_CLOSURES[:2]),
+    ("show disk plan", b"", MADE[:2]),
+    ("dump disk plan", b"", MADE[:2]),
+    ("copy disk plan new 5 4 3", b"", MADE[:2]),
+    ("copy disk plan new 5 4 3", b"", MADE_WITH_CLOSURES[:2]),
+    ("upgrade disk plan", b"", MADE[:2]),
+    ("feed disk plan", b"0 9 4\n.\n0 9 4\n.\ncut\n0 7 1\n0 8 1\n.\n", MADE[:2]),
+    ("feed disk plan", b"0 9 4\n.\ncut\n0 7 1\n.\n", MADE_WITH_CLOSURES[:2]),
+    ("feed disk plan", b"req 3\n0 9 4\n.\nreq 3\n0 9 4\n.\ncut\nreq 4\n0 7 1\n0 8 1\n.\n", MADE),
+    ("stream disk plan", b"0 9 4\n.\ncut\n0 7 1\n.\n", MADE_WITH_CLOSURES[:2]),
+    ("stream disk plan --workers 2 --cut-every 2", b"req 3\n0 9 4\n.\nreq 4\n.\nreq 4\n0 9 4\n.\ncut\nreq 5\n0 7 1\n0 8 1\n.\n", MADE),
+    ("stream disk plan --marks", b"req 3\n0 9 4\n.\nreq 4\n.\nreq 4\n.\ncut\nreq 5\n0 7 1\n0 8 1\n.\nreq 6\n.\n", MADE),
 ]
 # Those of them that may change the disk though they are refused, but not what it tells, but to what they would make of it.
 WRITE = ("format", "upgrade")
@@ -144,26 +151,31 @@ class OnFiles:
         (folder / "loop").write_bytes(LOOP)
         (folder / "written").write_bytes(CALLING)
         (folder / "closures").write_bytes(CLOSURES)
-        for each, given in MADE[:made]:
+        for each, given in made:
             done = subprocess.run([TD, *each.split()], input=given, capture_output=True, cwd=folder)
             if done.returncode != 0:
                 lib.fail(f"td {each} ended with {done.returncode}: {done.stderr}")
-        self.image = (folder / "disk").read_bytes() if made else None
+        self.image, self.closures = self.bytes_of("disk"), self.bytes_of("disk.closures")
         self.before = self.shown("disk")
         self.want = self.run()
         self.left, self.after, self.new = self.bytes_of("disk"), self.shown("disk"), self.shown("new")
+        self.texts = self.closures_left()
 
     def run(self, **refused):
         """One run, on the files as they were before: status, output and errors."""
-        (self.folder / "new").unlink(missing_ok=True)
-        if self.image is None:
-            (self.folder / "disk").unlink(missing_ok=True)
-        else:
-            (self.folder / "disk").write_bytes(self.image)
+        for name, image in (("new", None), ("new.closures", None), ("disk", self.image), ("disk.closures", self.closures)):
+            if image is None:
+                (self.folder / name).unlink(missing_ok=True)
+            else:
+                (self.folder / name).write_bytes(image)
         return answer(self.library, self.words, self.text, folder=self.folder, **refused)
 
     def bytes_of(self, name):
         return (self.folder / name).read_bytes() if (self.folder / name).exists() else None
+
+    def closures_left(self):
+        """The texts of the disk's closures, and of the new one's."""
+        return self.bytes_of("disk.closures"), self.bytes_of("new.closures")
 
     def shown(self, name):
         """The lines of what a disk tells, with ample memory; None where it is there not, or not formatted."""
@@ -172,6 +184,8 @@ class OnFiles:
 
     def is_well_refused(self, status, output, errors):
         """Whether an answer, other than with ample memory, is one of a refusal; of a feed or a stream also of smaller groups."""
+        if self.closures_left()[1] not in (None, self.texts[1]) or self.feeds and self.closures_left() != self.texts:
+            return False
         if not self.feeds:
             return (status, output, errors) == REFUSED and self.shown("new") in (None, self.new) and (
                 self.bytes_of("disk") == self.image if self.words[0] not in WRITE else self.shown("disk") in (self.before, self.after))
@@ -196,7 +210,8 @@ class OnFiles:
             untouched += 1
             for more in ({}, {"REFUSED_ON": "1"}):
                 got = self.run(REFUSED=str(number), **more)
-                if got == self.want and (self.shown("disk") == self.after if self.feeds else self.bytes_of("disk") == self.left) and self.shown("new") == self.new:
+                if got == self.want and (self.shown("disk") == self.after if self.feeds else self.bytes_of("disk") == self.left) and self.shown("new") == self.new \
+                        and self.closures_left() == self.texts:
                     continue
                 if got == self.want or not self.is_well_refused(*got):
                     lib.fail(f"td {' '.join(self.words)}: with allocation {number} refused{' and all that follow' * bool(more)}: {got}, and "

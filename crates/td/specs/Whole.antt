@@ -28,6 +28,6 @@ fold_codes = map (λ row. row.0) fold_answers
 abbrev pub IsLawfulEngine : Engine → Type 0
 IsLawfulEngine (Batch closures) = Unit {0}
 IsLawfulEngine (Run workers closures) = (1 ≤ workers) × (workers ≤ 16)
-IsLawfulEngine (Feed disk plan workers) = (1 ≤ workers) × (workers ≤ 16)
-IsLawfulEngine (Stream disk path plan workers limits told) = (1 ≤ workers) × (workers ≤ 16)
+IsLawfulEngine (Feed disk plan workers closures) = (1 ≤ workers) × (workers ≤ 16)
+IsLawfulEngine (Stream disk path plan workers limits told closures) = (1 ≤ workers) × (workers ≤ 16)
 IsLawfulEngine (Sim workers picks closures) = (1 ≤ workers) × (workers ≤ 16) × (0 < length picks.items)

@@ -6,7 +6,7 @@ use std::alloc::Global;
 use std::fs::File;
 use std::rt::Files;
 use td_closures::{Wrong, read_closures};
-use td_console::Fault;
+use td_console::{Fault, ascii_text};
 use td_formula::Closure;
 use td_plan::text::next_word;
 use td_written::text_in;
@@ -16,14 +16,21 @@ pub(crate) fn closures_at<R: Files<File = File> + AllocGlobal>(
     rt: &R,
     path: Option<&str>,
 ) -> Result<Vec<Closure>, Refusal> {
-    let alloc = rt.alloc();
     match path {
-        Some(path) => {
-            let bytes = text_at(rt, path)?;
-            let text = text_in(alloc, &bytes)?;
-            closures_in(alloc, path, text.as_str())
-        }
-        None => Ok(Vec::new(alloc)),
+        Some(path) => closures_of_bytes(rt.alloc(), path, &text_at(rt, path)?),
+        None => Ok(Vec::new(rt.alloc())),
+    }
+}
+
+/// The closures of the bytes of the file at `path`, which are copied only where one is above 127.
+pub(crate) fn closures_of_bytes(
+    alloc: Global,
+    path: &str,
+    bytes: &[u8],
+) -> Result<Vec<Closure>, Refusal> {
+    match ascii_text(bytes) {
+        Some(text) => closures_in(alloc, path, text),
+        None => closures_in(alloc, path, text_in(alloc, bytes)?.as_str()),
     }
 }
 

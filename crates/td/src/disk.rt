@@ -1,5 +1,8 @@
 //! The commands over a disk in a file. The plan's file is read before the disk is made or opened.
 
+use crate::disk_closures::{
+    put_closures, put_new_closures, read_text, remove_closures, text_of_disk,
+};
 use crate::file_cause::{make_empty, why_not_opened, why_not_read};
 use crate::refusal::Refusal;
 use crate::streams;
@@ -16,7 +19,8 @@ use td_feed::{dump, format, read_plan, shape_of, show, upgrade};
 use td_head::Shape;
 use td_plan::Plan;
 
-/// Makes a disk of this shape in the file at `disk`, formatted for the plan in the file at `plan`.
+/// Makes a disk of this shape in the file at `disk`, formatted for the plan in the file at `plan`. Its closures in text are those of the
+/// file at `closures`, if there is one; else it has none.
 pub(crate) fn format_disk<R: Files<File = File> + AllocGlobal>(
     rt: &R,
     disk: &str,
@@ -24,13 +28,16 @@ pub(crate) fn format_disk<R: Files<File = File> + AllocGlobal>(
     m: u32,
     n: u32,
     k: u32,
-) -> Result<(), Fault> {
+    closures: Option<&str>,
+) -> Result<(), Refusal> {
     let held = hold_streams(rt)?;
     let plan = plan_at(rt, plan)?;
+    let closures = read_text(rt, closures)?;
     let shape = shape_of(m, n, k)?;
-    let mut disk = FileDisk::create(rt, disk, shape.bytes())?;
+    let mut file = FileDisk::create(rt, disk, shape.bytes()).map_err(Fault::from)?;
+    put_closures(rt, disk, &closures)?;
     drop(held);
-    format(rt.alloc(), &mut disk, &plan, shape)
+    Ok(format(rt.alloc(), &mut file, &plan, shape)?)
 }
 
 /// Writes what the disk in the file at `disk` tells to standard output.
@@ -73,7 +80,7 @@ pub(crate) fn upgrade_disk<R: Files<File = File> + Print + AllocGlobal + Wait>(
 }
 
 /// Makes a disk of this shape in a file at `new`, where there is none, and puts on it what the disk in the file at `disk` tells; up to
-/// the epoch `until`, if it is given. Where that fails, the file at `new` goes away again.
+/// the epoch `until`, if it is given. It has that disk's closures in text. Where that fails, the files that were made go away again.
 pub(crate) fn copy_disk<R: Files<File = File> + AllocGlobal>(
     rt: &R,
     path: &str,
@@ -89,7 +96,8 @@ pub(crate) fn copy_disk<R: Files<File = File> + AllocGlobal>(
     let plan = plan_or_tell(rt, plan)?;
     let shape = shape_or_tell(rt, m, n, k)?;
     let mut disk = ReadAhead::new(alloc, disk_or_tell(rt, path)?);
-    let make = || make_disk(rt, new, shape);
+    let closures = text_of_disk(rt, path)?;
+    let make = || make_disk_with(rt, new, shape, &closures);
     let copied = copy(alloc, &mut disk, &plan, shape, until, make);
     drop(held);
     match copied {
@@ -97,6 +105,9 @@ pub(crate) fn copy_disk<R: Files<File = File> + AllocGlobal>(
         Err(Refusal::New(fault)) => {
             let failure = why_not_written(rt, new);
             let _ = fs::remove_file(rt, new);
+            if closures.is_some() {
+                remove_closures(rt, new);
+            }
             Err(Refusal::Plain(fault).on_disk(alloc, new, failure))
         }
         Err(refusal) => {
@@ -104,6 +115,21 @@ pub(crate) fn copy_disk<R: Files<File = File> + AllocGlobal>(
             Err(refusal.on_disk(alloc, path, failure))
         }
     }
+}
+
+/// A disk for a shape, in a file at `path`, where there is none, and beside it closures of this text, or none.
+fn make_disk_with<R: Files<File = File> + AllocGlobal>(
+    rt: &R,
+    path: &str,
+    shape: Shape,
+    closures: &Option<Vec<u8>>,
+) -> Result<FileDisk, Refusal> {
+    let disk = make_disk(rt, path, shape)?;
+    if let Err(refusal) = put_new_closures(rt, path, closures) {
+        let _ = fs::remove_file(rt, path);
+        return Err(refusal);
+    }
+    Ok(disk)
 }
 
 /// A disk for a shape, in a file at `path`, where there is none.

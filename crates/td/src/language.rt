@@ -4,7 +4,8 @@
 pub(crate) const LANGUAGE: &str =
     r#"Closures in text: what maps, groups and folds of a plan do, as formulas in a file
 
-  td batch --closures FILE < INPUT      so do td run, td sim and td plan
+  td batch --closures FILE < INPUT              so do td run, td sim and td plan
+  td format DISK PLAN M N K --closures FILE     those of a disk, which td feed and td stream then have: DISK.closures
 
 A plan calls a closure by its kind and its code. Codes 10000 to 65535 are those of FILE, lower ones those of the catalogue.
 

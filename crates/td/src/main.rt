@@ -10,6 +10,7 @@ ghost use Rattle.td.specs.Whole.{IsLawfulEngine, HasEach, map_codes, group_codes
 mod catalogue;
 mod closures;
 mod disk;
+mod disk_closures;
 mod engine;
 mod faults;
 mod file_cause;
@@ -25,6 +26,7 @@ use crate::closures::closures_at;
 use crate::disk::{
     copy_disk, dump_disk, format_disk, open_disk, open_disk_or_tell, show_disk, upgrade_disk,
 };
+use crate::disk_closures::closures_of_disk;
 use crate::engine::{Engine, StreamOptions};
 use crate::faults::FAULTS;
 use crate::language::LANGUAGE;
@@ -42,10 +44,10 @@ use std::{env, io};
 use td_calls::{Calls, FoldBox, GroupBox, MapBox, StockCalls};
 use td_catalogue::{Catalogue, CatalogueCalls};
 use td_console::{Fault, StdReader, StdWriter, read_picks};
-use td_feed::{Marked, feed};
+use td_feed::Marked;
 use td_stamp::{Item, Rec, State};
 use td_words::{Job, WordsError, words};
-use td_written::{batch, run, sim};
+use td_written::{batch, feed, run, sim};
 
 /// The program's name and version, and the logic of the kit that it is written for. Whether a program was proved is not its own
 /// to say. The same source makes a program of which nothing is proved. `./build` writes `td.proof` beside the one that it proved.
@@ -113,14 +115,16 @@ fn done<
             m,
             n,
             k,
-        } => Ok(format_disk(rt, disk, plan, m, n, k)?),
+            closures,
+        } => format_disk(rt, disk, plan, m, n, k, closures),
         Job::Feed {
-            disk,
+            disk: path,
             plan,
             workers,
         } => {
-            let (disk, plan) = open_disk(rt, disk, plan)?;
-            run_engine(rt, Engine::Feed(disk, plan, workers))
+            let (disk, plan) = open_disk(rt, path, plan)?;
+            let closures = closures_of_disk(rt, path)?;
+            run_engine(rt, Engine::Feed(disk, plan, workers, closures))
         }
         Job::Stream {
             disk: path,
@@ -132,13 +136,17 @@ fn done<
             marks,
         } => {
             let (disk, plan) = open_disk_or_tell(rt, path, plan)?;
+            let closures = closures_of_disk(rt, path)?;
             let told = progress.then_some(stderr);
             let options = StreamOptions {
                 cut_every,
                 most,
                 marks,
             };
-            run_engine(rt, Engine::Stream(disk, path, plan, workers, options, told))
+            run_engine(
+                rt,
+                Engine::Stream(disk, path, plan, workers, options, told, closures),
+            )
         }
         Job::Show { disk, plan } => Ok(show_disk(rt, disk, plan)?),
         Job::Dump { disk, plan } => dump_disk(rt, disk, plan),
@@ -286,7 +294,7 @@ fn answer<R: Input + Print + AllocGlobal + Threads + Wait + Sync + Send + Copy +
             workers,
             picks.as_slice(),
         )?),
-        Engine::Feed(disk, plan, workers) => {
+        Engine::Feed(disk, plan, workers, closures) => {
             let (_disk, fed) = feed::<_, _, _, Catalogue, CatalogueCalls, _>(
                 rt,
                 rt.alloc(),
@@ -295,11 +303,12 @@ fn answer<R: Input + Print + AllocGlobal + Threads + Wait + Sync + Send + Copy +
                 workers,
                 &mut reader,
                 &mut writer,
-                &calls,
+                calls,
+                closures,
             );
             Ok(fed?)
         }
-        Engine::Stream(disk, path, plan, workers, options, told) => {
+        Engine::Stream(disk, path, plan, workers, options, told, closures) => {
             if options.marks {
                 let mut writer = Marked(writer);
                 stream_told(
@@ -312,7 +321,8 @@ fn answer<R: Input + Print + AllocGlobal + Threads + Wait + Sync + Send + Copy +
                     reader,
                     &mut writer,
                     told,
-                    &calls,
+                    calls,
+                    closures,
                 )
             } else {
                 stream_told(
@@ -325,7 +335,8 @@ fn answer<R: Input + Print + AllocGlobal + Threads + Wait + Sync + Send + Copy +
                     reader,
                     &mut writer,
                     told,
-                    &calls,
+                    calls,
+                    closures,
                 )
             }
         }

@@ -18,10 +18,12 @@ use std::time::Duration;
 use td_catalogue::{Catalogue, CatalogueCalls};
 use td_console::{Fault, Source};
 use td_disk::{FileDisk, ReadAhead};
-use td_feed::{Voice, stream};
+use td_feed::Voice;
+use td_formula::Closure;
 use td_plan::Plan;
 use td_standing::KeeperError;
 use td_watch::{Reader, Watch, Writer};
+use td_written::stream;
 
 /// Something that comes once, and that another thread waits for.
 #[derive(Drop)]
@@ -76,7 +78,8 @@ pub(crate) fn stream_told<
     reader: I,
     writer: &mut W,
     told: Option<Stderr>,
-    calls: &CatalogueCalls,
+    calls: CatalogueCalls,
+    closures: Vec<Closure>,
 ) -> Result<(), Refusal>
     requires some { 1 ≤ workers }
     requires most { workers ≤ 16 }
@@ -101,6 +104,7 @@ pub(crate) fn stream_told<
         writer,
         watch,
         calls,
+        closures,
     );
     ending.of_stream.tell();
     if told.is_some() {

@@ -74,8 +74,8 @@ pub only_sim : (rows : List Row) (job : Job) → IsOf (codes "sim") rows job →
 only_sim rows (Sim w picks c) h = (w, picks, h.1.0, h.1.1)
 only_sim rows _ h = let other = ap (bytes_eq (codes "sim")) h.0 in cc
 
-pub only_format : (rows : List Row) (job : Job) → IsOf (codes "format") rows job → (disk : Bor Text) × (plan : Bor Text) × (m : ℕ) × (n : ℕ) × (k : ℕ) × (job ≡ Format disk plan m n k) × HasValues rows (Format disk plan m n k)
-only_format rows (Format disk plan m n k) h = (disk, plan, m, n, k, refl, h.1)
+pub only_format : (rows : List Row) (job : Job) → IsOf (codes "format") rows job → (disk : Bor Text) × (plan : Bor Text) × (m : ℕ) × (n : ℕ) × (k : ℕ) × (c : Option (Bor Text)) × (job ≡ Format disk plan m n k c) × HasValues rows (Format disk plan m n k c)
+only_format rows (Format disk plan m n k c) h = (disk, plan, m, n, k, c, refl, h.1)
 only_format rows _ h = let other = ap (bytes_eq (codes "format")) h.0 in cc
 
 pub only_feed : (rows : List Row) (job : Job) → IsOf (codes "feed") rows job → (disk : Bor Text) × (plan : Bor Text) × (w : ℕ) × (job ≡ Feed disk plan w) × HasValues rows (Feed disk plan w)
@@ -235,15 +235,15 @@ named_written met job n name value =
     subst (IsBatch (Some (codes "c"))) (sym only.1) (sym only.2 ∙ value_met (first_of (codes "closures")) (Some (codes "c")) met (codes "batch") m.0 m.1 value)
 
 abbrev pub FormatValues : Type 0
-FormatValues = Option Text × Option Text × Option Text × Option Text × Option Text
+FormatValues = Option Text × Option Text × Option Text × Option Text × Option Text × Option Text
 
 abbrev pub format_values : List Row → FormatValues
-format_values rows = (first_of (codes "disk") rows, first_of (codes "plan") rows, one_of (codes "m") rows, one_of (codes "n") rows, one_of (codes "k") rows)
+format_values rows = (first_of (codes "disk") rows, first_of (codes "plan") rows, one_of (codes "m") rows, one_of (codes "n") rows, one_of (codes "k") rows, first_of (codes "closures") rows)
 
 abbrev pub given_format : FormatValues
-given_format = (Some (codes "d"), Some (codes "p"), Some (codes "4"), Some (codes "2"), Some (codes "3"))
+given_format = (Some (codes "d"), Some (codes "p"), Some (codes "4"), Some (codes "2"), Some (codes "3"), None)
 
-pub format_met : (met : Option (Text × List Row)) → option_map (λ p. p.0) met ≡ Some (codes "format") → option_map (λ p. format_values p.1) met ≡ Some given_format → IsNamed met (Format (to (codes "d")) (to (codes "p")) 4 2 3)
+pub format_met : (met : Option (Text × List Row)) → option_map (λ p. p.0) met ≡ Some (codes "format") → option_map (λ p. format_values p.1) met ≡ Some given_format → IsNamed met (Format (to (codes "d")) (to (codes "p")) 4 2 3 None)
 format_met met name values =
     let m = met_some met (codes "format") name in
     let v = value_met format_values given_format met (codes "format") m.0 m.1 values in (
@@ -255,24 +255,26 @@ format_met met name values =
         number_there (codes "m") 0 4294967295 m.0 (codes "4") 4 (ap (λ (x : FormatValues). x.2) v) four (omega arith) (omega arith),
         number_there (codes "n") 0 4294967295 m.0 (codes "2") 2 (ap (λ (x : FormatValues). x.3) v) two (omega arith) (omega arith),
         number_there (codes "k") 0 4294967295 m.0 (codes "3") 3 (ap (λ (x : FormatValues). x.4) v) three (omega arith) (omega arith),
+        ap (λ (x : FormatValues). x.5) v,
       ),
     )
 
 pub some_is : (a b : Text) (o : Option Text) → o ≡ Some a → o ≡ Some b → a ≡ b
 some_is a b o e h = cc
 
-pub named_format : (met : Option (Text × List Row)) (job : Job) → IsNamed met job → option_map (λ p. p.0) met ≡ Some (codes "format") → option_map (λ p. format_values p.1) met ≡ Some given_format → IsFormat (codes "d") (codes "p") 4 2 3 job
+pub named_format : (met : Option (Text × List Row)) (job : Job) → IsNamed met job → option_map (λ p. p.0) met ≡ Some (codes "format") → option_map (λ p. format_values p.1) met ≡ Some given_format → IsFormat (codes "d") (codes "p") 4 2 3 None job
 named_format met job n name values =
     let m = met_of met (codes "format") job n name in
     let only = only_format m.0 job m.2 in
     let v = value_met format_values given_format met (codes "format") m.0 m.1 values in
-    let has = only.6 in
-    subst (IsFormat (codes "d") (codes "p") 4 2 3) (sym only.5) (
+    let has = only.7 in
+    subst (IsFormat (codes "d") (codes "p") 4 2 3 None) (sym only.6) (
       some_is only.0.now (codes "d") (first_of (codes "disk") m.0) has.0 (ap (λ (x : FormatValues). x.0) v),
       some_is only.1.now (codes "p") (first_of (codes "plan") m.0) has.1 (ap (λ (x : FormatValues). x.1) v),
       written (codes "m") 0 4294967295 m.0 (codes "4") only.2 has.2 (ap (λ (x : FormatValues). x.2) v),
       written (codes "n") 0 4294967295 m.0 (codes "2") only.3 has.3 (ap (λ (x : FormatValues). x.3) v),
       written (codes "k") 0 4294967295 m.0 (codes "3") only.4 has.4 (ap (λ (x : FormatValues). x.4) v),
+      sym has.5 ∙ ap (λ (x : FormatValues). x.5) v,
     )
 
 abbrev pub FeedValues : Type 0

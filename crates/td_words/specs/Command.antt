@@ -82,7 +82,7 @@ abbrev pub with_shape : App → App
 with_shape app = with_rule (with_rule (with_rule app (number_rule (codes "m"))) (number_rule (codes "n"))) (number_rule (codes "k"))
 
 abbrev pub format_app : App
-format_app = with_shape (with_files (new_app (codes "format")))
+format_app = with_rule (with_shape (with_files (new_app (codes "format")))) closures_rule
 
 abbrev pub feed_app : App
 feed_app = with_rule (with_files (new_app (codes "feed"))) workers_rule
@@ -201,7 +201,7 @@ abbrev pub name_of : Job → Text
 name_of (Batch closures) = codes "batch"
 name_of (Run workers closures) = codes "run"
 name_of (Sim workers picks closures) = codes "sim"
-name_of (Format disk plan m n k) = codes "format"
+name_of (Format disk plan m n k closures) = codes "format"
 name_of (Feed disk plan workers) = codes "feed"
 name_of (Show disk plan) = codes "show"
 name_of (Dump disk plan) = codes "dump"
@@ -218,8 +218,9 @@ abbrev pub HasValues : List Row → Job → Type 0
 HasValues rows (Batch closures) = IsClosures rows closures
 HasValues rows (Run workers closures) = IsWorkers rows workers × IsClosures rows closures
 HasValues rows (Sim workers picks closures) = IsWorkers rows workers × (first_of (codes "picks") rows ≡ Some picks.now) × IsClosures rows closures
-HasValues rows (Format disk plan m n k) = (first_of (codes "disk") rows ≡ Some disk.now) × (first_of (codes "plan") rows ≡ Some plan.now)
+HasValues rows (Format disk plan m n k closures) = (first_of (codes "disk") rows ≡ Some disk.now) × (first_of (codes "plan") rows ≡ Some plan.now)
     × IsNumber (codes "m") 0 4294967295 rows m × IsNumber (codes "n") 0 4294967295 rows n × IsNumber (codes "k") 0 4294967295 rows k
+    × IsClosures rows closures
 HasValues rows (Feed disk plan workers) = (first_of (codes "disk") rows ≡ Some disk.now) × (first_of (codes "plan") rows ≡ Some plan.now) × IsWorkers rows workers
 HasValues rows (Show disk plan) = (first_of (codes "disk") rows ≡ Some disk.now) × (first_of (codes "plan") rows ≡ Some plan.now)
 HasValues rows (Dump disk plan) = (first_of (codes "disk") rows ≡ Some disk.now) × (first_of (codes "plan") rows ≡ Some plan.now)
@@ -269,9 +270,9 @@ abbrev pub IsBatch : Option Text → Job → Type 0
 IsBatch c (Batch closures) = option_map (λ f. f.now) closures ≡ c
 IsBatch c _ = ⊥
 
-abbrev pub IsFormat : Text → Text → ℕ → ℕ → ℕ → Job → Type 0
-IsFormat a b x y z (Format disk plan m n k) = (disk.now ≡ a) × (plan.now ≡ b) × (m ≡ x) × (n ≡ y) × (k ≡ z)
-IsFormat a b x y z _ = ⊥
+abbrev pub IsFormat : Text → Text → ℕ → ℕ → ℕ → Option Text → Job → Type 0
+IsFormat a b x y z c (Format disk plan m n k closures) = (disk.now ≡ a) × (plan.now ≡ b) × (m ≡ x) × (n ≡ y) × (k ≡ z) × (option_map (λ f. f.now) closures ≡ c)
+IsFormat a b x y z c _ = ⊥
 
 abbrev pub IsFeed : Text → Text → ℕ → Job → Type 0
 IsFeed a b w (Feed disk plan workers) = (disk.now ≡ a) × (plan.now ≡ b) × (workers ≡ w)

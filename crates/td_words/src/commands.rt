@@ -76,6 +76,8 @@ const DOT: &str = "Write a picture, in the language of Graphviz";
 const CLOSURES: &str =
     "A file with closures in text, which have codes from 10000 on; see 'td help closures'";
 
+const CLOSURES_OF_DISK: &str = "A file with closures in text, which becomes DISK.closures";
+
 const PROGRESS: &str = "Write how far it has come to standard error, each second";
 
 const MARKS: &str = "Write 'done EPOCH' after the output lines of each epoch";
@@ -110,8 +112,9 @@ Exit status: 0, or 1 after a fault, which is told on standard error
 Each fault is explained by 'td help faults'";
 
 const FORMAT_MORE: &str = "\
-Reads:  PLAN
-Writes: DISK, of 8308 + 64 K + N (25 + 24 M) bytes
+Reads:  PLAN, and FILE with --closures FILE
+Writes: DISK, of 8308 + 64 K + N (25 + 24 M) bytes, and DISK.closures, with the text of FILE; without --closures FILE such a file
+        goes away. td feed and td stream compute by the closures of DISK.closures beside those of the catalogue
 Common faults:
         'shape': M, N or K is 0, or too large
         'file': PLAN cannot be read, or DISK cannot be made or is in use
@@ -166,7 +169,7 @@ Each fault is explained by 'td help faults'";
 const COPY_MORE: &str = "\
 Reads:  PLAN and DISK
 Writes: NEW, of 8308 + 64 K + N (25 + 24 M) bytes, with the states that the last cut kept, the epochs after it, and their request
-        numbers; with --until E, the epochs up to E alone; DISK stays as it is
+        numbers; with --until E, the epochs up to E alone; and NEW.closures, where DISK.closures is there; DISK stays as it is
 Common faults:
         'file: NEW: is there': NEW is a file that is there, which td copy never writes over
         'shape: K is 0, not 1 to 1048576': M, N or K is 0, or too large
@@ -277,7 +280,8 @@ fn format_leaf<'a>(alloc: Global) -> Result<Command<'a>, AllocError>
     let leaf = with_arg(leaf, word_arg(alloc, "plan", "PLAN", PLAN))?;
     let leaf = with_arg(leaf, number_arg(alloc, "m", "M", RECORDS))?;
     let leaf = with_arg(leaf, number_arg(alloc, "n", "N", CELLS))?;
-    with_arg(leaf, number_arg(alloc, "k", "K", STATES))
+    let leaf = with_arg(leaf, number_arg(alloc, "k", "K", STATES))?;
+    with_arg(leaf, file_arg(alloc, "closures", CLOSURES_OF_DISK))
 }
 
 /// `feed`.

@@ -20,13 +20,14 @@ pub enum Job<'a> {
         closures: Option<&'a str>,
     },
     /// To make the file `disk` and format it for the plan in the file `plan`, with `m` records a cell, `n` cells and `k` states
-    /// a slot; these are not compared with their limits yet.
+    /// a slot; these are not compared with their limits yet. The closures of the disk are those of the file `closures`, if there is one.
     Format {
         disk: &'a str,
         plan: &'a str,
         m: u32,
         n: u32,
         k: u32,
+        closures: Option<&'a str>,
     },
     /// To feed the epochs of standard input to the disk `disk`, by a hall of so many shards.
     Feed {

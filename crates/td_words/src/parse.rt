@@ -30,7 +30,7 @@ pub fn words<'a>(alloc: Global, given: &'a [String]) -> Result<Job<'a>, WordsErr
     ensures batch { map string_bytes given.entry.now ≡ batch_words → (result ≡ Ok (Job.Batch None)) ⊎ (result ≡ Err WordsError.Memory) }
     ensures run { map string_bytes given.entry.now ≡ run_words → (result ≡ Ok (Job.Run 1 None)) ⊎ (result ≡ Err WordsError.Memory) }
     ensures written { map string_bytes given.entry.now ≡ written_words → IfOk result (IsBatch (Some (codes "c"))) × IfErr result (λ e. e ≡ WordsError.Memory) }
-    ensures format { map string_bytes given.entry.now ≡ format_words → IfOk result (IsFormat (codes "d") (codes "p") 4 2 3) × IfErr result (λ e. e ≡ WordsError.Memory) }
+    ensures format { map string_bytes given.entry.now ≡ format_words → IfOk result (IsFormat (codes "d") (codes "p") 4 2 3 None) × IfErr result (λ e. e ≡ WordsError.Memory) }
     ensures feed { map string_bytes given.entry.now ≡ feed_words → IfOk result (IsFeed (codes "d") (codes "p") 1) × IfErr result (λ e. e ≡ WordsError.Memory) }
     ensures until { map string_bytes given.entry.now ≡ until_words → IfOk result (IsCopy (codes "d") (codes "p") (codes "e") 4 2 3 (Some 4)) × IfErr result (λ e. e ≡ WordsError.Memory) }
     ensures stream { map string_bytes given.entry.now ≡ stream_words → IfOk result (IsStream (codes "d") (codes "p") 1 None None false false) × IfErr result (λ e. e ≡ WordsError.Memory) }
@@ -102,7 +102,7 @@ fn parsed<'a>(alloc: Global, given: &'a [String]) -> Result<Job<'a>, WordsError>
     ensures batch { map string_bytes given.entry.now ≡ batch_words → (result ≡ Ok (Job.Batch None)) ⊎ (result ≡ Err WordsError.Memory) }
     ensures run { map string_bytes given.entry.now ≡ run_words → (result ≡ Ok (Job.Run 1 None)) ⊎ (result ≡ Err WordsError.Memory) }
     ensures written { map string_bytes given.entry.now ≡ written_words → IfOk result (IsBatch (Some (codes "c"))) × IfErr result (λ e. e ≡ WordsError.Memory) }
-    ensures format { map string_bytes given.entry.now ≡ format_words → IfOk result (IsFormat (codes "d") (codes "p") 4 2 3) × IfErr result (λ e. e ≡ WordsError.Memory) }
+    ensures format { map string_bytes given.entry.now ≡ format_words → IfOk result (IsFormat (codes "d") (codes "p") 4 2 3 None) × IfErr result (λ e. e ≡ WordsError.Memory) }
     ensures feed { map string_bytes given.entry.now ≡ feed_words → IfOk result (IsFeed (codes "d") (codes "p") 1) × IfErr result (λ e. e ≡ WordsError.Memory) }
     ensures until { map string_bytes given.entry.now ≡ until_words → IfOk result (IsCopy (codes "d") (codes "p") (codes "e") 4 2 3 (Some 4)) × IfErr result (λ e. e ≡ WordsError.Memory) }
     ensures stream { map string_bytes given.entry.now ≡ stream_words → IfOk result (IsStream (codes "d") (codes "p") 1 None None false false) × IfErr result (λ e. e ≡ WordsError.Memory) }
@@ -196,12 +196,14 @@ fn format_job<'a>(matches: &ArgMatches<'a>) -> Option<Job<'a>>
     let m = number_of(matches, "m")?;
     let n = number_of(matches, "n")?;
     let k = number_of(matches, "k")?;
+    let closures = file_of(matches, "closures");
     Some(Job::Format {
         disk,
         plan,
         m,
         n,
         k,
+        closures,
     })
 }
 

@@ -1,2 +1,3 @@
 pub mod Beside
+pub mod Durable
 pub mod Promises

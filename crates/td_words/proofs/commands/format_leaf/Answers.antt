@@ -9,4 +9,5 @@ returns-clause-app c =
     let grown_2 = c.in_ok-leaf-2.ensures.shape ∙ ap₂ with_rule grown_1 c.word_arg-2.ensures.rule in
     let grown_3 = c.in_ok-leaf-3.ensures.shape ∙ ap₂ with_rule grown_2 c.number_arg.ensures.rule in
     let grown_4 = c.in_ok-leaf-4.ensures.shape ∙ ap₂ with_rule grown_3 c.number_arg-2.ensures.rule in
-    IfOk-weaker c.with_arg-5.result _ _ (λ m h. h ∙ ap₂ with_rule grown_4 c.number_arg-3.ensures.rule) c.with_arg-5.ensures.shape
+    let grown_5 = c.in_ok-leaf-5.ensures.shape ∙ ap₂ with_rule grown_4 c.number_arg-3.ensures.rule in
+    IfOk-weaker c.with_arg-6.result _ _ (λ m h. h ∙ ap₂ with_rule grown_5 c.file_arg.ensures.rule) c.with_arg-6.ensures.shape

@@ -110,7 +110,7 @@ returns-clause-format c = λ e.
     let found = c.in-Ok-try_get_matches_from in
     let met : subcommand_rows_of found.matches ≡ subcommand_of td given = (found.ensures.matches (ap is_simple c.in-Ok.ensures ∙ td_is_simple)).1 ∙ ap (λ a. subcommand_of a given) c.in-Ok.ensures in
     let is = met ∙ ap (subcommand_of td) e in
-    absurd (c.in-None.ensures.none (Format (to (codes "d")) (to (codes "p")) 4 2 3) (format_met (subcommand_rows_of found.matches) (ap (option_map (λ p. p.0)) is ∙ format_is_named) (ap (option_map (λ p. format_values p.1)) is ∙ format_has)))
+    absurd (c.in-None.ensures.none (Format (to (codes "d")) (to (codes "p")) 4 2 3 None) (format_met (subcommand_rows_of found.matches) (ap (option_map (λ p. p.0)) is ∙ format_is_named) (ap (option_map (λ p. format_values p.1)) is ∙ format_has)))
 
 pub returns-in-Err-clause-feed : goal.returns-in-Err-clause-feed
 returns-in-Err-clause-feed c = λ e. memory_alone _ _ (only_memory _ _ c.asked_instead.ensures.ok c.asked_instead.ensures.err (c.in-Err.ensures.passes (ap₂ takes c.in-Ok.ensures e ∙ feed_is_taken)))

@@ -1,0 +1,149 @@
+//! `feed` and `stream` of `td_feed` at the law of others and of closures in text.
+ghost use Rattle.std.specs.Prelude.{◌≡◌, ◌≤◌, ◌==◌, [], ◌∷◌, IfSome};
+ghost use Rattle.td_written.specs.Beside.{stored_beside};
+ghost use Rattle.td_written.specs.Durable.{FeedsBy, StreamsBy};
+
+use std::alloc::Global;
+use std::marker::Brand;
+use std::sync::Wait;
+use std::thread::Threads;
+use td_calls::{Closures, Law};
+use td_console::{Fault, Source};
+use td_disk::Disk;
+use td_feed as disk_engine;
+use td_feed::Voice;
+use td_formula::{Beside, BesideCalls, Closure, Formulas, WrittenCalls};
+use td_plan::Plan;
+use td_watch::Writer;
+
+/// Feeds a disk from what it reads, as `td_feed::feed` does, by the law of `below` and of these closures beside it.
+pub fn feed<
+    D: Disk + Drop,
+    I: Source,
+    W: Voice,
+    L: Law + Send + Sync,
+    C: Closures<L> + Sync + Drop,
+    R: Threads + Wait + Sync,
+>(
+    rt: &R,
+    alloc: Global,
+    disk: D,
+    plan: &Plan,
+    workers: u8,
+    reader: &mut I,
+    writer: &mut W,
+    below: C,
+    closures: Vec<Closure>,
+) -> (D, Result<(), Fault>)
+    requires some { 1 ≤ workers }
+    requires most { workers ≤ 16 }
+    ensures { FeedsBy (stored_beside L.answers C.has_map C.has_group C.has_fold below closures.items) D.capacity D.is_lawful D.state D.failures I.remaining
+        W.contents W.marks plan.now disk result.0 reader.old reader.new writer.old writer.new result.1 }
+{
+    feed_by::<Brand, D, I, W, L, C, R>(
+        rt, alloc, disk, plan, workers, reader, writer, below, closures,
+    )
+}
+
+/// Does what `feed` does as the input comes, as `td_feed::stream` does.
+pub fn stream<
+    D: Disk + Drop,
+    I: Source + Drop,
+    W: Voice,
+    L: Law + Send + Sync,
+    C: Closures<L> + Sync + Drop,
+    R: Threads + Wait + Sync,
+>(
+    rt: &R,
+    alloc: Global,
+    disk: D,
+    plan: &Plan,
+    workers: u8,
+    cut_every: Option<u32>,
+    most: Option<u64>,
+    reader: I,
+    writer: &mut W,
+    watch: Option<Writer>,
+    below: C,
+    closures: Vec<Closure>,
+) -> (D, Result<(), Fault>)
+    requires some { 1 ≤ workers }
+    requires most { workers ≤ 16 }
+    requires unpublished { IfSome watch (λ w. w.words ≡ 0 ∷ 0 ∷ 0 ∷ []) }
+    ensures { StreamsBy (stored_beside L.answers C.has_map C.has_group C.has_fold below closures.items) D.capacity D.is_lawful D.state D.failures I.remaining
+        W.contents W.marks plan.now (workers == 1) disk result.0 reader writer.old writer.new result.1 }
+{
+    stream_by::<Brand, D, I, W, L, C, R>(
+        rt, alloc, disk, plan, workers, cut_every, most, reader, writer, watch, below, closures,
+    )
+}
+
+/// `feed`, where a type parameter stands for the closures.
+fn feed_by<
+    F: Formulas + Send + Sync,
+    D: Disk + Drop,
+    I: Source,
+    W: Voice,
+    L: Law + Send + Sync,
+    C: Closures<L> + Sync + Drop,
+    R: Threads + Wait + Sync,
+>(
+    rt: &R,
+    alloc: Global,
+    disk: D,
+    plan: &Plan,
+    workers: u8,
+    reader: &mut I,
+    writer: &mut W,
+    below: C,
+    closures: Vec<Closure>,
+) -> (D, Result<(), Fault>)
+    requires stand { closures.items ≡ F.closures }
+    requires some { 1 ≤ workers }
+    requires most { workers ≤ 16 }
+    ensures { FeedsBy (stored_beside L.answers C.has_map C.has_group C.has_fold below F.closures) D.capacity D.is_lawful D.state D.failures I.remaining
+        W.contents W.marks plan.now disk result.0 reader.old reader.new writer.old writer.new result.1 }
+{
+    let above = WrittenCalls::<F>::new(closures);
+    let calls = BesideCalls { below, above };
+    disk_engine::feed::<D, I, W, Beside<L, F>, BesideCalls<C, F>, R>(
+        rt, alloc, disk, plan, workers, reader, writer, &calls,
+    )
+}
+
+/// `stream`, where a type parameter stands for the closures.
+fn stream_by<
+    F: Formulas + Send + Sync,
+    D: Disk + Drop,
+    I: Source + Drop,
+    W: Voice,
+    L: Law + Send + Sync,
+    C: Closures<L> + Sync + Drop,
+    R: Threads + Wait + Sync,
+>(
+    rt: &R,
+    alloc: Global,
+    disk: D,
+    plan: &Plan,
+    workers: u8,
+    cut_every: Option<u32>,
+    most: Option<u64>,
+    reader: I,
+    writer: &mut W,
+    watch: Option<Writer>,
+    below: C,
+    closures: Vec<Closure>,
+) -> (D, Result<(), Fault>)
+    requires stand { closures.items ≡ F.closures }
+    requires some { 1 ≤ workers }
+    requires most { workers ≤ 16 }
+    requires unpublished { IfSome watch (λ w. w.words ≡ 0 ∷ 0 ∷ 0 ∷ []) }
+    ensures { StreamsBy (stored_beside L.answers C.has_map C.has_group C.has_fold below F.closures) D.capacity D.is_lawful D.state D.failures I.remaining
+        W.contents W.marks plan.now (workers == 1) disk result.0 reader writer.old writer.new result.1 }
+{
+    let above = WrittenCalls::<F>::new(closures);
+    let calls = BesideCalls { below, above };
+    disk_engine::stream::<D, I, W, Beside<L, F>, BesideCalls<C, F>, R>(
+        rt, alloc, disk, plan, workers, cut_every, most, reader, writer, watch, &calls,
+    )
+}
