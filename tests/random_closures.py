@@ -1,5 +1,5 @@
 #!/usr/bin/env python3
-"""Runs `td batch --closures` on random texts, half of them with a mistake, and compares each answer with a reading of docs/FORMATS.md in Python.
+"""Runs `td batch --closures` on random texts, half of them with a mistake, and compares each answer with a reading of docs/CLOSURES.md in Python.
 
     tests/random_closures.py [COUNT [SEED]]     needs crates/td/out/td (see the README); 2,000 texts where no COUNT is given
 
@@ -437,7 +437,7 @@ def main():
     wrong = [why for why, _ in ended if why]
     if wrong:
         lib.fail(f"{len(wrong)} of {count} differ; the first: {wrong[0]}")
-    print(f"{count} random texts, {sum(status for _, status in ended)} of them refused, as docs/FORMATS.md says")
+    print(f"{count} random texts, {sum(status for _, status in ended)} of them refused, as docs/CLOSURES.md says")
 
 
 if __name__ == "__main__":

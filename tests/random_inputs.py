@@ -1,5 +1,5 @@
 #!/usr/bin/env python3
-"""Compares `td batch` with a reading of docs/FORMATS.md in Python, on random inputs, most of them with a mistake in them.
+"""Compares `td batch` with a reading of docs/FORMATS.md, REFUSALS.md and CATALOGUE.md in Python, on random inputs, most of them with a mistake.
 
     tests/random_inputs.py [--every-plan] [--hall] [--feeds] [COUNT [SEED]]     needs crates/td/out/td (see the README);
                                                                                 by default 2000 inputs
@@ -9,7 +9,7 @@ is not is printed. With --every-plan it reads loops, folds, distinct and several
 syntax, as a reader of flat plans does. With --hall each input is answered by `td run` and by `td sim` too, with a random
 number of workers and random picks; of `sim` the lines of notifications are left out.
 
-With --feeds a disk is made for one input in ten more, of random plans without faults, each third of them of version 1: it is fed a few
+With --feeds (docs/COMMANDS.md) a disk is made for one input in ten more, of random plans without faults, each third of them of version 1: it is fed a few
 times, by epochs some of which have request numbers, new, repeated or lower ones, with cuts and with mistakes between them; it may be
 raised to version 2; and after each command `td show` must tell what the reading says, and `td dump` write it; what is dumped at the end is
 fed to a fresh disk."""
