@@ -16,8 +16,8 @@ SOURCE = lib.ROOT / "crates/td/src/faults.rt"
 
 # (the head of the file is this script's word for itself: what is compared begins with the constant)
 HEAD = """\
-//! What `td help faults` prints: docs/FAULTS.md, byte for byte. `tests/faults.py` compares them, and `tests/faults.py --write` writes this
-//! file anew.
+//! What `td help faults` prints: docs/FAULTS.md, byte for byte. `tests/faults.py` compares them, and
+//! `tests/faults.py --write` writes this file anew.
 
 """
 BEFORE = """\
