@@ -143,7 +143,8 @@ sources of a vertex.
 
 **`vertex V: no closure C`**: the catalogue has no closure of that code for the kind of vertex V. Maps, groups and folds
 have codes of their own: 20 is a group's, and no map's. The catalogue stands in `docs/CATALOGUE.md`. A code from 10000
-on is one of closures in text: `--closures FILE` is missing, or FILE has none of that kind and code.
+on is one of closures in text: `--closures FILE` is missing, or FILE has none of that kind and code. Of a disk FILE is
+DISK.closures.
 
     $ printf '0 input\n1 map 20 0\n2 output 1\n' | td batch
     td: vertex 1: no closure 20
