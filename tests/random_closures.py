@@ -4,7 +4,10 @@
     tests/random_closures.py [COUNT [SEED]]     needs crates/td/out/td (see the README); 2,000 texts where no COUNT is given
 
 A text has one closure to three, of any kind, and a plan calls each of them for the same records of two inputs and three epochs. A mistake is a word
-that is left out, doubled, exchanged with another, or another word in its place. Compared are output, error text and status."""
+that is left out, doubled, exchanged with another, or another word in its place. Compared are output, error text and status.
+
+One text in four is also given to a disk (`td format --closures`): its first epoch is fed and cut, the others are streamed, and what comes out of
+both is compared with the same answer."""
 
 import collections
 import concurrent.futures
@@ -411,6 +414,26 @@ def wanted(text, epochs, kinds):
     return answer(called_by, epochs), "", 0
 
 
+def td(folder, *words, text=""):
+    """Output, error text and status of the program in a folder."""
+    done = subprocess.run([lib.TD, *words], input=text, capture_output=True, text=True, cwd=folder, timeout=60)
+    return done.stdout, done.stderr, done.returncode
+
+
+def on_disk(folder, plan, epochs, workers):
+    """Output lines, error text and status of a disk that has the text beside it: the first epoch is fed and cut, the others are streamed."""
+    (folder / "plan").write_text(plan)
+    made = td(folder, "format", "disk", "plan", "16", "4", "64", "--closures", "text")
+    if made[2] != 0:
+        return made
+    fed = td(folder, "feed", "disk", "plan", text=f"{epochs[0]}cut\n")
+    if fed[2] != 0:
+        return fed
+    streamed = td(folder, "stream", "disk", "plan", "--workers", str(workers), text="".join(epochs[1:]))
+    lines = [line for line in (fed[0] + streamed[0]).splitlines(keepends=True) if line[0].isdigit()]
+    return "".join(lines), *streamed[1:]
+
+
 def tried(folder, seed):
     """Why the answer to a random text differs, or None; and whether the text has a fault."""
     some = random.Random(seed)
@@ -420,12 +443,15 @@ def tried(folder, seed):
     text = spelled(some, with_mistake(some, lines) if some.random() < 0.5 else lines)
     epochs = random_epochs(some)
     plan = "0 input\n1 input\n" + "".join(f"{2 + 2 * at} {kind} {code} 0 1\n{3 + 2 * at} output {2 + 2 * at}\n" for at, (kind, code) in enumerate(kinds))
-    data = "".join("".join(f"{port} {key} {val}\n" for port, key, val in epoch) + ".\n" for epoch in epochs)
+    texts = ["".join(f"{port} {key} {val}\n" for port, key, val in epoch) + ".\n" for epoch in epochs]
+    data = "".join(texts)
     here = folder / str(seed)
     here.mkdir()
     (here / "text").write_text(text)
-    done = subprocess.run([lib.TD, "batch", "--closures", "text"], input=f"{plan}--\n{data}", capture_output=True, text=True, cwd=here, timeout=60)
-    got, want = (done.stdout, done.stderr, done.returncode), wanted(text, epochs, kinds)
+    want = wanted(text, epochs, kinds)
+    got = td(here, "batch", "--closures", "text", text=f"{plan}--\n{data}")
+    if got == want and seed % 4 == 0:
+        got = on_disk(here, plan, texts, some.randrange(1, 3))
     return (None if got == want else f"seed {seed}: {text!r} on {plan + data!r}: {got}, and not {want}"), want[2]
 
 
