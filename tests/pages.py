@@ -2,11 +2,12 @@
 """Compares the pages with what they speak of: needs nothing but the files.
 
     tests/pages.py            compares
-    tests/pages.py --write    writes what docs/MEANING.md quotes of definitions anew; its sentences beside them are then yours to read again
+    tests/pages.py --write    writes anew what pages quote of definitions; their sentences beside them are then yours to read again
 
 Each link of a page leads to a file, and to a heading of it where it names one. Each indented line of docs/CLOSURES.md and docs/SERVICE.md is a line of
-the crate that the page walks through (of its sources, its definitions, or what it prints); `..` stands for lines that are left out. Each quoted block of
-docs/MEANING.md, from a line of three back ticks to the next, is whole definitions, word for word, of the file of crates/ that is named last before it.
+the crate that the page walks through (of its sources, its definitions, or what it prints); `..` stands for lines that are left out. Of a page that quotes
+definitions (docs/MEANING.md, STEPS.md and THEOREM.md) each block, from a line of three back ticks to the next, is whole definitions, word for word, of the
+file of crates/ that is named last before it.
 
 Each name that a page cites is one of the sources: a path as `Plan::read` or `laws::orders`, in the crate that it names, or that a section of docs/GUARANTEES.md is
 of; each word of code with `_` or a capital inside; each file. In docs/GUARANTEES.md so is each name behind `*Contract*`, and what stands in brackets
@@ -19,7 +20,8 @@ import sys
 from lib import ROOT, fail
 
 PAGES = [ROOT / "README.md", ROOT / "CHANGELOG.md", *sorted(ROOT.glob("docs/*.md")), *sorted(ROOT.glob("*/README.md"))]
-MEANING = ROOT / "docs/MEANING.md"
+# The pages that quote definitions: each with a block of them.
+QUOTING = [page for page in PAGES if "\n```antt\n" in page.read_text(encoding="utf-8")]
 WALKS = {"docs/CLOSURES.md": "example_closures", "docs/SERVICE.md": "example_service"}
 # A drawing in a page begins so.
 DRAWN = ("producer ──", "(thread)", "release_in     publishes", "▼", "pool: the hall", "▲", "workers (a thread")
@@ -109,22 +111,24 @@ def quoted_anew(file, lines):
 
 
 def mistakes_of_definitions():
-    """Blocks of docs/MEANING.md that do not stand, definition by definition, in the file that is named last before them."""
-    lines = MEANING.read_text(encoding="utf-8").splitlines()
-    for file, start, end in quotes_of(lines):
-        if lines[start:end] != quoted_anew(file, lines[start:end]) or not names_in(lines[start:end]):
-            wrong = [name for name in names_in(lines[start:end]) if "\n".join(["", *definition_of(file, name), ""]) not in "\n".join(["", *lines[start:end], ""])]
-            yield f"docs/MEANING.md:{start}: this does not stand so in {file}: {', '.join(wrong) or 'what is not of a definition'}"
+    """Blocks of the pages that do not stand, definition by definition, in the file that is named last before them."""
+    for page in QUOTING:
+        lines = page.read_text(encoding="utf-8").splitlines()
+        for file, start, end in quotes_of(lines):
+            if lines[start:end] != quoted_anew(file, lines[start:end]) or not names_in(lines[start:end]):
+                wrong = [name for name in names_in(lines[start:end]) if "\n".join(["", *definition_of(file, name), ""]) not in "\n".join(["", *lines[start:end], ""])]
+                yield f"{page.relative_to(ROOT)}:{start}: this does not stand so in {file}: {', '.join(wrong) or 'what is not of a definition'}"
 
 
 def write_definitions():
-    """Writes the quoted blocks of docs/MEANING.md anew, each definition as it stands in its file. What is said beside them stays."""
-    lines = MEANING.read_text(encoding="utf-8").splitlines()
-    for file, start, end in reversed(list(quotes_of(lines))):
-        if missing := [name for name in names_in(lines[start:end]) if not definition_of(file, name)]:
-            fail(f"docs/MEANING.md:{start}: {file} has no definition {', '.join(missing)}")
-        lines[start:end] = quoted_anew(file, lines[start:end])
-    MEANING.write_text("\n".join([*lines, ""]), encoding="utf-8")
+    """Writes the quoted blocks of the pages anew, each definition as it stands in its file. What is said beside them stays."""
+    for page in QUOTING:
+        lines = page.read_text(encoding="utf-8").splitlines()
+        for file, start, end in reversed(list(quotes_of(lines))):
+            if missing := [name for name in names_in(lines[start:end]) if not definition_of(file, name)]:
+                fail(f"{page.relative_to(ROOT)}:{start}: {file} has no definition {', '.join(missing)}")
+            lines[start:end] = quoted_anew(file, lines[start:end])
+        page.write_text("\n".join([*lines, ""]), encoding="utf-8")
 
 
 class Function:
