@@ -9,9 +9,9 @@ the crate that the page walks through (of its sources, its definitions, or what 
 definitions (docs/MEANING.md, STEPS.md and THEOREM.md) each block, from a line of three back ticks to the next, is whole definitions, word for word, of the
 file of crates/ that is named last before it.
 
-Each name that a page cites is one of the sources: a path as `Plan::read` or `laws::orders`, in the crate that it names, or that a section of docs/GUARANTEES.md is
-of; each word of code with `_` or a capital inside; each file. In docs/GUARANTEES.md so is each name behind `*Contract*`, and what stands in brackets
-behind a function, as `Plan::read` (`ok`), are clauses of its contract, or definitions of its crate."""
+Each name that a page cites is one of the sources: a path as `Plan::read` or `laws::orders`, in the crate that it names, or that a section of a page of promises
+is of (docs/GUARANTEES.md, ENGINE.md and TESTED.md); each word of code with `_` or a capital inside; each file. In a page of promises so is each name behind
+`*Contract*`, and what stands in brackets behind a function, as `Plan::read` (`ok`), are clauses of its contract, or definitions of its crate."""
 
 import collections
 import re
@@ -22,6 +22,8 @@ from lib import ROOT, fail
 PAGES = [ROOT / "README.md", ROOT / "CHANGELOG.md", *sorted(ROOT.glob("docs/*.md")), *sorted(ROOT.glob("*/README.md"))]
 # The pages that quote definitions: each with a block of them.
 QUOTING = [page for page in PAGES if "\n```antt\n" in page.read_text(encoding="utf-8")]
+# The pages of promises, which name contracts.
+PROMISES = [ROOT / "docs" / name for name in ("GUARANTEES.md", "ENGINE.md", "TESTED.md")]
 WALKS = {"docs/CLOSURES.md": "example_closures", "docs/SERVICE.md": "example_service"}
 # A drawing in a page begins so.
 DRAWN = ("producer ──", "(thread)", "release_in     publishes", "▼", "pool: the hall", "▲", "workers (a thread")
@@ -226,7 +228,7 @@ def mistakes_of_names(sources):
         here = set()
         for number, line in enumerate(page.read_text(encoding="utf-8").splitlines(), 1):
             if line.startswith("## "):
-                here = sources.crates & set(re.findall(r"\w+", line)) if page.name == "GUARANTEES.md" else set()
+                here = sources.crates & set(re.findall(r"\w+", line)) if page in PROMISES else set()
             for said in re.findall(r"`([^`]+)`", line):
                 name = plain(said)
                 is_path, is_word = re.fullmatch(r"\w+(::\w+)+", name), re.fullmatch(r"[A-Za-z]\w*(_|[a-z][A-Z])\w*", name)
@@ -240,15 +242,14 @@ def mistakes_of_names(sources):
     yield from mistakes_of_files()
 
 
-def mistakes_of_contracts(sources):
-    """What docs/GUARANTEES.md cites of contracts and no contract has."""
-    page = "docs/GUARANTEES.md"
-    text = (ROOT / page).read_text(encoding="utf-8")
+def mistakes_of_contracts(page, sources):
+    """What a page of promises cites of contracts and no contract has."""
+    text = page.read_text(encoding="utf-8")
     for section in re.finditer(r"(?ms)^## (.*?)$(.*?)(?=^## |\Z)", text):
         here = sources.crates & set(re.findall(r"\w+", section[1]))
 
         def place(found):
-            return f"{page}:{text[:section.start(2) + found.start()].count(chr(10)) + 1}"
+            return f"{page.relative_to(ROOT)}:{text[:section.start(2) + found.start()].count(chr(10)) + 1}"
 
         for found in re.finditer(r"`([A-Za-z_][\w:<>]*)`\s*\((`[^()]*)\)", section[2]):
             functions = sources.cited(plain(found[1]), here)
@@ -266,7 +267,8 @@ def main():
     if sys.argv[1:] == ["--write"]:
         return write_definitions()
     sources = Sources()
-    wrong = [*mistakes_of_links(), *mistakes_of_walks(), *mistakes_of_definitions(), *mistakes_of_names(sources), *mistakes_of_contracts(sources)]
+    wrong = [*mistakes_of_links(), *mistakes_of_walks(), *mistakes_of_definitions(), *mistakes_of_names(sources),
+             *(mistake for page in PROMISES for mistake in mistakes_of_contracts(page, sources))]
     if wrong:
         fail("\n".join(wrong))
     print(f"{len(PAGES)} pages: links lead somewhere, what is quoted of crates stands there, and each name, clause and file that is cited is there")
