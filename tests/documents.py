@@ -9,7 +9,8 @@ from gate import said_by, shown
 from lib import ROOT
 
 # The documents whose commands are run.
-DOCUMENTS = ("README.md", "examples/README.md", "docs/TUTORIAL.md", "docs/OPERATING.md", "docs/FORMATS.md", "docs/FAULTS.md", "docs/MEANING.md", "docs/STEPS.md", "docs/THEOREM.md", "docs/CLOSURES.md")
+DOCUMENTS = ("README.md", "examples/README.md", *(f"docs/{name}.md" for name in (
+    "TUTORIAL", "OPERATING", "FORMATS", "DISK", "FAULTS", "MEANING", "STEPS", "THEOREM", "CLOSURES")))
 # Seconds for one command.
 SECONDS_OF_A_COMMAND = 90
 

@@ -4,9 +4,10 @@
     tests/pages.py            compares
     tests/pages.py --write    writes anew what pages quote of definitions; their sentences beside them are then yours to read again
 
-Each link of a page leads to a file, and to a heading of it where it names one. Each indented line of docs/CLOSURES.md and docs/SERVICE.md is a line of
-the crate that the page walks through (of its sources, its definitions, or what it prints); `..` stands for lines that are left out. Of a page that quotes
-definitions (docs/MEANING.md, STEPS.md and THEOREM.md) each block, from a line of three back ticks to the next, is whole definitions, word for word, of the
+No page has more than 3,000 words outside of code. Each link of a page leads to a file, and to a heading of it where it names one.
+
+Each indented line of docs/CLOSURES.md and docs/SERVICE.md is a line of the crate that the page walks through (of its sources, its definitions, or what it
+prints); `..` stands for lines that are left out. Of a page that quotes definitions (docs/MEANING.md, STEPS.md and THEOREM.md) each block, from a line of three back ticks to the next, is whole definitions, word for word, of the
 file of crates/ that is named last before it.
 
 Each name that a page cites is one of the sources: a path as `Plan::read` or `laws::orders`, in the crate that it names, or that a section of a page of promises
@@ -25,6 +26,9 @@ QUOTING = [page for page in PAGES if "\n```antt\n" in page.read_text(encoding="u
 # The pages of promises, which name contracts.
 PROMISES = [ROOT / "docs" / name for name in ("GUARANTEES.md", "ENGINE.md", "TESTED.md")]
 WALKS = {"docs/CLOSURES.md": "example_closures", "docs/SERVICE.md": "example_service"}
+# A page is a ten-minute read: so many words outside of code, where a word is what stands between blanks and marks, as `td_feed::stream`.
+MOST_WORDS = 3_000
+WORD = re.compile(r"[A-Za-z0-9']+(?:[-_.:][A-Za-z0-9]+)*")
 # A drawing in a page begins so.
 DRAWN = ("producer ──", "(thread)", "release_in     publishes", "▼", "pool: the hall", "▲", "workers (a thread")
 
@@ -263,11 +267,20 @@ def mistakes_of_contracts(page, sources):
                     yield f"{place(found)}: a contract {name} stands nowhere in the sources"
 
 
+def mistakes_of_length():
+    """Pages that no reader ends in ten minutes: with more than MOST_WORDS outside of code."""
+    for page in PAGES:
+        text = re.sub(r"(?ms)^```.*?^```", "", page.read_text(encoding="utf-8"))
+        words = sum(len(WORD.findall(line)) for line in text.splitlines() if not line.startswith("    "))
+        if words > MOST_WORDS:
+            yield f"{page.relative_to(ROOT)}: {words} words outside of code, and {MOST_WORDS} are a ten-minute read"
+
+
 def main():
     if sys.argv[1:] == ["--write"]:
         return write_definitions()
     sources = Sources()
-    wrong = [*mistakes_of_links(), *mistakes_of_walks(), *mistakes_of_definitions(), *mistakes_of_names(sources),
+    wrong = [*mistakes_of_length(), *mistakes_of_links(), *mistakes_of_walks(), *mistakes_of_definitions(), *mistakes_of_names(sources),
              *(mistake for page in PROMISES for mistake in mistakes_of_contracts(page, sources))]
     if wrong:
         fail("\n".join(wrong))
