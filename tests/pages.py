@@ -7,8 +7,8 @@
 No page has more than 3,000 words outside of code. Each link of a page leads to a file, and to a heading of it where it names one.
 
 Each indented line of docs/CLOSURES.md and docs/SERVICE.md is a line of the crate that the page walks through (of its sources, its definitions, or what it
-prints); `..` stands for lines that are left out. Of a page that quotes definitions (docs/MEANING.md, STEPS.md and THEOREM.md) each block, from a line of three back ticks to the next, is whole definitions, word for word, of the
-file of crates/ that is named last before it.
+prints); `..` stands for lines that are left out. Of a page that quotes definitions (docs/MEANING.md, STEPS.md and THEOREM.md) each block, from a line of three
+back ticks to the next, is whole definitions, word for word, of the file of crates/ that is named last before it.
 
 Each name that a page cites is one of the sources: a path as `Plan::read` or `laws::orders`, in the crate that it names, or that a section of a page of promises
 is of (docs/GUARANTEES.md, ENGINE.md and TESTED.md); each word of code with `_` or a capital inside; each file. In a page of promises so is each name behind
