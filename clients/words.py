@@ -109,6 +109,8 @@ def count_words(folder, files, td):
         subprocess.run([td, "format", new, plan, *map(str, (RECORDS, EPOCHS, WORDS))], check=True, pass_fds=[lock])
         new.replace(disk)
     dictionary, table = Dictionary(folder / "words"), sqlite3.connect(folder / "counts")
+    # (what is stored stays stored, also where the power goes at once: a cut may follow)
+    table.execute("pragma synchronous = extra")
     table.execute("create table if not exists counts (key integer primary key, count integer, epoch integer)")
     if table.execute("select key from counts where key > ?", (len(dictionary.keys),)).fetchone():
         raise Stopped(f"{folder / 'words'} lacks words that are counted")
