@@ -8,7 +8,7 @@ from lib import ROOT
 
 # The files that may be tracked, each kind in its place, and how many bytes one of them and all together may have.
 TRACKED = re.compile(r"""
-    README\.md|CHANGELOG\.md|LICENSE-\w+|HANDLES|crates\.txt|check|build|install|\.gitignore|\.ci/run
+    README\.md|CHANGELOG\.md|LICENSE-\w+|HANDLES|crates\.txt|check|build|install|release|\.gitignore|\.ci/run
     |crates/\w+/(src/.+\.rt|(specs|proofs)/.+\.antt|must-fail/[^/]+\.(edit|md)|stdin|stdout|args|status|data/.+)
     |docs/([^/]+\.(md|svg|dot|txt)|draw\.py)|rows/([^/]+\.txt|README\.md)|(bench|tests)/[^/]+\.(py|rattle|rs|c)|bench/(all|history\.tsv)
     |examples/([^/]+\.(td|out)|README\.md|closures/[^/]+\.(td|closures|out))|tools/\w+
