@@ -14,7 +14,6 @@ Before that the service gets requests that it must refuse, leave out or not do, 
 
 import collections
 import contextlib
-import os
 import pathlib
 import random
 import signal

@@ -5,16 +5,17 @@
 
 Of a program without td.proof, or with one that is older than it, none is made and none is verified, but with --unproved. With td.proof `verify` says what
 stands there. Each link of a page of a release leads to a file, and `verify` leaves no file behind. It must fail where an output differs, where a file has
-changed or is lacking, and where the program has another logic than td.proof names. A td.proof that does not come from ./build is written here for that."""
+changed or is lacking, where the program has another logic than td.proof names, and where libtd.so answers otherwise, if crates/td_c/out/libtd_c.a is
+there. A td.proof that does not come from ./build is written here for that."""
 
 import os
-import pathlib
 import re
 import shutil
 import subprocess
 import sys
 
 import lib
+from library import ARCHIVE, loaded
 
 ROWS = ("rows/batch.txt", "rows/plan.txt", "rows/dump.txt")
 # What a release has, among others; and what no release has.
@@ -97,6 +98,20 @@ def check_failures(folder, td):
     require(verified(folder, "--unproved", "rows/batch.txt")[::3] == (0, 0), "verify fails for what was put back", folder)
 
 
+def check_library(folder):
+    """Verify runs the library of a release, where it could be built: what it says then."""
+    if not (folder / "lib/libtd.so").is_file():
+        (folder / "lib").mkdir(exist_ok=True)
+        if not ARCHIVE.is_file() or not loaded("build", lib.ROOT / "build").link_library(ARCHIVE, folder / "lib"):
+            return "no library"
+    status, said, _, failed = verified(folder, "--unproved", "rows/dump.txt")
+    require((status, failed) == (0, 0) and re.search(r"lib/libtd.so: (\d+) of \1 examples", said), "verify of the library", said)
+    shutil.copy(folder / "examples/count.out", folder / "examples/join.out")
+    status, said, _, failed = verified(folder, "--unproved", "rows/dump.txt")
+    require((status, failed) == (1, 2) and "FAILED: lib/libtd.so: join.td: " in said, "verify of a library that answers otherwise", said)
+    return "its library too"
+
+
 def check_proof(folder, td):
     """With td.proof a release says what stands there; it must be of the program's own logic."""
     version = subprocess.run([td, "--version"], stdin=subprocess.DEVNULL, capture_output=True, text=True).stdout
@@ -125,10 +140,11 @@ def main():
         check_files(folder)
         passed = check_verify(folder)
         check_failures(folder, td)
+        library = check_library(folder)
         shutil.rmtree(folder)
         check_proof(folder, td)
         require(sorted(place.iterdir()) == [td.parent], "there is left", list(place.iterdir()))
-    print(f"a release of {asked.name}: verify says {passed} passed, 0 failed for {len(ROWS)} files of rows, and fails where something is amiss")
+    print(f"a release of {asked.name}: verify says {passed} passed, 0 failed for {len(ROWS)} files of rows, and fails where something is amiss; {library}")
 
 
 main()
