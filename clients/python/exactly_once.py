@@ -50,6 +50,7 @@ class Service:
     """A plan over a database, in which its states stand. What `emit` writes of a request's outputs is of the same transaction."""
 
     def __init__(self, database, text, library, emit=insert_outputs):
+        text = text.encode() if isinstance(text, str) else text
         self.plan, self.emit = Plan(text, library), emit
         # (transactions begin and end where it is said here)
         self.base = sqlite3.connect(database, isolation_level=None, timeout=60)
@@ -59,8 +60,8 @@ class Service:
             self.base.execute("begin immediate")
             for table in TABLES:
                 self.base.execute(table)
-            self.base.execute("insert into standing select ?, 0 where not exists (select * from standing)", (self.plan.text,))
-            if self.base.execute("select plan from standing").fetchone() != (self.plan.text,):
+            self.base.execute("insert into standing select ?, 0 where not exists (select * from standing)", (text,))
+            if self.base.execute("select plan from standing").fetchone() != (text,):
                 raise Mistake(f"{database} is of another plan")
 
     def put(self, request, records):
