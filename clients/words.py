@@ -11,7 +11,7 @@ files. When it ends with status 0, each word of the files is counted once. The f
 synced before the key is in a batch, so what the disk has under a key is that word's. What a stop left behind the last whole line is cut off at the next start.
 
 **Batches** have the numbers 1, 2, .. in the order of the files, and are the same at each start: those that are on the disk are passed over. A batch has the
-words of 100 lines of one file; where more than 4,096 differ, several batches have them. A record is a word's key, and how often the batch has the word.
+words of 1,000 lines of one file; where more than 4,096 differ, several batches have them. A record is a word's key, and how often the batch has the word.
 
 **The counts** are in FOLDER/counts, a table of sqlite3: a word's key, its count, and the epoch that changed it last. The disk has room for 262,144 words, in
 23 MB; `td copy` makes a larger one."""
@@ -34,7 +34,7 @@ from td import Client, Stopped
 # A running total of each key.
 PLAN = "0 input\n1 fold 40 0\n2 output 1\n"
 # For so many records of an epoch, epochs between two cuts, and words the disk has room. So many lines make a batch.
-RECORDS, EPOCHS, WORDS, LINES = 4096, 64, 1 << 18, 100
+RECORDS, EPOCHS, WORDS, LINES = 4096, 64, 1 << 18, 1000
 # Letters, and apostrophes within them.
 WORD = re.compile(r"[^\W\d_]+(?:['’][^\W\d_]+)*")
 

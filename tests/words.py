@@ -33,7 +33,7 @@ sys.path.insert(0, str(lib.ROOT / "clients"))
 SEED = int(sys.argv[1]) if sys.argv[1:] else 1
 TD = lib.built(pathlib.Path(sys.argv[2]).resolve() if sys.argv[2:] else lib.TD)
 CLIENT = lib.ROOT / "clients/words.py"
-KILLS, KILLS_OF_A_ROUND, LINES, WORDS, SECONDS = 30, 6, 6000, 900, 60
+KILLS, KILLS_OF_A_ROUND, LINES, WORDS, SECONDS = 30, 6, 60000, 900, 60
 # Records of a batch, cells and states of a disk with few cells.
 SHAPE = ("4096", "4", "20000")
 WAYS = ("the stream", "words.py", "both")
@@ -68,7 +68,7 @@ def random_files(folder, made, client):
     words = sorted({random_word(made) for _ in range(WORDS)})
     chances = [1 / rank for rank in range(1, len(words) + 1)]
     many = ["a" + "".join("bcdefghijk"[int(digit)] for digit in str(at)) for at in range(2 * client.RECORDS + 1)]
-    lines = [made.choices(words, chances, k=made.randrange(1, 12)) for _ in range(LINES)]
+    lines = [made.choices(words, chances, k=made.randrange(1, 5)) for _ in range(LINES)]
     few = [made.choices(words, chances, k=made.randrange(1, 9)) for _ in range(client.LINES + 50)]
     each = [(lines, LINES // client.LINES), ([many], 3), (few, 2), (few[:2] + [["late", "words"]], 1)]
     return [File(folder / f"file{at}", made, *of) for at, of in enumerate(each)]
