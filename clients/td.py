@@ -200,6 +200,8 @@ def batches_of(file):
 def table_of(file):
     """What stores outputs in a table of sqlite3, each epoch in one transaction. A key is text there, since it may be above 2^63."""
     table = sqlite3.connect(file)
+    # (by default a loss of power may take the last commit back, which is durable when `store` returns)
+    table.execute("pragma synchronous = extra")
     table.execute("create table if not exists outputs (epoch integer, place integer, vertex integer, key text, value integer, primary key (epoch, place))")
 
     def store(epoch, outputs):
