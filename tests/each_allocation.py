@@ -9,7 +9,7 @@ status 1.
 
 Without files it also runs the commands on disks and plans, and with closures in text: `batch`, `run`, `plan`, `plan --dot`, `format`, `show`, `dump`, `copy`, `upgrade`, `feed` and `stream`. Each
 answers as with ample memory, or as above; a feed or a stream, which may have written a beginning of its lines, then left a disk that tells what these
-say, and the others one that tells what it told, or what they would make of it.
+say, and the others one that tells what it told, or what they would make of it. A format that writes over a disk may leave none.
 
 Then it runs `engine_steps` and `feed_steps` on their rows (rows/steps.txt and rows/pointstamps.txt, and those of rows/keeper.txt,
 rows/groups.txt, rows/requests.txt, rows/threads.txt and rows/feeds.txt whose disk does not stop or fail), where a call that was refused is made once
@@ -103,6 +103,8 @@ ON_FILES = [
 ]
 # Those of them that may change the disk though they are refused, but not what it tells, but to what they would make of it.
 WRITE = ("format", "upgrade")
+# A format that writes over a disk may leave none.
+GONE = {"format": (None,), "upgrade": ()}
 # The allocations of reading the input hang on its length, so each is filled up to so many bytes more.
 ROOM = 64
 # So many runs in a row that meet no refusal end the count.
@@ -188,7 +190,7 @@ class OnFiles:
             return False
         if not self.feeds:
             return (status, output, errors) == REFUSED and self.shown("new") in (None, self.new) and (
-                self.bytes_of("disk") == self.image if self.words[0] not in WRITE else self.shown("disk") in (self.before, self.after))
+                self.bytes_of("disk") == self.image if self.words[0] not in WRITE else self.shown("disk") in (self.before, self.after, *GONE[self.words[0]]))
         lines, want = output.splitlines(), self.want[1].splitlines()
         if (status, errors) == (0, b""):
             return is_fed_as(lines, want) and self.shown("disk") == self.after
