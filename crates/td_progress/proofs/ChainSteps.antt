@@ -10,7 +10,6 @@ use Rattle.std.specs.Ordering.{nat_cmp}
 use Rattle.td_progress.specs.declared.chain.Cell.{Cell}
 use Rattle.td_progress.specs.Cells.{gaps_of}
 use Rattle.td_progress.specs.Gaps.{Mark, with_gap, with_times, within, first_from, start_of, changed_at, changed_from, minus, plus, with_epoch, without_epoch, nothing, gap_at, times_at, timed, place, AreRising}
-use Rattle.td_progress.specs.Held.{first_alone}
 use Rattle.td_progress.proofs.Counted.{one, none_is_some}
 use Rattle.td_progress.proofs.Gaps.{Gaps, covers_in, covers_before, covers_after, within-cons, le_is, le_not, is_le, not_le, at_is, at_not, is_at_apart}
 
@@ -54,14 +53,6 @@ weaker lo low [] h rising = tt
 weaker lo low (g ∷ gs) h rising = (omega (arith, h, rising.0), rising.1)
 
 -- Places
-pub place_le : (e : ℕ) (gs : Gaps) → place e gs ≤ length gs
-place_le e [] = omega arith
-place_le e (g ∷ gs) = by (nat_lt g.0 e) (place_le e gs)
-  where
-    by : (b : Bool) → place e gs ≤ length gs → cond b (suc (place e gs)) 0 ≤ suc (length gs)
-    by true rest = omega (arith, rest)
-    by false rest = omega arith
-
 pub past_all : (e : ℕ) (gs : Gaps) → is_none (first_from e gs) ≡ true → place e gs ≡ length gs
 past_all e [] h = refl
 past_all e (g ∷ gs) h = by (nat_le e g.0) refl (past_all e gs) h
@@ -70,16 +61,6 @@ past_all e (g ∷ gs) h = by (nat_le e g.0) refl (past_all e gs) h
         → cond (nat_lt g.0 e) (suc (place e gs)) 0 ≡ suc (length gs)
     by true here rest k = absurd (true≢false (sym k))
     by false later rest k = ap (λ b. cond b (suc (place e gs)) 0) (is_le (suc g.0) e (let l = le_not e g.0 later in omega (arith, l))) ∙ ap suc (rest k)
-
-pub at_front : (e : ℕ) (cs : List Cell) (c : Cell) → c ≡ get_or cs 0 c → e ≤ c.epoch → place e (gaps_of cs) ≡ 0
-at_front e [] c is low = refl
-at_front e (x ∷ cs) c is low =
-    let same : c.epoch ≡ x.epoch = ap (λ (y : Cell). y.epoch) is in
-    ap (λ b. cond b (suc (place e (gaps_of cs))) 0) (not_le (suc x.epoch) e (omega (arith, low, same)))
-
-pub alone_front : (cs : List Cell) (c : Cell) → 0 < length cs → c ≡ get_or cs 0 c → first_alone (gaps_of cs) ≡ cond (c.gap == 1) (Some c.epoch) None
-alone_front [] c some is = absurd (omega (arith, some))
-alone_front (x ∷ cs) c some is = sym (ap (λ (y : Cell). cond (y.gap == 1) (Some y.epoch) None) is)
 
 -- the last is no lower than what the epochs rise from
 last_high : (lo i : ℕ) (cs : List Cell) (c : Cell) → AreRising lo (gaps_of cs) → i < length cs → c ≡ get_or cs i c → lo ≤ c.epoch

@@ -1,7 +1,6 @@
 -- What holds others back, over lists of pointstamps.
 use Rattle.std.proofs.Common.{◌≡◌, ℕ, zero, suc, ◌<◌, Bool, true, false, ◌&&◌, List, [], ◌∷◌, ◌++◌, replicate, Contains, refl, sym, ap, ◌∙◌, subst, true≢false, arith, nat_lt}
 use Rattle.std.specs.List.{AllByRecursion}
-use Rattle.td_stamp.specs.Bag.{members}
 use Rattle.td_plan.specs.Lines.{Line}
 use Rattle.td_reach.specs.declared.stamp.Stamp.{Stamp}
 use Rattle.td_reach.specs.Frontier.{Frontier, has_passed}
@@ -13,39 +12,14 @@ module _ {X : Type 0} (P : X → Type 0) where
   all-append [] ys h k = k
   all-append (x ∷ xs) ys h k = (h.0, all-append xs ys h.1 k)
 
-  pub all-left : (xs ys : List X) → AllByRecursion P (xs ++ ys) → AllByRecursion P xs
-  all-left [] ys h = tt
-  all-left (x ∷ xs) ys h = (h.0, all-left xs ys h.1)
-
-  pub all-right : (xs ys : List X) → AllByRecursion P (xs ++ ys) → AllByRecursion P ys
-  all-right [] ys h = h
-  all-right (x ∷ xs) ys h = all-right xs ys h.1
-
   pub all-replicate : (n : ℕ) (x : X) → P x → AllByRecursion P (replicate n x)
   all-replicate zero x h = tt
   all-replicate (suc n) x h = (h, all-replicate n x h)
-
-  pub first-replicate : (n : ℕ) (x : X) → 0 < n → AllByRecursion P (replicate n x) → P x
-  first-replicate zero x some h = absurd (omega (arith, some))
-  first-replicate (suc n) x some h = h.0
-
-  pub all-members : (es : List (X × ℕ)) → AllByRecursion (λ e. P e.0) es → AllByRecursion P (members es)
-  all-members [] h = tt
-  all-members (e ∷ es) h = all-append (replicate e.1 e.0) (members es) (all-replicate e.1 e.0 h.0) (all-members es h.1)
-
-  pub members-all : (es : List (X × ℕ)) → AllByRecursion (λ e. 0 < e.1) es → AllByRecursion P (members es) → AllByRecursion (λ e. P e.0) es
-  members-all [] some h = tt
-  members-all (e ∷ es) some h =
-      (first-replicate e.1 e.0 some.0 (all-left (replicate e.1 e.0) (members es) h), members-all es some.1 (all-right (replicate e.1 e.0) (members es) h))
 
   pub all-has : (xs : List X) (x : X) → AllByRecursion P xs → Contains xs x → P x
   all-has [] x h at = absurd (omega (arith, at.1))
   all-has (y ∷ xs) x h (zero, within, at) = subst P at h.0
   all-has (y ∷ xs) x h (suc k, within, at) = all-has xs x h.1 (k, omega (arith, within), at)
-
-  pub all-if : {Q : X → Type 0} (xs : List X) → ((x : X) → P x → Q x) → AllByRecursion P xs → AllByRecursion Q xs
-  all-if [] f h = tt
-  all-if (x ∷ xs) f h = (f x h.0, all-if xs f h.1)
 
   pub has-all : (xs : List X) → ((x : X) → Contains xs x → P x) → AllByRecursion P xs
   has-all [] h = tt

@@ -3,7 +3,6 @@ use Rattle.std.proofs.Common.{◌≡◌, ℕ, suc, ◌+◌, ◌-◌, ◌^◌, �
 use Rattle.std.proofs.lemmas.Bool.Decides.{nat_tests}
 use Rattle.std.proofs.Math.Nat.{min-eq_left}
 use Rattle.std.proofs.lemmas.List.Sums.{sum_by-cons, count_by-le-length}
-use Rattle.std.specs.List.{AllByRecursion}
 use Rattle.std.specs.Map.{lookup, remove_entry}
 use Rattle.std.specs.BTreeMap.{is_at}
 use Rattle.std.specs.Ordering.{nat_cmp}
@@ -211,14 +210,6 @@ within-cons lo f g gs = sum_by-cons (λ k. one (nat_le lo k.0 && nat_le k.0 f)) 
 
 pub within_le : (lo f : ℕ) (gs : Gaps) → within lo f gs ≤ length gs
 within_le lo f gs = count_by-le-length (λ k. nat_le lo k.0 && nat_le k.0 f) gs
-
-pub within_all : (lo f : ℕ) (gs : Gaps) → AllByRecursion (λ (g : ℕ × Mark). lo ≤ g.0) gs → AllByRecursion (λ (g : ℕ × Mark). g.0 ≤ f) gs → within lo f gs ≡ length gs
-within_all lo f [] low high = refl
-within_all lo f (g ∷ gs) low high =
-    let a = within-cons lo f g gs in
-    let b = covers_in g.0 lo f low.0 high.0 in
-    let rest = within_all lo f gs low.1 high.1 in
-    omega (arith, a, b, rest)
 
 pub within_splits : (lo e f : ℕ) (gs : Gaps) → lo ≤ e → e < f → within lo e gs + within (suc e) f gs ≡ within lo f gs
 within_splits lo e f [] low high = refl

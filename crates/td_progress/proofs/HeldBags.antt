@@ -1,8 +1,8 @@
 -- The pointstamps that are held, as one comes and goes.
-use Rattle.std.proofs.Common.{◌≡◌, ℕ, suc, ◌+◌, Bool, true, false, ◌&&◌, cond, List, [], ◌∷◌, ◌++◌, map, length, Some, is_some, unwrap_or, refl, sym, ap, ◌∙◌, true≢false, arith, nat_lt, nat_le}
+use Rattle.std.proofs.Common.{◌≡◌, ℕ, suc, ◌+◌, Bool, true, false, ◌&&◌, cond, List, [], ◌∷◌, map, length, Some, is_some, unwrap_or, refl, sym, ap, ◌∙◌, true≢false, arith}
 use Rattle.std.proofs.lemmas.List.Sums.{sum_by-cons}
 use Rattle.std.specs.List.{AllByRecursion, IsDistinct}
-use Rattle.std.specs.Map.{keys_of, lookup, remove_entry}
+use Rattle.std.specs.Map.{keys_of, lookup}
 use Rattle.std.specs.BTreeMap.{is_at}
 use Rattle.std.specs.Ordering.{nat_cmp}
 use Rattle.std.specs.Bool.{Decides}
@@ -12,105 +12,16 @@ use Rattle.std.proofs.lemmas.Map.Entries.{none_past_head}
 use Rattle.td_plan.specs.Lines.{Line}
 use Rattle.td_reach.specs.declared.stamp.Stamp.{Stamp}
 use Rattle.td_progress.specs.Bag.{is_stamp, occurrences}
-use Rattle.td_progress.specs.Gaps.{Mark, with_gap, has_epoch, changed_from, plus, minus, with_epoch, without_epoch, gap_at, AreGaps}
-use Rattle.td_progress.specs.Held.{at, class_of, held, total, chain_at, with_stamp, without_stamp, shifted, IsChain}
+use Rattle.td_progress.specs.Gaps.{Mark, has_epoch, with_epoch, without_epoch, AreGaps}
+use Rattle.td_progress.specs.Held.{at, class_of, held, total, chain_at, with_stamp, without_stamp, IsChain}
 use Rattle.td_progress.proofs.Same.{Decides-is_stamp, is_stamp-equiv}
 use Rattle.td_progress.proofs.Counted.{one, occurrences-cons, occurrences-append}
 use Rattle.td_progress.proofs.Gaps.{Gaps, at_is, at_not, has_above, length_with, length_without}
-use Rattle.td_progress.proofs.Between.{Chains, HasEpoch, all_shifted}
+use Rattle.td_progress.proofs.Between.{Chains, HasEpoch}
 
 -- the pointstamps of one chain
 abbrev pub stamps_of : Stamp → Gaps → List Stamp
 stamps_of k gs = map (λ g. at g.0 k) gs
-
-stamps_changed : (k : Stamp) (e : ℕ) (h : ℕ → ℕ) (gs : Gaps) → stamps_of k (changed_from e h gs) ≡ stamps_of k gs
-stamps_changed k e h [] = refl
-stamps_changed k e h (g ∷ gs) = by (nat_le e g.0) (stamps_changed k e h gs)
-  where
-    by : (b : Bool) → stamps_of k (changed_from e h gs) ≡ stamps_of k gs → stamps_of k (cond b ((g.0, with_gap h g.1) ∷ gs) (g ∷ changed_from e h gs)) ≡ stamps_of k (g ∷ gs)
-    by true rest = refl
-    by false rest = ap (λ xs. at g.0 k ∷ xs) rest
-
-pub held_shifted : (plan : List Line) (ks : Chains) (c : Stamp) (e : ℕ) (h : ℕ → ℕ) → held (all_shifted plan c e h ks) ≡ held ks
-held_shifted plan [] c e h = refl
-held_shifted plan (k ∷ ks) c e h = (λ i. here i ++ held_shifted plan ks c e h i)
-  where
-    by : (b : Bool) → stamps_of k.0 (cond b (changed_from e h k.1) k.1) ≡ stamps_of k.0 k.1
-    by true = stamps_changed k.0 e h k.1
-    by false = refl
-
-    here : stamps_of k.0 (shifted plan c e h k).1 ≡ stamps_of k.0 k.1
-    here = by _
-
-module _ (q : Stamp) where
-  occurs_with : (k : Stamp) (e : ℕ) (n : Mark) (gs : Gaps) → occurrences q (stamps_of k (with_epoch e n gs)) ≡ one (is_stamp q (at e k)) + occurrences q (stamps_of k gs)
-  occurs_with k e n [] = occurrences-cons q (at e k) []
-  occurs_with k e n (g ∷ gs) = by (nat_lt e g.0) (occurs_with k e n gs)
-    where
-      by : (b : Bool) → occurrences q (stamps_of k (with_epoch e n gs)) ≡ one (is_stamp q (at e k)) + occurrences q (stamps_of k gs) → occurrences q (stamps_of k (cond b ((e, n) ∷ (g.0, with_gap (minus n.gap) g.1) ∷ gs) (g ∷ with_epoch e n gs))) ≡ one (is_stamp q (at e k)) + occurrences q (stamps_of k (g ∷ gs))
-      by true b = occurrences-cons q (at e k) (stamps_of k (g ∷ gs))
-      by false b =
-          let a = occurrences-cons q (at g.0 k) (stamps_of k (with_epoch e n gs)) in
-          let c = occurrences-cons q (at g.0 k) (stamps_of k gs) in
-          omega (arith, a, b, c)
-
-  pub bag_with : (ks : Chains) (c : Stamp) (e : ℕ) (n : Mark) → occurrences q (held (with_stamp c e n ks)) ≡ one (is_stamp q (at e c)) + occurrences q (held ks)
-  bag_with [] c e n = occurrences-cons q (at e c) []
-  bag_with (k ∷ ks) c e n = by (is_stamp c k.0) refl (bag_with ks c e n)
-    where
-      by : (b : Bool) → is_stamp c k.0 ≡ b → occurrences q (held (with_stamp c e n ks)) ≡ one (is_stamp q (at e c)) + occurrences q (held ks) → occurrences q (held (cond b ((k.0, with_epoch e n k.1) ∷ ks) (k ∷ with_stamp c e n ks))) ≡ one (is_stamp q (at e c)) + occurrences q (held (k ∷ ks))
-      by true same rest =
-          let a = occurrences-append q (stamps_of k.0 (with_epoch e n k.1)) (held ks) in
-          let b = occurs_with k.0 e n k.1 in
-          let d = occurrences-append q (stamps_of k.0 k.1) (held ks) in
-          let is = ap (λ s. one (is_stamp q (at e s))) ((Decides-is_stamp c k.0).0 same) in
-          omega (arith, a, b, d, is)
-      by false apart b =
-          let a = occurrences-append q (stamps_of k.0 k.1) (held (with_stamp c e n ks)) in
-          let d = occurrences-append q (stamps_of k.0 k.1) (held ks) in
-          omega (arith, a, b, d)
-
-  occurs_removed : (k : Stamp) (e : ℕ) (gs : Gaps) → HasEpoch e gs
-      → occurrences q (stamps_of k gs) ≡ one (is_stamp q (at e k)) + occurrences q (stamps_of k (remove_entry (is_at (nat_cmp e)) gs))
-  occurs_removed k e [] there = absurd (true≢false (sym there))
-  occurs_removed k e (g ∷ gs) there = by (is_at (nat_cmp e) g.0) refl (occurs_removed k e gs)
-    where
-      by : (b : Bool) → is_at (nat_cmp e) g.0 ≡ b
-          → (HasEpoch e gs → occurrences q (stamps_of k gs) ≡ one (is_stamp q (at e k)) + occurrences q (stamps_of k (remove_entry (is_at (nat_cmp e)) gs)))
-          → occurrences q (stamps_of k (g ∷ gs)) ≡ one (is_stamp q (at e k)) + occurrences q (stamps_of k (cond b gs (g ∷ remove_entry (is_at (nat_cmp e)) gs)))
-      by true same rest =
-          let a = occurrences-cons q (at g.0 k) (stamps_of k gs) in
-          let b = ap (λ x. one (is_stamp q (at x k))) (at_is e g.0 same) in
-          omega (arith, a, b)
-      by false apart rest =
-          let a = occurrences-cons q (at g.0 k) (stamps_of k gs) in
-          let b = rest (sym (ap (λ b. is_some (cond b (Some g.1) (lookup (is_at (nat_cmp e)) gs))) apart) ∙ there) in
-          let c = occurrences-cons q (at g.0 k) (stamps_of k (remove_entry (is_at (nat_cmp e)) gs)) in
-          omega (arith, a, b, c)
-
-  occurs_without : (k : Stamp) (e : ℕ) (gs : Gaps) → HasEpoch e gs → occurrences q (stamps_of k gs) ≡ one (is_stamp q (at e k)) + occurrences q (stamps_of k (without_epoch e gs))
-  occurs_without k e gs there =
-      occurs_removed k e gs there
-      ∙ ap (λ xs. one (is_stamp q (at e k)) + occurrences q xs) (sym (stamps_changed k e (plus (gap_at e gs)) (remove_entry (is_at (nat_cmp e)) gs)))
-
-  pub bag_without : (ks : Chains) (c : Stamp) (e : ℕ) → HasEpoch e (chain_at c ks) → occurrences q (held ks) ≡ one (is_stamp q (at e c)) + occurrences q (held (without_stamp c e ks))
-  bag_without [] c e there = absurd (true≢false (sym there))
-  bag_without (k ∷ ks) c e there = by (is_stamp c k.0) refl (bag_without ks c e)
-    where
-      by : (b : Bool) → is_stamp c k.0 ≡ b
-          → (HasEpoch e (chain_at c ks) → occurrences q (held ks) ≡ one (is_stamp q (at e c)) + occurrences q (held (without_stamp c e ks))) → occurrences q (held (k ∷ ks)) ≡ one (is_stamp q (at e c)) + occurrences q (held (cond b ((k.0, without_epoch e k.1) ∷ ks) (k ∷ without_stamp c e ks)))
-      by true same rest =
-          let own : HasEpoch e k.1 = sym (ap (λ b. is_some (lookup (is_at (nat_cmp e)) (unwrap_or (cond b (Some k.1) (lookup (is_stamp c) ks)) []))) same) ∙ there in
-          let a = occurrences-append q (stamps_of k.0 k.1) (held ks) in
-          let b = occurs_without k.0 e k.1 own in
-          let d = occurrences-append q (stamps_of k.0 (without_epoch e k.1)) (held ks) in
-          let is = ap (λ s. one (is_stamp q (at e s))) ((Decides-is_stamp c k.0).0 same) in
-          omega (arith, a, b, d, is)
-      by false apart rest =
-          let a = occurrences-append q (stamps_of k.0 k.1) (held ks) in
-          let b = rest (sym (ap (λ b. is_some (lookup (is_at (nat_cmp e)) (unwrap_or (cond b (Some k.1) (lookup (is_stamp c) ks)) []))) apart) ∙ there) in
-          let d = occurrences-append q (stamps_of k.0 k.1) (held (without_stamp c e ks)) in
-          omega (arith, a, b, d)
 
 -- how many there are
 pub total_with : (ks : Chains) (c : Stamp) (e : ℕ) (n : Mark) → total (with_stamp c e n ks) ≡ suc (total ks)

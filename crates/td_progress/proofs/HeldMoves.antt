@@ -1,5 +1,5 @@
 -- A pointstamp comes, or goes: what is held stays as it is to be.
-use Rattle.std.proofs.Common.{◌≡◌, ℕ, suc, ◌+◌, ◌^◌, ◌<◌, Bool, true, false, cond, List, [], ◌∷◌, ◌++◌, map, length, Some, is_some, unwrap_or, ◌⊎◌, inl, inr, refl, sym, ap, ◌∙◌, subst, arith, nat_le}
+use Rattle.std.proofs.Common.{◌≡◌, ℕ, suc, ◌+◌, ◌^◌, ◌<◌, Bool, true, false, cond, List, [], ◌∷◌, length, Some, is_some, unwrap_or, ◌⊎◌, inl, inr, refl, sym, ap, ◌∙◌, subst, arith, nat_le}
 use Rattle.std.proofs.lemmas.List.Sums.{sum_by-cons}
 use Rattle.std.specs.List.{AllByRecursion, IsDistinct}
 use Rattle.std.specs.Map.{keys_of, lookup, remove_entry}
@@ -10,16 +10,15 @@ use Rattle.td_plan.specs.Lines.{Line}
 use Rattle.td_reach.specs.declared.stamp.Stamp.{Stamp}
 use Rattle.td_reach.specs.Paths.{IsOf}
 use Rattle.td_reach.specs.Tables.{could_test}
-use Rattle.td_progress.specs.Bag.{is_stamp, occurrences, IsSameBag}
+use Rattle.td_progress.specs.Bag.{is_stamp, occurrences}
 use Rattle.td_progress.specs.Gaps.{Mark, with_gap, has_epoch, within, start_of, changed_from, plus, minus}
-use Rattle.td_progress.specs.Held.{at, class_of, held, total, between, chain_at, with_stamp, without_stamp, IsChain, IsLaidOut, AreHeld}
-use Rattle.td_progress.proofs.Counted.{one, occurrences-cons, stands}
-use Rattle.td_progress.proofs.Free.{all-has}
+use Rattle.td_progress.specs.Held.{class_of, held, total, between, chain_at, with_stamp, without_stamp, IsChain, IsLaidOut, AreHeld}
+use Rattle.td_progress.proofs.Counted.{one}
 use Rattle.td_progress.proofs.Gaps.{Gaps, gaps_same}
 use Rattle.td_progress.proofs.Between.{Chains, HasEpoch, HasNot, between_le, between_splits, between-cons, between_with, between_without, between_shifted, total_shifted, keys_shifted, all_shifted, counts_one, kept_with, kept_without, kept_raised, kept_lowered}
-use Rattle.td_progress.proofs.HeldBags.{held_shifted, bag_with, bag_without, total_with, total_without, occurs_held}
+use Rattle.td_progress.proofs.HeldBags.{total_with, total_without, occurs_held}
 use Rattle.td_progress.proofs.Laid.{laid_come, laid_go, laid_removed}
-use Rattle.td_progress.proofs.HeldCounts.{all_of_plan, other_epoch, one_is}
+use Rattle.td_progress.proofs.HeldCounts.{other_epoch, one_is}
 
 one_not : (b : Bool) → one b ≡ 0 → b ≡ false
 one_not true e = absurd (omega (arith, e))
@@ -55,19 +54,10 @@ module _ (plan : List Line) (ks : Chains) (kept : AreHeld plan ks) (p : Stamp) w
           (kept_with plan (between plan ks) (λ d. between_splits plan ks d) ks (class_of p) p.time.epoch n (other_epoch plan p 0 of_plan) refl is (new_epoch none) kept.each);
     }
 
-    pub come_bag : IsSameBag (held come_to) (p ∷ held ks)
-    come_bag q =
-        ap (occurrences q) (held_shifted plan (with_stamp (class_of p) p.time.epoch n ks) (class_of p) p.time.epoch (plus 1))
-        ∙ bag_with q ks (class_of p) p.time.epoch n
-        ∙ sym (occurrences-cons q p (held ks))
-
   -- One goes
   module _ (some : 0 < occurrences p (held ks)) where
     pub there : HasEpoch p.time.epoch (chain_at (class_of p) ks)
     there = one_is _ (subst (λ n. 0 < n) (occurs_held plan (between plan ks) p ks kept.once kept.each) some)
-
-    pub go_of_plan : IsOf plan (class_of p)
-    go_of_plan = other_epoch plan p 0 (all-has (IsOf plan) (held ks) p (all_of_plan plan (between plan ks) ks kept.each) (stands p (held ks) some))
 
     abbrev pub lowered : Chains
     lowered = all_shifted plan (class_of p) p.time.epoch (minus 1) ks
@@ -127,25 +117,10 @@ module _ (plan : List Line) (ks : Chains) (kept : AreHeld plan ks) (p : Stamp) w
     pub go_laid : IsLaidOut plan (keys_of go_to)
     go_laid = laid_go plan (class_of p) p.time.epoch (minus 1) ks kept.laid
 
-    pub go_bag : IsSameBag (held ks) (p ∷ held go_to)
-    go_bag q =
-        ap (occurrences q) (sym (held_shifted plan ks (class_of p) p.time.epoch (minus 1)))
-        ∙ bag_without q lowered (class_of p) p.time.epoch there_lowered
-        ∙ sym (occurrences-cons q p (held go_to))
-
 -- An empty chain is let go
 module _ (c : Stamp) where
   abbrev pub without_chain : Chains → Chains
   without_chain ks = remove_entry (is_stamp c) ks
-
-  pub held_emptied : (ks : Chains) → chain_at c ks ≡ [] → held (without_chain ks) ≡ held ks
-  held_emptied [] none = refl
-  held_emptied (k ∷ ks) none = by (is_stamp c k.0) (held_emptied ks) none
-    where
-      by : (b : Bool) → (chain_at c ks ≡ [] → held (without_chain ks) ≡ held ks) → unwrap_or (cond b (Some k.1) (lookup (is_stamp c) ks)) [] ≡ []
-          → held (cond b ks (k ∷ without_chain ks)) ≡ held (k ∷ ks)
-      by true rest e = ap (λ (gs : Gaps). map (λ g. at g.0 k.0) gs ++ held ks) (sym e)
-      by false rest e = ap (λ xs. map (λ g. at g.0 k.0) k.1 ++ xs) (rest e)
 
   pub total_emptied : (ks : Chains) → chain_at c ks ≡ [] → total (without_chain ks) ≡ total ks
   total_emptied [] none = refl
@@ -204,10 +179,6 @@ abbrev pub IsLeft : Stamp → Chains → Chains → Type 0
 IsLeft c ks js = (js ≡ ks) ⊎ ((0 < depth c.time) × (chain_at c ks ≡ []) × (js ≡ remove_entry (is_stamp c) ks))
 
 module _ (plan : List Line) (c : Stamp) (ks js : Chains) where
-  pub left_held : IsLeft c ks js → held js ≡ held ks
-  left_held (inl e) = ap held e
-  left_held (inr h) = ap held h.2 ∙ held_emptied c ks h.1
-
   pub left_total : IsLeft c ks js → total js ≡ total ks
   left_total (inl e) = ap total e
   left_total (inr h) = ap total h.2 ∙ total_emptied c ks h.1

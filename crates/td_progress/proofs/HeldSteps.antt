@@ -8,8 +8,8 @@ use Rattle.td_plan.specs.Lines.{Line}
 use Rattle.td_reach.specs.declared.stamp.Stamp.{Stamp}
 use Rattle.td_reach.specs.Tables.{could_test}
 use Rattle.td_progress.specs.Bag.{is_stamp}
-use Rattle.td_progress.specs.Gaps.{Mark, has_epoch, timed, first_from, changed_from, with_epoch, without_epoch}
-use Rattle.td_progress.specs.Held.{with_stamp, without_stamp, timed_stamp, shifted_at, is_ahead, chain_at, gaps_at, IsPosition}
+use Rattle.td_progress.specs.Gaps.{Mark, timed, first_from, changed_from, with_epoch, without_epoch}
+use Rattle.td_progress.specs.Held.{with_stamp, without_stamp, timed_stamp, shifted_at, changed_in, is_ahead, chain_at, gaps_at, IsPosition}
 use Rattle.td_progress.proofs.Same.{Decides-is_stamp, is_stamp-equiv}
 use Rattle.td_progress.proofs.Counted.{none_is_some}
 use Rattle.td_progress.proofs.Gaps.{Gaps, le_is}
@@ -63,15 +63,6 @@ module _ (c : Stamp) (e : ℕ) where
       by true rest i = ap (λ g. (k.0, without_epoch e g) ∷ es) (same_gaps i)
       by false rest i = ap (λ r. k ∷ r) (rest i)
 
-  pub none_without : (es : Chains) → None ≡ lookup (is_stamp c) es → es ≡ without_stamp c e es
-  none_without [] h = refl
-  none_without (k ∷ es) h = by (is_stamp c k.0) (none_without es) h
-    where
-      by : (b : Bool) → (None ≡ lookup (is_stamp c) es → es ≡ without_stamp c e es) → None ≡ cond b (Some k.1) (lookup (is_stamp c) es)
-          → k ∷ es ≡ cond b ((k.0, without_epoch e k.1) ∷ es) (k ∷ without_stamp c e es)
-      by true rest i = absurd (none_is_some i)
-      by false rest i = ap (λ r. k ∷ r) (rest i)
-
 both_hold : (a b : Bool) → (a && b) ≡ true → b ≡ true
 both_hold true b h = h
 both_hold false b h = absurd (true≢false (sym h))
@@ -99,6 +90,20 @@ module _ (plan : List Line) (c : Stamp) (e : ℕ) (f : ℕ → ℕ) where
       by true None is h = sym (none_from e f k.1 is)
       by true (Some x) is h = absurd (true≢false h)
   not_shifted (k ∷ es) (suc i) ahead = ap (λ r. k ∷ r) (not_shifted es i ahead)
+
+module _ (e : ℕ) (f : ℕ → ℕ) where
+  pub set_changed : (es : Chains) (i : ℕ) (v : Gaps) → Some v ≡ slice_get (values_of es) i → set_value_at es i (changed_from e f v) ≡ changed_in e f i es
+  set_changed [] i v at = absurd (no_some at)
+  set_changed (k ∷ es) zero v at = ap (λ g. (k.0, changed_from e f g) ∷ es) (same_gaps at)
+  set_changed (k ∷ es) (suc i) v at = ap (λ r. k ∷ r) (set_changed es i v at)
+
+  pub none_changed : (es : Chains) (i : ℕ) → None ≡ slice_get (values_of es) i → es ≡ changed_in e f i es
+  none_changed [] i at = refl
+  none_changed (k ∷ es) zero at = absurd (none_is_some at)
+  none_changed (k ∷ es) (suc i) at = ap (λ r. k ∷ r) (none_changed es i at)
+
+pub same_position : (k d : Stamp) (es ks : Chains) (o : Option ℕ) → k ≡ d → es ≡ ks → IsPosition d ks o → IsPosition k es o
+same_position k d es ks o is view at = subst (λ s. IsPosition s es o) (sym is) (subst (λ js. IsPosition d js o) (sym view) at)
 
 -- At a position: the place and counters of a key stand there once
 module _ (c : Stamp) where
@@ -185,9 +190,6 @@ module _ (c : Stamp) where
   keys_set [] i v = refl
   keys_set (k ∷ es) zero v = refl
   keys_set (k ∷ es) (suc i) v = ap (λ r. k.0 ∷ r) (keys_set es i v)
-
-  pub not_there : (e : ℕ) (es : Chains) → lookup (is_stamp c) es ≡ None → has_epoch e (chain_at c es) ≡ true → ⊥
-  not_there e es none there = true≢false (sym there ∙ ap (λ o. has_epoch e (unwrap_or o [])) none)
 
   pub none_at : (es : Chains) → IsPosition c es None → None ≡ lookup (is_stamp c) es
   none_at es at = sym at

@@ -15,3 +15,4 @@ pub mod HeldMoves
 pub mod Marked
 pub mod Times
 pub mod Free
+pub mod Outside

@@ -1,17 +1,16 @@
 -- The places of a plan by number, and the rows of those that lead to one.
-use Rattle.std.proofs.Common.{◌≡◌, ℕ, zero, suc, ◌+◌, ◌-◌, ◌^◌, ◌<◌, Bool, true, false, cond, List, [], ◌∷◌, ◌++◌, length, map, filter, slice_get, Some, refl, ap, ◌∙◌, arith, nat_lt}
-use Rattle.std.specs.Prelude.{min}
+use Rattle.std.proofs.Common.{◌≡◌, ℕ, zero, suc, ◌+◌, ◌-◌, ◌<◌, Bool, true, false, cond, List, [], ◌∷◌, ◌++◌, length, map, filter, slice_get, Some, refl, ap, ◌∙◌, arith, nat_lt}
 use Rattle.std.specs.List.{range_with_len}
 use Rattle.std.proofs.lemmas.Bool.Decides.{nat_tests}
 use Rattle.std.proofs.lemmas.Option.{slice_get-get_or}
 use Rattle.std.proofs.lemmas.List.FromFn.{length-map-range_with_len, get_or-map-range_with_len}
 use Rattle.std.proofs.lemmas.List.Elements.{filter-append}
 use Rattle.td_plan.specs.Lines.{Line}
-use Rattle.td_plan.specs.Blocks.{vertices, edges}
+use Rattle.td_plan.specs.Blocks.{vertices}
 use Rattle.td_reach.specs.declared.stamp.Place.{Place}
 use Rattle.td_reach.specs.declared.stamp.Place.TheVariants as places
 use Rattle.td_reach.specs.Paths.{HasPlace}
-use Rattle.td_progress.specs.Ways.{places_of, place_at, number_of}
+use Rattle.td_progress.specs.Ways.{place_at, number_of}
 use Rattle.td_progress.proofs.Counted.{none_is_some}
 
 -- what stands within a list
@@ -60,15 +59,3 @@ module _ (plan : List Line) where
 
       is : nat_lt n (length (vertices plan)) ≡ false
       is = grind (arith, nat_tests)
-
-  -- a number of 8 bits
-  abbrev pub IsByte : Place → Type 0
-  IsByte (places.Vertex v) = v < 2 ^ 8
-  IsByte (places.Edge e) = e < 2 ^ 8
-
-  pub number_within : (place : Place) → IsByte place → HasPlace plan place → number_of plan place < places_of plan
-  number_within (places.Vertex v) byte h = omega (arith, h)
-  number_within (places.Edge e) byte h =
-      let long = within_some (edges plan) e h.0 h.1 in
-      let least : e < min (length (edges plan)) 256 = grind (arith, long, byte) in
-      omega (arith, least)

@@ -1,5 +1,5 @@
 -- The equality of pointstamps, as it is derived and as it is defined, tells different ones apart.
-use Rattle.std.proofs.Common.{◌≡◌, ℕ, Bool, true, false, ◌&&◌, ◌==◌, List, reverse, refl, sym, ap, ◌∙◌, nat_eq, true≢false, subst, not}
+use Rattle.std.proofs.Common.{◌≡◌, ℕ, Bool, true, false, ◌&&◌, ◌==◌, List, reverse, refl, sym, ap, ◌∙◌, nat_eq, true≢false, subst}
 use Rattle.std.specs.Bool.{Decides}
 use Rattle.std.specs.Cmp.{IsEquivalence}
 use Rattle.std.specs.Cmp.Lexicographic.{pointwise}
@@ -97,17 +97,3 @@ is_stamp-equiv = record {
   symm = λ p q. same_from_decides _ _ (Decides-is_stamp p q) (let d = Decides-is_stamp q p in (λ e. sym (d.0 e), λ e. d.1 (sym e)));
   congr = λ p q z e. subst (same_by z p) ((Decides-is_stamp p q).0 e) refl;
 }
-
-pub equal_where_same : (p q : Stamp) → same p q ≡ true → p ≡ q
-equal_where_same p q e = (Decides-is_stamp p q).0 (sym (same-is p q) ∙ e)
-
-pub not_false : (b : Bool) → not b ≡ false → b ≡ true
-not_false true e = refl
-not_false false e = absurd (true≢false e)
-
-not_true : (b : Bool) → not b ≡ true → b ≡ true → ⊥
-not_true true e same = true≢false (sym e)
-not_true false e same = true≢false (sym same)
-
-pub apart_where_not_same : (p q : Stamp) → not (same p q) ≡ true → p ≡ q → ⊥
-apart_where_not_same p q e equal = not_true (same p q) e (same-is p q ∙ (Decides-is_stamp p q).1 equal)

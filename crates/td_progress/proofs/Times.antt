@@ -418,6 +418,14 @@ pub class_of_plan : (plan : List Line) (ks : Chains) → AreHeld plan ks → (p 
 class_of_plan plan ks kept p some =
     other_epoch plan p 0 (all-has (IsOf plan) (all_marked ks) p (all_of_plan_marked plan (between plan ks) ks kept.each) (stands p (all_marked ks) some))
 
+-- one that occurs stands there
+pub stands_where : (e : ℕ) (gs : Gaps) → 0 < times_at e gs → HasEpoch e gs
+stands_where e gs some = by (lookup (is_at (nat_cmp e)) gs) some
+  where
+    by : (o : Option Mark) → 0 < (unwrap_or o nothing).times → is_some o ≡ true
+    by None h = absurd (omega (arith, h))
+    by (Some m) h = refl
+
 -- one that occurs n times more, and less
 module _ (q p : Stamp) (n : ℕ) (ks js : Chains) (there : HasEpoch p.time.epoch (chain_at (class_of p) ks)) where
   splits : (b : Bool) (t : ℕ) → if_so b (t + n) ≡ if_so b t + if_so b n

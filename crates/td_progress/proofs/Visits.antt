@@ -1,9 +1,10 @@
 -- A change visits the places that lead to its own, or to which it leads, and what stands behind all places: the others count for
 -- nothing, and stay as they are.
-use Rattle.std.proofs.Common.{◌≡◌, ℕ, zero, suc, ◌+◌, ◌-◌, ◌<◌, ◌≤◌, Bool, true, false, cond, List, [], ◌∷◌, ◌++◌, length, map, filter, fold, slice_get, Some, is_some, unwrap_or, take, slice_index_or, refl, sym, ap, ◌∙◌, subst, true≢false, arith}
+use Rattle.std.proofs.Common.{◌≡◌, ℕ, zero, suc, ◌+◌, ◌-◌, ◌<◌, ◌≤◌, Bool, true, false, cond, List, [], ◌∷◌, ◌++◌, length, map, filter, fold, slice_get, Option, Some, None, is_some, unwrap_or, take, slice_index_or, refl, sym, ap, ◌∙◌, subst, true≢false, arith}
 use Rattle.std.proofs.lemmas.List.Sums.{sum_by-cons, sum_by_push, sum_by_more, sum_by-take-le, fold-append, fold_more}
 use Rattle.std.specs.List.{AllByRecursion, range_with_len, sum_by}
 use Rattle.std.specs.Map.{keys_of}
+use Rattle.td_stamp.specs.Time.{depth}
 use Rattle.td_plan.specs.Lines.{Line}
 use Rattle.td_reach.specs.declared.stamp.Place.{Place}
 use Rattle.td_reach.specs.declared.stamp.Stamp.{Stamp}
@@ -12,8 +13,8 @@ use Rattle.td_reach.specs.Tables.{could_test, leads_test}
 use Rattle.td_progress.specs.declared.ways.Side.{Side}
 use Rattle.td_progress.specs.declared.ways.Side.TheVariants as sides
 use Rattle.td_progress.specs.Gaps.{within, changed_from, first_from}
-use Rattle.td_progress.specs.Ways.{places_of, place_at, number_of, is_on, row}
-use Rattle.td_progress.specs.Held.{total, between, count_in, count_among, shifted, shifted_at, all_shifted_at, IsOfPlan, IsLaidOut}
+use Rattle.td_progress.specs.Ways.{places_of, place_at, number_of, outside, is_on, row}
+use Rattle.td_progress.specs.Held.{total, between, count_in, epochs_in, count_among, shifted, shifted_at, changed_in, all_shifted_at, IsOfPlan, IsLaidOut}
 use Rattle.td_progress.proofs.Counted.{none_is_some}
 use Rattle.td_progress.proofs.Gaps.{Gaps, length_changed}
 use Rattle.td_progress.proofs.Between.{Chains, between_le}
@@ -215,6 +216,17 @@ module _ (plan : List Line) (c : Stamp) (e : ℕ) (h : ℕ → ℕ) where
   step_long zero (k ∷ ks) = refl
   step_long (suc i) (k ∷ ks) = ap suc (step_long i ks)
 
+  pub keys_shifted_at : (i : ℕ) (ks : Chains) → keys_of (shifted_at plan c e h i ks) ≡ keys_of ks
+  keys_shifted_at i [] = refl
+  keys_shifted_at zero (k ∷ ks) = refl
+  keys_shifted_at (suc i) (k ∷ ks) = ap (λ js. k.0 ∷ js) (keys_shifted_at i ks)
+
+  changed_is : (ks : Chains) (x : ℕ) → ((k : K) → slice_get ks x ≡ Some k → changed_from e h k.1 ≡ cond (could_test plan c k.0) (changed_from e h k.1) k.1)
+      → changed_in e h x ks ≡ shifted_at plan c e h x ks
+  changed_is [] x same = refl
+  changed_is (k ∷ ks) zero same = ap (λ (g : Gaps). (k.0, g) ∷ ks) (same k refl)
+  changed_is (k ∷ ks) (suc x) same = ap (λ r. k ∷ r) (changed_is ks x same)
+
   pub steps_long : (is : List ℕ) (ks : Chains) → length (all_shifted_at plan c e h is ks) ≡ length ks
   steps_long [] ks = refl
   steps_long (i ∷ is) ks = steps_long is (shifted_at plan c e h i ks) ∙ step_long i ks
@@ -309,3 +321,76 @@ module _ (plan : List Line) (tested : (p q : Stamp) → IsOf plan p → IsOf pla
       (λ i j k x lt at not.
       nothing_shifted k.0 k.1 e h (all_at (IsOfPlan plan) ks each i k at)
       ((λ l. leads_test plan (sym here l) (sym (place_is i j k x lt at) l)) ∙ not))
+
+-- IN NO LOOP a path is enough
+row_by : (t : ℕ → Bool) (s m : ℕ) (rest : List ℕ) → s < m → (b : Bool) → t s ≡ b → (i : ℕ) → i < length (cond b (s ∷ rest) rest)
+    → ((j : ℕ) → j < length rest → (t (slice_index_or rest j 0) ≡ true) × (slice_index_or rest j 0 < m))
+    → (t (slice_index_or (cond b (s ∷ rest) rest) i 0) ≡ true) × (slice_index_or (cond b (s ∷ rest) rest) i 0 < m)
+row_by t s m rest low true is zero lt others = (is, low)
+row_by t s m rest low true is (suc j) lt others = others j (omega (arith, lt))
+row_by t s m rest low false is j lt others = others j lt
+
+row_at : (t : ℕ → Bool) (s n m i : ℕ) → s + n ≡ m → i < length (filter t (range_with_len s n))
+    → (t (slice_index_or (filter t (range_with_len s n)) i 0) ≡ true) × (slice_index_or (filter t (range_with_len s n)) i 0 < m)
+row_at t s zero m i end lt = absurd (omega (arith, lt))
+row_at t s (suc n) m i end lt =
+    row_by t s m (filter t (range_with_len (s + 1) n)) (omega (arith, end)) (t s) refl i lt (λ j l. row_at t (s + 1) n m j (omega (arith, end)) l)
+
+module _ (plan : List Line) (tested : (p q : Stamp) → IsOf plan p → IsOf plan q → (could_test plan p q ≡ true → Could plan p q) × (Could plan p q → could_test plan p q ≡ true))
+    (found : (from to : Place) → HasPlace plan from → HasPlace plan to → (leads_test plan from to ≡ true → Leads plan from to) × (Leads plan from to → leads_test plan from to ≡ true))
+    (has_place : (p : Stamp) → IsOf plan p → HasPlace plan p.place)
+    (enough : (p q : Stamp) → IsOf plan p → IsOf plan q → depth q.time ≡ 0 → p.time.epoch ≤ q.time.epoch → Leads plan p.place q.place → Could plan p q)
+    (c : Stamp) (of_plan : IsOf plan c) (ks : Chains) (each : AllByRecursion (IsOfPlan plan) ks) (laid : IsLaidOut plan (keys_of ks)) where
+  could_where : (p q : Stamp) → IsOf plan p → IsOf plan q → depth q.time ≡ 0 → p.time.epoch ≤ q.time.epoch → leads_test plan p.place q.place ≡ true → could_test plan p q ≡ true
+  could_where p q of_p of_q flat in_time is = (tested p q of_p of_q).1 (enough p q of_p of_q flat in_time ((found p.place q.place (has_place p of_p) (has_place q of_q)).0 is))
+
+  own_place : place_at plan (number_of plan c.place) ≡ c.place
+  own_place = same_place plan c.place (has_place c of_plan)
+
+  stands_there : (x : ℕ) (k : K) → x < places_of plan → slice_get ks x ≡ Some k → k.0 ≡ outside plan x
+  stands_there x k lt at = same_stamp (sym (key_at ks x k at) ∙ laid x lt)
+
+  abbrev IsIn : Side → ℕ → Type 0
+  IsIn side x = (is_on plan side (number_of plan c.place) x ≡ true) × (x < places_of plan)
+
+  in_row : (side : Side) (i x : ℕ) → i < length (row plan side (number_of plan c.place)) → slice_index_or (row plan side (number_of plan c.place)) i 0 ≡ x → IsIn side x
+  in_row side i x lt is = subst (IsIn side) is (row_at (is_on plan side (number_of plan c.place)) 0 (places_of plan) (places_of plan) i (omega arith) lt)
+
+  led_there : (lo f x : ℕ) → depth c.time ≡ 0 → IsIn sides.Before x → (k : K) → slice_get ks x ≡ Some k → (gs : Gaps) → (0 < length gs → IsOf plan k.0)
+      → within lo f gs ≡ cond (could_test plan k.0 c) (within lo f gs) 0
+  led_there lo f x flat member k at [] of = none (could_test plan k.0 c)
+    where
+      none : (b : Bool) → within lo f [] ≡ cond b (within lo f []) 0
+      none true = refl
+      none false = refl
+  led_there lo f x flat member k at (g ∷ gs) of =
+      let there = stands_there x k member.1 at in
+      let first = ap (λ (s : Stamp). s.time.epoch) there in
+      let leads : leads_test plan k.0.place c.place ≡ true = (λ l. leads_test plan (there l).place (sym own_place l)) ∙ member.0 in
+      sym (ap (λ b. cond b (within lo f (g ∷ gs)) 0) (could_where k.0 c (of (omega arith)) of_plan flat (omega (arith, first)) leads))
+
+  pub led_count : (lo f i x : ℕ) → depth c.time ≡ 0 → i < length (row plan sides.Before (number_of plan c.place)) → slice_index_or (row plan sides.Before (number_of plan c.place)) i 0 ≡ x
+      → epochs_in lo f (slice_get ks x) ≡ count_in plan c lo f (slice_get ks x)
+  led_count lo f i x flat lt is = by (slice_get ks x) refl
+    where
+      by : (o : Option K) → slice_get ks x ≡ o → epochs_in lo f o ≡ count_in plan c lo f o
+      by None at = refl
+      by (Some k) at = led_there lo f x flat (in_row sides.Before i x lt is) k at k.1 (all_at (IsOfPlan plan) ks each x k at)
+
+  reached_there : (e : ℕ) (h : ℕ → ℕ) (x : ℕ) → c.time.epoch ≡ 0 → IsIn sides.After x → (k : K) → slice_get ks x ≡ Some k → (gs : Gaps) → (0 < length gs → IsOf plan k.0)
+      → changed_from e h gs ≡ cond (could_test plan c k.0) (changed_from e h gs) gs
+  reached_there e h x zeroth member k at [] of = none (could_test plan c k.0)
+    where
+      none : (b : Bool) → ◌≡◌ {A = Gaps} [] (cond b [] [])
+      none true = refl
+      none false = refl
+  reached_there e h x zeroth member k at (g ∷ gs) of =
+      let there = stands_there x k member.1 at in
+      let flat : depth k.0.time ≡ 0 = ap (λ (s : Stamp). depth s.time) there in
+      let leads : leads_test plan c.place k.0.place ≡ true = (λ l. leads_test plan (sym own_place l) (there l).place) ∙ member.0 in
+      sym (ap (λ b. cond b (changed_from e h (g ∷ gs)) (g ∷ gs)) (could_where c k.0 of_plan (of (omega arith)) flat (omega (arith, zeroth)) leads))
+
+  pub reached_step : (e : ℕ) (h : ℕ → ℕ) (i x : ℕ) → c.time.epoch ≡ 0 → i < length (row plan sides.After (number_of plan c.place))
+      → slice_index_or (row plan sides.After (number_of plan c.place)) i 0 ≡ x → changed_in e h x ks ≡ shifted_at plan c e h x ks
+  reached_step e h i x zeroth lt is =
+      changed_is plan c e h ks x (λ k at. reached_there e h x zeroth (in_row sides.After i x lt is) k at k.1 (all_at (IsOfPlan plan) ks each x k at))

@@ -52,6 +52,11 @@ abbrev pub count_in : List Line → Stamp → ℕ → ℕ → Option (Stamp × L
 count_in plan c lo e None = 0
 count_in plan c lo e (Some k) = cond (could_test plan k.0 c) (within lo e k.1) 0
 
+-- how many epochs of one of them there are in that range, if it is there
+abbrev pub epochs_in : ℕ → ℕ → Option (Stamp × List (ℕ × Mark)) → ℕ
+epochs_in lo e None = 0
+epochs_in lo e (Some k) = within lo e k.1
+
 -- how many of those at these positions
 abbrev pub count_among : List Line → List (Stamp × List (ℕ × Mark)) → Stamp → ℕ → ℕ → List ℕ → ℕ
 count_among plan chains c lo e positions = sum_by (λ i. count_in plan c lo e (slice_get chains i)) positions
@@ -94,6 +99,12 @@ abbrev pub shifted_at : List Line → Stamp → ℕ → (ℕ → ℕ) → ℕ �
 shifted_at plan c e f i [] = []
 shifted_at plan c e f zero (k ∷ chains) = shifted plan c e f k ∷ chains
 shifted_at plan c e f (suc i) (k ∷ chains) = k ∷ shifted_at plan c e f i chains
+
+-- with f of the first gap from e on, of the i-th
+abbrev pub changed_in : ℕ → (ℕ → ℕ) → ℕ → List (Stamp × List (ℕ × Mark)) → List (Stamp × List (ℕ × Mark))
+changed_in e f i [] = []
+changed_in e f zero (k ∷ chains) = (k.0, changed_from e f k.1) ∷ chains
+changed_in e f (suc i) (k ∷ chains) = k ∷ changed_in e f i chains
 
 -- whether c could result in a later epoch of a chain
 abbrev pub is_ahead : List Line → Stamp → ℕ → Option (Stamp × List (ℕ × Mark)) → Bool

@@ -1,10 +1,11 @@
 //! The active pointstamps, each with how often it occurs and with what its precursor count is made of.
 ghost use Rattle.std.specs.Prelude.{◌≡◌, ◌+◌, ◌-◌, ◌<◌, ◌≤◌, ◌++◌, ◌^◌, ◌↔◌, ◌⊎◌};
-ghost use Rattle.std.specs.Prelude.{true, false, cond, IsTrue, IfOk, OnOk, OnErr, Some, None, [], length, map, replicate, slice_get, option_map};
+ghost use Rattle.std.specs.Prelude.{List, true, false, cond, IsTrue, IfOk, OnOk, OnErr, Some, None, [], length, map, replicate, slice_get, option_map};
 ghost use Rattle.std.specs.List.{AllByRecursion, IsDistinct, range_with_len};
 ghost use Rattle.std.specs.Option.{unwrap_or};
 ghost use Rattle.std.specs.Map.{keys_of, values_of, lookup, remove_entry};
 ghost use Rattle.td_stamp.specs.Time.{depth};
+ghost use Rattle.td_plan.specs.Lines.{Line};
 ghost use Rattle.td_reach.specs.Paths.{IsOf};
 ghost use Rattle.td_reach.specs.Frontier.{has_passed};
 ghost use Rattle.td_reach.specs.Tables.{could_test};
@@ -12,12 +13,13 @@ ghost use Rattle.td_progress.specs.Bag.{is_stamp, occurrences, IsSameBag};
 ghost use Rattle.td_progress.specs.Gaps.{has_epoch, start_of, within, without_epoch, timed, times_at};
 ghost use Rattle.td_progress.specs.Held.{class_of, held, all_marked, total, between, chain_at, with_stamp, without_stamp, timed_stamp};
 ghost use Rattle.td_progress.specs.Held.{stepped, shifted, shifted_at, all_shifted_at, is_ahead, AreHeld, AllTimed, IsFirst, IsCounted, count_of, firsts};
-ghost use Rattle.td_progress.specs.Held.{IsOfPlan, IsLaidOut, IsPosition, gaps_at, empty_chains, count_in, count_among};
+ghost use Rattle.td_progress.specs.Held.{IsOfPlan, IsLaidOut, IsPosition, gaps_at, empty_chains, count_in, count_among, epochs_in, changed_in};
 ghost use Rattle.td_progress.specs.Ways.{places_of, number_of, row};
 ghost use Rattle.td_progress.specs.declared.ways.Side.TheVariants as Side;
 
 use crate::chain::{Chain, Step};
 use crate::frontier::FrontierStamps;
+use crate::laws::in_no_loop;
 use crate::ways::{Side, Ways};
 use indexmap::IndexMap;
 use std::alloc::{AllocError, Global};
@@ -30,7 +32,8 @@ use td_reach::{Reach, Stamp};
 ///
 /// The places of the plan stand first, in no loop, at their numbers, and stay there where none of their pointstamps is active: so
 /// they are found by number. Those in loops stand behind, where any is active, and are found by one hash. A change looks at the
-/// places that lead to its own, or to which it leads, and at the counters in loops that are active, alone.
+/// places that lead to its own, or to which it leads, and at the counters in loops that are active, alone. In no loop a path is
+/// enough, and which places have one is known: there no effect of a path is asked for.
 ///
 /// One that comes between two others takes its gap from the later one, and one that goes gives it back. A departure counts
 /// nothing and takes no memory. An arrival counts its own gap: in each chain that it looks at, the epochs in a range.
@@ -71,48 +74,61 @@ impl Held {
         })
     }
 
-    /// How often a pointstamp occurs.
-    pub(crate) fn times(&self, ways: &Ways, stamp: &Stamp) -> u128
+    /// Where the chain of a pointstamp's place and counters stands, if it does. A change asks once, and the calls below take the
+    /// answer.
+    pub(crate) fn position(&self, ways: &Ways, stamp: &Stamp) -> Option<usize>
         requires kept { AreHeld ways.now self.now }
         requires of_plan { IsOf ways.now stamp.now }
-        ensures is { result ≡ times_at stamp.now.time.epoch (chain_at (class_of stamp.now) self.now) }
+        ensures { IsPosition (class_of stamp.now) self.now result }
+    {
+        position(ways, &self.chains, &class_of(stamp))
+    }
+
+    /// How often the pointstamp of an epoch occurs, of the chain at a position.
+    pub(crate) fn times(&self, index: Option<usize>, epoch: u64) -> u128
+        ensures is { result ≡ times_at epoch (gaps_at index self.now) }
         ensures timed { AllTimed self.now }
     {
-        match self.chain_of(ways, stamp) {
-            Some(chain) => chain.times(stamp.time.epoch()),
+        match chain_in(&self.chains, index) {
+            Some(chain) => chain.times(epoch),
             None => 0,
         }
     }
 
     /// A pointstamp that is active occurs this many times more.
-    pub(crate) fn add(&mut self, ways: &Ways, stamp: &Stamp, times: u64)
-        requires kept { AreHeld ways.now self.old }
-        requires there { 0 < occurrences stamp.now (all_marked self.old) }
-        requires fits { occurrences stamp.now (all_marked self.old) + times < 2 ^ 128 }
-        ensures kept { AreHeld ways.now self.new }
+    pub(crate) fn add(&mut self, stamp: &Stamp, index: Option<usize>, times: u64)
+        requires position { IsPosition (class_of stamp.now) self.old index }
+        requires there { 0 < times_at stamp.now.time.epoch (chain_at (class_of stamp.now) self.old) }
+        requires fits { times_at stamp.now.time.epoch (chain_at (class_of stamp.now) self.old) + times < 2 ^ 128 }
+        ensures kept { (plan : List Line) → AreHeld plan self.old → AreHeld plan self.new }
         ensures more { IsSameBag (all_marked self.new) (replicate times stamp.now ++ all_marked self.old) }
     {
         let class = class_of(stamp);
-        let index = position(ways, &self.chains, &class);
         add_at(&mut self.chains, &class, index, stamp.time.epoch(), times);
     }
 
     /// A pointstamp occurs this many times less, and is active still.
-    pub(crate) fn take_off(&mut self, ways: &Ways, stamp: &Stamp, times: u64)
-        requires kept { AreHeld ways.now self.old }
-        requires enough { times < occurrences stamp.now (all_marked self.old) }
-        ensures kept { AreHeld ways.now self.new }
+    pub(crate) fn take_off(&mut self, stamp: &Stamp, index: Option<usize>, times: u64)
+        requires position { IsPosition (class_of stamp.now) self.old index }
+        requires enough { times < times_at stamp.now.time.epoch (chain_at (class_of stamp.now) self.old) }
+        ensures kept { (plan : List Line) → AreHeld plan self.old → AreHeld plan self.new }
         ensures less { IsSameBag (all_marked self.old) (replicate times stamp.now ++ all_marked self.new) }
     {
         let class = class_of(stamp);
-        let index = position(ways, &self.chains, &class);
         take_off_at(&mut self.chains, &class, index, stamp.time.epoch(), times);
     }
 
     /// A pointstamp becomes active, and occurs this many times. Refusal: nothing has changed.
-    pub(crate) fn come(&mut self, ways: &Ways, stamp: &Stamp, times: u64) -> Result<(), AllocError>
+    pub(crate) fn come(
+        &mut self,
+        ways: &Ways,
+        stamp: &Stamp,
+        index: Option<usize>,
+        times: u64,
+    ) -> Result<(), AllocError>
         requires kept { AreHeld ways.now self.old }
         requires of_plan { IsOf ways.now stamp.now }
+        requires position { IsPosition (class_of stamp.now) self.old index }
         requires new { occurrences stamp.now (all_marked self.old) ≡ 0 }
         requires some { 0 < times }
         ensures kept { OnOk result (AreHeld ways.now self.new) }
@@ -125,7 +141,6 @@ impl Held {
         };
         let class = class_of(stamp);
         let epoch = stamp.time.epoch();
-        let index = position(ways, &self.chains, &class);
         let gap = gap_for(ways, &self.chains, &class, index, epoch);
         put(
             self.alloc,
@@ -142,8 +157,9 @@ impl Held {
     }
 
     /// A pointstamp that occurs this many times is active no more.
-    pub(crate) fn go(&mut self, ways: &Ways, stamp: &Stamp, times: u64)
+    pub(crate) fn go(&mut self, ways: &Ways, stamp: &Stamp, index: Option<usize>, times: u64)
         requires kept { AreHeld ways.now self.old }
+        requires position { IsPosition (class_of stamp.now) self.old index }
         requires there { 0 < times }
         requires all { occurrences stamp.now (all_marked self.old) ≡ times }
         ensures kept { AreHeld ways.now self.new }
@@ -151,7 +167,6 @@ impl Held {
     {
         let class = class_of(stamp);
         let epoch = stamp.time.epoch();
-        let index = position(ways, &self.chains, &class);
         step_from(ways, &mut self.chains, &class, epoch, Step::Down);
         take(&mut self.chains, &class, index, epoch);
         drop_empty(&mut self.chains, &class, index);
@@ -317,6 +332,65 @@ fn count_within(
 
 /// Those at places that lead there, in no loop.
 fn count_before(
+    ways: &Ways,
+    chains: &IndexMap<Stamp, Chain>,
+    class: &Stamp,
+    from: u64,
+    upto: u64,
+) -> u64
+    requires class { IsOf ways.now class.now }
+    requires each { AllByRecursion (IsOfPlan ways.now) chains.now.entries }
+    requires laid { IsLaidOut ways.now (keys_of chains.now.entries) }
+    requires fits { total chains.now.entries < 2 ^ 64 }
+    requires forward { from ≤ upto }
+    ensures { result ≡ count_among ways.now chains.now.entries class.now from upto (row ways.now Side.Before (number_of ways.now class.now.place)) }
+{
+    match class.time.depth() {
+        0 => count_led(ways, chains, class, from, upto),
+        _ => count_tested(ways, chains, class, from, upto),
+    }
+}
+
+/// The same of a place in no loop, where a path is enough.
+fn count_led(
+    ways: &Ways,
+    chains: &IndexMap<Stamp, Chain>,
+    class: &Stamp,
+    from: u64,
+    upto: u64,
+) -> u64
+    requires class { IsOf ways.now class.now }
+    requires outside { depth class.now.time ≡ 0 }
+    requires each { AllByRecursion (IsOfPlan ways.now) chains.now.entries }
+    requires laid { IsLaidOut ways.now (keys_of chains.now.entries) }
+    requires fits { total chains.now.entries < 2 ^ 64 }
+    requires forward { from ≤ upto }
+    ensures { result ≡ count_among ways.now chains.now.entries class.now from upto (row ways.now Side.Before (number_of ways.now class.now.place)) }
+{
+    in_no_loop();
+    could_tested();
+    could_leads();
+    let _plan = ways.reach().plan().vertices();
+    let mut count = 0;
+    for number in ways.row(Side::Before, class.place) {
+        count += epochs_at(chains, from, upto, usize::from(*number));
+    }
+    count
+}
+
+/// How many epochs of this range are in the chain at a position.
+fn epochs_at(chains: &IndexMap<Stamp, Chain>, from: u64, upto: u64, index: usize) -> u64
+    requires { from ≤ upto }
+    ensures { result ≡ epochs_in from upto (slice_get chains.now.entries index) }
+{
+    match chains.get_index(index) {
+        Some((_, chain)) => chain.count(from, upto),
+        None => 0,
+    }
+}
+
+/// The same of counters in loops, where of each it is asked whether it could result in them.
+fn count_tested(
     ways: &Ways,
     chains: &IndexMap<Stamp, Chain>,
     class: &Stamp,
@@ -547,6 +621,7 @@ fn step_from(
     step: Step,
 )
     requires class { IsOf ways.now class.now }
+    requires zeroth { class.now.time.epoch ≡ 0 }
     requires each { AllByRecursion (IsOfPlan ways.now) chains.old.entries }
     requires laid { IsLaidOut ways.now (keys_of chains.old.entries) }
     ensures { chains.new.entries ≡ map (shifted ways.now class.now epoch (stepped step)) chains.old.entries }
@@ -558,7 +633,7 @@ fn step_from(
     step_in_loops(ways, chains, class, epoch, step);
 }
 
-/// The same of the places to which its own leads, in no loop.
+/// The same of the places to which its own leads, in no loop, where a path is enough.
 fn step_after(
     ways: &Ways,
     chains: &mut IndexMap<Stamp, Chain>,
@@ -567,13 +642,27 @@ fn step_after(
     step: Step,
 )
     requires class { IsOf ways.now class.now }
+    requires zeroth { class.now.time.epoch ≡ 0 }
     requires each { AllByRecursion (IsOfPlan ways.now) chains.old.entries }
+    requires laid { IsLaidOut ways.now (keys_of chains.old.entries) }
     ensures entries { chains.new.entries ≡ all_shifted_at ways.now class.now epoch (stepped step) (row ways.now Side.After (number_of ways.now class.now.place)) chains.old.entries }
     ensures each { AllByRecursion (IsOfPlan ways.now) chains.new.entries }
 {
+    in_no_loop();
+    could_tested();
     could_leads();
+    let _plan = ways.reach().plan().vertices();
     for number in ways.row(Side::After, class.place) {
-        step_at(ways, chains, class, epoch, step, usize::from(*number));
+        step_place(chains, epoch, step, usize::from(*number));
+    }
+}
+
+/// Changes the first gap from an epoch on, in the chain at a position.
+fn step_place(chains: &mut IndexMap<Stamp, Chain>, epoch: u64, step: Step, index: usize)
+    ensures { chains.new.entries ≡ changed_in epoch (stepped step) index chains.old.entries }
+{
+    if let Some(chain) = chains.get_index_mut(index) {
+        chain.step_from(epoch, step);
     }
 }
 
@@ -596,7 +685,7 @@ fn step_in_loops(
     }
 }
 
-/// The same of one chain.
+/// The same of one chain, where its pointstamps could be resulted in.
 fn step_at(
     ways: &Ways,
     chains: &mut IndexMap<Stamp, Chain>,

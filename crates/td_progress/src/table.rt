@@ -94,7 +94,8 @@ impl Table {
         ensures { result ≡ occurrences stamp.now self.now.stamps }
     {
         if self.has(stamp) {
-            self.held.times(&self.ways, stamp)
+            let index = self.held.position(&self.ways, stamp);
+            self.held.times(index, stamp.time.epoch())
         } else {
             0
         }
@@ -122,11 +123,12 @@ impl Table {
         if times == 0 {
             return Ok(());
         }
-        if self.held.times(&self.ways, stamp) > 0 {
-            self.held.add(&self.ways, stamp, times);
+        let index = self.held.position(&self.ways, stamp);
+        if self.held.times(index, stamp.time.epoch()) > 0 {
+            self.held.add(stamp, index, times);
             return Ok(());
         }
-        self.held.come(&self.ways, stamp, times)?;
+        self.held.come(&self.ways, stamp, index, times)?;
         Ok(())
     }
 
@@ -148,10 +150,11 @@ impl Table {
         if times == 0 {
             return;
         }
-        if self.held.times(&self.ways, stamp) > u128::from(times) {
-            self.held.take_off(&self.ways, stamp, times);
+        let index = self.held.position(&self.ways, stamp);
+        if self.held.times(index, stamp.time.epoch()) > u128::from(times) {
+            self.held.take_off(stamp, index, times);
         } else {
-            self.held.go(&self.ways, stamp, times);
+            self.held.go(&self.ways, stamp, index, times);
         }
     }
 

@@ -7,20 +7,15 @@ use Rattle.td_progress.specs.Gaps.{Mark, has_epoch, start_of, plus}
 use Rattle.td_progress.specs.Held.{all_marked, total, between, class_of, chain_at, with_stamp, shifted, AllTimed, IsOfPlan, IsLaidOut, AreHeld}
 use Rattle.td_progress.proofs.HeldMoves.{new_epoch, come_total, come_kept}
 use Rattle.td_progress.proofs.HeldCounts.{keys_of_plan, keys_with, other_epoch}
-use Rattle.td_progress.proofs.HeldSteps.{gaps_found}
+use Rattle.td_progress.proofs.HeldSteps.{gaps_found, same_position}
 use Rattle.td_progress.proofs.Laid.{laid_with}
 use Rattle.td_progress.proofs.Marked.{not_held}
 use Rattle.td_progress.proofs.Times.{are_marked, all_timed_with, timed_shifted, came}
 use Rattle.td_progress.proofs.held.Held.come.Goals as goal
 
-pub position-index-requires-clause-class : goal.position-index-requires-clause-class
-position-index-requires-clause-class c = subst (IsOf c.args.ways.now) (sym c.class_of-class.ensures) (other_epoch c.args.ways.now c.args.stamp.now 0 c.requires.of_plan)
-
-pub position-index-requires-clause-zeroth : goal.position-index-requires-clause-zeroth
-position-index-requires-clause-zeroth c = ap (λ s. s.time.epoch) c.class_of-class.ensures
-
-pub position-index-requires-clause-laid : goal.position-index-requires-clause-laid
-position-index-requires-clause-laid c = subst (λ ks. IsLaidOut c.args.ways.now (keys_of ks)) (sym c.self.view_is) c.requires.kept.laid
+pub put-requires-clause-position : goal.put-requires-clause-position
+put-requires-clause-position c =
+    same_position c.class_of-class.result (class_of c.args.stamp.now) c.self.inside.chains.entries c.args.self.now c.args.index c.class_of-class.ensures c.self.view_is c.requires.position
 
 pub put-requires-clause-new : goal.put-requires-clause-new
 put-requires-clause-new c =
@@ -42,6 +37,9 @@ gap_for-gap-requires-clause-each c =
 
 pub gap_for-gap-requires-clause-laid : goal.gap_for-gap-requires-clause-laid
 gap_for-gap-requires-clause-laid c = subst (λ ks. IsLaidOut c.args.ways.now (keys_of ks)) (sym c.self.view_is) c.requires.kept.laid
+
+pub step_from-requires-clause-zeroth : goal.step_from-requires-clause-zeroth
+step_from-requires-clause-zeroth c = ap (λ s. s.time.epoch) c.class_of-class.ensures
 
 pub step_from-requires-clause-class : goal.step_from-requires-clause-class
 step_from-requires-clause-class c = subst (IsOf c.args.ways.now) (sym c.class_of-class.ensures) (other_epoch c.args.ways.now c.args.stamp.now 0 c.requires.of_plan)
@@ -87,7 +85,7 @@ returns-clause-kept c =
     let all = c.step_from.ensures ∙ (λ i. map (shifted plan (c.class_of-class.ensures i) (c.epoch-epoch.ensures i) (plus 1)) (made i)) in
     let once = subst (λ js. IsDistinct is_stamp (keys_of js)) (sym c.self.view_is) c.requires.kept.once in
     let is = c.gap_for-gap.ensures
-    ∙ (ap (λ gs. between plan es k (start_of 0 e gs) e) (gaps_found k es c.position-index.result once c.position-index.ensures)
+    ∙ (ap (λ gs. between plan es k (start_of 0 e gs) e) (gaps_found k es c.args.index once (same_position c.class_of-class.result (class_of c.args.stamp.now) c.self.inside.chains.entries c.args.self.now c.args.index c.class_of-class.ensures c.self.view_is c.requires.position))
     ∙ (λ i. between plan (c.self.view_is i) (c.class_of-class.ensures i) (start_of 0 (c.epoch-epoch.ensures i) (chain_at (c.class_of-class.ensures i) (c.self.view_is i))) (c.epoch-epoch.ensures i))) in
     let before = ap total c.self.view_is in
     let none = not_held plan ks (all_marked ks) (are_marked plan ks c.requires.kept (subst AllTimed c.self.view_is c.self.invariant.2)) p c.requires.new in

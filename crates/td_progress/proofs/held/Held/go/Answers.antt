@@ -7,20 +7,13 @@ use Rattle.td_progress.specs.Gaps.{has_epoch, minus}
 use Rattle.td_progress.specs.Held.{all_marked, total, between, class_of, chain_at, without_stamp, shifted, AllTimed, IsOfPlan, IsLaidOut, IsPosition}
 use Rattle.td_progress.proofs.HeldCounts.{keys_of_plan}
 use Rattle.td_progress.proofs.HeldMoves.{lowered, there_lowered, go_to, go_total, go_each, go_laid, IsLeft, left_total, left_each, left_laid}
+use Rattle.td_progress.proofs.HeldSteps.{same_position}
 use Rattle.td_progress.proofs.Marked.{is_held}
 use Rattle.td_progress.proofs.Times.{are_marked, class_of_plan, timed_shifted, all_timed_without, all_timed_left, all_marked_left, position_shifted, position_without, went}
 use Rattle.td_progress.proofs.held.Held.go.Goals as goal
 
-pub position-index-requires-clause-class : goal.position-index-requires-clause-class
-position-index-requires-clause-class c =
-    subst (IsOf c.args.ways.now) (sym c.class_of-class.ensures)
-    (class_of_plan c.args.ways.now c.args.self.now c.requires.kept c.args.stamp.now (omega (arith, c.requires.there, c.requires.all)))
-
-pub position-index-requires-clause-zeroth : goal.position-index-requires-clause-zeroth
-position-index-requires-clause-zeroth c = ap (λ s. s.time.epoch) c.class_of-class.ensures
-
-pub position-index-requires-clause-laid : goal.position-index-requires-clause-laid
-position-index-requires-clause-laid c = subst (λ ks. IsLaidOut c.args.ways.now (keys_of ks)) (sym c.self.view_is) c.requires.kept.laid
+pub step_from-requires-clause-zeroth : goal.step_from-requires-clause-zeroth
+step_from-requires-clause-zeroth c = ap (λ s. s.time.epoch) c.class_of-class.ensures
 
 pub step_from-requires-clause-class : goal.step_from-requires-clause-class
 step_from-requires-clause-class c =
@@ -37,8 +30,8 @@ step_from-requires-clause-laid c = subst (λ ks. IsLaidOut c.args.ways.now (keys
 
 pub take-requires-clause-position : goal.take-requires-clause-position
 take-requires-clause-position c =
-    subst (λ js. IsPosition c.class_of-class.result js c.position-index.result) (sym c.step_from.ensures)
-    (position_shifted c.args.ways.now c.class_of-class.result c.epoch-epoch.result (minus 1) c.class_of-class.result c.self.inside.chains.entries c.position-index.result c.position-index.ensures)
+    subst (λ js. IsPosition c.class_of-class.result js c.args.index) (sym c.step_from.ensures)
+    (position_shifted c.args.ways.now c.class_of-class.result c.epoch-epoch.result (minus 1) c.class_of-class.result c.self.inside.chains.entries c.args.index (same_position c.class_of-class.result (class_of c.args.stamp.now) c.self.inside.chains.entries c.args.self.now c.args.index c.class_of-class.ensures c.self.view_is c.requires.position))
 
 pub take-requires-clause-there : goal.take-requires-clause-there
 take-requires-clause-there c =
@@ -51,10 +44,10 @@ take-requires-clause-there c =
 
 pub drop_empty-requires-clause-position : goal.drop_empty-requires-clause-position
 drop_empty-requires-clause-position c =
-    subst (λ js. IsPosition c.class_of-class.result js c.position-index.result) (sym c.take.ensures.entries)
-    (position_without c.class_of-class.result c.epoch-epoch.result c.class_of-class.result c.step_from.new.chains.entries c.position-index.result
-    (subst (λ js. IsPosition c.class_of-class.result js c.position-index.result) (sym c.step_from.ensures)
-    (position_shifted c.args.ways.now c.class_of-class.result c.epoch-epoch.result (minus 1) c.class_of-class.result c.self.inside.chains.entries c.position-index.result c.position-index.ensures)))
+    subst (λ js. IsPosition c.class_of-class.result js c.args.index) (sym c.take.ensures.entries)
+    (position_without c.class_of-class.result c.epoch-epoch.result c.class_of-class.result c.step_from.new.chains.entries c.args.index
+    (subst (λ js. IsPosition c.class_of-class.result js c.args.index) (sym c.step_from.ensures)
+    (position_shifted c.args.ways.now c.class_of-class.result c.epoch-epoch.result (minus 1) c.class_of-class.result c.self.inside.chains.entries c.args.index (same_position c.class_of-class.result (class_of c.args.stamp.now) c.self.inside.chains.entries c.args.self.now c.args.index c.class_of-class.ensures c.self.view_is c.requires.position))))
 
 pub overflow_sub-self : goal.overflow_sub-self
 overflow_sub-self c =

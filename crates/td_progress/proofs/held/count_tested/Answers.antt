@@ -3,7 +3,7 @@ use Rattle.td_progress.specs.declared.ways.Side.TheVariants as sides
 use Rattle.td_progress.specs.Ways.{number_of, row}
 use Rattle.td_progress.specs.Held.{count_among}
 use Rattle.td_progress.proofs.Visits.{among_more, among_some, among_le}
-use Rattle.td_progress.proofs.held.count_before.Goals as goal
+use Rattle.td_progress.proofs.held.count_tested.Goals as goal
 
 pub overflow_add-count : goal.overflow_add-count
 overflow_add-count c =
