@@ -77,10 +77,16 @@ def constant(name):
     return f"TD_{words}"
 
 
+def numbers_of_closures():
+    """The numbers of what is wrong with closures in text; that of want of memory is the refusal's own."""
+    found = re.findall(r"Wrong::(\w+) => (\d+),", source())
+    return {constant(f"Closures{name}"): int(number) for name, number in found if name != "Memory"}
+
+
 def numbers_of_source():
     """The number of each refusal, and of an answer that is none."""
     own = re.findall(r"Refusal::(\w+)(?:\(_\w*\))? => (\d+),", source())
-    return {"TD_DONE": 0, **names_of_plan_faults(), **{constant(name): int(number) for name, number in own}}
+    return {"TD_DONE": 0, **names_of_plan_faults(), **numbers_of_closures(), **{constant(name): int(number) for name, number in own}}
 
 
 def numbers_of_header():

@@ -4,11 +4,13 @@
     tests/library.py [COUNT [SEED]]     needs crates/td_c/out/libtd_c.a, crates/td/out/td and a C compiler; by default 300 plans
 
 Each epoch is one call of td_epoch by the Python client, with the states that the call before left: its outputs must be those of `td batch`, its states
-those of the reading. The states go in in random order; too little room must change nothing, and tell how much is wanted. As many texts with
-mistakes must be refused by td_check as `td plan` refuses them. Then the example of C, and that of Rust where there is a cargo, must print
-what `td batch` prints, and valgrind, where there is one, must see nothing amiss in the example of C."""
+those of the reading. The states go in in random order; too little room must change nothing, and tell how much is wanted. As many plans have closures
+in text: td_epoch_with beside `td batch --closures` and the reading of tests/random_closures.py. As many texts with mistakes must be refused by
+td_check as `td plan` refuses them. Then the example of C, and that of Rust where there is a cargo, must print what `td batch` prints, and
+valgrind, where there is one, must see nothing amiss in the example of C."""
 
 import collections
+import contextlib
 import ctypes
 import importlib.machinery
 import importlib.util
@@ -20,6 +22,7 @@ import subprocess
 import sys
 
 import lib
+import random_closures as written
 import random_inputs as inputs
 
 ARCHIVE = lib.ROOT / "crates/td_c/out/libtd_c.a"
@@ -47,9 +50,9 @@ def run(words, given="", **more):
 # Random plans
 
 
-def outputs_by_epoch(text):
+def outputs_by_epoch(text, *words):
     """The outputs of each epoch that `td batch` prints for an input; or the fault that it prints."""
-    status, printed, fault = inputs.answered(["batch"], text)
+    status, printed, fault = inputs.answered(["batch", *words], text)
     if status != 0:
         return None, fault.decode().removeprefix("td: ").strip()
     found = collections.defaultdict(list)
@@ -62,14 +65,14 @@ def outputs_by_epoch(text):
 def told(client, refused):
     """A refusal of td_check as `td` tells it."""
     what, where = client.ANSWERS[refused.number]
-    if where == client.VERTEX:
-        return f"vertex {refused.place}: {what}"
+    if where in (client.VERTEX, client.CLOSURES):
+        return f"{where.format(refused.place)}: {what}"
     return f"plan {where.format(refused.place)}: {what}".replace("plan :", "plan:")
 
 
 def without_code(fault):
-    """A fault of `td` without the code of a closure that is lacking."""
-    return re.sub(r"(: no closure) \d+$", r"\1", fault)
+    """A fault of `td` without the code of a closure that is lacking, and without the line of a text of closures."""
+    return re.sub(r"^(closures line \d+: [a-z ]+): .*$", r"\1", re.sub(r"(: no closure) \d+$", r"\1", fault))
 
 
 def too_little_room(client, plan, states, records, wanted):
@@ -78,7 +81,7 @@ def too_little_room(client, plan, states, records, wanted):
     kept, outputs = client.array_of(client.State, states), client.array_of(client.Record, [(9, 9, 9)])
     counts, place = client.Counts(len(states), 5), ctypes.c_uint64(1)
     room = len(states), 0
-    answer = plan.library.td_epoch(plan.text, len(plan.text), given, len(records), kept, room[0], outputs, room[1], counts, place)
+    answer = plan.call(*plan.texts, given, len(records), kept, room[0], outputs, room[1], counts, place)
     is_lacking = wanted[0] > room[0] or wanted[1] > room[1]
     if not is_lacking:
         return answer == client.DONE
@@ -86,21 +89,23 @@ def too_little_room(client, plan, states, records, wanted):
     return answer == client.ROOM and place.value == 0 and (counts.states, counts.outputs) == wanted and same
 
 
-def run_plan(client, library, rng, text, met):
+def run_plan(client, library, rng, text, closures, met):
     """One random plan: epoch by epoch beside `td batch` and the reading."""
-    outputs, fault = outputs_by_epoch(text)
+    file = library.with_name("closures")
+    file.write_text(closures)
+    outputs, fault = outputs_by_epoch(text, *["--closures", file] * bool(closures))
     lines = inputs.lines_of(text)
     cut = lines.index(b"--")
     spelled = b"\n".join(lines[:cut])
     try:
-        plan = client.Plan(spelled, library)
+        plan = client.Plan(spelled, library, closures)
     except client.Refused as refused:
         if told(client, refused) != without_code(fault or ""):
-            lib.fail(f"{text!r}\ntd_check: {refused}\ntd batch: {fault}")
+            lib.fail(f"{text!r}\n{closures!r}\ntd_check: {refused}\ntd batch: {fault}")
         met["refused alike"] += 1
         return
     if fault is not None:
-        lib.fail(f"{text!r}\ntd_check takes it\ntd batch: {fault}")
+        lib.fail(f"{text!r}\n{closures!r}\ntd_check takes it\ntd batch: {fault}")
     reading, rows, kept = inputs.read_plan(lines[:cut], True), [], {}
     for at, batch in enumerate(inputs.read_epochs(reading, lines[cut + 1:], cut + 2), 1):
         rng.shuffle(rows)
@@ -108,10 +113,10 @@ def run_plan(client, library, rng, text, met):
         epoch.turn(reading.outermost, 0, None, {})
         wanted = [(vertex, key, *state) for (vertex, key), state in sorted(kept.items())]
         if not too_little_room(client, plan, rows, batch, (len(wanted), len(outputs[at]))):
-            lib.fail(f"{text!r}\nepoch {at}: with too little room it does not answer as it must")
+            lib.fail(f"{text!r}\n{closures!r}\nepoch {at}: with too little room it does not answer as it must")
         got = plan.epoch(rows, batch)
         if got != (wanted, outputs[at]):
-            lib.fail(f"{text!r}\nepoch {at} of {rows} and {batch}:\n   has {got}\nwanted {wanted, outputs[at]}")
+            lib.fail(f"{text!r}\n{closures!r}\nepoch {at} of {rows} and {batch}:\n   has {got}\nwanted {wanted, outputs[at]}")
         rows = got[0]
         met["epochs"] += 1
         met["states"] += len(rows)
@@ -127,15 +132,68 @@ def is_short(text):
     return True
 
 
-def run_plans(client, library, count, rng):
+def run_plans(client, library, count, rng, random_input):
     met = collections.Counter()
     while met["plans"] < count:
-        text = inputs.random_input(rng, True)
-        if is_short(text):
-            run_plan(client, library, rng, text, met)
-        else:
-            met["left out, since their loops double records too often"] += 1
+        text, closures = random_input(rng)
+        with are_read(closures):
+            if is_short(text):
+                run_plan(client, library, rng, text, closures, met)
+            else:
+                met["left out, since their loops double records too often"] += 1
     return met
+
+
+def by_catalogue(rng):
+    """A random input, without closures in text."""
+    return inputs.random_input(rng, True), ""
+
+
+# Closures in text
+
+
+def call_of(closure):
+    """A closure in text, as the reading calls those of its kind."""
+    if closure.kind == "map":
+        return lambda port, key, val: written.called(closure, key, None, [(port, val)])[1]
+    if closure.kind == "group":
+        return lambda key, items: written.called(closure, key, None, sorted(items))[1]
+    return lambda key, state, items: written.called(closure, key, state, sorted(items))
+
+
+@contextlib.contextmanager
+def are_read(text):
+    """While it lasts, the reading has the closures of a text, where it spells some."""
+    try:
+        closures = written.read_text(text)
+    except written.Fault:
+        closures = []
+    for closure in closures:
+        inputs.STORED[closure.kind][closure.code] = call_of(closure)
+    yield
+    for closure in closures:
+        del inputs.STORED[closure.kind][closure.code]
+
+
+def closure_of(rng, kind, code):
+    """The lines of a random closure of a kind, each as its words."""
+    lines = written.random_closure(rng, code)
+    while lines[0][0] != kind:
+        lines = written.random_closure(rng, code)
+    return lines
+
+
+def by_text(rng):
+    """A random input, most of whose maps, groups and folds call closures of a text, and that text: one in eight has a mistake."""
+    lines, closures = inputs.random_input(rng, True).decode().split("\n"), []
+    for at, line in enumerate(lines[:lines.index("--")]):
+        said = line.split(" ")
+        if len(said) > 2 and said[1] in written.KINDS and rng.random() < 0.7:
+            code = str(10000 + len(closures))
+            closures.append(closure_of(rng, said[1], code))
+            lines[at] = " ".join([*said[:2], code, *said[3:]])
+    said = [["#", "none"], *[line for closure in closures for line in closure]]
+    return "\n".join(lines).encode(), written.spelled(rng, said if rng.random() < 0.875 else written.with_mistake(rng, said))
 
 
 # Texts with mistakes
@@ -194,6 +252,10 @@ def run_examples(folder):
     return ran
 
 
+def told_of(met):
+    return ", ".join(f"{what}: {times}" for what, times in met.items())
+
+
 def main():
     count = int(sys.argv[1]) if sys.argv[1:] else 300
     rng = random.Random(sys.argv[2] if sys.argv[2:] else "td")
@@ -204,10 +266,11 @@ def main():
     with lib.folder() as folder:
         if not loaded("build", lib.ROOT / "build").link_library(ARCHIVE, folder):
             return lib.skip("no C compiler, or no ar")
-        met = run_plans(client, folder / "libtd.so", count, rng)
+        met = run_plans(client, folder / "libtd.so", count, rng, by_catalogue)
+        beside = run_plans(client, folder / "libtd.so", count, rng, by_text)
         refusals = run_mistakes(client, folder / "libtd.so", count, rng)
         ran = run_examples(folder)
-    print(", ".join(f"{what}: {times}" for what, times in met.items()) + f"; {refusals} texts refused alike; examples: {', '.join(ran)}")
+    print(f"{told_of(met)}; with closures in text {told_of(beside)}; {refusals} texts refused alike; examples: {', '.join(ran)}")
 
 
 if __name__ == "__main__":

@@ -36,8 +36,8 @@ struct td_counts {
     size_t outputs;
 };
 
-/* What a call answers, and what its `place` is then: a line of the text, from 1; the number of a vertex; the index of a record or
- * state, from 0; or else 0. */
+/* What a call answers, and what its `place` is then: a line of the text or of the closures, from 1; the number of a vertex; the index
+ * of a record or state, from 0; or else 0. */
 enum td_answer {
     TD_DONE = 0,
     TD_SYNTAX = 1,       /* a line of the text has none of the forms of a line, or a loop is not ended; the line */
@@ -51,16 +51,28 @@ enum td_answer {
     TD_NO_ENDS = 9,      /* the plan has no input or no output; 0 */
     TD_MEMORY = 10,      /* an allocation was refused; 0 */
     TD_TEXT = 11,        /* the text is no UTF-8; 0 */
-    TD_CLOSURE = 12,     /* the catalogue does not have the closure of a vertex; the vertex */
+    TD_CLOSURE = 12,     /* neither the catalogue nor the closures in text have the closure of a vertex; the vertex */
     TD_INPUT = 13,       /* a record names no input of the plan; the index of the first such record */
     TD_COUNT = 14,       /* counts->states is more than states_len; 0 */
     TD_FOLD = 15,        /* a state names no fold of the plan; its index */
     TD_DOUBLED = 16,     /* an earlier state has the same vertex and key; the index of the later one */
-    TD_ROOM = 17         /* more states or outputs than the arrays have places: `counts` has how many there would be; 0 */
+    TD_ROOM = 17,        /* more states or outputs than the arrays have places: `counts` has how many there would be; 0 */
+
+    /* Of closures in text, in td_check_with and td_epoch_with alone. They come before all others. */
+    TD_CLOSURES_SYNTAX = 18,   /* a line has none of the forms of a line, or does not stand in its place; the line */
+    TD_CLOSURES_NAME = 19,     /* a name is unknown, or is not there on this line; the line */
+    TD_CLOSURES_CODE = 20,     /* a code is not 10000 to 65535, or stands twice in its kind; the line */
+    TD_CLOSURES_TOO_MANY = 21, /* a closure, register, line `send`, number, name or byte too many; the line */
+    TD_CLOSURES_DEEP = 22,     /* an expression is nested more than 64 deep; the line */
+    TD_CLOSURES_TEXT = 23      /* the closures are no UTF-8; 0 */
 };
 
 /* Whether a text spells a plan whose closures are all in the catalogue. */
 uint32_t td_check(const uint8_t *text, size_t text_len, uint64_t *place);
+
+/* Whether a text spells a plan whose closures are all in the catalogue, or in `closures`: a text of closures, whose codes are from 10000
+ * on (docs/CLOSURES.md). An empty one has none. */
+uint32_t td_check_with(const uint8_t *text, size_t text_len, const uint8_t *closures, size_t closures_len, uint64_t *place);
 
 /* One epoch. The first counts->states of the states_len places of `states` are the states before it, in any order. After TD_DONE
  * the first counts->states of them are those after it, sorted by (vertex, key), and the first counts->outputs of `outputs` are its
@@ -71,6 +83,13 @@ uint32_t td_epoch(const uint8_t *text, size_t text_len,
                   struct td_state *states, size_t states_len,
                   struct td_record *outputs, size_t outputs_len,
                   struct td_counts *counts, uint64_t *place);
+
+/* The same by the closures of the catalogue and those of `closures`, as of td_check_with. */
+uint32_t td_epoch_with(const uint8_t *text, size_t text_len, const uint8_t *closures, size_t closures_len,
+                       const struct td_record *records, size_t records_len,
+                       struct td_state *states, size_t states_len,
+                       struct td_record *outputs, size_t outputs_len,
+                       struct td_counts *counts, uint64_t *place);
 
 #ifdef __cplusplus
 }

@@ -5,7 +5,11 @@
     # states [(1, 7, 8, 2)], outputs [(2, 7, 8)]
 
 A record is (vertex, key, value): the input that it comes to, or the output. A state is (vertex, key, a, b). The caller keeps the states, and
-hands those before an epoch in. Nothing else is kept between calls."""
+hands those before an epoch in. Nothing else is kept between calls.
+
+A plan may have closures in text (docs/CLOSURES.md) beside those of the catalogue:
+
+    doubled = Plan("0 input\\n1 map 10000 0\\n2 output 1\\n", closures="map 10000\\n  send key, val * 2\\n")"""
 
 import ctypes
 
@@ -28,12 +32,13 @@ class Counts(ctypes.Structure):
 
 DONE, MEMORY, ROOM = 0, 10, 17
 # What the place of an answer is.
-LINE, VERTEX, RECORD, STATE = "line {}", "vertex {}", "record {}", "state {}"
+LINE, VERTEX, RECORD, STATE, CLOSURES = "line {}", "vertex {}", "record {}", "state {}", "closures line {}"
 ANSWERS = {
     1: ("syntax", LINE), 2: ("number", LINE), 3: ("order", LINE), 4: ("nest", LINE), 5: ("bound", LINE), 6: ("fold in loop", LINE),
     7: ("again", LINE), 8: ("too many", LINE), 9: ("no input or output", ""), 10: ("memory", ""), 11: ("the text is no UTF-8", ""),
     12: ("no closure", VERTEX), 13: ("no input", RECORD), 14: ("more states than places", ""), 15: ("no fold", STATE),
-    16: ("doubled", STATE), 17: ("room", ""),
+    16: ("doubled", STATE), 17: ("room", ""), 18: ("syntax", CLOSURES), 19: ("name", CLOSURES), 20: ("code", CLOSURES), 21: ("too many", CLOSURES),
+    22: ("deep", CLOSURES), 23: ("the closures are no UTF-8", ""),
 }
 
 
@@ -61,19 +66,26 @@ def rows_of(array, count):
     return [tuple(getattr(row, name) for name, _ in row._fields_) for row in array[:count]]
 
 
-class Plan:
-    """A plan that the library has read, and found without a fault."""
+def bytes_of(text):
+    return text.encode() if isinstance(text, str) else bytes(text)
 
-    def __init__(self, text, library="libtd.so"):
-        self.text = text.encode() if isinstance(text, str) else bytes(text)
-        self.library = ctypes.CDLL(str(library))
+
+class Plan:
+    """A plan that the library has read, and found without a fault. `closures` is a text of closures that stand beside those of the catalogue."""
+
+    def __init__(self, text, library="libtd.so", closures=""):
+        library, self.texts = ctypes.CDLL(str(library)), []
+        for each in map(bytes_of, [text, closures] if closures else [text]):
+            self.texts += [each, len(each)]
+        check, self.call = (library.td_check_with, library.td_epoch_with) if closures else (library.td_check, library.td_epoch)
         size, place = ctypes.c_size_t, ctypes.POINTER(ctypes.c_uint64)
-        self.library.td_check.argtypes = [ctypes.c_char_p, size, place]
-        self.library.td_epoch.argtypes = [ctypes.c_char_p, size, ctypes.POINTER(Record), size, ctypes.POINTER(State), size,
-                                          ctypes.POINTER(Record), size, ctypes.POINTER(Counts), place]
-        self.library.td_check.restype = self.library.td_epoch.restype = ctypes.c_uint32
+        texts = [ctypes.c_char_p, size] * (len(self.texts) // 2)
+        check.argtypes = [*texts, place]
+        self.call.argtypes = [*texts, ctypes.POINTER(Record), size, ctypes.POINTER(State), size, ctypes.POINTER(Record), size,
+                              ctypes.POINTER(Counts), place]
+        check.restype = self.call.restype = ctypes.c_uint32
         place = ctypes.c_uint64(0)
-        answer = self.library.td_check(self.text, len(self.text), place)
+        answer = check(*self.texts, place)
         if answer != DONE:
             raise Refused(answer, place.value)
 
@@ -84,8 +96,7 @@ class Plan:
         while True:
             kept, outputs = array_of(State, states, wanted.states), (Record * max(wanted.outputs, 1))()
             counts = Counts(len(states), 0)
-            answer = self.library.td_epoch(self.text, len(self.text), given, len(records), kept, len(kept), outputs, len(outputs),
-                                           counts, place)
+            answer = self.call(*self.texts, given, len(records), kept, len(kept), outputs, len(outputs), counts, place)
             if answer == DONE:
                 return rows_of(kept, counts.states), rows_of(outputs, counts.outputs)
             if answer != ROOM:

@@ -31,10 +31,12 @@ struct Counts {
 }
 
 extern "C" {
-    fn td_check(text: *const u8, text_len: usize, place: *mut u64) -> u32;
-    fn td_epoch(
+    fn td_check_with(text: *const u8, text_len: usize, closures: *const u8, closures_len: usize, place: *mut u64) -> u32;
+    fn td_epoch_with(
         text: *const u8,
         text_len: usize,
+        closures: *const u8,
+        closures_len: usize,
         records: *const Record,
         records_len: usize,
         states: *mut State,
@@ -64,20 +66,28 @@ impl fmt::Display for Refused {
 
 impl std::error::Error for Refused {}
 
-/// A plan that the library has read, and found without a fault.
+/// A plan that the library has read, and found without a fault; and a text of closures beside those of the catalogue, of which an empty one
+/// has none.
 #[derive(Clone, Debug)]
 pub struct Plan {
     text: String,
+    closures: String,
 }
 
 impl Plan {
+    /// A plan by the closures of the catalogue.
     pub fn new(text: impl Into<String>) -> Result<Plan, Refused> {
-        let text = text.into();
+        Plan::with_closures(text, "")
+    }
+
+    /// A plan by the closures of the catalogue, and those of a text beside them (`docs/CLOSURES.md`).
+    pub fn with_closures(text: impl Into<String>, closures: impl Into<String>) -> Result<Plan, Refused> {
+        let (text, closures) = (text.into(), closures.into());
         let mut place = 0;
-        // SAFETY: the text is as long as is said, and `place` is a place of its own.
-        let number = unsafe { td_check(text.as_ptr(), text.len(), &mut place) };
+        // SAFETY: each text is as long as is said, and `place` is a place of its own.
+        let number = unsafe { td_check_with(text.as_ptr(), text.len(), closures.as_ptr(), closures.len(), &mut place) };
         if number == DONE {
-            Ok(Plan { text })
+            Ok(Plan { text, closures })
         } else {
             Err(Refused { number, place })
         }
@@ -94,9 +104,11 @@ impl Plan {
             let mut place = 0;
             // SAFETY: each array is as long as is said, no two overlap, and a slice's pointer is never null.
             let number = unsafe {
-                td_epoch(
+                td_epoch_with(
                     self.text.as_ptr(),
                     self.text.len(),
+                    self.closures.as_ptr(),
+                    self.closures.len(),
                     records.as_ptr(),
                     records.len(),
                     states.as_mut_ptr(),

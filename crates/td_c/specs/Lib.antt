@@ -1,5 +1,7 @@
 pub mod Answered
+pub mod Beside
 pub mod Epoch
 pub mod PlanRead
 pub mod Refusals
 pub mod Rows
+pub mod Stores

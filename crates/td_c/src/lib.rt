@@ -1,13 +1,17 @@
-//! One epoch of a plan for C, by the closures of the catalogue: the caller keeps the states in arrays of its own.
+//! One epoch of a plan for C, by the closures of the catalogue, and of a text beside it: the caller keeps the states in arrays of its
+//! own.
 #![tactic(auto)]
 
 ghost use Rattle.std.specs.Prelude.{◌≡◌, ◌≢◌, take};
 ghost use Rattle.td_c.specs.Answered.{Answered};
+ghost use Rattle.td_c.specs.Beside.{HasPlanBeside, PlanRefusedBeside, EpochWrittenBeside, EpochRefusedBeside};
 ghost use Rattle.td_c.specs.Epoch.{EpochWritten, EpochRefused};
 ghost use Rattle.td_c.specs.PlanRead.{HasPlan, PlanRefused};
 ghost use Rattle.td_c.specs.Refusals.{number_of, place_of};
+ghost use Rattle.td_c.specs.Stores.{stored_catalogue};
 
 mod advance;
+mod beside;
 mod reading;
 mod refusal;
 mod shelves;
@@ -15,19 +19,21 @@ mod values;
 mod writing;
 
 use crate::advance::advance;
+use crate::beside::{advance_beside, check_beside};
 use crate::reading::plan_of;
 pub use refusal::Refusal;
 pub use shelves::Shelves;
 use std::alloc::Global;
+use td_catalogue::Catalogue;
 pub use values::{TdCounts, TdRecord, TdState};
 
 /// Whether a text spells a plan whose closures are all in the catalogue. It answers 0, or a refusal's number with its place: a line of
 /// the text, a vertex, or 0.
 #[unsafe(no_mangle)]
 pub extern "C" fn td_check(alloc: Global, text: &[u8], place: &mut u64) -> u32
-    ensures { Answered (HasPlan text.now) (PlanRefused text.now) result place.new }
+    ensures { Answered (HasPlan stored_catalogue text.now) (PlanRefused stored_catalogue text.now) result place.new }
 {
-    match plan_of(alloc, text) {
+    match plan_of::<Catalogue, Shelves>(alloc, &Shelves, text) {
         Ok(_plan) => done(place),
         Err(refusal) => refused(refusal, place),
     }
@@ -46,12 +52,49 @@ pub extern "C" fn td_epoch(
     counts: &mut TdCounts,
     place: &mut u64,
 ) -> u32
-    ensures answer { Answered (EpochWritten text.now records.now states.old states.new outputs.old outputs.new counts.old counts.new)
-        (EpochRefused text.now records.now states.old outputs.old counts.old counts.new) result place.new }
+    ensures answer { Answered (EpochWritten stored_catalogue text.now records.now states.old states.new outputs.old outputs.new counts.old counts.new)
+        (EpochRefused stored_catalogue text.now records.now states.old outputs.old counts.old counts.new) result place.new }
     ensures same_states { result ≢ 0 → states.new ≡ states.old }
     ensures same_outputs { result ≢ 0 → outputs.new ≡ outputs.old }
 {
-    match advance(alloc, text, records, states, outputs, counts) {
+    match advance::<Catalogue, Shelves>(alloc, &Shelves, text, records, states, outputs, counts) {
+        Ok(()) => done(place),
+        Err(refusal) => refused(refusal, place),
+    }
+}
+
+/// Whether a text spells a plan whose closures are all in the catalogue, or in a text beside it; an empty one has none. Its answers are
+/// those of `td_check`, after those of the closures: a number with its place, a line of their text or 0.
+#[unsafe(no_mangle)]
+pub extern "C" fn td_check_with(alloc: Global, text: &[u8], closures: &[u8], place: &mut u64) -> u32
+    ensures { Answered (HasPlanBeside closures.now text.now) (PlanRefusedBeside closures.now text.now) result place.new }
+{
+    match check_beside(alloc, text, closures) {
+        Ok(()) => done(place),
+        Err(refusal) => refused(refusal, place),
+    }
+}
+
+/// One epoch, as of `td_epoch`, by the closures of the catalogue and those of a text beside it; an empty one has none. Its answers are
+/// those of `td_epoch`, after those of the closures: a number with its place, a line of their text or 0.
+#[unsafe(no_mangle)]
+pub extern "C" fn td_epoch_with(
+    alloc: Global,
+    text: &[u8],
+    closures: &[u8],
+    records: &[TdRecord],
+    states: &mut [TdState],
+    outputs: &mut [TdRecord],
+    counts: &mut TdCounts,
+    place: &mut u64,
+) -> u32
+    ensures answer { Answered
+        (EpochWrittenBeside closures.now text.now records.now states.old states.new outputs.old outputs.new counts.old counts.new)
+        (EpochRefusedBeside closures.now text.now records.now states.old outputs.old counts.old counts.new) result place.new }
+    ensures same_states { result ≢ 0 → states.new ≡ states.old }
+    ensures same_outputs { result ≢ 0 → outputs.new ≡ outputs.old }
+{
+    match advance_beside(alloc, text, closures, records, states, outputs, counts) {
         Ok(()) => done(place),
         Err(refusal) => refused(refusal, place),
     }

@@ -1,27 +1,49 @@
-//! What C hands in: a plan's text, records and states.
+//! What C hands in: texts of a plan and of closures, records and states.
 ghost use Rattle.std.specs.Prelude.{◌≡◌, IfOk, IfErr, IfSome, IsTrue, is_some, map};
 ghost use Rattle.std.specs.List.{list_all};
 ghost use Rattle.td_plan.specs.Faults.{is_fold};
 ghost use Rattle.td_plan.specs.Inputs.{is_input_of};
 ghost use Rattle.td_stamp.specs.Bag.{bag_of};
 ghost use Rattle.td_stamp.specs.Orders.{entry_cmp};
+ghost use Rattle.td_closures.specs.Texts.{ClosuresText};
+ghost use Rattle.td_closures.specs.Kept.{said_by};
+ghost use Rattle.td_c.specs.Stores.{stored_in};
 ghost use Rattle.td_c.specs.PlanRead.{IsPlanOf, PlanRefused};
+ghost use Rattle.td_c.specs.Beside.{ClosuresRefused};
 ghost use Rattle.td_c.specs.Rows.{batch_of, states_of, is_fold_of, RecordRefused, StateRefused};
 
 use crate::refusal::Refusal;
-use crate::shelves::Shelves;
 use crate::values::{TdRecord, TdState};
 use std::alloc::Global;
 use std::str;
-use td_calls::Closures;
-use td_catalogue::Catalogue;
+use td_calls::{Closures, Law};
+use td_closures::read_closures;
+use td_formula::Closure;
 use td_plan::{Kind, Plan};
 use td_stamp::{Bag, Batch, Entry, Rec, State, States};
 
-/// The plan that a text spells, whose closures are all in the catalogue.
-pub(crate) fn plan_of(alloc: Global, text: &[u8]) -> Result<Plan, Refusal>
-    ensures ok { IfOk result (λ plan. IsPlanOf text.now plan) }
-    ensures err { IfErr result (λ e. PlanRefused text.now e) }
+/// The closures that a text spells. Refusals: `ClosuresText`; `Closures`, with the first fault of the text, or for want of memory.
+pub(crate) fn closures_of(alloc: Global, text: &[u8]) -> Result<Vec<Closure>, Refusal>
+    ensures ok { IfOk result (λ closures. ClosuresText text.now (map said_by closures.items)) }
+    ensures err { IfErr result (λ e. ClosuresRefused text.now e) }
+{
+    let Ok(text) = str::from_utf8(text) else {
+        return Err(Refusal::ClosuresText);
+    };
+    match read_closures(alloc, text) {
+        Ok(closures) => Ok(closures),
+        Err(fault) => Err(Refusal::Closures(fault)),
+    }
+}
+
+/// The plan that a text spells, whose closures are all stored.
+pub(crate) fn plan_of<L: Law, C: Closures<L>>(
+    alloc: Global,
+    calls: &C,
+    text: &[u8],
+) -> Result<Plan, Refusal>
+    ensures ok { IfOk result (λ plan. IsPlanOf (stored_in L.answers C.has_map C.has_group C.has_fold calls.now) text.now plan) }
+    ensures err { IfErr result (λ e. PlanRefused (stored_in L.answers C.has_map C.has_group C.has_fold calls.now) text.now e) }
 {
     let Ok(text) = str::from_utf8(text) else {
         return Err(Refusal::Text);
@@ -30,7 +52,7 @@ pub(crate) fn plan_of(alloc: Global, text: &[u8]) -> Result<Plan, Refusal>
         Ok(plan) => plan,
         Err(error) => return Err(Refusal::Plan(error)),
     };
-    match Closures::<Catalogue>::fits(&Shelves, &plan) {
+    match Closures::<L>::fits(calls, &plan) {
         Ok(()) => Ok(plan),
         Err(lack) => Err(Refusal::Closure(lack)),
     }

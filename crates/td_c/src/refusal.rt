@@ -2,11 +2,12 @@
 ghost use Rattle.std.specs.Prelude.{◌≡◌};
 ghost use Rattle.td_stamp.specs.declared.error.StampError.{StampError as AnyStampError};
 ghost use Rattle.td_c.specs.declared.refusal.Refusal.TheVariants.{Plan, Memory};
-ghost use Rattle.td_c.specs.Refusals.{number_of, place_of, line_of};
+ghost use Rattle.td_c.specs.Refusals.{number_of, number_of_wrong, place_of, line_of, line_of_wrong};
 
 use std::alloc::{AllocError, AllocFailed};
 use td_batch::BatchError;
 use td_calls::CallsError;
+use td_closures::{Fault, Wrong};
 use td_plan::PlanError;
 use td_stamp::StampError;
 
@@ -29,6 +30,10 @@ pub enum Refusal {
     Doubled(usize),
     /// The states or the outputs after the epoch are more than the arrays have places.
     Room,
+    /// The text of closures spells none; the place is its first line with a fault, or 0.
+    Closures(Fault),
+    /// The text of closures is no UTF-8.
+    ClosuresText,
     /// An allocation was refused.
     Memory,
 }
@@ -47,6 +52,8 @@ impl Refusal {
             Refusal::Fold(_) => 15,
             Refusal::Doubled(_) => 16,
             Refusal::Room => 17,
+            Refusal::Closures(fault) => number_of_wrong(fault.wrong),
+            Refusal::ClosuresText => 23,
             Refusal::Memory => 10,
         }
     }
@@ -58,6 +65,7 @@ impl Refusal {
         match self {
             Refusal::Plan(error) => line(error),
             Refusal::Closure(CallsError::NoCall(vertex, _code)) => u64::from(vertex),
+            Refusal::Closures(fault) => line_of_wrong(fault),
             Refusal::Input(index) | Refusal::Fold(index) | Refusal::Doubled(index) => index as u64,
             _ => 0,
         }
@@ -78,6 +86,30 @@ fn line(error: PlanError) -> u64
         | PlanError::Again(line)
         | PlanError::TooMany(line) => line,
         _ => 0,
+    }
+}
+
+/// The number of what is wrong with a line of closures.
+fn number_of_wrong(wrong: Wrong) -> u32
+    ensures { result ≡ number_of_wrong wrong }
+{
+    match wrong {
+        Wrong::Syntax => 18,
+        Wrong::Name => 19,
+        Wrong::Code => 20,
+        Wrong::TooMany => 21,
+        Wrong::Deep => 22,
+        Wrong::Memory => 10,
+    }
+}
+
+/// The line of closures that is wrong, or 0 where memory was refused.
+fn line_of_wrong(fault: Fault) -> u64
+    ensures { result ≡ line_of_wrong fault.line fault.wrong }
+{
+    match fault.wrong {
+        Wrong::Memory => 0,
+        _ => fault.line,
     }
 }
 
