@@ -6,8 +6,8 @@
 Each epoch is one call of td_epoch by the Python client, with the states that the call before left: its outputs must be those of `td batch`, its states
 those of the reading. The states go in in random order; too little room must change nothing, and tell how much is wanted. As many plans have closures
 in text: td_epoch_with beside `td batch --closures` and the reading of tests/random_closures.py. As many texts with mistakes must be refused by
-td_check as `td plan` refuses them. Then the example of C, and that of Rust where there is a cargo, must print what `td batch` prints, and
-valgrind, where there is one, must see nothing amiss in the example of C."""
+td_check as `td plan` refuses them, and some texts of closures by their numbers and lines. Then the example of C, and that of Rust where there
+is a cargo, must print what `td batch` prints, and valgrind, where there is one, must see nothing amiss in the example of C."""
 
 import collections
 import contextlib
@@ -29,6 +29,11 @@ ARCHIVE = lib.ROOT / "crates/td_c/out/libtd_c.a"
 CLIENTS = lib.ROOT / "clients"
 # Epochs of the running total, by the keys and values of their records.
 TOTALS = [[(7, 5), (8, -3), (7, 1)], [], [(8, 3)] * 40, [(key, key - 50) for key in range(200)], [(7, 2**63 - 1), (7, 9)]]
+# Texts of closures, each with the number and the line of its refusal.
+REFUSED = [
+    ("map 10000\n  send key", 18, 2), ("map 10000\n\n  send kye, val", 19, 3), ("map 10000\nmap 10000", 20, 2), ("map 9999", 20, 1),
+    ("fold 10000\n  keep a, b\n  keep b, a", 21, 3), ("map 10000\n  send " + "(" * 65 + "key" + ")" * 65 + ", val", 22, 2), (b"map 10000 # \xff", 23, 0),
+]
 
 
 def loaded(name, file):
@@ -203,7 +208,7 @@ def run_mistakes(client, library, count, rng):
     """As many texts of plans with mistakes: td_check refuses what `td plan` refuses, at the same line."""
     refusals = 0
     for _ in range(count):
-        text = inputs.with_mistakes(rng, inputs.random_input(rng, True).split(b"\n--")[0])
+        text = inputs.with_mistakes(rng, inputs.random_input(rng, True).split(b"\n--")[0]).rstrip(b"\n")
         done = subprocess.run([lib.TD, "batch"], input=text + b"\n--\n", capture_output=True)
         wanted = without_code(done.stderr.decode().removeprefix("td: ").strip())
         if b"--" in text or done.returncode == 0 and wanted:
@@ -217,6 +222,18 @@ def run_mistakes(client, library, count, rng):
             lib.fail(f"{text!r}\ntd_check: {got}\n      td: {wanted}")
         refusals += got != ""
     return refusals
+
+
+def run_refused(client, library):
+    """Each refusal of a text of closures, which comes before those of the plan."""
+    for text, number, place in REFUSED:
+        try:
+            client.Plan("no plan", library, text)
+            got = None
+        except client.Refused as refused:
+            got = refused.number, refused.place
+        if got != (number, place):
+            lib.fail(f"closures {text!r}:\n   has {got}\nwanted {number, place}")
 
 
 # The examples
@@ -269,6 +286,7 @@ def main():
         met = run_plans(client, folder / "libtd.so", count, rng, by_catalogue)
         beside = run_plans(client, folder / "libtd.so", count, rng, by_text)
         refusals = run_mistakes(client, folder / "libtd.so", count, rng)
+        run_refused(client, folder / "libtd.so")
         ran = run_examples(folder)
     print(f"{told_of(met)}; with closures in text {told_of(beside)}; {refusals} texts refused alike; examples: {', '.join(ran)}")
 

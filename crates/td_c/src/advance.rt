@@ -29,8 +29,10 @@ pub(crate) fn advance<L: Law, C: Closures<L>>(
     outputs: &mut [TdRecord],
     counts: &mut TdCounts,
 ) -> Result<(), Refusal>
-    ensures ok { OnOk result (EpochWritten (stored_in L.answers C.has_map C.has_group C.has_fold calls.now) text.now records.now states.old states.new outputs.old outputs.new counts.old counts.new) }
-    ensures err { IfErr result (λ e. EpochRefused (stored_in L.answers C.has_map C.has_group C.has_fold calls.now) text.now records.now states.old outputs.old counts.old counts.new e) }
+    ensures ok { OnOk result (EpochWritten (stored_in L.answers C.has_map C.has_group C.has_fold calls.now)
+        text.now records.now states.old states.new outputs.old outputs.new counts.old counts.new) }
+    ensures err { IfErr result (λ e. EpochRefused (stored_in L.answers C.has_map C.has_group C.has_fold calls.now)
+        text.now records.now states.old outputs.old counts.old counts.new e) }
     ensures same_states { OnErr result (states.new ≡ states.old) }
     ensures same_outputs { OnErr result (outputs.new ≡ outputs.old) }
 {

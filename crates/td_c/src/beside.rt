@@ -69,8 +69,10 @@ fn advance_by<F: Formulas>(
     counts: &mut TdCounts,
 ) -> Result<(), Refusal>
     requires { closures.items ≡ F.closures }
-    ensures ok { OnOk result (EpochWritten (stored_beside stored_catalogue F.closures) text.now records.now states.old states.new outputs.old outputs.new counts.old counts.new) }
-    ensures err { IfErr result (λ e. EpochRefused (stored_beside stored_catalogue F.closures) text.now records.now states.old outputs.old counts.old counts.new e) }
+    ensures ok { OnOk result (EpochWritten (stored_beside stored_catalogue F.closures)
+        text.now records.now states.old states.new outputs.old outputs.new counts.old counts.new) }
+    ensures err { IfErr result (λ e. EpochRefused (stored_beside stored_catalogue F.closures)
+        text.now records.now states.old outputs.old counts.old counts.new e) }
     ensures same_states { OnErr result (states.new ≡ states.old) }
     ensures same_outputs { OnErr result (outputs.new ≡ outputs.old) }
 {

@@ -12,6 +12,7 @@ ghost use Rattle.td_c.specs.Stores.{stored_catalogue};
 
 mod advance;
 mod beside;
+pub mod laws;
 mod reading;
 mod refusal;
 mod shelves;
@@ -52,7 +53,8 @@ pub extern "C" fn td_epoch(
     counts: &mut TdCounts,
     place: &mut u64,
 ) -> u32
-    ensures answer { Answered (EpochWritten stored_catalogue text.now records.now states.old states.new outputs.old outputs.new counts.old counts.new)
+    ensures answer { Answered
+        (EpochWritten stored_catalogue text.now records.now states.old states.new outputs.old outputs.new counts.old counts.new)
         (EpochRefused stored_catalogue text.now records.now states.old outputs.old counts.old counts.new) result place.new }
     ensures same_states { result ≢ 0 → states.new ≡ states.old }
     ensures same_outputs { result ≢ 0 → outputs.new ≡ outputs.old }
