@@ -11,10 +11,10 @@ With `--progress` a stream's other lines stand before the fault.
 The status is 1, of the program's words 2. `td stream`, `dump`, `copy` and `plan` have more. 3 is `device`, 4 wants an
 operator, 5 is a line or a closure, 6 a standard stream, 7 `file`, 8 `too much work`.
 
-A signal ends `td` as a kill does, without a text, and what was acknowledged stands. So do SIGTERM and SIGHUP. So does
-SIGXFSZ, which comes where `ulimit -f` is below the size of the disk.
+SIGTERM, SIGHUP and Ctrl-C end `td` as a kill does, without a text, and what was acknowledged stands. So does SIGXFSZ,
+which comes where `ulimit -f` is below the size of the disk.
 
-Only the first fault is written: mend it and run again. Here is each text with the mistakes that most often lead to it.
+Only the first fault is written: mend it and run again. Each text stands here with its most common mistakes.
 `docs/REFUSALS.md` has the rules whole, `docs/FORMATS.md` the plan text and the limits.
 
 `./check` runs each command below as it stands, with the program's folder in the `PATH`. Under it stands what it prints.
@@ -261,8 +261,7 @@ With place and cause. `td copy` makes its file NEW, and refuses one that is ther
 
 ## What stands on a disk
 
-`td dump` and `td copy` refuse a disk in the same cases as `td show`, and with the same texts, with the path of DISK
-behind them.
+`td dump` and `td copy` refuse a disk where `td show` does, with the same texts, and the path of DISK behind them.
 
 **`not formatted`**: DISK has no head: `td format` did not make it, or was stopped before its end. Format it. What
 stands in the file is gone then.
@@ -271,9 +270,9 @@ stands in the file is gone then.
     td: not formatted
 
 **`another plan`**: DISK was formatted for another plan than that in PLAN. Comments, empty lines and spaces do not
-matter. The closures' codes do. What a disk has gets to another plan in one way alone: its epochs are fed anew, to a
-disk of that plan. `td dump`, with the plan of this disk, writes those since the last cut. Those before it come from
-inputs that were kept.
+matter. The closures' codes do. What a disk has gets to another plan in one way alone: all epochs are fed to a disk of
+that plan. `td dump`, with the plan of this disk, writes those since the last cut. Those before it come from inputs that
+were kept.
 
     $ printf '0 input\n1 group 20 0\n2 output 1\n' > count.plan
     $ td format total.disk total.plan 4 2 3; td show total.disk count.plan
@@ -401,11 +400,24 @@ that. The first line of `td dump` says how many states a disk has of its K.
     1 2 4 5
     cut 1
 
+**`no more epochs`**: the last epoch that has a number, 2^63 - 1, stands on the disk. No feed comes so far: here its
+number is written into a slot by hand:
+
+    $ td format total.disk total.plan 4 2 3
+    $ printf '\177\377\377\377\377\377\377\377' | dd of=total.disk bs=1 seek=8258 conv=notrunc 2> dd.txt
+    $ td feed total.disk total.plan
+    td: no more epochs
+
+`no such input` without a line, `foreign hall`, `epoch E not passed`, `cut waiting` and `broken` are refusals of the
+library's keeper, to which `td` gives no cause.
+
+### too much work
+
 **`too much work`**: the epochs that were read take more than R deliveries each on average, where R is that of
 `td stream --most R`. `td help stream` says what a delivery is. The text has the first epoch that has not passed.
 
-Loops make such epochs. Bounds of loops that stand in one another multiply, and `td plan` writes the product. A `map 6`
-in a loop doubles its records in each turn.
+Loops make such epochs. `td plan` writes the product of the bounds of loops in one another. A `map 6` in a loop doubles
+its records in each turn.
 
     $ printf '0 input\nloop 1000\n1 enter 0\n2 feedback 3\n3 map 1 1 2\n4 leave 3\nend\n5 output 4\n' > round.plan
     $ td plan round.plan | tail -n 1
@@ -437,6 +449,8 @@ The first two:
     kept 0
     told 0
 
+### device
+
 **`device`**: a read, a write or a sync of DISK failed. Each epoch with an `ack` was on the device before. Of the next
 ones all that were to be put there together may be there, or none. `td stream`, `td dump` and `td copy` name the file,
 the call and the cause: `td: device: total.disk: write: no space left on device`.
@@ -447,7 +461,7 @@ Never:
 - format it, or send a batch again under a new request number
 - put a copy over it while its own bytes may be good: what was acknowledged after the copy was made is not in it
 
-Do this, in this order:
+In this order:
 
 1. **Stop what starts `td` by itself**: the supervisor, the timer, the loop of a script. The status of a stream is 3.
 2. **Write down** the line that `td` wrote, and which batch was the first without an `ack` or `again`.
@@ -458,8 +472,8 @@ Do this, in this order:
    Go to step 6.
    - Anything else, and whatever the cause of a `sync`: go on with step 4. So it is with a line without a call, as of
    `format`, `feed`, `show` and `upgrade`.
-4. **Mend or replace the device.** Where it is replaced copy the file to the new one by `cp`, then run `sync`, and go on
-   with that copy.
+4. **Mend or replace the device.** Look at what the system says of the device (`dmesg`). Where it is replaced copy the
+   file to the new one by `cp`, and DISK.closures, where it is there. Then run `sync`, and go on with that copy.
 5. **Start the machine again**, or take the file system off and put it on again. After a sync that failed, an operating
    system may keep in its memory what the device never got. It then answers reads, and later syncs, from there. A loss
    of power would take away what `td` would find and acknowledge. (Or copy the file past that memory, as by
@@ -473,17 +487,6 @@ Do this, in this order:
 A file on which `td format` ended so is formatted again. Where NEW of `td copy` failed, the text has its path. NEW was
 removed, and DISK is as it was: make room, or take another device, and copy again.
 
-**`no more epochs`**: the last epoch that has a number, 2^63 - 1, stands on the disk. No feed comes so far: here its
-number is written into a slot by hand:
-
-    $ td format total.disk total.plan 4 2 3
-    $ printf '\177\377\377\377\377\377\377\377' | dd of=total.disk bs=1 seek=8258 conv=notrunc 2> dd.txt
-    $ td feed total.disk total.plan
-    td: no more epochs
-
-`no such input` without a line, `foreign hall`, `epoch E not passed`, `cut waiting` and `broken` are refusals of the
-library's keeper, to which `td` gives no cause.
-
 ## The machine
 
 **`input`**: standard input cannot be read: it is closed, or a folder. Or its end has not come after 2^32 reads. Of
@@ -491,6 +494,19 @@ library's keeper, to which `td` gives no cause.
 
     $ td batch < /
     td: input
+
+**`memory`**: the system refused memory. Nothing was written, but by `td feed` and `td stream`: look with `td show`
+where the disk stands. The program keeps the whole input, so an input that is cut in two needs half. `td stream` keeps
+64 KiB of it, one line, at most 256 epochs read ahead, and the epochs since the last cut: cut more often.
+
+An epoch may also grow to more than the memory holds, by a loop that multiplies its records. It is acknowledged before
+it is computed. So each later start ends as `memory` again, or does not end. Start the stream with `--most R`, and go on
+as for `too much work`.
+
+**`spent`**: `td run`, `sim`, `feed` and `stream` number their tasks, and 2^63 of them were taken. No machine comes so
+far.
+
+### output
 
 **`output`**: standard output cannot be written: it is closed, or its file system is full, or who read it went away, as
 `head` does. The disk is fine. It may have a few more epochs than you saw `ack` for, all that were put there together.
@@ -518,15 +534,4 @@ A feed whose output is closed has put two epochs on the disk:
     told 2
     epoch 1 1
     epoch 2 0
-
-**`memory`**: the system refused memory. Nothing was written, but by `td feed` and `td stream`: look with `td show`
-where the disk stands. The program keeps the whole input, so an input that is cut in two needs half. `td stream` keeps
-64 KiB of it, one line, at most 256 epochs read ahead, and the epochs since the last cut: cut more often.
-
-An epoch may also grow to more than the memory holds, by a loop that multiplies its records. It is acknowledged before
-it is computed. So each later start ends as `memory` again, or does not end. Start the stream with `--most R`, and go on
-as for `too much work`.
-
-**`spent`**: `td run`, `sim`, `feed` and `stream` number their tasks, and 2^63 of them were taken. No machine comes so
-far.
 "#;
