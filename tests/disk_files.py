@@ -90,7 +90,8 @@ def take_pipe(folder):
     os.mkfifo(pipe)
     told = (7, f"td: file: {pipe}: no file\n")
     for name, words, wanted_end in (("format", SHAPE, (1, "td: file\n")), ("feed", (), (1, "td: file\n")), ("show", (), (1, "td: file\n")),
-                                    ("upgrade", (), (1, "td: file\n")), ("stream", (), told), ("dump", (), told), ("copy", (folder / "other", *SHAPE), told)):
+                                    ("upgrade", (), (1, "td: file\n")), ("stream", (), told), ("dump", (), told), ("states", (), told),
+                                    ("copy", (folder / "other", *SHAPE), told)):
         done = subprocess.run([TD, name, pipe, plan, *words], input="", capture_output=True, text=True, timeout=SECONDS)
         if (done.returncode, done.stderr) != wanted_end or done.stdout or not pipe.is_fifo() or (folder / "other").exists():
             lib.fail(f"td {name} of a pipe for a disk: {done}")

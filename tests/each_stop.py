@@ -37,7 +37,7 @@ Two feeds by `td feed` on a file have each of their writes and syncs fail **alon
 of a stream. Such a run ends with the disk's failure and makes no write and no sync of its own behind it: what a failed sync dropped, a second one does
 not bring back. It writes what it writes where all later calls fail too.
 
-Then each read of `td show`, `dump`, `feed`, `stream`, `copy` and `upgrade` fails alone, on a disk that takes several reads and has an epoch in its last
+Then each read of `td show`, `dump`, `states`, `feed`, `stream`, `copy` and `upgrade` fails alone, on a disk that takes several reads and has an epoch in its last
 cell. The command is refused, or tells all that is on the disk, and never less.
 
 The output lines are those of `td batch` on all epochs. The states of the plan with two folds are reckoned here from these lines
@@ -545,7 +545,7 @@ def read_each_once():
         feed.formatted(disk)
         td(*feed.words(disk), text=text_of(feed.input_after(0)))
         new = [disk.with_name("new"), "1000", "8", "6"]
-        counts = {words[0]: read_once(feed, words, disk) for words in (["show"], ["dump"], ["feed"], ["stream"], ["copy", *new], ["upgrade"])}
+        counts = {words[0]: read_once(feed, words, disk) for words in (["show"], ["dump"], ["states"], ["feed"], ["stream"], ["copy", *new], ["upgrade"])}
     reads = ", ".join(f"{name} {count}" for name, count in counts.items())
     print(f"each read of a disk failing alone ({reads}): each command was refused, or told all that was acknowledged")
 

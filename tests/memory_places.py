@@ -75,6 +75,7 @@ PLACES = {
         "td_shard/src/versions.rt keep: set",
         "td_standing/src/format.rt format_device: copy",
         "td_standing/src/parts.rt recover_device: copy",
+        "td_states/src/reading.rt read_input: read_all",
         "td_words/src/parse.rt parsed: command",
         "td_workers/src/workers.rt in_scope: start_all",
     ],

@@ -103,12 +103,7 @@ pub(crate) fn copy_disk<R: Files<File = File> + AllocGlobal>(
     match copied {
         Ok(_new) => Ok(()),
         Err(Refusal::New(fault)) => {
-            let failure = why_not_written(rt, new);
-            let _ = fs::remove_file(rt, new);
-            if closures.is_some() {
-                remove_closures(rt, new);
-            }
-            Err(Refusal::Plain(fault).on_disk(alloc, new, failure))
+            Err(remove_disk(rt, new, closures.is_some(), Refusal::New(fault)))
         }
         Err(refusal) => {
             let failure = disk.inner().last_failure();
@@ -117,8 +112,30 @@ pub(crate) fn copy_disk<R: Files<File = File> + AllocGlobal>(
     }
 }
 
+/// Takes away the file of a new disk that was refused, and that of its closures in text, where it has them; the refusal with its place
+/// and cause.
+pub(crate) fn remove_disk<R: Files<File = File> + AllocGlobal>(
+    rt: &R,
+    path: &str,
+    has_closures: bool,
+    refusal: Refusal,
+) -> Refusal {
+    let failure = match refusal {
+        Refusal::New(_) => why_not_written(rt, path),
+        _ => None,
+    };
+    let _ = fs::remove_file(rt, path);
+    if has_closures {
+        remove_closures(rt, path);
+    }
+    match refusal {
+        Refusal::New(fault) => Refusal::Plain(fault).on_disk(rt.alloc(), path, failure),
+        refusal => refusal,
+    }
+}
+
 /// A disk for a shape, in a file at `path`, where there is none, and beside it closures of this text, or none.
-fn make_disk_with<R: Files<File = File> + AllocGlobal>(
+pub(crate) fn make_disk_with<R: Files<File = File> + AllocGlobal>(
     rt: &R,
     path: &str,
     shape: Shape,
@@ -164,7 +181,12 @@ fn why_not_written<R: Files<File = File>>(rt: &R, path: &str) -> Option<FileFail
 }
 
 /// The shape of a disk, or which of its numbers is out of its limits.
-fn shape_or_tell<R: AllocGlobal>(rt: &R, m: u32, n: u32, k: u32) -> Result<Shape, Refusal> {
+pub(crate) fn shape_or_tell<R: AllocGlobal>(
+    rt: &R,
+    m: u32,
+    n: u32,
+    k: u32,
+) -> Result<Shape, Refusal> {
     let alloc = rt.alloc();
     match shape_of(m, n, k) {
         Ok(shape) => Ok(shape),
@@ -196,7 +218,10 @@ pub(crate) fn open_disk_or_tell<R: Files<File = File> + AllocGlobal>(
 }
 
 /// The plan in the file at `path`, or why it cannot be had.
-fn plan_or_tell<R: Files<File = File> + AllocGlobal>(rt: &R, path: &str) -> Result<Plan, Refusal> {
+pub(crate) fn plan_or_tell<R: Files<File = File> + AllocGlobal>(
+    rt: &R,
+    path: &str,
+) -> Result<Plan, Refusal> {
     match plan_at(rt, path) {
         Ok(plan) => Ok(plan),
         Err(Fault::File) => Err(file_refusal(rt, path, why_not_read(rt, path))?),
@@ -248,7 +273,7 @@ fn plan_at<R: Files<File = File> + AllocGlobal>(rt: &R, path: &str) -> Result<Pl
 }
 
 /// Takes the numbers of the standard streams for as long as the answer is held, where one of them is closed.
-fn hold_streams<R: Files<File = File>>(rt: &R) -> Result<Option<[File; 3]>, Fault> {
+pub(crate) fn hold_streams<R: Files<File = File>>(rt: &R) -> Result<Option<[File; 3]>, Fault> {
     match streams::hold_streams(rt) {
         Ok(held) => Ok(held),
         Err(error) => Err(fault_of(&error)),

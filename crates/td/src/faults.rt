@@ -8,7 +8,7 @@ A fault is one line on standard error: `td: ` and a text. Nothing is written to 
 `td stream` leave standing what they wrote before the fault, and an epoch of which they wrote `ack` stays on the disk.
 With `--progress` a stream's other lines stand before the fault.
 
-The status is 1, of the program's words 2. `td stream`, `dump`, `copy` and `plan` have more. 3 is `device`, 4 wants an
+The status is 1, of the program's words 2. `td stream`, `dump`, `copy`, `states`, `load` and `plan` have more. 3 is `device`, 4 wants an
 operator, 5 is a line or a closure, 6 a standard stream, 7 `file`, 8 `too much work`.
 
 SIGTERM, SIGHUP and Ctrl-C end `td` as a kill does, without a text, and what was acknowledged stands. So does SIGXFSZ,
@@ -270,9 +270,8 @@ stands in the file is gone then.
     td: not formatted
 
 **`another plan`**: DISK was formatted for another plan than that in PLAN. Comments, empty lines and spaces do not
-matter. The closures' codes do. What a disk has gets to another plan in one way alone: all epochs are fed to a disk of
-that plan. `td dump`, with the plan of this disk, writes those since the last cut. Those before it come from inputs that
-were kept.
+matter. The closures' codes do. `td states` and `td load` take what its folds keep to a disk of another plan, as
+`docs/STATES.md` shows. `td dump` writes the epochs since the last cut.
 
     $ printf '0 input\n1 group 20 0\n2 output 1\n' > count.plan
     $ td format total.disk total.plan 4 2 3; td show total.disk count.plan
@@ -302,6 +301,15 @@ The text has both. NEW is not made.
 
     $ td format total.disk total.plan 4 2 3; td copy total.disk total.plan part.disk 4 2 3 --until 9
     td: no such epoch: 9, kept 0, told 0
+
+**`line L: no such fold`**, `line L: order`, `map`: of `td load`. `docs/STATES.md` says what to do.
+
+    $ printf 'kept 1\nstate 3 7 5 1\n' | td load states.disk total.plan 4 2 3
+    td: line 2: no such fold
+    $ printf 'kept 1\nstate 1 8 5 1\nstate 1 7 5 1\n' | td load states.disk total.plan 4 2 3
+    td: line 3: order
+    $ td load states.disk total.plan 4 2 3 --map 3 < /dev/null
+    td: map
 
 ## Feeding a disk
 

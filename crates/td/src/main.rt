@@ -18,6 +18,7 @@ mod language;
 mod plan;
 mod progress;
 mod refusal;
+mod states;
 mod store;
 mod streams;
 
@@ -33,6 +34,7 @@ use crate::language::LANGUAGE;
 use crate::plan::print_plan;
 use crate::progress::stream_told;
 use crate::refusal::Refusal;
+use crate::states::{load_disk, states_of_disk};
 use crate::store::{store_fold, store_group, store_map};
 use crate::streams::Awaited;
 use std::fs::File;
@@ -71,7 +73,12 @@ fn main(rt: HostRuntime) -> ExitCode {
 fn tells_who(job: &Job<'_>) -> bool {
     matches!(
         job,
-        Job::Stream { .. } | Job::Dump { .. } | Job::Copy { .. } | Job::Plan { .. }
+        Job::Stream { .. }
+            | Job::Dump { .. }
+            | Job::Copy { .. }
+            | Job::States { .. }
+            | Job::Load { .. }
+            | Job::Plan { .. }
     )
 }
 
@@ -81,6 +88,7 @@ fn done<
     R: Files<File = File>
         + Input
         + Print
+        + Eprint
         + AllocGlobal
         + Threads
         + Wait
@@ -160,6 +168,16 @@ fn done<
             k,
             until,
         } => copy_disk(rt, disk, plan, new, m, n, k, until),
+        Job::States { disk, plan } => states_of_disk(rt, disk, plan),
+        Job::Load {
+            new,
+            plan,
+            m,
+            n,
+            k,
+            map,
+            closures,
+        } => load_disk(rt, new, plan, m, n, k, map, closures),
         Job::Plan {
             plan,
             dot,

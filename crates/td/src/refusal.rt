@@ -1,5 +1,5 @@
-//! What is told of a command that failed. The commands that td had from the first tell the fault alone, with one status; `stream`, `dump`
-//! and `copy` tell its place and its cause too, where these are known, and these and `plan` have a status for each who is to do something.
+//! What is told of a command that failed. The commands that td had from the first tell the fault alone, with one status; `stream`, `dump`,
+//! `copy`, `states` and `load` tell its place and its cause too, where these are known, and these and `plan` have a status for each who is to do something.
 
 use std::alloc::{AllocError, AllocFailed, Global};
 use td_closures::Fault as ClosuresFault;
@@ -8,6 +8,7 @@ use td_copy::CopyError;
 use td_disk::{Disk, FileFailure};
 use td_plan::Plan;
 use td_standing::{KeeperError, recover_device};
+use td_states::StatesError;
 
 /// Why a command failed.
 #[derive(Debug, Drop)]
@@ -20,8 +21,10 @@ pub(crate) enum Refusal {
     Closures(ClosuresFault, String),
     /// What a copy has no room for, or that there is no such epoch, which its text says.
     Copy(CopyError),
-    /// The fault of the new disk of a copy.
+    /// The fault of the new disk of a copy or a load.
     New(Fault),
+    /// The fault of a line of a checkpoint in text, or of a list of renamed vertices.
+    States(StatesError),
     /// The epochs under way take more work than a stream may do, of which this one is the first.
     TooMuchWork(u64),
 }
@@ -55,6 +58,16 @@ impl From<CopyError> for Refusal {
     }
 }
 
+impl From<StatesError> for Refusal {
+    fn from(error: StatesError) -> Refusal {
+        match error {
+            StatesError::Line(..) | StatesError::Map => Refusal::States(error),
+            StatesError::Input => Refusal::Plain(Fault::Input),
+            StatesError::Memory => Refusal::Plain(Fault::Memory),
+        }
+    }
+}
+
 impl Refusal {
     /// A fault with its place and cause; alone, where there is no memory for these.
     pub(crate) fn at(alloc: Global, fault: Fault, cause: &str) -> Refusal {
@@ -82,6 +95,7 @@ impl Refusal {
             Refusal::At(fault, cause) => format!(in alloc; "td: {fault}: {cause}"),
             Refusal::Closures(fault, place) => format!(in alloc; "td: {fault}: {place}"),
             Refusal::Copy(error) => format!(in alloc; "td: {error}"),
+            Refusal::States(error) => format!(in alloc; "td: {error}"),
             Refusal::TooMuchWork(epoch) => format!(in alloc; "td: too much work: epoch {epoch}"),
         }
     }
@@ -94,7 +108,7 @@ impl Refusal {
             Refusal::Plain(fault) | Refusal::New(fault) | Refusal::At(fault, _) => status_of(
                 *fault,
             ),
-            Refusal::Closures(..) => LINE,
+            Refusal::Closures(..) | Refusal::States(_) => LINE,
             Refusal::Copy(_) => OPERATOR,
             Refusal::TooMuchWork(_) => TOO_MUCH_WORK,
         }

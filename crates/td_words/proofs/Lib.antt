@@ -4,6 +4,7 @@ pub mod CopyAsked
 pub mod CopyWords
 pub mod DiskWords
 pub mod Leaves
+pub mod LoadAsked
 pub mod Options
 pub mod StreamAsked
 pub mod StreamWords

@@ -10,7 +10,7 @@ use Rattle.clap.specs.declared.builder.value_parser.ValueParser.TheVariants as p
 use Rattle.clap.specs.declared.builder.action.ArgAction.TheVariants.{SetTrue}
 use Rattle.clap.specs.declared.error.kind.ErrorKind.TheVariants.{DisplayHelp}
 use Rattle.td_words.specs.declared.job.Job.{Job}
-use Rattle.td_words.specs.declared.job.Job.TheVariants.{Batch, Run, Sim, Format, Feed, Show, Dump, Upgrade, Copy, Stream, Plan, Help, Version, Faults, Language}
+use Rattle.td_words.specs.declared.job.Job.TheVariants.{Batch, Run, Sim, Format, Feed, Show, Dump, Upgrade, Copy, States, Load, Stream, Plan, Help, Version, Faults, Language}
 
 -- `--workers W`, a number of 1 to 16, and 1 where it is not given
 abbrev pub workers_rule : Rule
@@ -65,6 +65,10 @@ file_rule id = record (new_rule id) { long = Some id; value_names = 1 }
 abbrev pub closures_rule : Rule
 closures_rule = file_rule (codes "closures")
 
+-- `--map LIST`
+abbrev pub map_rule : Rule
+map_rule = file_rule (codes "map")
+
 -- the subcommands
 abbrev pub batch_app : App
 batch_app = with_rule (new_app (codes "batch")) closures_rule
@@ -99,6 +103,12 @@ upgrade_app = with_files (new_app (codes "upgrade"))
 abbrev pub copy_app : App
 copy_app = with_rule (with_shape (with_rule (with_files (new_app (codes "copy"))) (word_rule (codes "new")))) until_rule
 
+abbrev pub states_app : App
+states_app = with_files (new_app (codes "states"))
+
+abbrev pub load_app : App
+load_app = with_rule (with_rule (with_shape (with_rule (with_rule (new_app (codes "load")) (word_rule (codes "new"))) (word_rule (codes "plan")))) map_rule) closures_rule
+
 abbrev pub stream_app : App
 stream_app = with_rule (with_rule (with_rule (with_rule (with_rule (with_files (new_app (codes "stream"))) workers_rule) cut_every_rule) most_rule) (flag_rule (codes "progress")))
     (flag_rule (codes "marks"))
@@ -111,7 +121,7 @@ abbrev pub alone : App
 alone = let named = new_app (codes "td") in record named { top = record named.top { subcommand_required = true } }
 
 abbrev pub td : App
-td = with_subcommand (with_subcommand (with_subcommand (with_subcommand (with_subcommand (with_subcommand (with_subcommand (with_subcommand (with_subcommand (with_subcommand (with_subcommand alone batch_app.top) run_app.top) sim_app.top) format_app.top) feed_app.top) show_app.top) dump_app.top) upgrade_app.top) copy_app.top) stream_app.top) plan_app.top
+td = with_subcommand (with_subcommand (with_subcommand (with_subcommand (with_subcommand (with_subcommand (with_subcommand (with_subcommand (with_subcommand (with_subcommand (with_subcommand (with_subcommand (with_subcommand alone batch_app.top) run_app.top) sim_app.top) format_app.top) feed_app.top) show_app.top) dump_app.top) upgrade_app.top) copy_app.top) states_app.top) load_app.top) stream_app.top) plan_app.top
 
 -- the words that ask for the program's name and version, `--version` or `-V`, and those that ask for the text on faults, `help faults`,
 -- and for that on closures in text, `help closures`: clap has no part in these
@@ -196,6 +206,10 @@ IsFile id rows file = first_of id rows ≡ option_map (λ f. f.now) file
 abbrev pub IsClosures : List Row → Option (Bor Text) → Type 0
 IsClosures = IsFile (codes "closures")
 
+-- the list of renamed vertices, or none
+abbrev pub IsMap : List Row → Option (Bor Text) → Type 0
+IsMap = IsFile (codes "map")
+
 -- the name of a job's subcommand, and its values there
 abbrev pub name_of : Job → Text
 name_of (Batch closures) = codes "batch"
@@ -207,6 +221,8 @@ name_of (Show disk plan) = codes "show"
 name_of (Dump disk plan) = codes "dump"
 name_of (Upgrade disk plan) = codes "upgrade"
 name_of (Copy disk plan new m n k until) = codes "copy"
+name_of (States disk plan) = codes "states"
+name_of (Load new plan m n k map closures) = codes "load"
 name_of (Stream disk plan workers cut_every most progress marks) = codes "stream"
 name_of (Plan plan dot closures) = codes "plan"
 name_of (Help text) = codes "help"
@@ -229,6 +245,10 @@ HasValues rows (Copy disk plan new m n k until) = (first_of (codes "disk") rows 
     × (first_of (codes "new") rows ≡ Some new.now)
     × IsNumber (codes "m") 0 4294967295 rows m × IsNumber (codes "n") 0 4294967295 rows n × IsNumber (codes "k") 0 4294967295 rows k
     × IsUntil rows until
+HasValues rows (States disk plan) = (first_of (codes "disk") rows ≡ Some disk.now) × (first_of (codes "plan") rows ≡ Some plan.now)
+HasValues rows (Load new plan m n k map closures) = (first_of (codes "new") rows ≡ Some new.now) × (first_of (codes "plan") rows ≡ Some plan.now)
+    × IsNumber (codes "m") 0 4294967295 rows m × IsNumber (codes "n") 0 4294967295 rows n × IsNumber (codes "k") 0 4294967295 rows k
+    × IsMap rows map × IsClosures rows closures
 HasValues rows (Stream disk plan workers cut_every most progress marks) = (first_of (codes "disk") rows ≡ Some disk.now) × (first_of (codes "plan") rows ≡ Some plan.now)
     × IsWorkers rows workers × IsCutEvery rows cut_every × IsMost rows most × IsFlag (codes "progress") rows progress × IsFlag (codes "marks") rows marks
 HasValues rows (Plan plan dot closures) = (first_of (codes "plan") rows ≡ Some plan.now) × IsFlag (codes "dot") rows dot × IsClosures rows closures

@@ -1,7 +1,7 @@
 //! The commands of the program, as clap has them.
 ghost use Rattle.std.specs.Prelude.{◌≡◌, false, IfOk, IsOkAnd};
 ghost use Rattle.clap.specs.Words.{app_of, new_app, rule_of, with_rule, with_subcommand};
-ghost use Rattle.td_words.specs.Command.{alone, td, batch_app, run_app, sim_app, format_app, feed_app, show_app, dump_app, upgrade_app, copy_app};
+ghost use Rattle.td_words.specs.Command.{alone, td, batch_app, run_app, sim_app, format_app, feed_app, show_app, dump_app, upgrade_app, copy_app, states_app, load_app};
 ghost use Rattle.td_words.specs.Command.{workers_rule, picks_rule, word_rule, number_rule, option_rule, flag_rule, file_rule};
 ghost use Rattle.td_words.specs.Command.{stream_app, plan_app};
 ghost use Rattle.td_words.specs.Jobs.{has_globals};
@@ -37,6 +37,10 @@ const UPGRADE: &str = "Raises a disk to version 2 of its format, which has reque
 
 const COPY: &str = "Makes a disk of another shape, which has what a disk has";
 
+const STATES_OUT: &str = "Writes the states of a disk as text, which load takes";
+
+const LOAD: &str = "Makes a disk of the states that standard input has as text";
+
 const STREAM: &str = "Does what feed does, epoch by epoch as standard input comes";
 
 const LISTING: &str =
@@ -49,6 +53,11 @@ const PICKS: &str =
     "Which message or notification is taken in each turn: numbers joined by commas, over and over";
 
 const NEW_DISK: &str = "The file to make; one that is there is written anew";
+
+const MAP: &str =
+    "The states of vertex V become those of vertex W: V=W, several of them joined by commas";
+
+const CLOSURES_OF_NEW: &str = "A file with closures in text, which becomes NEW.closures";
 
 const COPIED_DISK: &str = "The file to make; one that is there is refused";
 
@@ -88,7 +97,8 @@ pub(crate) const GREATEST: u64 = 9_223_372_036_854_775_807;
 /// What help says at its end.
 const TD_MORE: &str = "\
 Output goes to standard output, faults to standard error
-Exit status: 0; 2 for words that do not parse; after a fault 1, or of dump, copy, stream and plan what their help tells
+Exit status: 0; 2 for words that do not parse; after a fault 1, or of dump, copy, states, load, stream and plan what their help
+tells
 'td help COMMAND' tells what a command reads and writes, 'td help faults' what each fault means, 'td help closures' how closures are
 written as text, 'td --version' the version";
 
@@ -179,6 +189,32 @@ Exit status: 0; 3 the device failed; 4 an operator is wanted; 5 a line of the in
         7 a file; 1 any other fault
 Each fault is explained by 'td help faults'";
 
+const STATES_MORE: &str = "\
+Reads:  PLAN and DISK
+Writes: a line 'kept EPOCH', of the last cut; 'last REQUEST' where there is a request number; and lines 'state VERTEX KEY A B', the
+        states kept; and to standard error how many epochs stand after the cut, which td dump has
+Common faults:
+        'file: PATH: CAUSE': a file that cannot be read, and why, as 'locked by another process'
+        'another plan: DISK': DISK was formatted for another plan than PLAN
+Exit status: 0; 3 the device failed; 4 an operator is wanted; 5 a line of the input; 6 standard input or output;
+        7 a file; 1 any other fault
+Each fault is explained by 'td help faults'";
+
+const LOAD_MORE: &str = "\
+Reads:  PLAN, and lines as td states writes them: 'kept EPOCH', 'last REQUEST', or none, and then 'state VERTEX KEY A B', by rising
+        VERTEX and KEY; lines that begin with '#' are passed over
+Writes: NEW, of 8308 + 64 K + N (25 + 24 M) bytes, with these states after that epoch, and no epochs after it; and NEW.closures,
+        with --closures FILE; each VERTEX is a fold of PLAN, once it is renamed by --map
+Common faults:
+        'file: NEW: is there': NEW is a file that is there, which td load never writes over
+        'line 9: no such fold': VERTEX is no fold of PLAN
+        'line 9: order': the state does not come after that of the line before, or stands there again
+        'too many keys: 70, K is 64': there are more than K states
+        'map': LIST is none of pairs V=W joined by commas
+Exit status: 0; 3 the device failed; 4 an operator is wanted; 5 a line of the input; 6 standard input or output;
+        7 a file; 1 any other fault
+Each fault is explained by 'td help faults'";
+
 const STREAM_MORE: &str = "\
 Reads:  PLAN, DISK and lines, as td feed does
 Writes: DISK, and, of all epochs that are closed and before it waits for more lines, 'ack EPOCH' (or 'again REQUEST') and
@@ -225,6 +261,8 @@ pub(crate) fn command<'a>(alloc: Global) -> Result<Command<'a>, AllocError>
     let td = with_leaf(td, dump_leaf(alloc))?;
     let td = with_leaf(td, upgrade_leaf(alloc))?;
     let td = with_leaf(td, copy_leaf(alloc))?;
+    let td = with_leaf(td, states_leaf(alloc))?;
+    let td = with_leaf(td, load_leaf(alloc))?;
     let td = with_leaf(td, stream_leaf(alloc))?;
     with_leaf(td, plan_leaf(alloc))
 }
@@ -338,6 +376,31 @@ fn copy_leaf<'a>(alloc: Global) -> Result<Command<'a>, AllocError>
     let leaf = with_arg(leaf, number_arg(alloc, "n", "N", CELLS))?;
     let leaf = with_arg(leaf, number_arg(alloc, "k", "K", STATES))?;
     with_arg(leaf, option_arg(alloc, "until", "E", 0, GREATEST, UNTIL))
+}
+
+/// `states`.
+fn states_leaf<'a>(alloc: Global) -> Result<Command<'a>, AllocError>
+    ensures app { IfOk result (λ c. app_of c ≡ states_app) }
+    ensures globals { IfOk result (λ c. has_globals c ≡ false) }
+{
+    let leaf = new_leaf(alloc, "states", STATES_OUT, STATES_MORE);
+    let leaf = with_arg(leaf, word_arg(alloc, "disk", "DISK", DISK))?;
+    with_arg(leaf, word_arg(alloc, "plan", "PLAN", PLAN))
+}
+
+/// `load`.
+fn load_leaf<'a>(alloc: Global) -> Result<Command<'a>, AllocError>
+    ensures app { IfOk result (λ c. app_of c ≡ load_app) }
+    ensures globals { IfOk result (λ c. has_globals c ≡ false) }
+{
+    let leaf = new_leaf(alloc, "load", LOAD, LOAD_MORE);
+    let leaf = with_arg(leaf, word_arg(alloc, "new", "NEW", COPIED_DISK))?;
+    let leaf = with_arg(leaf, word_arg(alloc, "plan", "PLAN", PLAN))?;
+    let leaf = with_arg(leaf, number_arg(alloc, "m", "M", RECORDS))?;
+    let leaf = with_arg(leaf, number_arg(alloc, "n", "N", CELLS))?;
+    let leaf = with_arg(leaf, number_arg(alloc, "k", "K", STATES))?;
+    let leaf = with_arg(leaf, list_arg(alloc, "map", MAP))?;
+    with_arg(leaf, file_arg(alloc, "closures", CLOSURES_OF_NEW))
 }
 
 /// `stream`.
@@ -475,6 +538,14 @@ fn file_arg<'a>(alloc: Global, id: &'a str, help: &'a str) -> Arg<'a>
     ensures local { result.global ≡ false }
 {
     Arg::new(alloc, id).long(id).value_name("FILE").help(help)
+}
+
+/// An option with a list, which may be left out, as `--map LIST`.
+fn list_arg<'a>(alloc: Global, id: &'a str, help: &'a str) -> Arg<'a>
+    ensures rule { rule_of result ≡ file_rule id.entry.now }
+    ensures local { result.global ≡ false }
+{
+    Arg::new(alloc, id).long(id).value_name("LIST").help(help)
 }
 
 /// A flag, as `--progress`.

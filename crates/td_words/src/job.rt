@@ -61,6 +61,23 @@ pub enum Job<'a> {
         k: u32,
         until: Option<u64>,
     },
+    /// To write the checkpoint of the disk `disk` as text.
+    States {
+        disk: &'a str,
+        plan: &'a str,
+    },
+    /// To make the file `new` and put on it the checkpoint that standard input spells, for the plan in the file `plan`, with `m` records a
+    /// cell, `n` cells and `k` states a slot; these are not compared with their limits yet. The list `map` of renamed vertices is not read
+    /// yet, if there is one. The closures of the disk are those of the file `closures`, if there is one.
+    Load {
+        new: &'a str,
+        plan: &'a str,
+        m: u32,
+        n: u32,
+        k: u32,
+        map: Option<&'a str>,
+        closures: Option<&'a str>,
+    },
     /// To feed the epochs of standard input to the disk `disk` as they come, by a hall of so many shards, with a cut after each
     /// `cut_every` epochs, if there is such a number; to stop where an epoch takes more than `most` deliveries, if there is such
     /// a number; to tell how far it has come, if `progress`; and to mark the end of each epoch, if `marks`.

@@ -17,7 +17,8 @@ use std::alloc::Global;
 
 /// What these words ask for, of which the first is the program's name. The subcommands are `batch`, `run [--workers W]`,
 /// `sim [--workers W] [--picks LIST]`, each with `[--closures FILE]`, `format DISK PLAN M N K`, `feed [--workers W] DISK PLAN`, `show DISK PLAN`,
-/// `dump DISK PLAN`, `upgrade DISK PLAN`, `copy [--until E] DISK PLAN NEW M N K`, `stream [--workers W] [--cut-every E] [--most R]
+/// `dump DISK PLAN`, `upgrade DISK PLAN`, `copy [--until E] DISK PLAN NEW M N K`, `states DISK PLAN`,
+/// `load [--map LIST] [--closures FILE] NEW PLAN M N K`, `stream [--workers W] [--cut-every E] [--most R]
 /// [--progress] [--marks] DISK PLAN` and `plan [--dot] [--closures FILE] PLAN`. W is 1 to 16, and 1 where it is not given; LIST is `0` where it is not given; M, N and K
 /// are numbers of 32 bits. E of `--cut-every` is 1 to 65536, E of `--until` 0 to 2^63 - 1, and R 1 to 2^63 - 1; each is none where it is not
 /// given. `--version` or `-V` alone asks for the version, `help faults` for the text on faults, `help closures` for that on
@@ -147,6 +148,8 @@ fn job_of<'a>(name: &str, matches: &ArgMatches<'a>) -> Option<Job<'a>>
         "dump" => dump_job(matches),
         "upgrade" => upgrade_job(matches),
         "copy" => copy_job(matches),
+        "states" => states_job(matches),
+        "load" => load_job(matches),
         "stream" => stream_job(matches),
         "plan" => plan_job(matches),
         _ => None,
@@ -272,6 +275,39 @@ fn copy_job<'a>(matches: &ArgMatches<'a>) -> Option<Job<'a>>
         n,
         k,
         until,
+    })
+}
+
+/// The checkpoint as text that the matches of `states` ask for.
+fn states_job<'a>(matches: &ArgMatches<'a>) -> Option<Job<'a>>
+    ensures some { IfSome result (IsOf (codes "states") (rows_of (found_of matches.now))) }
+    ensures none { IfNone result ((job : AnyJob) → IsOf (codes "states") (rows_of (found_of matches.now)) job → ⊥) }
+{
+    let disk = word_of(matches, "disk")?;
+    let plan = word_of(matches, "plan")?;
+    Some(Job::States { disk, plan })
+}
+
+/// The disk made of a text that the matches of `load` ask for.
+fn load_job<'a>(matches: &ArgMatches<'a>) -> Option<Job<'a>>
+    ensures some { IfSome result (IsOf (codes "load") (rows_of (found_of matches.now))) }
+    ensures none { IfNone result ((job : AnyJob) → IsOf (codes "load") (rows_of (found_of matches.now)) job → ⊥) }
+{
+    let new = word_of(matches, "new")?;
+    let plan = word_of(matches, "plan")?;
+    let m = number_of(matches, "m")?;
+    let n = number_of(matches, "n")?;
+    let k = number_of(matches, "k")?;
+    let map = file_of(matches, "map");
+    let closures = file_of(matches, "closures");
+    Some(Job::Load {
+        new,
+        plan,
+        m,
+        n,
+        k,
+        map,
+        closures,
     })
 }
 

@@ -1,7 +1,7 @@
 use Rattle.std.proofs.Common.{ap, ◌≡◌, ◌∙◌}
 use Rattle.std.proofs.lemmas.Result.{IfOk-weaker}
 use Rattle.clap.specs.Words.{App, Shape, app_of, with_subcommand}
-use Rattle.td_words.specs.Command.{alone, batch_app, run_app, sim_app, format_app, feed_app, show_app, dump_app, upgrade_app, copy_app, stream_app, plan_app}
+use Rattle.td_words.specs.Command.{alone, batch_app, run_app, sim_app, format_app, feed_app, show_app, dump_app, upgrade_app, copy_app, states_app, load_app, stream_app, plan_app}
 use Rattle.td_words.proofs.Leaves.{grown}
 use Rattle.td_words.proofs.commands.command.Goals as goal
 
@@ -18,5 +18,7 @@ returns c =
     let dump = grown c.dump_leaf.result _ (app_of c.in_ok-td-6.td) dump_app c.in_ok-td-7.ensures c.dump_leaf.ensures.app ∙ ap (λ (a : App). with a dump_app.top) show in
     let upgrade = grown c.upgrade_leaf.result _ (app_of c.in_ok-td-7.td) upgrade_app c.in_ok-td-8.ensures c.upgrade_leaf.ensures.app ∙ ap (λ (a : App). with a upgrade_app.top) dump in
     let copy = grown c.copy_leaf.result _ (app_of c.in_ok-td-8.td) copy_app c.in_ok-td-9.ensures c.copy_leaf.ensures.app ∙ ap (λ (a : App). with a copy_app.top) upgrade in
-    let stream = grown c.stream_leaf.result _ (app_of c.in_ok-td-9.td) stream_app c.in_ok-td-10.ensures c.stream_leaf.ensures.app ∙ ap (λ (a : App). with a stream_app.top) copy in
-    IfOk-weaker c.with_leaf-11.result _ _ (λ m h. grown c.plan_leaf.result _ (app_of c.in_ok-td-10.td) plan_app h c.plan_leaf.ensures.app ∙ ap (λ (a : App). with a plan_app.top) stream) c.with_leaf-11.ensures
+    let states = grown c.states_leaf.result _ (app_of c.in_ok-td-9.td) states_app c.in_ok-td-10.ensures c.states_leaf.ensures.app ∙ ap (λ (a : App). with a states_app.top) copy in
+    let load = grown c.load_leaf.result _ (app_of c.in_ok-td-10.td) load_app c.in_ok-td-11.ensures c.load_leaf.ensures.app ∙ ap (λ (a : App). with a load_app.top) states in
+    let stream = grown c.stream_leaf.result _ (app_of c.in_ok-td-11.td) stream_app c.in_ok-td-12.ensures c.stream_leaf.ensures.app ∙ ap (λ (a : App). with a stream_app.top) load in
+    IfOk-weaker c.with_leaf-13.result _ _ (λ m h. grown c.plan_leaf.result _ (app_of c.in_ok-td-12.td) plan_app h c.plan_leaf.ensures.app ∙ ap (λ (a : App). with a plan_app.top) stream) c.with_leaf-13.ensures

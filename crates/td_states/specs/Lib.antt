@@ -1,0 +1,6 @@
+pub mod Lines
+pub mod Spelled
+pub mod Renames
+pub mod Steps
+pub mod Written
+pub mod Examples

@@ -1,0 +1,46 @@
+//! Making a disk of a checkpoint.
+ghost use Rattle.std.specs.Prelude.{◌≡◌, ◌↔◌, IfErr, OnOk};
+ghost use Rattle.td_standing.specs.Tells.{Keeps, first_head};
+ghost use Rattle.td_copy.specs.Refusals.{IsNotPut};
+ghost use Rattle.td_states.specs.Written.{MayBeLoaded, loaded, LoadsOrNot};
+
+use std::alloc::Global;
+use td_copy::{CopyError, write_told};
+use td_disk::Disk;
+use td_head::{Head, Shape};
+use td_plan::Plan;
+use td_slots::Checkpoint;
+use td_standing::Recovered;
+
+/// Makes a disk of this shape, which has no head, one that has a checkpoint, and no epochs after it. It begins with a sync.
+///
+/// Refusals: `TooManyKeys`, where the checkpoint has more states than a slot of the shape holds, and `Shape`, where the disk has fewer bytes
+/// than the shape takes; with these the disk is not called. `Formatted`, where a head is open, with nothing written. `New` of a keeper's
+/// `Memory` and `Device`.
+pub fn load<D: Disk>(
+    alloc: Global,
+    device: &mut D,
+    plan: &Plan,
+    shape: Shape,
+    checkpoint: Checkpoint,
+) -> Result<(), CopyError>
+    requires { MayBeLoaded plan.now checkpoint }
+    ensures size { D.capacity device.new ≡ D.capacity device.old }
+    ensures lawful { D.is_lawful device.old ↔ D.is_lawful device.new }
+    // AFTER OK A LAWFUL DISK TELLS THE CHECKPOINT, and no epochs, whatever a crash leaves of it.
+    ensures loaded { OnOk result (D.is_lawful device.old → Keeps plan.now (first_head shape) 0 (loaded checkpoint) (D.state device.new)) }
+    ensures refused { IfErr result (IsNotPut D.capacity D.failures D.is_lawful D.state shape (loaded checkpoint) device.old device.new) }
+    ensures stopped { D.is_lawful device.old → LoadsOrNot plan.now checkpoint (D.state device.old) (D.state device.new) }
+{
+    let told = Recovered {
+        head: Head {
+            version: 2,
+            side: 0,
+            generation: 1,
+            shape,
+        },
+        checkpoint,
+        submitted: Vec::new(alloc),
+    };
+    write_told(alloc, device, plan, shape, &told)
+}
