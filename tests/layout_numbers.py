@@ -106,6 +106,7 @@ PLACES = {
         "td_console/specs/Turns.antt: 32, 2",
         "td_feed/specs/Dumped.antt: 32, 2",
         "td_feed/specs/Shown.antt: 32, 5",
+        "td_states/specs/Lines.antt: 32, 3",
     ],
     CODE: [
         "engine_steps/specs/Codes.antt: 24, 1",

@@ -14,10 +14,10 @@ operator, 5 is a line or a closure, 6 a standard stream, 7 `file`, 8 `too much w
 SIGTERM, SIGHUP and Ctrl-C end `td` as a kill does, without a text, and what was acknowledged stands. So does SIGXFSZ,
 which comes where `ulimit -f` is below the size of the disk.
 
-Only the first fault is written: mend it and run again. Each text stands here with its most common mistakes.
+Only the first fault is written: mend it and run again. Each text stands here with common mistakes.
 `docs/REFUSALS.md` has the rules whole, `docs/FORMATS.md` the plan text and the limits.
 
-`./check` runs each command below as it stands, with the program's folder in the `PATH`. Under it stands what it prints.
+`./check` runs each command below, with the program's folder in the `PATH`. Under it stands what it prints.
 
 Lines are counted from the first line of the input, from 1. Comments, empty lines and the `--` line count too.
 
