@@ -46,10 +46,10 @@ def prove(tally):
 
 def run_rt_ci(tally, top, trials):
     """Runs `rt ci`, hands on what it says, has the edits of each crate tried once it is proved, counts what its last line counts, and
-    answers whether it passed. It checks a crate by one process, and as many crates at once as there are processors but one: processes that
-    share a crate's proof each load its libraries, which takes a third more of processor time."""
+    answers whether it passed. It checks a crate by one process, since processes that share a crate's proof each load its libraries, which takes
+    a third more of processor time. As many crates are checked at once as there are processors but one, and two where there are two."""
     last = ""
-    lanes = str(max(1, processors() - 1))
+    lanes = str(max(min(2, processors()), processors() - 1))
     try:
         with subprocess.Popen(["rt", "ci"], cwd=top, stdin=subprocess.DEVNULL, stdout=subprocess.PIPE,
                               env={**os.environ, "PYTHONUNBUFFERED": "1", "RT_JOBS": lanes}) as run:
