@@ -12,7 +12,8 @@ number of workers and random picks; of `sim` the lines of notifications are left
 With --feeds (docs/COMMANDS.md) a disk is made for one input in ten more, of random plans without faults, each third of them of version 1: it is fed a few
 times, by epochs some of which have request numbers, new, repeated or lower ones, with cuts and with mistakes between them; it may be
 raised to version 2; and after each command `td show` must tell what the reading says, and `td dump` write it; what is dumped at the end is
-fed to a fresh disk."""
+fed to a fresh disk. What `td states` writes (docs/STATES.md) is loaded to another one, to which the dump is fed then; and once more with mistakes, with
+vertices by other numbers, and with less room."""
 
 import collections
 import random
@@ -569,6 +570,41 @@ class Disk:
             lines += [f"req {request}"] * (request > 0) + [f"{n} {key} {val}" for n, key, val in sorted(batch)] + ["."]
         return lines
 
+    def checkpoint(self):
+        lines = [f"kept {self.kept}"] + [f"last {self.kept_last}"] * (self.kept_last > 0)
+        return lines + [f"state {vertex} {key} {a} {b}" for (vertex, key), (a, b) in sorted(self.states.items())]
+
+    def load(self, lines, renames):
+        """Takes the checkpoint that lines spell, their vertices by other numbers; their first fault is raised."""
+        folds, is_begun = {vertex.number for vertex in self.plan.vertices if vertex.kind == "fold"}, False
+        for at, line in enumerate(lines, 1):
+            if is_passed_over(line):
+                continue
+            said = words(line) if is_printable(line) else [b""]
+            numbers = [*map(natural, said[1:3]), *map(integer, said[3:])]
+            if None in numbers or not is_begun and (said[0] != b"kept" or len(said) != 2 or numbers[0] >= HALF):
+                raise Fault(f"line {at}: syntax")
+            if not is_begun:
+                self.kept, is_begun = numbers[0], True
+            elif said[0] == b"last" and len(said) == 2 and numbers[0] > 0 and not self.kept_last and not self.states:
+                self.kept_last = numbers[0]
+            elif said[0] == b"state" and len(said) == 5:
+                self.hold(at, folds, (renames.get(numbers[0], numbers[0]), numbers[1]), tuple(numbers[2:]))
+            else:
+                raise Fault(f"line {at}: syntax")
+        if not is_begun:
+            raise Fault(f"line {len(lines) + 1}: syntax")
+        if len(self.states) > self.shape[2]:
+            raise Fault(f"too many keys: {len(self.states)}, K is {self.shape[2]}")
+
+    def hold(self, at, folds, place, state):
+        """Has a state, which a line gives, after all others."""
+        if place[0] not in folds:
+            raise Fault(f"line {at}: no such fold")
+        if self.states and place <= max(self.states):
+            raise Fault(f"line {at}: order")
+        self.states[place] = state
+
     def meaning(self):
         """The states after the last epoch, and the output lines of each epoch after the checkpoint."""
         states, outputs = dict(self.states), []
@@ -838,6 +874,11 @@ def feed_random_disk(rng, every_plan, folder, met):
         met[f"a feed, {what}"] += 1
         met["epochs that were there already"] += sum(line.startswith("again ") for line in written)
     feed_dumped(disk, plan, folder)
+    load_and_feed(disk, plan, folder)
+    for _ in range(3):
+        fault = load_with_mistakes(rng, disk, plan, folder)
+        what = re.sub(r"\d+", "N", f"td: {fault}") if fault else "no fault"
+        met[f"a load, {what}"] += 1
 
 
 def feed_dumped(disk, plan, folder):
@@ -850,6 +891,52 @@ def feed_dumped(disk, plan, folder):
     expect(["show", file, plan], b"", lines_as(twin.show()))
     if disk.kept == 0 and twin.show() != disk.show():
         lib.fail(f"{dumped!r}\nof {disk.show()}\nfed {twin.show()}")
+
+
+def load_and_feed(disk, plan, folder):
+    """Loads what `td states` writes to a fresh disk of the same shape, and feeds it what was dumped: then it stands for the same."""
+    file = folder / "loaded"
+    said = ["states", folder / "disk", plan]
+    done = subprocess.run([lib.TD, *said], capture_output=True, text=True)
+    found = done.returncode, done.stdout.splitlines(), done.stderr
+    if found != (0, disk.checkpoint(), f"epochs {len(disk.epochs)} after it\n"):
+        lib.fail(f"td states of {disk.show()}\nwrote {found}")
+    expect(["load", file, plan, *map(str, disk.shape)], done.stdout.encode(), lines_as([]))
+    _, dumped, _ = lines_as(disk.dump())
+    answered(["feed", file, plan], dumped)
+    expect(["show", file, plan], b"", lines_as(disk.show()))
+    file.unlink()
+
+
+ODD_STATE_LINES = [
+    b"kept 1", b"kept", b"kept 9223372036854775808", b"last 0", b"last 5", b"last 18446744073709551616", b"state 0 1 2 3", b"state 1 1 2 3", b"state 1 1 2",
+    b"state 1 1 2 3 4", b"state 300 1 2 3", b"state 1 01 2 3", b"state 1 1 -0 3", b"state 1 1 9223372036854775808 3", b"told 1", b"", b"# of May", b"# \xff",
+    b"state 1\t1 2 3", b"State 1 1 2 3",
+]
+
+
+def load_with_mistakes(rng, disk, plan, folder):
+    """Loads the lines of a disk's checkpoint with mistakes, vertices by other numbers, and perhaps less room; answers the fault, or None."""
+    file, lines = folder / "loaded", [line.encode() for line in disk.checkpoint()]
+    for _ in range(rng.choice([0, 1, 1, 2])):
+        at = rng.randrange(len(lines) + 1)
+        lines[at:at + rng.randrange(2)] = rng.choice([[], [rng.choice(ODD_STATE_LINES)], lines[:1], lines[at - 1:at] * 2, lines[at:at + 2][::-1]])
+    numbers = range(len(disk.plan.vertices) + 1)
+    pairs = [(rng.choice(numbers), rng.choice(numbers)) for _ in range(rng.choice([0, 0, 1, 2]))]
+    twin = Disk(disk.plan, (*disk.shape[:2], rng.choice([disk.shape[2], 1, 2])), 2)
+    said = ["load", file, plan, *map(str, twin.shape)] + ["--map", ",".join(f"{one}={other}" for one, other in pairs)] * bool(pairs)
+    text = b"".join(line + b"\n" for line in lines)
+    try:
+        twin.load(lines, dict(reversed(pairs)))
+    except Fault as fault:
+        expect(said, text, (4 if str(fault).startswith("too many") else 5, b"", f"td: {fault}\n".encode()))
+        if file.exists():
+            lib.fail(f"td {' '.join(map(str, said))}\n{text!r}\nis refused, and leaves a file")
+        return fault
+    expect(said, text, lines_as([]))
+    expect(["show", file, plan], b"", lines_as(twin.show()))
+    file.unlink()
+    return None
 
 
 def feed_disks(rng, every_plan, count):
