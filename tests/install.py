@@ -16,7 +16,9 @@ import lib
 
 # Words of a command line, the last of which is completed, and some of what must come.
 COMPLETIONS = [
-    (["td", "st"], ["stream"]),
+    (["td", "st"], ["states", "stream"]),
+    (["td", "str"], ["stream"]),
+    (["td", "load", "--"], ["--map", "--closures", "--help"]),
     (["td", "f"], ["format", "feed"]),
     (["td", "--"], ["--help", "--version"]),
     (["td", "help", "dum"], ["dump"]),
