@@ -7,8 +7,8 @@
 No page has more than 3,000 words outside of code. Each link of a page leads to a file, and to a heading of it where it names one.
 
 Each indented line of docs/CLOSURES.md and docs/SERVICE.md is a line of the crate that the page walks through (of its sources, its definitions, or what it
-prints); `..` stands for lines that are left out. Of a page that quotes definitions (docs/MEANING.md, STEPS.md and THEOREM.md) each block, from a line of three
-back ticks to the next, is whole definitions, word for word, of the file of crates/ that is named last before it.
+prints); `..` stands for lines that are left out. Of the pages that quote definitions (docs/MEANING.md, STEPS.md and THEOREM.md) each block stands so in crates/,
+and each name and sign in it is explained or quoted up to there (tests/quoted.py).
 
 Each name that a page cites is one of the sources: a path as `Plan::read` or `laws::orders`, in the crate that it names, or that a section of a page of promises
 is of (docs/GUARANTEES.md, ENGINE.md and TESTED.md); each word of code with `_` or a capital inside; each file. In a page of promises so is each name behind
@@ -19,9 +19,10 @@ import re
 import sys
 
 from lib import ROOT, fail
+from quoted import mistakes_of_definitions, mistakes_of_words, write_definitions
 
 PAGES = [ROOT / "README.md", ROOT / "CHANGELOG.md", *sorted(ROOT.glob("docs/*.md")), *sorted(ROOT.glob("*/README.md"))]
-# The pages that quote definitions: each with a block of them.
+# The pages that quote definitions, in the order in which they are read: each with a block of them.
 QUOTING = [page for page in PAGES if "\n```antt\n" in page.read_text(encoding="utf-8")]
 # The pages of promises, which name contracts.
 PROMISES = [ROOT / "docs" / name for name in ("GUARANTEES.md", "ENGINE.md", "TESTED.md")]
@@ -77,64 +78,6 @@ def mistakes_of_walks():
             is_command = line.startswith("    ") and (is_command or said.startswith("$ "))
             if line.startswith("    ") and not is_command and said not in lines | {"..", ""} and not said.startswith(DRAWN):
                 yield f"{name}: no line of {crate}: {said}"
-
-
-BEGINS = re.compile(r"( *)(?:abbrev pub|pub record|pub data|pub fn) (\w+)")
-
-
-def definition_of(file, name):
-    """The lines of the definition of this name in a file; none where it has none, or several."""
-    lines = (ROOT / file).read_text(encoding="utf-8").splitlines() if file and (ROOT / file).is_file() else []
-    found = [(at, begin) for at, begin in enumerate(map(BEGINS.match, lines)) if begin and begin[2] == name]
-    if len(found) != 1:
-        return []
-    at, begin = found[0]
-    ends = re.compile(rf" *$| {{0,{len(begin[1])}}}(?:--|\{{)")
-    return lines[at:next((end for end in range(at + 1, len(lines)) if ends.match(lines[end])), len(lines))]
-
-
-def quotes_of(lines):
-    """The blocks that a page quotes: each from a line of three back ticks to the next, with the file that is named last before it."""
-    file, start = None, None
-    for at, line in enumerate(lines):
-        if start is None and line.startswith("```"):
-            start = at + 1
-        elif start is not None and line == "```":
-            yield file, start, at
-            start = None
-        elif start is None:
-            file = ([file] + re.findall(r"`(crates/[\w/]+\.(?:antt|rt))`", line))[-1]
-
-
-def names_in(lines):
-    """The names of the definitions that begin in some lines."""
-    return [begin[2] for begin in map(BEGINS.match, lines) if begin]
-
-
-def quoted_anew(file, lines):
-    """The block with the definitions of these names, as they stand in the file."""
-    return [line for name in names_in(lines) for line in ["", *definition_of(file, name)]][1:]
-
-
-def mistakes_of_definitions():
-    """Blocks of the pages that do not stand, definition by definition, in the file that is named last before them."""
-    for page in QUOTING:
-        lines = page.read_text(encoding="utf-8").splitlines()
-        for file, start, end in quotes_of(lines):
-            if lines[start:end] != quoted_anew(file, lines[start:end]) or not names_in(lines[start:end]):
-                wrong = [name for name in names_in(lines[start:end]) if "\n".join(["", *definition_of(file, name), ""]) not in "\n".join(["", *lines[start:end], ""])]
-                yield f"{page.relative_to(ROOT)}:{start}: this does not stand so in {file}: {', '.join(wrong) or 'what is not of a definition'}"
-
-
-def write_definitions():
-    """Writes the quoted blocks of the pages anew, each definition as it stands in its file. What is said beside them stays."""
-    for page in QUOTING:
-        lines = page.read_text(encoding="utf-8").splitlines()
-        for file, start, end in reversed(list(quotes_of(lines))):
-            if missing := [name for name in names_in(lines[start:end]) if not definition_of(file, name)]:
-                fail(f"{page.relative_to(ROOT)}:{start}: {file} has no definition {', '.join(missing)}")
-            lines[start:end] = quoted_anew(file, lines[start:end])
-        page.write_text("\n".join([*lines, ""]), encoding="utf-8")
 
 
 class Function:
@@ -278,9 +221,9 @@ def mistakes_of_length():
 
 def main():
     if sys.argv[1:] == ["--write"]:
-        return write_definitions()
+        return write_definitions(QUOTING)
     sources = Sources()
-    wrong = [*mistakes_of_length(), *mistakes_of_links(), *mistakes_of_walks(), *mistakes_of_definitions(), *mistakes_of_names(sources),
+    wrong = [*mistakes_of_length(), *mistakes_of_links(), *mistakes_of_walks(), *mistakes_of_definitions(QUOTING), *mistakes_of_words(QUOTING), *mistakes_of_names(sources),
              *(mistake for page in PROMISES for mistake in mistakes_of_contracts(page, sources))]
     if wrong:
         fail("\n".join(wrong))
