@@ -14,7 +14,7 @@ use Rattle.td_keeper.specs.Driven.{handed_out, Driven}
 use Rattle.td_keeper.specs.Acknowledged.{Epoch, acknowledged_by}
 use Rattle.td_theorem.specs.Life.{Stint, IsStint, TellsAs, Life, acknowledged_in_life, handed_in_life}
 use Rattle.td_theorem.specs.Holds.{IsMadeOf}
-use Rattle.td_theorem.proofs.Watches.{unwatched, kept, driven_of}
+use Rattle.td_theorem.proofs.Watches.{unwatched, kept_unwatched, driven_of}
 
 module _ {D : Type 0} (is_lawful : D → Type 0) (state : D → DiskState) (failures : D → ℕ) (answers : Answers) (plan : List Line) where
   -- a stint in which no watch changes
@@ -55,7 +55,7 @@ module _ {D : Type 0} (is_lawful : D → Type 0) (state : D → DiskState) (fail
       queue = is.fresh.queue;
       unwatched = refl;
     };
-    kept = kept answers s.found is.kept;
+    kept = kept_unwatched answers s.found is.kept;
     driven = driven_of is_lawful state failures answers s.commands s.replies s.found s.stood is.obeyed;
     held = is.held;
     stopped = driven_of is_lawful state failures answers s.more s.unseen s.stood s.ended is.stopped;

@@ -25,12 +25,12 @@ abbrev pub unwatched : {D : Type 0} → Keeping D → Keeping D
 unwatched k = record k { watch = None }
 
 -- each of two cases
-either : {A B C E : Type 0} → (A → C) → (B → E) → A ⊎ B → C ⊎ E
-either f g said = ⊎_elim (λ a. inl (f a)) (λ b. inr (g b)) said
+either : {A B C E : Type 0} → A ⊎ B → (A → C) → (B → E) → C ⊎ E
+either said f g = ⊎_elim (λ a. inl (f a)) (λ b. inr (g b)) said
 
 -- its memory is right
-pub kept : {D : Type 0} (answers : Answers) (k : Keeping D) → IsKeeping k answers → IsKeeping (unwatched k) answers
-kept answers k is = record {
+pub kept_unwatched : {D : Type 0} (answers : Answers) (k : Keeping D) → IsKeeping k answers → IsKeeping (unwatched k) answers
+kept_unwatched answers k is = record {
   which = is.which;
   batches = is.batches;
   few = is.few;
@@ -80,8 +80,8 @@ module _ {D : Type 0} (is_lawful : D → Type 0) (state : D → DiskState) (fail
   fails : (old new : Keeping D) → Fails is_lawful state failures answers old new → Fails is_lawful state failures answers (unwatched old) (unwatched new)
   fails old new is = record { broken = is.broken; risen = is.risen }
 
-  finds : (P Q : HallState → Type 0) (old new : Keeping D) → ((S : HallState) → P S → Q S) → Finds is_lawful state failures answers P old new → Finds is_lawful state failures answers Q (unwatched old) (unwatched new)
-  finds P Q old new weaker is = record {
+  finds : {P Q : HallState → Type 0} (old new : Keeping D) → Finds is_lawful state failures answers P old new → ((S : HallState) → P S → Q S) → Finds is_lawful state failures answers Q (unwatched old) (unwatched new)
+  finds old new is weaker = record {
     hall = is.hall;
     reached = is.reached;
     is = weaker is.hall is.is;
@@ -93,7 +93,7 @@ module _ {D : Type 0} (is_lawful : D → Type 0) (state : D → DiskState) (fail
   not_submitted refusal batch e back old new r = record {
     batch_back = r.batch_back;
     cause = r.cause;
-    unchanged = either (λ same. ap unwatched same) (either (λ memory. (memory.0, ap unwatched memory.1)) (λ device. (device.0, ap unwatched device.1))) r.unchanged;
+    unchanged = either r.unchanged (λ same. ap unwatched same) (λ failed. either failed (λ memory. (memory.0, ap unwatched memory.1)) (λ device. (device.0, ap unwatched device.1)));
     memory = r.memory;
     device = λ is. fails old new (r.device is);
   }
@@ -120,7 +120,7 @@ module _ {D : Type 0} (is_lawful : D → Type 0) (state : D → DiskState) (fail
   submits_all group (RefusedAll e back) old new r = record {
     group_back = r.group_back;
     cause = r.cause;
-    unchanged = either (λ same. ap unwatched same) (either (λ memory. (memory.0, ap unwatched memory.1)) (λ device. (device.0, ap unwatched device.1))) r.unchanged;
+    unchanged = either r.unchanged (λ same. ap unwatched same) (λ failed. either failed (λ memory. (memory.0, ap unwatched memory.1)) (λ device. (device.0, ap unwatched device.1)));
     memory = r.memory;
     device = λ is. fails old new (r.device is);
     images = r.images;
@@ -128,16 +128,16 @@ module _ {D : Type 0} (is_lawful : D → Type 0) (state : D → DiskState) (fail
   submits_all group other old new r = absurd r
 
   releases : (reply : Reply) (old new : Keeping D) → Releases is_lawful state failures answers reply old new → Releases is_lawful state failures answers reply (unwatched old) (unwatched new)
-  releases (Released n) old new r = finds _ _ old new (λ S is. (own old S is.0, is.1, is.2, is.3)) r
+  releases (Released n) old new r = finds old new r (λ S is. (own old S is.0, is.1, is.2, is.3))
   releases (Refused e back) old new r = (
     r.0,
-    either (λ foreign. (foreign.0, finds _ _ old new (λ S is his. is (was_own old S his)) foreign.1)) (λ memory. (memory.0, finds _ _ old new (λ S is. (own old S is.0, is.1)) memory.1)) r.1,
+    either r.1 (λ foreign. (foreign.0, finds old new foreign.1 (λ S is his. is (was_own old S his)))) (λ memory. (memory.0, finds old new memory.1 (λ S is. (own old S is.0, is.1)))),
   )
   releases other old new r = absurd r
 
   settles : (reply : Reply) (old new : Keeping D) → Settles is_lawful state failures answers reply old new → Settles is_lawful state failures answers reply (unwatched old) (unwatched new)
-  settles Settled old new r = finds _ _ old new (λ S is. is) r
-  settles (Refused e back) old new r = (r.0, r.1, r.2, finds _ _ old new (λ S is. is) r.3)
+  settles Settled old new r = finds old new r (λ S is. is)
+  settles (Refused e back) old new r = (r.0, r.1, r.2, finds old new r.3 (λ S is. is))
   settles other old new r = absurd r
 
   brings : (old : Keeping D) (S : HallState) → BringsIn is_lawful state failures answers old S → BringsIn is_lawful state failures answers (unwatched old) S
@@ -147,7 +147,7 @@ module _ {D : Type 0} (is_lawful : D → Type 0) (state : D → DiskState) (fail
   collects (Collected n) old new r = record { hall = r.hall; brings = brings old r.hall r.brings; count = r.count; collected = ap unwatched r.collected }
   collects (Refused e back) old new r = (
     r.0,
-    either (λ foreign. (foreign.0, finds _ _ old new (λ S is his. is (was_own old S his)) foreign.1)) (λ memory. (memory.0, finds _ _ old new (λ S is. own old S is) memory.1)) r.1,
+    either r.1 (λ foreign. (foreign.0, finds old new foreign.1 (λ S is his. is (was_own old S his)))) (λ memory. (memory.0, finds old new memory.1 (λ S is. own old S is))),
   )
   collects other old new r = absurd r
 
@@ -171,20 +171,20 @@ module _ {D : Type 0} (is_lawful : D → Type 0) (state : D → DiskState) (fail
   }
   cuts (Refused e back) old new r = (
     r.0,
-    either (λ foreign. (foreign.0, finds _ _ old new (λ S is his. is (was_own old S his)) foreign.1))
-        (either (λ memory. (memory.0, finds _ _ old new (λ S is. own old S is) memory.1)) (λ none. not_cut e old new none)) r.1,
+    either r.1 (λ foreign. (foreign.0, finds old new foreign.1 (λ S is his. is (was_own old S his))))
+        (λ later. either later (λ memory. (memory.0, finds old new memory.1 (λ S is. own old S is))) (λ none. not_cut e old new none)),
   )
   cuts other old new r = absurd r
 
   writes : (reply : Reply) (old new : Keeping D) → Writes is_lawful state failures answers reply old new → Writes is_lawful state failures answers reply (unwatched old) (unwatched new)
   writes (Written w) old new r = record {
     accepted = r.accepted;
-    cut = either (λ none. (none.0, none.1, ap unwatched none.2)) (λ some. (some.0, ap unwatched some.1)) r.cut;
+    cut = either r.cut (λ none. (none.0, none.1, ap unwatched none.2)) (λ some. (some.0, ap unwatched some.1));
   }
   writes (Refused e back) old new r = record {
     no_batch = r.no_batch;
     cause = r.cause;
-    unchanged = either (λ many. (many.0, ap unwatched many.1)) (either (λ failed. (failed.0, ap unwatched failed.1)) (λ same. ap unwatched same)) r.unchanged;
+    unchanged = either r.unchanged (λ many. (many.0, ap unwatched many.1)) (λ other. either other (λ failed. (failed.0, ap unwatched failed.1)) (λ same. ap unwatched same));
     device = λ is. fails old new (r.device is);
   }
   writes other old new r = absurd r
@@ -195,7 +195,7 @@ module _ {D : Type 0} (is_lawful : D → Type 0) (state : D → DiskState) (fail
   closes most (Refused e back) old new r = record {
     no_batch = r.no_batch;
     cause = r.cause;
-    unchanged = either (λ same. ap unwatched same) (λ failed. (failed.0, ap unwatched failed.1)) r.unchanged;
+    unchanged = either r.unchanged (λ same. ap unwatched same) (λ failed. (failed.0, ap unwatched failed.1));
     device = λ is. fails old new (r.device is);
   }
   closes most other old new r = absurd r
@@ -222,7 +222,7 @@ module _ {D : Type 0} (is_lawful : D → Type 0) (state : D → DiskState) (fail
   driven_of (c ∷ cs) [] old new none = absurd none
   driven_of (c ∷ cs) (r ∷ rs) old new is =
       let mid : Keeping D = is.1 in
-      (unwatched mid, kept answers mid is.2, obeys c r (record old { watch = is.0 }) mid is.3, driven_of cs rs mid new is.4)
+      (unwatched mid, kept_unwatched answers mid is.2, obeys c r (record old { watch = is.0 }) mid is.3, driven_of cs rs mid new is.4)
 
   -- and back: a watch was attached, and then none changed
   pub obeyed_from : (watch : Option View) (commands : List Command) (replies : List Reply) (old new : Keeping D) → Driven is_lawful state failures answers commands replies (record old { watch = watch }) new

@@ -94,12 +94,15 @@ fn replies_to<D: Disk + Drop, L: Law, K: Crew, R: Wait>(
     rt: &R,
     pool: &Pool<K, L>,
     keeper: &mut Keeper<D, L>,
-    commands: Vec<Command>,
+    asked: Vec<Command>,
 ) -> Option<Vec<Reply>>
-    ensures driven { IfSome result (λ replies. Driven D.is_lawful D.state D.failures L.answers commands.items replies.items keeper.old keeper.new) }
+    ensures driven { IfSome result (λ replies. Driven D.is_lawful D.state D.failures L.answers asked.items replies.items keeper.old keeper.new) }
     ensures lawful { D.is_lawful keeper.old.device ↔ D.is_lawful keeper.new.device }
 {
-    keeper.drive(rt, pool, commands).ok()
+    let Ok(replies) = keeper.drive(rt, pool, asked) else {
+        return None;
+    };
+    Some(replies)
 }
 
 /// A LIFE BEGINS, whatever stood on the disk, what a stopped format left too: a disk is formatted, and its keeper obeys commands. That makes a
@@ -124,9 +127,9 @@ pub fn format_and_drive<D: Disk + Drop, L: Law, K: Crew, R: Wait>(
         return None;
     };
     each_is_kept(&keeper);
-    let Ok(replies) = keeper.drive(rt, pool, first) else {
+    let Ok(said) = keeper.drive(rt, pool, first) else {
         return None;
     };
     each_disk_holds(&keeper);
-    Some((replies, keeper))
+    Some((said, keeper))
 }
