@@ -1,4 +1,4 @@
-use Rattle.std.proofs.Common.{List, ℕ, refl, sym, subst}
+use Rattle.std.proofs.Common.{refl, subst}
 use Rattle.td_standing.specs.Advanced.{HeldWhere}
 use Rattle.td_theorem.proofs.Found.{is_kept}
 use Rattle.td_theorem.proofs.Watches.{obeyed_from}

@@ -1,4 +1,4 @@
-use Rattle.std.proofs.Common.{Bool, false, List, ℕ, refl, sym, subst}
+use Rattle.std.proofs.Common.{Bool, false, List, refl, sym, subst}
 use Rattle.td_plan.specs.Lines.{Line}
 use Rattle.td_standing.specs.Advanced.{HeldWhere}
 use Rattle.td_theorem.proofs.Found.{is_kept}
