@@ -137,7 +137,7 @@ module _ {D : Type 0} (is_lawful : D → Type 0) (state : D → DiskState) (fail
 
   settles : (reply : Reply) (old new : Keeping D) → Settles is_lawful state failures answers reply old new → Settles is_lawful state failures answers reply (unwatched old) (unwatched new)
   settles Settled old new r = finds old new r (λ S is. is)
-  settles (Refused e back) old new r = (r.0, r.1, r.2, finds old new r.3 (λ S is. is))
+  settles (Refused e back) old new r = (r.0, (r.1.0, r.1.1, finds old new r.1.2 (λ S is. is)))
   settles other old new r = absurd r
 
   brings : (old : Keeping D) (S : HallState) → BringsIn is_lawful state failures answers old S → BringsIn is_lawful state failures answers (unwatched old) S

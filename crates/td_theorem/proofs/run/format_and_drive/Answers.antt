@@ -8,8 +8,7 @@ returns g c lawful =
     let still = made.lawful.0 lawful in (
       found.device,
       made.kept lawful,
-      found,
-      λ more unseen ended left stopped crashed. record {
+      (found, λ more unseen ended left stopped crashed. record {
         unwritten = c.lives_go_on.ensures.own found.device still;
         lawful = still;
         for_plan = made.plan;
@@ -20,5 +19,5 @@ returns g c lawful =
         held = c.each_disk_holds.ensures (c.in-Ok-drive.ensures.lawful.0 still);
         stopped = stopped;
         crashed = crashed;
-      },
+      }),
     )

@@ -22,7 +22,7 @@ returns g c lawful =
         fresh = c.in-Ok.ensures.fresh;
         kept = c.each_is_kept.ensures;
         obeyed = c.watches_come_and_go.ensures.attached view _ _ _ _ _ _ _ first
-            (subst (λ (k : Keeping g.row.D.Denot). Obeyed is_lawful state failures answers _ _ k _) c.watched-keeper.ensures.1 second);
+            (subst (λ (k : Keeping g.row.D.Denot). Obeyed is_lawful state failures answers c.args.after.items c.in-Some.others.items k c.replies_to.new.keeper) c.watched-keeper.ensures.1 second);
         held = c.each_disk_holds.ensures (c.in-Some.ensures.lawful.0 (subst (λ (k : Keeping g.row.D.Denot). is_lawful k.device) (sym c.watched-keeper.ensures.1) (c.in-Ok-drive.ensures.lawful.0 still)));
         stopped = stopped;
         crashed = crashed;
