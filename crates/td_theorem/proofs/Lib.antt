@@ -3,6 +3,8 @@ mod Replies
 mod Numbers
 mod Histories
 mod Below
+mod Watches
+mod Plain
 mod Stints
 mod Plays
 mod Engines

@@ -1,6 +1,6 @@
 -- The theorem: stint by stint, what a disk tells goes on from what it told.
 use Rattle.std.proofs.Common.{◌≡◌, ℕ, true, List, [], ◌∷◌, ◌++◌, refl, sym, ap, ◌∙◌, subst}
-use Rattle.std.specs.Prelude.{Ok, Some, All, Contains}
+use Rattle.std.specs.Prelude.{Ok, Some, All, Contains, map}
 use Rattle.std.proofs.lemmas.List.{append-nil, append_assoc}
 use Rattle.std.proofs.lemmas.List.Elements.{All-nil, All-append, All-weaker}
 use Rattle.td_stamp.specs.declared.epoch_out.EpochOut.{EpochOut}
@@ -17,10 +17,11 @@ use Rattle.td_standing.specs.Tells.{Tells, first_head}
 use Rattle.td_standing.specs.Advanced.{states_by}
 use Rattle.td_keeper.specs.Driven.{handed_out}
 use Rattle.td_keeper.specs.Acknowledged.{Epoch, epochs_of, outs_of, acknowledged_by, Acknowledges}
-use Rattle.td_theorem.specs.Life.{Stint, IsStint, TellsAs, Life, submitted_in_stint, acknowledged_in_life, handed_in_life}
+use Rattle.td_theorem.specs.Life.{Stint, TellsAs, submitted_in_stint, acknowledged_in_life, handed_in_life}
 use Rattle.td_theorem.specs.Holds.{IsMadeOf, TheTheorem}
 use Rattle.td_theorem.proofs.Numbers.{rise_of}
 use Rattle.td_theorem.proofs.Histories.{epoch_still, out_still}
+use Rattle.td_theorem.proofs.Plain.{IsPlainStint, PlainLife, plain, plain_life, still_made, same_acknowledged, same_handed}
 use Rattle.td_theorem.proofs.Below.{OfDisks, OfKeepers, OfStandings, OfPlays}
 use Rattle.td_theorem.proofs.Stints.{same_standing, Leaves, leaves, numbers_rise, handed_meant}
 use Rattle.td_theorem.proofs.Engines.{comes}
@@ -39,7 +40,7 @@ record GoesOn {D : Type 0} (answers : Answers) (plan : List Line) (history : Lis
 module _ {D : Type 0} (is_lawful : D → Type 0) (state : D → DiskState) (failures : D → ℕ) (answers : Answers)
     (keepers : OfKeepers is_lawful state failures answers) (standings : OfStandings answers) (disks : OfDisks is_lawful state) (plays : OfPlays answers) (plan : List Line) where
   -- a keeper that was found stands for what the image tells
-  found_is : (s : Stint D) → IsStint is_lawful state failures answers plan s → (from : List ℕ) (at : Standing) → TellsAs plan from (state s.disk) → Told plan from (Ok at) → s.found.standing ≡ at
+  found_is : (s : Stint D) → IsPlainStint is_lawful state failures answers plan s → (from : List ℕ) (at : Standing) → TellsAs plan from (state s.disk) → Told plan from (Ok at) → s.found.standing ≡ at
   found_is s is from at as_from told =
       same_standing s.found.standing at
       (standings.one_answer plan (state s.found.device).bytes (Ok s.found.standing) (Ok at)
@@ -95,7 +96,7 @@ module _ {D : Type 0} (is_lawful : D → Type 0) (state : D → DiskState) (fail
 
   -- one stint after another
   goes_on : (life : List (Stint D)) (from to : List ℕ) (at : Standing) (history : List Submitted) → Told plan from (Ok at) → Stands (states_by answers plan) at history → rise (Some 0) history ≡ true
-      → Life is_lawful state failures answers plan from life to → GoesOn answers plan history life to
+      → PlainLife is_lawful state failures answers plan from life to → GoesOn answers plan history life to
   goes_on [] from to at history told stands rising same = record {
     standing = at;
     told = subst (λ (c : List ℕ). Told plan c (Ok at)) (sym same) told;
@@ -109,12 +110,12 @@ module _ {D : Type 0} (is_lawful : D → Type 0) (state : D → DiskState) (fail
   goes_on (s ∷ life) from to at history told stands rising lived =
       joined s life to history acked.batches left (goes_on life s.left to left.standing (history ++ left.first) left.told left.stands risen lived.2) (acked.there history stood_for) meant
     where
-      is : IsStint is_lawful state failures answers plan s
+      is : IsPlainStint is_lawful state failures answers plan s
       is = lived.1
 
       -- of the plan that the keeper has
-      own : IsStint is_lawful state failures answers s.found.plan s
-      own = subst (λ (p : List Line). IsStint is_lawful state failures answers p s) (sym is.for_plan) is
+      own : IsPlainStint is_lawful state failures answers s.found.plan s
+      own = subst (λ (p : List Line). IsPlainStint is_lawful state failures answers p s) (sym is.for_plan) is
 
       stood_for : Stands (states_by answers s.found.plan) s.found.standing history
       stood_for =
@@ -144,15 +145,16 @@ pub the_theorem : {D : Type 0} (is_lawful : D → Type 0) (state : D → DiskSta
 the_theorem is_lawful state failures answers keepers standings disks plays plan sizes formatted from to life lawful keeps image lived =
     let told : Told plan from (Ok nothing_told) =
     standings.together plan (first_head sizes) 0 nothing_told from (subst (Tells plan (first_head sizes) 0 nothing_told) (sym (keeps.durable from image)) keeps.tells) in
-    let on = goes_on is_lawful state failures answers keepers standings disks plays plan life from to nothing_told [] told (standings.first (tree_of plan)) refl lived in
+    let lives = plain_life is_lawful state failures answers plan life from to lived in
+    let on = goes_on is_lawful state failures answers keepers standings disks plays plan (map plain life) from to nothing_told [] told (standings.first (tree_of plan)) refl lives in
     record {
       standing = on.standing;
       told = on.told;
       history = on.more;
       stands = on.stands;
-      made = on.made;
-      acknowledged = on.acknowledged;
-      handed = on.handed;
+      made = still_made life on.more on.made;
+      acknowledged = subst (λ (l : List Epoch). All (Contains (epochs_of on.more)) l) (same_acknowledged life) on.acknowledged;
+      handed = subst (λ (l : List EpochOut). All (Contains (outs_of answers plan on.more)) l) (same_handed life) on.handed;
       once = on.once;
       comes = comes answers standings plays plan lawful on.standing to on.more on.told on.stands;
     }

@@ -24,7 +24,8 @@ use Rattle.td_keeper.specs.declared.command.Reply.{Reply}
 use Rattle.td_keeper.specs.Keeping.{Keeping, IsKeeping}
 use Rattle.td_keeper.specs.Driven.{submitted_in, submitted_by, handed_out, outs_beyond, Driven}
 use Rattle.td_keeper.specs.Acknowledged.{outs_of, acknowledged_in, acknowledged_by, Acknowledges}
-use Rattle.td_theorem.specs.Life.{Stint, IsStint, submitted_in_stint}
+use Rattle.td_theorem.specs.Life.{Stint, submitted_in_stint}
+use Rattle.td_theorem.proofs.Plain.{IsPlainStint}
 use Rattle.td_theorem.proofs.Broken.{broken_stays}
 use Rattle.td_theorem.proofs.Replies.{answered, length_epochs}
 use Rattle.td_theorem.proofs.Numbers.{rise_on, greatest_of}
@@ -176,7 +177,7 @@ pub record Leaves {D : Type 0} (answers : Answers) (plan : List Line) (history b
 
 module _ {D : Type 0} (is_lawful : D → Type 0) (state : D → DiskState) (failures : D → ℕ) (answers : Answers)
     (keepers : OfKeepers is_lawful state failures answers) (standings : OfStandings answers) (disks : OfDisks is_lawful state)
-    (s : Stint D) (is : IsStint is_lawful state failures answers s.found.plan s) (history : List Submitted) (stands : Stands (states_by answers s.found.plan) s.found.standing history)
+    (s : Stint D) (is : IsPlainStint is_lawful state failures answers s.found.plan s) (history : List Submitted) (stands : Stands (states_by answers s.found.plan) s.found.standing history)
     (acked : Acknowledges answers s.commands s.replies s.found s.stood) where
   -- what its commands submitted that were replied to, and the others
   abbrev seen : List Submitted

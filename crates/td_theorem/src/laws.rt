@@ -1,11 +1,18 @@
 //! Laws of lives. Each is the contract of a function that does nothing, or calls the laws that it follows from.
-ghost use Rattle.std.specs.Prelude.{◌≡◌, List, ℕ};
+ghost use Rattle.std.specs.Prelude.{◌≡◌, ◌++◌, List, ℕ, Option};
 ghost use Rattle.td_plan.specs.Lines.{Line};
 ghost use Rattle.td_gate.specs.CrashSafe.{CrashSafe, Unchanged};
-ghost use Rattle.td_standing.specs.Standing.{Standing};
+ghost use Rattle.td_head.specs.Layout.{Sizes};
+ghost use Rattle.td_standing.specs.Standing.{Standing, nothing_told};
 ghost use Rattle.td_standing.specs.Told.{Told};
+ghost use Rattle.td_standing.specs.Tells.{Keeps, first_head};
 ghost use Rattle.td_standing.specs.Read.{Stood};
-ghost use Rattle.td_theorem.specs.Life.{TellsAs};
+ghost use Rattle.td_watch.specs.View.{View as AnyView};
+ghost use Rattle.td_keeper.specs.declared.command.Command.{Command as AnyCommand};
+ghost use Rattle.td_keeper.specs.declared.command.Reply.{Reply as AnyReply};
+ghost use Rattle.td_keeper.specs.Keeping.{Keeping};
+ghost use Rattle.td_keeper.specs.Driven.{Driven};
+ghost use Rattle.td_theorem.specs.Life.{Obeyed, TellsAs};
 ghost use Rattle.td_theorem.specs.Holds.{TheTheorem};
 
 use td_calls::Law;
@@ -36,14 +43,27 @@ pub fn the_theorem<D: Disk, L: Law>()
 }
 
 /// A LIFE GOES ON where a disk has just the bytes that were left; and where it tells the standing that they tell, whatever a crash leaves
-/// of it, so on a copy of the disk, or on the disk with a raised head. And a keeper that is found on its own disk, as a formatted one is,
-/// found it as it was.
+/// of it, so on a copy of the disk, or on the disk with a raised head. A life begins where a disk was formatted. And a keeper that is
+/// found on its own disk, as a formatted one is, found it as it was.
 pub fn lives_go_on<D: Disk>()
     ensures same { (plan : List Line) (image : List ℕ) (disk : D) → ((c : List ℕ) → (D.state disk).images c → c ≡ image)
         → TellsAs plan image (D.state disk) }
     ensures told { (plan : List Line) (image : List ℕ) (disk : D) (s : Standing) → Told plan image (Stood s)
         → ((c : List ℕ) → (D.state disk).images c → Told plan c (Stood s)) → TellsAs plan image (D.state disk) }
+    ensures begins { (plan : List Line) (sizes : Sizes) (image : List ℕ) (disk : D) → Keeps plan (first_head sizes) 0 nothing_told (D.state disk)
+        → (D.state disk).images image → TellsAs plan image (D.state disk) }
     ensures own { (disk : D) → D.is_lawful disk → CrashSafe Unchanged (D.state disk) (D.state disk) }
 {
     td_standing::laws::told_in_parts();
 }
+
+/// WATCHES COME AND GO between commands. Commands that a keeper was given at once are obeyed; and so are some, and then others, where in
+/// between another watch was attached, or none.
+pub fn watches_come_and_go<D: Disk, L: Law>()
+    ensures driven { (commands : List AnyCommand) (replies : List AnyReply) (old new : Keeping D)
+        → Driven D.is_lawful D.state D.failures L.answers commands replies old new → Obeyed D.is_lawful D.state D.failures L.answers commands replies old new }
+    ensures attached { (watch : Option AnyView) (commands : List AnyCommand) (replies : List AnyReply) (more : List AnyCommand) (others : List AnyReply) (old mid new : Keeping D)
+        → Obeyed D.is_lawful D.state D.failures L.answers commands replies old mid
+        → Obeyed D.is_lawful D.state D.failures L.answers more others (record mid { watch = watch }) new
+        → Obeyed D.is_lawful D.state D.failures L.answers (commands ++ more) (replies ++ others) old new }
+{}

@@ -1,6 +1,7 @@
-use Rattle.std.proofs.Common.{List, ℕ, refl, sym, subst}
+use Rattle.std.proofs.Common.{refl, subst}
 use Rattle.td_standing.specs.Advanced.{HeldWhere}
-use Rattle.td_theorem.proofs.Found.{is_fresh}
+use Rattle.td_theorem.proofs.Found.{is_kept}
+use Rattle.td_theorem.proofs.Watches.{obeyed_from}
 use Rattle.td_theorem.proofs.feeds.feeds_are_stints.Goals as goal
 
 pub returns : goal.returns
@@ -12,10 +13,10 @@ returns g c marks result plan alone disk left before after x from lawful command
       lawful = from.lawful lawful;
       for_plan = from.plan_is;
       keeps = from.found lawful;
-      fresh = is_fresh from;
-      kept = from.kept;
-      driven = driven;
+      fresh = from.fresh;
+      kept = is_kept from;
+      obeyed = obeyed_from g.D.Disk.is_lawful state g.D.Disk.failures g.L.Law.answers from.watch commands replies from.keeper ended driven;
       held = subst (λ (d : g.row.D.Denot). HeldWhere ended.broken g.L.Law.answers ended.plan ended.head ended.side ended.standing (state d)) from.left_is (from.holds (from.lawful_left lawful));
-      stopped = refl;
+      stopped = (ended.watch, refl);
       crashed = subst (λ (d : g.row.D.Denot). (state d).since (state d).moment image) from.left_is was;
     }

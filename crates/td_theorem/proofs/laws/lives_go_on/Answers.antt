@@ -1,4 +1,4 @@
-use Rattle.std.proofs.Common.{ℕ, List, inl, refl, sym, subst, arith}
+use Rattle.std.proofs.Common.{ℕ, List, inl, refl, sym, ◌∙◌, subst, arith}
 use Rattle.std.specs.Prelude.{Result, Ok}
 use Rattle.td_standing.specs.declared.error.KeeperError.{KeeperError}
 use Rattle.td_standing.specs.Standing.{Standing}
@@ -11,6 +11,9 @@ returns-clause-same g c plan image disk just left t is told = subst (λ (b : Lis
 pub returns-clause-told : goal.returns-clause-told
 returns-clause-told g c plan image disk s told each left t is other =
     subst (λ (r : Result Standing KeeperError). Told plan left r) (sym (c.told_in_parts.ensures.one_answer plan image (Ok t) (Ok s) other told)) (each left is)
+
+pub returns-clause-begins : goal.returns-clause-begins
+returns-clause-begins g c plan sizes image disk keeps left other s is told = subst (λ (b : List ℕ). Told plan b (Ok s)) (keeps.durable image left ∙ sym (keeps.durable other is)) told
 
 pub returns-clause-own : goal.returns-clause-own
 returns-clause-own g c disk lawful = record {
