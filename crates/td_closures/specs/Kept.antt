@@ -71,6 +71,15 @@ abbrev pub Answers : {A B : Type 0} → (A → B) → Result A Wrong → Result 
 Answers by (Ok x) wanted = wanted ≡ Ok (by x)
 Answers by (Err w) wanted = (w ≡ Memory) ⊎ (wanted ≡ Err w)
 
+-- a call left this where something was, or was refused a growth
+abbrev pub Leaves : {A B : Type 0} → B → Result A Wrong → Result B Wrong → Type 0
+Leaves left (Ok x) wanted = wanted ≡ Ok left
+Leaves left (Err w) wanted = (w ≡ Memory) ⊎ (wanted ≡ Err w)
+
+abbrev pub LeavesText : {A B : Type 0} → B → Result A Fault → Result B Fault → Type 0
+LeavesText left (Ok x) wanted = wanted ≡ Ok left
+LeavesText left (Err e) wanted = (e.wrong ≡ Memory) ⊎ (wanted ≡ Err e)
+
 abbrev pub AnswersText : {A B : Type 0} → (A → B) → Result A Fault → Result B Fault → Type 0
 AnswersText by (Ok x) wanted = wanted ≡ Ok (by x)
 AnswersText by (Err e) wanted = (e.wrong ≡ Memory) ⊎ (wanted ≡ Err e)

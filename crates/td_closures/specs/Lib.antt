@@ -1,3 +1,4 @@
+pub mod Canonical
 pub mod Context
 pub mod Drafts
 pub mod Kept
@@ -6,5 +7,6 @@ pub mod Machine
 pub mod Phrase
 pub mod Reading
 pub mod Refusals
+pub mod Spelled
 pub mod Texts
 pub mod Words

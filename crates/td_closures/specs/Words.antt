@@ -40,6 +40,11 @@ abbrev pub spaced : List ℕ → List ℕ
 spaced [] = []
 spaced (b ∷ bs) = if b == 35 then [] else shown b ∷ ((if is_at_front (are_joined b) bs then [] else 32 ∷ []) ++ spaced bs)
 
+-- a line of no words: spaces stand up to its end, or up to its comment
+abbrev pub is_blank : List ℕ → Bool
+is_blank [] = true
+is_blank (b ∷ bs) = if b == 32 then is_blank bs else (b == 35)
+
 -- what a line begins with
 abbrev pub head_word : List ℕ → Option Token
 head_word word =

@@ -31,7 +31,7 @@ fn read_lines(alloc: Global, text: &str) -> Result<(Draft, u64), Fault>
     let mut rest = text;
     while let Some((line, others)) = next_line(rest) {
         number += 1;
-        draft = draft.at_line(alloc, number, line)?;
+        draft.add_line(alloc, number, line)?;
         rest = others;
     }
     Ok((draft, number))

@@ -1,17 +1,18 @@
 //! What a text says up to a line, and what a line more adds.
-ghost use Rattle.std.specs.Prelude.{◌≡◌, ◌++◌, map, option_map, option_to_list, IfOk, IfErr, Some};
+ghost use Rattle.std.specs.Prelude.{◌≡◌, ◌++◌, true, map, option_map, option_to_list, IfOk, IfErr, OnOk, Some, Ok, Err};
 ghost use Rattle.td_formula.specs.Written.{is_kind};
-ghost use Rattle.td_closures.specs.Words.{is_fold, has_items};
+ghost use Rattle.td_closures.specs.Words.{is_blank, is_fold, has_items};
 ghost use Rattle.td_closures.specs.Drafts.{no_draft, new_closure, closures_of, has_closure, with_head, with_lets, with_item, with_each, with_send, with_keep, is_keep, with_part, in_last, with_line, kind_of, is_long, is_node, nodes_in};
 ghost use Rattle.td_closures.specs.Texts.{says_nothing, with_tokens, with_text, at_line};
-ghost use Rattle.td_closures.specs.Kept.{Answers, AnswersText, assigned_by, paired_by, said_by, line_by, draft_by};
+ghost use Rattle.td_closures.specs.Kept.{Answers, Leaves, LeavesText, assigned_by, paired_by, said_by, line_by, draft_by};
 ghost use Rattle.td_closures.specs.declared.fault.Wrong.TheVariants.{Memory};
 
 use crate::fault::{Fault, Wrong};
 use crate::line::{WrittenLine, read_line};
 use crate::token::Token;
-use crate::words::{Registers, line_scope, spaced, text_tokens};
+use crate::words::{Registers, is_blank, line_scope, spaced, text_tokens};
 use std::alloc::Global;
+use std::mem;
 use td_formula::{Assignment, Closure, ClosureKind, Expression, Name, Pair};
 
 /// How many bytes all lines have at most, each with a line feed.
@@ -397,12 +398,37 @@ impl Draft {
         draft.with_tokens(alloc, tokens.as_slice())
     }
 
-    /// With line `number` of the text. Refusals: its fault; `Memory`.
-    pub(crate) fn at_line(self, alloc: Global, number: u64, line: &str) -> Result<Draft, Fault>
-        ensures { AnswersText draft_by result (at_line number (with_text (draft_by self) line.now)) }
+    /// With a line of no words, which takes its bytes alone. Refusal: `TooMany`, where it is too long.
+    fn pass_over(&mut self, line: &str) -> Result<(), Wrong>
+        requires { is_blank line.now ≡ true }
+        ensures ok { OnOk result (with_text (draft_by self.old) line.now ≡ Ok (draft_by self.new)) }
+        ensures err { IfErr result (λ w. with_text (draft_by self.old) line.now ≡ Err w) }
     {
-        match self.with_text(alloc, line) {
-            Ok(draft) => Ok(draft),
+        if self.is_long(line) {
+            return Err(Wrong::TooMany);
+        }
+        self.bytes = (self.bytes - line.len()).saturating_sub(1);
+        Ok(())
+    }
+
+    /// Adds a line of the text. Refusals as `with_text`. A text may have a million lines of no words: for these the draft stays
+    /// where it is. Of the others it has 4,096 at most, since each has a node.
+    fn add_text(&mut self, alloc: Global, line: &str) -> Result<(), Wrong>
+        ensures { Leaves (draft_by self.new) result (with_text (draft_by self.old) line.now) }
+    {
+        if is_blank(line.as_bytes()) {
+            return self.pass_over(line);
+        }
+        *self = mem::replace(self, Draft::new(alloc)).with_text(alloc, line)?;
+        Ok(())
+    }
+
+    /// Adds line `number` of the text. Refusals: its fault; `Memory`.
+    pub(crate) fn add_line(&mut self, alloc: Global, number: u64, line: &str) -> Result<(), Fault>
+        ensures { LeavesText (draft_by self.new) result (at_line number (with_text (draft_by self.old) line.now)) }
+    {
+        match self.add_text(alloc, line) {
+            Ok(()) => Ok(()),
             Err(wrong) => Err(Fault {
                 line: number,
                 wrong,

@@ -12,14 +12,15 @@ mod context;
 mod draft;
 mod expression;
 mod fault;
+pub mod laws;
 mod line;
-#[cfg(test)]
-mod tests;
+mod printer;
 mod token;
 mod words;
 
 pub use closures::read_closures;
 pub use expression::read_expression;
 pub use fault::{Fault, Wrong};
+pub use printer::{closures_text, print_closure};
 pub use token::{Token, Verb};
 pub use words::{Registers, Scope, line_tokens};

@@ -3,7 +3,7 @@ ghost use Rattle.std.specs.Prelude.{◌≡◌, ◌≤◌, ◌<◌, [], map, leng
 ghost use Rattle.std.specs.String.{string_bytes};
 ghost use Rattle.td_closures.specs.declared.fault.Wrong.TheVariants.{Memory};
 ghost use Rattle.td_plan.specs.Text.{words};
-ghost use Rattle.td_closures.specs.Words.{is_letter, is_of_word, is_of_test, are_joined, shown, spaced, head_word, plain_word, test_word, sum_word, name_word, is_fold, has_items, is_there, name_token, register_from, new_word, register_word, token_of, with_register, verb_scope, token_scope, scope_of, tokens_of, registers_after};
+ghost use Rattle.td_closures.specs.Words.{is_letter, is_of_word, is_of_test, are_joined, shown, spaced, is_blank, head_word, plain_word, test_word, sum_word, name_word, is_fold, has_items, is_there, name_token, register_from, new_word, register_word, token_of, with_register, verb_scope, token_scope, scope_of, tokens_of, registers_after};
 
 use crate::fault::Wrong;
 use crate::token::{Token, Verb};
@@ -72,6 +72,20 @@ pub(crate) fn spaced(alloc: Global, line: &[u8]) -> Result<String, Wrong>
         rest = others;
     }
     Ok(out)
+}
+
+/// Whether a line has no words: spaces stand up to its end, or up to its comment.
+pub(crate) fn is_blank(line: &[u8]) -> bool
+    ensures { result ≡ is_blank line.now }
+{
+    let mut rest = line;
+    while let [b, others @ ..] = rest {
+        if *b != b' ' {
+            return *b == b'#';
+        }
+        rest = others;
+    }
+    true
 }
 
 /// What a line begins with.

@@ -1,7 +1,9 @@
 //! Expressions and texts whose values and refusals were worked out by hand.
-use crate::{Fault, Registers, Scope, Wrong, line_tokens, read_closures, read_expression};
 use std::alloc::Global;
 use std::test::Fail;
+use td_closures::{
+    Fault, Registers, Scope, Wrong, line_tokens, read_closures, read_expression,
+};
 use td_formula::{ClosureKind, Environment};
 
 /// The value of an expression where each name stands for 0.

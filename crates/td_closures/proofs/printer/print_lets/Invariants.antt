@@ -1,0 +1,11 @@
+use Rattle.std.proofs.Common.{◌≡◌, ◌++◌, length, map}
+use Rattle.std.specs.Prelude.{string_bytes}
+use Rattle.td_closures.specs.Canonical.{let_line, lines_text}
+use Rattle.td_closures.specs.Kept.{assigned_by}
+use Rattle.td_closures.proofs.printer.print_lets.Given as goal
+
+abbrev pub invariant-loop-rest : goal.invariant-loop-rest
+invariant-loop-rest l = string_bytes l.text ++ lines_text (map let_line (map assigned_by l.rest)) ≡ string_bytes l.initial.text ++ lines_text (map let_line (map assigned_by l.fn.changes))
+
+abbrev pub decreases-loop-rest : goal.decreases-loop-rest
+decreases-loop-rest l = length l.rest
