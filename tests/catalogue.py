@@ -1,379 +1,119 @@
-"""The closures of the catalogue, written down in Python by hand: td_calls/specs/Stock and td_catalogue/specs/{Codes,Values,Sent,Catalogue}, each
-definition under its name there. Integers are Python's own; its `//` and `%` round as the specs' Euclidean division does, since no divisor is below 1."""
+#!/usr/bin/env python3
+"""Compares docs/CATALOGUE.md, and what `td help closures` prints of the catalogue, with the table in td_picture/src/table.rt.
+
+    tests/catalogue.py          compares
+    tests/catalogue.py --write  writes the tables of the page anew
+
+A row of the table is a closure, or closures whose codes follow one another. The scripts that draw plans have from here which codes there are.
+The status is 1 where something differs."""
 
 import collections
 import functools
+import json
+import re
+import subprocess
+import sys
+
+import lib
 
-Rec = collections.namedtuple("Rec", "key val")
-Item = collections.namedtuple("Item", "port val")
-State = collections.namedtuple("State", "a b")
-Answers = collections.namedtuple("Answers", "emit group fold")
-MOST = 2**63 - 1
+PAGE = lib.ROOT / "docs/CATALOGUE.md"
+SOURCE = lib.ROOT / "crates/td_picture/src/table.rt"
+LANGUAGE = lib.ROOT / "crates/td/src/language.rt"
+# The table's parts, by kinds, and the heading of each shelf's table on the page.
+KINDS = {"map": "MAPS", "group": "GROUPS", "fold": "FOLDS"}
+SHELVES = ["The first shelf", "The second shelf"]
+# Where the second shelf begins.
+SECOND = 1000
 
+Row = collections.namedtuple("Row", "kind first last answer")
+STRING = r'"(?:[^"\\]|\\.)*"'
+ROW = re.compile(rf"\(\s*(\d+),\s*(\d+),\s*Form::\w+,\s*{STRING},\s*{STRING},\s*({STRING}),?\s*\),")
 
-def saturate_signed(z):
-    return max(-MOST - 1, min(MOST, z))
 
+def rows_of(kind, source):
+    """The rows of a kind; the script ends where one cannot be read."""
+    part = re.search(rf"(?ms)^pub const {KINDS[kind]}: \[Row; (\d+)\] = \[$(.*?)^\];$", source)
+    found = [Row(kind, int(first), int(last), json.loads(answer)) for first, last, answer in ROW.findall(part[2])] if part else []
+    if not part or len(found) != int(part[1]):
+        lib.fail(f"catalogue.py: {SOURCE.relative_to(lib.ROOT)}: the rows of {KINDS[kind]} cannot be read")
+    return found
 
-def cast_signed(n):
-    return n if n <= MOST else n - 2**64
 
+@functools.cache
+def rows():
+    """The rows of the table, by kinds, those of a kind by their codes."""
+    source = SOURCE.read_text(encoding="utf-8")
+    return [row for kind in KINDS for row in rows_of(kind, source)]
 
-def cast_unsigned(z):
-    return z if z >= 0 else z + 2**64
 
+def shelves(kind=None):
+    """The rows of both shelves, or those of a kind."""
+    mine = [row for row in rows() if kind in (None, row.kind)]
+    return [row for row in mine if row.first < SECOND], [row for row in mine if row.first >= SECOND]
 
-def fold(f, start, items):
-    return functools.reduce(f, items, start)
 
+def codes_of(row):
+    """The codes of a row, in words."""
+    return f"{row.first}" if row.first == row.last else f"{row.first} + P, P to {row.last - row.first}"
 
-# ---- td_calls/specs/Stock
 
+# The page
 
-def saturating_add(x, y):
-    return saturate_signed(x + y)
 
+def table_of(shelf):
+    """The lines of a shelf's table on the page."""
+    answers = [f"| {row.kind} | {codes_of(row)} | {' '.join(row.answer.splitlines())} |" for row in shelf]
+    return ["| Kind | Code | Answer |", "|---|---|---|", *answers]
 
-def sum_from(start, items):
-    return fold(lambda sum, i: saturating_add(sum, i.val), start, items)
 
+def page_anew(page):
+    """The page with both tables as the rows give them."""
+    lines = page.split("\n")
+    for heading, shelf in zip(SHELVES, shelves()):
+        start = next(at for at in range(lines.index(f"## {heading}"), len(lines)) if lines[at].startswith("|"))
+        end = next(at for at in range(start, len(lines)) if not lines[at].startswith("|"))
+        lines[start:end] = table_of(shelf)
+    return "\n".join(lines)
 
-def is_even(z):
-    return z % 2 == 0
 
+# The help
 
-def least(i, items):
-    return fold(lambda low, j: min(low, j.val), i.val, items)
 
+def lines_of_help(shelf):
+    """The lines of a shelf as the help prints them: what is longer than a line goes on below its first line."""
+    for row in shelf:
+        before = f"{row.kind} {codes_of(row)}"
+        for line in row.answer.splitlines():
+            yield f"  {before:<26}{line}"
+            before = ""
 
-def greatest(i, items):
-    return fold(lambda high, j: max(high, j.val), i.val, items)
 
+def fault_of_help(printed):
+    """What is wrong with what `td help closures` prints, or nothing. Behind the language come two blocks of closures, a shelf each."""
+    language = LANGUAGE.read_text(encoding="utf-8").partition('r#"')[2].partition('"#')[0]
+    if not printed.startswith(language):
+        return "it does not begin with td/src/language.rt"
+    blocks = [block.splitlines() for block in printed[len(language):].split("\n\n") if block.startswith("  ")]
+    if blocks != [list(lines_of_help(shelf)) for shelf in shelves()]:
+        return "its shelves are not those of the table"
+    if long := [line for line in printed.splitlines() if len(line) > 142]:
+        return f"a line is longer than 142 characters: {long[0]}"
 
-def at_port(port, items):
-    return [i for i in items if i.port == port]
 
+def main():
+    page = PAGE.read_text(encoding="utf-8")
+    if sys.argv[1:] == ["--write"]:
+        PAGE.write_text(page_anew(page), encoding="utf-8")
+        return
+    if sys.argv[1:]:
+        sys.exit(__doc__)
+    if page != page_anew(page):
+        lib.fail("catalogue.py: docs/CATALOGUE.md has other closures than td_picture/src/table.rt: tests/catalogue.py --write writes its tables anew")
+    printed = subprocess.run([lib.built(lib.TD), "help", "closures"], stdin=subprocess.DEVNULL, capture_output=True, text=True)
+    if fault := fault_of_help(printed.stdout):
+        lib.fail(f"catalogue.py: td help closures: {fault}")
+    print(f"docs/CATALOGUE.md and td help closures have the {len(rows())} rows of td_picture/src/table.rt")
 
-def single(key, val):
-    return [Rec(key, val)]
 
-
-def record_if(test, r):
-    return [r] if test else []
-
-
-def by_first(f, items):
-    match items:
-        case []:
-            return []
-        case [i, *items]:
-            return f(i, items)
-
-
-map_answers = {
-    1: lambda port, r: [r],
-    2: lambda port, r: single(r.key, saturating_add(r.val, -1)),
-    3: lambda port, r: record_if(is_even(r.val), r),
-    4: lambda port, r: record_if(not is_even(r.val), r),
-    5: lambda port, r: single(r.key // 2, r.val),
-    6: lambda port, r: [r, r],
-    7: lambda port, r: single(r.key, port),
-    8: lambda port, r: record_if(0 < r.val, r),
-    9: lambda port, r: single((r.key % 4 + 1) % 4, r.val),
-}
-
-
-def joined_least(key, items):
-    def with_left(i, left):
-        return by_first(lambda j, right: single(key, saturating_add(least(i, left), least(j, right))), at_port(1, items))
-
-    return by_first(with_left, at_port(0, items))
-
-
-group_answers = {
-    20: lambda key, items: single(key, min(len(items), MOST)),
-    21: lambda key, items: single(key, sum_from(0, items)),
-    22: lambda key, items: by_first(lambda i, rest: single(key, least(i, rest)), items),
-    23: lambda key, items: by_first(lambda i, rest: single(key, greatest(i, rest)), items),
-    24: joined_least,
-}
-
-
-def totalled(key, state, items):
-    before = state or State(0, 0)
-    a = sum_from(before.a, items)
-    return State(a, saturating_add(before.b, len(items))), single(key, a)
-
-
-def toggled(key, state, items):
-    match state, items:
-        case State(), _:
-            return None, single(key, 0)
-        case None, []:
-            return None, []
-        case None, [i, *items]:
-            return State(fold(lambda last, j: j.val, i.val, items), 0), single(key, 1)
-
-
-fold_answers = {40: totalled, 41: toggled}
-stock = Answers(
-    emit=lambda code: map_answers.get(code, lambda port, r: []),
-    group=lambda code: group_answers.get(code, lambda key, items: []),
-    fold=lambda code: fold_answers.get(code, lambda key, state, items: (state, [])),
-)
-
-
-# ---- td_catalogue/specs/Codes: a closure of the second shelf is its name and its parameter, if it has one
-
-parameter_maps = {
-    1: "ConstantKey", 2: "KeyDivided", 3: "KeyModulo", 4: "ValueModulo", 5: "Above", 6: "Below", 7: "Equal", 8: "ValueDivided",
-}
-plain_maps = {9000: "Exchanged", 9001: "Negated", 9002: "Absolute", 9003: "Packed", 9004: "Unpacked", 9005: "KeyAsValue"}
-plain_folds = {
-    9200: "GreatestSoFar", 9201: "LeastSoFar", 9202: "LastValue", 9203: "CountSoFar", 9204: "AverageSoFar", 9205: "TwoGreatest",
-    9206: "Balance", 9207: "Amount",
-}
-
-
-def step(name, *parameter):
-    """A closure of the second shelf; none where there is no name."""
-    return (name, *parameter) if name else None
-
-
-def map_of(code):
-    return step(plain_maps.get(code)) if code // 1000 == 9 else step(parameter_maps.get(code // 1000), code % 1000)
-
-
-def group_of(code):
-    if code == 9100:
-        return step("DistinctValues")
-    if 9101 <= code <= 9108:
-        return step("GreatestValues", code - 9100)
-    if code == 9109:
-        return step("Average")
-    return step("Pairs", code - 9110) if 9110 <= code <= 9119 else None
-
-
-def fold_of(code):
-    if 9210 <= code <= 9219:
-        return step("Joined", code - 9210)
-    return step("Sessions", code - 9300) if 9300 <= code <= 9399 else step(plain_folds.get(code))
-
-
-# ---- td_catalogue/specs/Values
-
-
-def divisor(p):
-    return 1000 if p == 0 else p
-
-
-def count_of(items):
-    return min(len(items), MOST)
-
-
-def last_items(n, items):
-    return items[max(0, len(items) - n):]
-
-
-def with_run(seen, v):
-    before, runs = seen
-    return v, runs if before == v else saturating_add(runs, 1)
-
-
-def runs(items):
-    return fold(lambda seen, i: with_run(seen, i.val), (None, 0), items)[1]
-
-
-def higher(before, v):
-    return v if before is None else max(before, v)
-
-
-def lower(before, v):
-    return v if before is None else min(before, v)
-
-
-def later(before, v):
-    return v
-
-
-def chosen(choose, before, items):
-    return fold(lambda kept, i: choose(kept, i.val), before, items)
-
-
-def latest(before, items):
-    return chosen(later, before, at_port(1, items))
-
-
-def eight_from(i, record_at):
-    return [r for r in map(record_at, range(8 * i, 8 * i + 8)) if r is not None]
-
-
-def under_value(val, i):
-    return Rec(cast_unsigned(i.val), val)
-
-
-def slice_get(xs, k):
-    return xs[k] if k < len(xs) else None
-
-
-def pair_of(first, second):
-    return None if first is None or second is None else under_value(first.val, second)
-
-
-def pair_at(items, k):
-    n = len(at_port(1, items))
-    return None if n == 0 else pair_of(slice_get(at_port(0, items), k // n), slice_get(at_port(1, items), k % n))
-
-
-def joined_at(val, items, k):
-    first = slice_get(at_port(0, items), k)
-    return None if val is None or first is None else under_value(val, first)
-
-
-def with_third(two, v):
-    if two.a < v:
-        return State(v, two.a)
-    return State(two.a, v) if two.b < v else two
-
-
-def balanced(before, items):
-    return fold(lambda sum, i: max(0, saturating_add(sum, i.val)), before, items)
-
-
-def with_visit(gap, state, v):
-    if state is None:
-        return State(v, 1)
-    return State(max(state.a, v), saturating_add(state.b, 1) if saturating_add(state.a, gap) < v else state.b)
-
-
-# ---- td_catalogue/specs/Sent
-
-
-def map_sent(step, r):
-    match step:
-        case "ConstantKey", p:
-            return single(p, r.val)
-        case "KeyDivided", p:
-            return single(r.key // divisor(p), r.val)
-        case "KeyModulo", p:
-            return single(r.key % divisor(p), r.val)
-        case "ValueModulo", p:
-            return single(r.key, r.val % divisor(p))
-        case "Above", p:
-            return record_if(p < r.val, r)
-        case "Below", p:
-            return record_if(r.val < p, r)
-        case "Equal", p:
-            return record_if(r.val == p, r)
-        case "ValueDivided", p:
-            return single(r.key, r.val // divisor(p))
-        case "Exchanged",:
-            return single(cast_unsigned(r.val), cast_signed(r.key))
-        case "Negated",:
-            return single(r.key, saturate_signed(-r.val))
-        case "Absolute",:
-            return single(r.key, saturate_signed(abs(r.val)))
-        case "Packed",:
-            return single(r.key, saturating_add(saturate_signed(r.val * 1000000), r.key % 1000000))
-        case "Unpacked",:
-            return single(cast_unsigned(r.val % 1000000), r.val // 1000000)
-        case "KeyAsValue",:
-            return single(r.key, cast_signed(r.key))
-
-
-def averaged(key, sum, count):
-    return single(key, sum // count) if 0 < count else []
-
-
-def group_sent(step, key, items):
-    match step:
-        case "DistinctValues",:
-            return single(key, runs(items))
-        case "GreatestValues", n:
-            return [Rec(key, i.val) for i in last_items(min(n, 8), items)]
-        case "Average",:
-            return averaged(key, sum_from(0, items), count_of(items))
-        case "Pairs", i:
-            return eight_from(i, lambda k: pair_at(items, k))
-
-
-def value_of(state):
-    return None if state is None else state.a
-
-
-def state_of(value):
-    return None if value is None else State(value, 0)
-
-
-def kept(key, value):
-    return (None, []) if value is None else (State(value, 0), single(key, value))
-
-
-def average_so_far(key, before, items):
-    sum, count = sum_from(before.a, items), saturating_add(before.b, len(items))
-    return State(sum, count), averaged(key, sum, count)
-
-
-lowest = -MOST - 1
-
-
-def two_greatest(key, two):
-    return two, single(key, two.a) + record_if(lowest < two.b, Rec(key, two.b))
-
-
-def amount(key, last, items):
-    if last is None:
-        return []
-    return by_first(lambda i, others: single(key, saturate_signed(sum_from(0, [i, *others]) * last)), at_port(0, items))
-
-
-def visited(key, state):
-    return (None, []) if state is None else (state, single(key, state.b))
-
-
-def fold_sent(step, key, state, items):
-    match step:
-        case "GreatestSoFar",:
-            return kept(key, chosen(higher, value_of(state), items))
-        case "LeastSoFar",:
-            return kept(key, chosen(lower, value_of(state), items))
-        case "LastValue",:
-            return kept(key, chosen(later, value_of(state), items))
-        case "CountSoFar",:
-            return kept(key, saturating_add(value_of(state) or 0, len(items)))
-        case "AverageSoFar",:
-            return average_so_far(key, state or State(0, 0), items)
-        case "TwoGreatest",:
-            return two_greatest(key, fold(lambda two, i: with_third(two, i.val), state or State(lowest, lowest), items))
-        case "Balance",:
-            return kept(key, balanced(value_of(state) or 0, items))
-        case "Amount",:
-            last = latest(value_of(state), items)
-            return state_of(last), amount(key, last, items)
-        case "Joined", i:
-            last = latest(value_of(state), items)
-            return state_of(last), eight_from(i, lambda k: joined_at(last, items, k))
-        case "Sessions", gap:
-            return visited(key, fold(lambda s, i: with_visit(gap, s, i.val), state, items))
-
-
-# ---- td_catalogue/specs/Catalogue
-
-
-def map_answer(step, code, port, r):
-    return stock.emit(code)(port, r) if step is None else map_sent(step, r)
-
-
-def group_answer(step, code, key, items):
-    return stock.group(code)(key, items) if step is None else group_sent(step, key, items)
-
-
-def fold_answer(step, code, key, state, items):
-    return stock.fold(code)(key, state, items) if step is None else fold_sent(step, key, state, items)
-
-
-catalogue = Answers(
-    emit=lambda code: lambda port, r: map_answer(map_of(code), code, port, r),
-    group=lambda code: lambda key, items: group_answer(group_of(code), code, key, items),
-    fold=lambda code: lambda key, state, items: fold_answer(fold_of(code), code, key, state, items),
-)
+if __name__ == "__main__":
+    main()

@@ -111,7 +111,6 @@ PLACES = {
     CODE: [
         "engine_steps/specs/Codes.antt: 24, 1",
         "engine_steps/src/catalogue.rt: 24, 2",
-        "td/src/catalogue.rt: 24, 1",
     ],
     PIECE: [
         "td/src/disk.rt: 4096, 2",

@@ -4,9 +4,9 @@
     tests/meaning.py [SEED [COUNT]]     needs crates/td/out/td (see the README); by default 20000 plans, and the seed `td`
 
 Each definition has the name, the arguments and the recursion that it has in crates/NAME/specs, file by file, so that a reader can lay both side by side;
-those of the closures stand in tests/catalogue.py. What proofs alone use is left out. Numbers, `sorted`, tuples and dictionaries are Python's own: its
-numbers have no bounds either, its tuples stand in the orders of the specs, field by field, and a dictionary is a map. Of tests/random_inputs.py it takes
-which codes there are, and not its reading. Several plans stand side by side in one run of `td`."""
+what the closures answer is read from docs/CATALOGUE.md (tests/answers.py). What proofs alone use is left out. Numbers, `sorted`, tuples and
+dictionaries are Python's own: its numbers have no bounds either, its tuples stand in the orders of the specs, field by field, and a dictionary is a
+map. Of tests/random_inputs.py it takes which codes are drawn, and not its reading. Several plans stand side by side in one run of `td`."""
 
 import collections
 import concurrent.futures
@@ -17,7 +17,7 @@ import sys
 
 import lib
 import random_inputs
-from catalogue import Item, Rec, catalogue
+from answers import Item, Rec, catalogue
 
 # So many records in a bag are enough: a random loop may double them at each turn.
 ENOUGH = 2000

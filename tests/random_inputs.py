@@ -4,8 +4,8 @@
     tests/random_inputs.py [--every-plan] [--hall] [--feeds] [COUNT [SEED]]     needs crates/td/out/td (see the README);
                                                                                 by default 2000 inputs
 
-The reading shares nothing with the program. Status, output and error text must be equal; the first input at which one
-is not is printed. With --every-plan it reads loops, folds, distinct and several sources; without, it refuses these as
+The reading shares nothing with the program; that of the catalogue stands in tests/answers.py. Status, output and error text must be equal; the
+first input at which one is not is printed. With --every-plan it reads loops, folds, distinct and several sources; without, it refuses these as
 syntax, as a reader of flat plans does. With --hall each input is answered by `td run` and by `td sim` too, with a random
 number of workers and random picks; of `sim` the lines of notifications are left out.
 
@@ -22,8 +22,8 @@ import subprocess
 import sys
 
 import lib
+from answers import HALF, SHELVES, STORED
 
-HALF = 2**63
 # So many records on one edge are enough: a random loop may double them at each turn.
 ENOUGH = 500
 WORKERS = [1, 2, 3, 4, 7, 16]
@@ -76,15 +76,6 @@ def integer(word):
         size = natural(word[1:])
         return -size if size and size <= HALF else None
     return natural(word, HALF)
-
-
-def saturated(value):
-    return max(-HALF, min(HALF - 1, value))
-
-
-def wrapped(number):
-    """The signed number of the same 64 bits."""
-    return (number + HALF) % (2 * HALF) - HALF
 
 
 # Plans
@@ -218,171 +209,7 @@ def read_plan(lines, every_plan):
     return reading
 
 
-# The catalogue
-
-
-MAPS = {
-    1: lambda port, key, val: [(key, val)],
-    2: lambda port, key, val: [(key, saturated(val - 1))],
-    3: lambda port, key, val: [(key, val)] * (val % 2 == 0),
-    4: lambda port, key, val: [(key, val)] * (val % 2),
-    5: lambda port, key, val: [(key // 2, val)],
-    6: lambda port, key, val: [(key, val)] * 2,
-    7: lambda port, key, val: [(key, port)],
-    8: lambda port, key, val: [(key, val)] * (val > 0),
-    9: lambda port, key, val: [((key % 4 + 1) % 4, val)],
-}
-
-
-# The second shelf: by the thousands of a code, where P is what its last three digits write, and one by one.
-MAP_FAMILIES = {
-    1: lambda p, key, val: [(p, val)],
-    2: lambda p, key, val: [(key // (p or 1000), val)],
-    3: lambda p, key, val: [(key % (p or 1000), val)],
-    4: lambda p, key, val: [(key, val % (p or 1000))],
-    5: lambda p, key, val: [(key, val)] * (val > p),
-    6: lambda p, key, val: [(key, val)] * (val < p),
-    7: lambda p, key, val: [(key, val)] * (val == p),
-    8: lambda p, key, val: [(key, val // (p or 1000))],
-}
-MILLION = 10**6
-MAPS.update({
-    9000: lambda port, key, val: [(val % 2**64, wrapped(key))],
-    9001: lambda port, key, val: [(key, saturated(-val))],
-    9002: lambda port, key, val: [(key, saturated(abs(val)))],
-    9003: lambda port, key, val: [(key, saturated(saturated(val * MILLION) + key % MILLION))],
-    9004: lambda port, key, val: [(val % MILLION, val // MILLION)],
-    9005: lambda port, key, val: [(key, wrapped(key))],
-})
-for code in range(1000, 9000):
-    MAPS[code] = lambda port, key, val, code=code: MAP_FAMILIES[code // 1000](code % 1000, key, val)
-
-
-def total(items, start=0):
-    """The sum of items in their order, by port and val."""
-    for _, val in sorted(items):
-        start = saturated(start + val)
-    return start
-
-
-def join_least(key, items):
-    vals = [[val for port, val in items if port == at] for at in (0, 1)]
-    return [(key, saturated(min(vals[0]) + min(vals[1])))] if all(vals) else []
-
-
-GROUPS = {
-    20: lambda key, items: [(key, len(items))],
-    21: lambda key, items: [(key, total(items))],
-    22: lambda key, items: [(key, min(val for _, val in items))],
-    23: lambda key, items: [(key, max(val for _, val in items))],
-    24: join_least,
-}
-
-
-def values_of(items, at):
-    """The values of a port, from the least on."""
-    return sorted(val for port, val in items if port == at)
-
-
-def pairs(key, items, first):
-    """Eight of the pairs of an item of port 0 and one of port 1, from this one on."""
-    return [(wrapped(other) % 2**64, one) for one in values_of(items, 0) for other in values_of(items, 1)][first:first + 8]
-
-
-def runs(items):
-    """How many values there are that differ from the one before."""
-    values = [val for _, val in sorted(items)]
-    return sum(at == 0 or values[at - 1] != val for at, val in enumerate(values))
-
-
-GROUPS.update({
-    9100: lambda key, items: [(key, runs(items))],
-    9109: lambda key, items: [(key, total(items) // len(items))],
-})
-for n in range(1, 9):
-    GROUPS[9100 + n] = lambda key, items, n=n: [(key, val) for _, val in sorted(items)[-n:]]
-for n in range(10):
-    GROUPS[9110 + n] = lambda key, items, n=n: pairs(key, items, 8 * n)
-
-
-def totalled(key, state, items):
-    a, b = state or (0, 0)
-    a = total(items, a)
-    return (a, saturated(b + len(items))), [(key, a)]
-
-
-def toggled(key, state, items):
-    return (None, [(key, 0)]) if state else ((max(items)[1], 0), [(key, 1)])
-
-
-def sent(key, a, b=0):
-    """A fold that keeps a and b, and sends a."""
-    return (a, b), [(key, a)]
-
-
-def averaged(key, state, items):
-    (a, b), _ = totalled(key, state, items)
-    return (a, b), [(key, a // b)]
-
-
-def two_greatest(key, state, items):
-    """Keeps the greatest value and the one after it; the least of all stands for none."""
-    kept = sorted([*(state or (-HALF, -HALF)), *[val for _, val in items]])[:-3:-1]
-    return tuple(kept), [(key, kept[0])] + [(key, kept[1])] * (kept[1] > -HALF)
-
-
-def balanced(key, state, items):
-    a = state[0] if state else 0
-    for _, val in sorted(items):
-        a = max(0, saturated(a + val))
-    return sent(key, a)
-
-
-def last_of(state, items):
-    """The last value of port 1, of these items or before."""
-    return values_of(items, 1)[-1] if values_of(items, 1) else state[0] if state else None
-
-
-def priced(key, state, items):
-    price, pieces = last_of(state, items), values_of(items, 0)
-    if price is None:
-        return None, []
-    return (price, 0), [(key, saturated(total((0, val) for val in pieces) * price))] if pieces else []
-
-
-def paired(key, state, items, first):
-    last = last_of(state, items)
-    if last is None:
-        return None, []
-    return (last, 0), [(val % 2**64, last) for val in values_of(items, 0)[first:first + 8]]
-
-
-def visited(key, state, items, gap):
-    """Keeps the greatest value and how many sessions there were."""
-    for _, val in sorted(items):
-        state = (max(state[0], val), state[1] + (val > saturated(state[0] + gap))) if state else (val, 1)
-    return state, [(key, state[1])]
-
-
-FOLDS = {
-    40: totalled, 41: toggled,
-    9200: lambda key, state, items: sent(key, max([val for _, val in items] + ([state[0]] if state else []))),
-    9201: lambda key, state, items: sent(key, min([val for _, val in items] + ([state[0]] if state else []))),
-    9202: lambda key, state, items: sent(key, max(items)[1]),
-    9203: lambda key, state, items: sent(key, saturated((state[0] if state else 0) + len(items))),
-    9204: averaged, 9205: two_greatest, 9206: balanced, 9207: priced,
-}
-for n in range(10):
-    FOLDS[9210 + n] = lambda key, state, items, n=n: paired(key, state, items, 8 * n)
-for n in range(100):
-    FOLDS[9300 + n] = lambda key, state, items, n=n: visited(key, state, items, n)
-STORED = {"map": MAPS, "group": GROUPS, "fold": FOLDS}
-# The codes of random plans, shelf by shelf.
-SHELVES = {
-    "map": [range(1, 10), [*range(9000, 9006), *[1000 * at + p for at in range(1, 9) for p in (0, 1, 3, 999)]]],
-    "group": [range(20, 25), range(9100, 9120)],
-    "fold": [(40, 41), [*range(9200, 9208), 9210, 9211, 9219, 9300, 9303, 9399]],
-}
+# Closures
 
 
 def check_codes(plan):
@@ -466,7 +293,7 @@ class Epoch:
             return []
         arrived = [(port, key, val) for port, source in enumerate(vertex.sources) for key, val in sent[source]]
         if kind == "map":
-            return [record for port, key, val in arrived for record in MAPS[vertex.code](port, key, val)]
+            return [record for port, key, val in arrived for record in STORED["map"][vertex.code](port, key, val)]
         if kind == "distinct":
             return sorted({(key, val) for _, key, val in arrived})
         if kind in ("group", "fold"):
@@ -483,9 +310,9 @@ class Epoch:
         answers = []
         for key in items:
             if vertex.kind == "group":
-                answers += GROUPS[vertex.code](key, items[key])
+                answers += STORED["group"][vertex.code](key, items[key])
                 continue
-            state, records = FOLDS[vertex.code](key, self.states.pop((vertex.number, key), None), items[key])
+            state, records = STORED["fold"][vertex.code](key, self.states.pop((vertex.number, key), None), items[key])
             answers += records
             if state:
                 self.states[vertex.number, key] = state

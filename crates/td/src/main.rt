@@ -1,13 +1,12 @@
 //! Makes the closures of the catalogue, and does what the program's words ask for.
 //!
 //! `td` is words, files and standard streams round engines that are proved for any disk, reader and writer. What this crate adds
-//! is wiring: most of it has no contract, and rows test it. That each code of the catalogue is stored is proved (`answer`).
+//! is wiring: most of it has no contract, and rows test it.
 #![tactic(auto)]
 
 ghost use Rattle.td_words.specs.Command.{HasWorkers};
-ghost use Rattle.td.specs.Whole.{IsLawfulEngine, HasEach, map_codes, group_codes, fold_codes};
+ghost use Rattle.td.specs.Whole.{IsLawfulEngine};
 
-mod catalogue;
 mod closures;
 mod disk;
 mod disk_closures;
@@ -18,11 +17,10 @@ mod language;
 mod plan;
 mod progress;
 mod refusal;
+mod shelves;
 mod states;
-mod store;
 mod streams;
 
-use crate::catalogue::{fold_of, group_of, map_of};
 use crate::closures::closures_at;
 use crate::disk::{
     copy_disk, dump_disk, format_disk, open_disk, open_disk_or_tell, show_disk, upgrade_disk,
@@ -34,8 +32,8 @@ use crate::language::LANGUAGE;
 use crate::plan::print_plan;
 use crate::progress::stream_told;
 use crate::refusal::Refusal;
+use crate::shelves::both_shelves;
 use crate::states::{load_disk, states_of_disk};
-use crate::store::{store_fold, store_group, store_map};
 use crate::streams::Awaited;
 use std::fs::File;
 use std::process::ExitCode;
@@ -43,11 +41,9 @@ use std::rt::{Env, Files, Stderr};
 use std::sync::Wait;
 use std::thread::Threads;
 use std::{env, io};
-use td_calls::{Calls, FoldBox, GroupBox, MapBox, StockCalls};
-use td_catalogue::{Catalogue, CatalogueCalls};
+use td_catalogue::{Catalogue, Shelves};
 use td_console::{Fault, StdReader, StdWriter, read_picks};
 use td_feed::Marked;
-use td_stamp::{Item, Rec, State};
 use td_words::{Job, WordsError, words};
 use td_written::{batch, feed, run, sim};
 
@@ -186,8 +182,15 @@ fn done<
         Job::Help(text) => print_text(rt, text.as_str()),
         Job::Version => print_text(rt, VERSION),
         Job::Faults => print_text(rt, FAULTS),
-        Job::Language => print_text(rt, LANGUAGE),
+        Job::Language => print_language(rt),
     }
+}
+
+/// Prints the text on closures in text, and the catalogue behind it.
+fn print_language<R: Print + AllocGlobal>(rt: &R) -> Result<(), Refusal> {
+    let shelves = both_shelves(rt.alloc())?;
+    print_text(rt, LANGUAGE)?;
+    print_text(rt, shelves.as_str())
 }
 
 /// Prints a text of the program's own.
@@ -242,78 +245,42 @@ fn ended<R: Eprint + AllocGlobal>(
     }
 }
 
-/// Answers standard input with the closures of the catalogue. Those of its first shelf are made here, since a function may not
-/// hand out one that it makes; of each kind there is one, which captures its code. With one box for each code the proof that a
-/// box may be dropped would go over sixteen.
+/// Answers standard input with the closures of the catalogue, of both shelves, and what closures in text the engine has.
 fn run_engine<R: Input + Print + AllocGlobal + Threads + Wait + Sync + Send + Copy + 'static>(
     rt: &R,
     engine: Engine<'_>,
 ) -> Result<(), Refusal>
     requires lawful { IsLawfulEngine engine }
 {
-    let alloc = rt.alloc();
-    let mut calls: StockCalls = Calls::new(alloc);
-    for code in 1..10u16 {
-        let map: MapBox = Box::new(alloc, move |port: u8, rec: Rec| map_of(code, port, rec))?;
-        store_map(&mut calls, code, map)?;
-    }
-    for code in 20..25u16 {
-        let group: GroupBox = Box::new(
-            alloc,
-            move |key: u64, items: &[Item]| group_of(code, key, items),
-        )?;
-        store_group(&mut calls, code, group)?;
-    }
-    for code in 40..42u16 {
-        let fold: FoldBox = Box::new(
-            alloc,
-            move |key: u64, state: Option<State>, items: &[Item]| fold_of(code, key, state, items),
-        )?;
-        store_fold(&mut calls, code, fold)?;
-    }
-    answer(rt, CatalogueCalls { stock: calls }, engine)
-}
-
-/// Answers standard input with the whole catalogue, and what closures in text the engine has.
-fn answer<R: Input + Print + AllocGlobal + Threads + Wait + Sync + Send + Copy + 'static>(
-    rt: &R,
-    calls: CatalogueCalls,
-    engine: Engine<'_>,
-) -> Result<(), Refusal>
-    requires lawful { IsLawfulEngine engine }
-    requires maps { HasEach (λ c. c.code) calls.stock.maps map_codes }
-    requires groups { HasEach (λ c. c.code) calls.stock.groups group_codes }
-    requires folds { HasEach (λ c. c.code) calls.stock.folds fold_codes }
-{
     let mut reader = StdReader(Awaited::new(rt, rt.reader()));
     let mut writer = StdWriter(Awaited::new(rt, io::writer(rt)));
     match engine {
-        Engine::Batch(closures) => Ok(batch::<_, _, Catalogue, CatalogueCalls>(
+        Engine::Batch(closures) => Ok(batch::<_, _, Catalogue, Shelves>(
             rt.alloc(),
             &mut reader,
             &mut writer,
-            calls,
+            Shelves,
             closures,
         )?),
-        Engine::Run(workers, closures) => Ok(run::<_, _, Catalogue, CatalogueCalls>(
+        Engine::Run(workers, closures) => Ok(run::<_, _, Catalogue, Shelves>(
             rt.alloc(),
             &mut reader,
             &mut writer,
-            calls,
+            Shelves,
             closures,
             workers,
         )?),
-        Engine::Sim(workers, picks, closures) => Ok(sim::<_, _, Catalogue, CatalogueCalls>(
+        Engine::Sim(workers, picks, closures) => Ok(sim::<_, _, Catalogue, Shelves>(
             rt.alloc(),
             &mut reader,
             &mut writer,
-            calls,
+            Shelves,
             closures,
             workers,
             picks.as_slice(),
         )?),
         Engine::Feed(disk, plan, workers, closures) => {
-            let (_disk, fed) = feed::<_, _, _, Catalogue, CatalogueCalls, _>(
+            let (_disk, fed) = feed::<_, _, _, Catalogue, Shelves, _>(
                 rt,
                 rt.alloc(),
                 disk,
@@ -321,7 +288,7 @@ fn answer<R: Input + Print + AllocGlobal + Threads + Wait + Sync + Send + Copy +
                 workers,
                 &mut reader,
                 &mut writer,
-                calls,
+                Shelves,
                 closures,
             );
             Ok(fed?)
@@ -339,7 +306,6 @@ fn answer<R: Input + Print + AllocGlobal + Threads + Wait + Sync + Send + Copy +
                     reader,
                     &mut writer,
                     told,
-                    calls,
                     closures,
                 )
             } else {
@@ -353,7 +319,6 @@ fn answer<R: Input + Print + AllocGlobal + Threads + Wait + Sync + Send + Copy +
                     reader,
                     &mut writer,
                     told,
-                    calls,
                     closures,
                 )
             }

@@ -12,16 +12,13 @@ use std::rt::Files;
 use std::sync::Wait;
 use td_console::{Fault, StdReader, StdWriter, ascii_text, first_line, read_all, write_answer};
 use td_feed::read_plan;
-use td_picture::{drawn, listed};
+use td_picture::{UNKNOWN, drawn, listed};
 use td_plan::text::next_word;
 use td_plan::{Block, Plan, PlanError};
 use td_written::text_in;
 
 /// How many bytes of a line with a fault are told at most.
 const TOLD: usize = 80;
-
-/// What td_picture tells of a closure that the catalogue does not have.
-const UNKNOWN: &str = "no closure of the catalogue";
 
 /// Writes the plan in the file at `path` to standard output: its lines with what its closures are in words, or a picture, if `dot`.
 /// Those in the file at `closures`, if there is one, are told in its words.

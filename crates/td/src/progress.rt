@@ -15,7 +15,7 @@ use std::sync::{Arc, Wait};
 use std::thread;
 use std::thread::{Parker, Threads};
 use std::time::Duration;
-use td_catalogue::{Catalogue, CatalogueCalls};
+use td_catalogue::{Catalogue, Shelves};
 use td_console::{Fault, Source};
 use td_disk::{FileDisk, ReadAhead};
 use td_feed::Voice;
@@ -78,7 +78,6 @@ pub(crate) fn stream_told<
     reader: I,
     writer: &mut W,
     told: Option<Stderr>,
-    calls: CatalogueCalls,
     closures: Vec<Closure>,
 ) -> Result<(), Refusal>
     requires some { 1 ≤ workers }
@@ -92,7 +91,7 @@ pub(crate) fn stream_told<
         },
     )?;
     let watch = followed(rt, told, &ending)?;
-    let (mut disk, ended) = stream::<_, _, _, Catalogue, CatalogueCalls, _>(
+    let (mut disk, ended) = stream::<_, _, _, Catalogue, Shelves, _>(
         rt,
         rt.alloc(),
         disk,
@@ -103,7 +102,7 @@ pub(crate) fn stream_told<
         reader,
         writer,
         watch,
-        calls,
+        Shelves,
         closures,
     );
     ending.of_stream.tell();

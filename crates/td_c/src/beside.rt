@@ -8,11 +8,10 @@ ghost use Rattle.td_c.specs.Beside.{HasPlanBeside, PlanRefusedBeside, EpochWritt
 use crate::advance::advance;
 use crate::reading::{closures_of, plan_of};
 use crate::refusal::Refusal;
-use crate::shelves::Shelves;
 use crate::values::{TdCounts, TdRecord, TdState};
 use std::alloc::Global;
 use std::marker::Brand;
-use td_catalogue::Catalogue;
+use td_catalogue::{Catalogue, Shelves};
 use td_formula::{Beside, BesideCalls, Closure, Formulas, WrittenCalls};
 
 /// Whether a text spells a plan whose closures are all in the catalogue, or in a text beside it.

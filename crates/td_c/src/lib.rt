@@ -15,7 +15,6 @@ mod beside;
 pub mod laws;
 mod reading;
 mod refusal;
-mod shelves;
 mod values;
 mod writing;
 
@@ -23,9 +22,8 @@ use crate::advance::advance;
 use crate::beside::{advance_beside, check_beside};
 use crate::reading::plan_of;
 pub use refusal::Refusal;
-pub use shelves::Shelves;
 use std::alloc::Global;
-use td_catalogue::Catalogue;
+use td_catalogue::{Catalogue, Shelves};
 pub use values::{TdCounts, TdRecord, TdState};
 
 /// Whether a text spells a plan whose closures are all in the catalogue. It answers 0, or a refusal's number with its place: a line of

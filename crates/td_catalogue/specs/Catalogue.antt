@@ -5,11 +5,12 @@ use Rattle.td_stamp.specs.declared.values.Item.{Item}
 use Rattle.td_stamp.specs.declared.values.State.{State}
 use Rattle.td_calls.specs.Answers.{Answers}
 use Rattle.td_calls.specs.Stock.{stock}
-use Rattle.td_catalogue.specs.declared.steps.MapStep.{MapStep}
-use Rattle.td_catalogue.specs.declared.steps.GroupStep.{GroupStep}
-use Rattle.td_catalogue.specs.declared.steps.FoldStep.{FoldStep}
-use Rattle.td_catalogue.specs.Codes.{map_of, group_of, fold_of}
-use Rattle.td_catalogue.specs.Sent.{map_sent, group_sent, fold_sent}
+use Rattle.td_catalogue.specs.declared.map_step.MapStep.{MapStep}
+use Rattle.td_catalogue.specs.declared.group_step.GroupStep.{GroupStep}
+use Rattle.td_catalogue.specs.declared.fold_step.FoldStep.{FoldStep}
+use Rattle.td_catalogue.specs.Maps.{map_of, map_sent}
+use Rattle.td_catalogue.specs.Groups.{group_of, group_sent}
+use Rattle.td_catalogue.specs.Folds.{fold_of, fold_sent}
 
 -- what a map answers: a code that the second shelf does not have is one of the first
 abbrev pub map_answer : Option MapStep → ℕ → ℕ → Rec → List Rec

@@ -1,6 +1,7 @@
 pub mod Catalogue
-pub mod Codes
+pub mod Folds
+pub mod Groups
+pub mod Maps
 pub mod ProvedCatalogue
-pub mod Sent
 pub mod Shelves
 pub mod Values

@@ -12,16 +12,17 @@ use Rattle.td_stamp.specs.declared.values.State.{State}
 use Rattle.td_calls.specs.Answers.{AnswerFew}
 use Rattle.td_calls.specs.ProvedStock.{stock_few}
 use Rattle.td_calls.specs.Stock.{saturating_add, sum_from, record_if, by_first, at_port, single}
-use Rattle.td_catalogue.specs.declared.steps.MapStep.{MapStep}
-use Rattle.td_catalogue.specs.declared.steps.MapStep.TheVariants as maps
-use Rattle.td_catalogue.specs.declared.steps.GroupStep.{GroupStep}
-use Rattle.td_catalogue.specs.declared.steps.GroupStep.TheVariants as groups
-use Rattle.td_catalogue.specs.declared.steps.FoldStep.{FoldStep}
-use Rattle.td_catalogue.specs.declared.steps.FoldStep.TheVariants as folds
+use Rattle.td_catalogue.specs.declared.map_step.MapStep.{MapStep}
+use Rattle.td_catalogue.specs.declared.map_step.MapStep.TheVariants as maps
+use Rattle.td_catalogue.specs.declared.group_step.GroupStep.{GroupStep}
+use Rattle.td_catalogue.specs.declared.group_step.GroupStep.TheVariants as groups
+use Rattle.td_catalogue.specs.declared.fold_step.FoldStep.{FoldStep}
+use Rattle.td_catalogue.specs.declared.fold_step.FoldStep.TheVariants as folds
 use Rattle.td_catalogue.specs.Catalogue.{catalogue, map_answer, group_answer, fold_answer}
-use Rattle.td_catalogue.specs.Codes.{map_of, group_of, fold_of}
-use Rattle.td_catalogue.specs.Sent.{map_sent, group_sent, fold_sent, averaged, kept, two_greatest, amount, visited, lowest, value_of}
-use Rattle.td_catalogue.specs.Values.{last_items, count_of, pair_at, joined_at, chosen, higher, lower, later, latest, with_third, with_visit}
+use Rattle.td_catalogue.specs.Maps.{map_of, map_sent}
+use Rattle.td_catalogue.specs.Groups.{group_of, group_sent}
+use Rattle.td_catalogue.specs.Folds.{fold_of, fold_sent, kept, two_greatest, amount, visited, lowest, value_of}
+use Rattle.td_catalogue.specs.Values.{averaged, last_items, count_of, pair_at, joined_at, chosen, higher, lower, later, latest, with_third, with_visit}
 
 record_if_few : (b : Bool) (r : Rec) → length (record_if b r) ≤ 1
 record_if_few true r = lit≤ tt

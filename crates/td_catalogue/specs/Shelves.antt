@@ -4,7 +4,9 @@ use Rattle.std.specs.Map.{lookup}
 use Rattle.td_plan.specs.declared.vertex.Kind.{Kind}
 use Rattle.td_plan.specs.declared.vertex.Kind.TheVariants.{Map, Group, Fold}
 use Rattle.td_calls.specs.Stock.{map_answers, group_answers, fold_answers}
-use Rattle.td_catalogue.specs.Codes.{map_of, group_of, fold_of}
+use Rattle.td_catalogue.specs.Maps.{map_of}
+use Rattle.td_catalogue.specs.Groups.{group_of}
+use Rattle.td_catalogue.specs.Folds.{fold_of}
 
 -- whether a closure of this code stands on the first shelf, among the answers of its kind
 abbrev pub is_first : {C : Type 0} → List (ℕ × C) → ℕ → Bool

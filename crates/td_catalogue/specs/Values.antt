@@ -1,13 +1,17 @@
 -- What the closures of the second shelf find in the items of a key, which come sorted by (port, val).
-use Rattle.std.specs.Prelude.{ℕ, ◌-◌, ◌*◌, ◌/◌, ◌%◌, ◌^◌, ℤ, pos, int_lt, min, Bool, false, ◌==◌, if◌then◌else◌}
-use Rattle.std.specs.Prelude.{List, drop, flat_map, fold, length, map, Option, Some, None, option_map, option_to_list}
-use Rattle.std.specs.Int.{int_max, int_min, cast_unsigned, w64}
+use Rattle.std.specs.Prelude.{ℕ, ◌-◌, ◌*◌, ◌/◌, ◌%◌, ◌^◌, ℤ, pos, int_lt, min, nat_le, Bool, false, ◌==◌, ◌&&◌, if◌then◌else◌}
+use Rattle.std.specs.Prelude.{List, [], drop, flat_map, fold, length, map, Option, Some, None, option_map, option_to_list}
+use Rattle.std.specs.Int.{int_max, int_min, int_div_euclid, cast_unsigned, w64}
 use Rattle.std.specs.List.{slice_get, range_with_len}
 use Rattle.std.specs.Ordering.{int_eq}
 use Rattle.td_stamp.specs.declared.values.Rec.{Rec}
 use Rattle.td_stamp.specs.declared.values.Item.{Item}
 use Rattle.td_stamp.specs.declared.values.State.{State}
-use Rattle.td_calls.specs.Stock.{saturating_add, at_port}
+use Rattle.td_calls.specs.Stock.{saturating_add, at_port, single}
+
+-- whether a code is one of those from the first to the last
+abbrev pub is_between : ℕ → ℕ → ℕ → Bool
+is_between first last code = nat_le first code && nat_le code last
 
 -- what divides: P, and 1,000 where P is 0
 abbrev pub divisor : ℕ → ℕ
@@ -92,3 +96,7 @@ abbrev pub with_visit : ℕ → Option State → ℤ → State
 with_visit gap None v = record { a = v; b = pos 1 }
 with_visit gap (Some s) v =
     record { a = int_max s.a v; b = if int_lt (saturating_add s.a (pos gap)) v then saturating_add s.b (pos 1) else s.b }
+
+-- the sum divided by how many there are, rounded down; nothing of none
+abbrev pub averaged : ℕ → ℤ → ℤ → List Rec
+averaged key sum count = if int_lt (pos 0) count then single key (int_div_euclid sum count) else []

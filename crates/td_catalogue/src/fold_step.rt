@@ -3,14 +3,38 @@ ghost use Rattle.std.specs.Prelude.{◌≡◌, ◌≤◌, ◌<◌, ◌^◌, ◌+
 ghost use Rattle.std.specs.List.{range_with_len};
 ghost use Rattle.td_stamp.specs.declared.values.State.{State};
 ghost use Rattle.td_calls.specs.Stock.{saturating_add};
-ghost use Rattle.td_catalogue.specs.Codes.{fold_of};
-ghost use Rattle.td_catalogue.specs.Sent.{fold_sent, value_of, kept, average_so_far, two_greatest, amount, visited, lowest, state_of};
+ghost use Rattle.td_catalogue.specs.Folds.{fold_of, fold_sent, value_of, kept, average_so_far, two_greatest, amount, visited, lowest, state_of};
 ghost use Rattle.td_catalogue.specs.Values.{higher, lower, later, chosen, with_third, balanced, with_visit, joined_at, eight_from};
 
 use crate::group_step::{averaged, under_value};
-use crate::steps::FoldStep;
 use crate::values::{count_at, higher, latest, lower, nth_at, single, sum_at, sum_from, with_one};
 use td_stamp::{Few, Item, Rec, State};
+
+/// A fold.
+#[derive(Clone, Copy, Debug, PartialEq, Eq)]
+pub enum FoldStep {
+    /// The greatest value so far.
+    GreatestSoFar,
+    /// The least value so far.
+    LeastSoFar,
+    /// The last value: the greatest of the last epoch, where there is one source.
+    LastValue,
+    /// How many items there are so far.
+    CountSoFar,
+    /// The sum of the values so far divided by their number, rounded down.
+    AverageSoFar,
+    /// The two greatest values so far.
+    TwoGreatest,
+    /// The sum of the values so far, which never falls below 0.
+    Balance,
+    /// The sum of the values of port 0, times the last value of port 1 so far.
+    Amount,
+    /// Of each item of port 0 the last value of port 1 so far, under the item's value as the key: of these those of the numbers 8 P to
+    /// 8 P + 7.
+    Joined(u8),
+    /// How many sessions there are so far: one begins at the first value, and at each that is more than P above the greatest before it.
+    Sessions(u16),
+}
 
 impl FoldStep {
     /// The fold of this code, if the second shelf has one.

@@ -4,13 +4,25 @@
 //! sources anew would take memory, which a closure does not have. A `map 1` before the group makes one source of several.
 ghost use Rattle.std.specs.Prelude.{◌≡◌, ◌≤◌, ◌<◌, ◌^◌, ◌+◌, length, map, min, flat_map, option_to_list};
 ghost use Rattle.std.specs.List.{range_with_len};
-ghost use Rattle.td_catalogue.specs.Codes.{group_of};
-ghost use Rattle.td_catalogue.specs.Sent.{group_sent, averaged};
-ghost use Rattle.td_catalogue.specs.Values.{last_items, pair_at, eight_from, under_value};
+ghost use Rattle.td_catalogue.specs.Groups.{group_of, group_sent};
+ghost use Rattle.td_catalogue.specs.Values.{averaged, last_items, pair_at, eight_from, under_value};
 
-use crate::steps::GroupStep;
 use crate::values::{count_at, count_of, nth_at, runs, single, sum_from, with_one};
 use td_stamp::{Few, Item, Rec};
+
+/// A group. Items come sorted by (port, value): what is said of values is said of one source.
+#[derive(Clone, Copy, Debug, PartialEq, Eq)]
+pub enum GroupStep {
+    /// How many values differ.
+    DistinctValues,
+    /// The P greatest values, or all where there are no more; 8 at most.
+    GreatestValues(u8),
+    /// The sum of the values divided by their number, rounded down.
+    Average,
+    /// Of each item of port 0 and each of port 1 the value of the first, under that of the second as the key: of all such pairs those of
+    /// the numbers 8 P to 8 P + 7.
+    Pairs(u8),
+}
 
 impl GroupStep {
     /// The group of this code, if the second shelf has one.

@@ -6,7 +6,9 @@ ghost use Rattle.td_stamp.specs.declared.values.State.{State};
 ghost use Rattle.td_plan.specs.declared.vertex.Kind.TheVariants.{Map, Group, Fold};
 ghost use Rattle.td_calls.specs.Stock.{stock};
 ghost use Rattle.td_catalogue.specs.Catalogue.{catalogue};
-ghost use Rattle.td_catalogue.specs.Codes.{map_of, group_of, fold_of};
+ghost use Rattle.td_catalogue.specs.Maps.{map_of};
+ghost use Rattle.td_catalogue.specs.Groups.{group_of};
+ghost use Rattle.td_catalogue.specs.Folds.{fold_of};
 ghost use Rattle.td_catalogue.specs.Shelves.{in_catalogue};
 
 /// The second shelf leaves the first as it is: a code below 1,000 means what it means there.

@@ -6,13 +6,14 @@
 //! and can be read.
 #![tactic(auto)]
 
-mod calls;
 mod fold_step;
 mod group_step;
 pub mod laws;
 mod map_step;
-mod steps;
+mod shelves;
 mod values;
 
-pub use calls::{Catalogue, CatalogueCalls};
-pub use steps::{FoldStep, GroupStep, MapStep};
+pub use fold_step::FoldStep;
+pub use group_step::GroupStep;
+pub use map_step::MapStep;
+pub use shelves::{Catalogue, Shelves};

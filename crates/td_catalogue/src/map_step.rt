@@ -1,13 +1,47 @@
 //! The maps of the second shelf: which one a code is, and what it sends.
+//!
+//! A parameter that divides stands for 1,000 where it is 0: so nothing is divided by 0, and 1,000 has a code. Division and
+//! remainder round down, below 0 too, as time and money need it: second -1 is in minute -1.
 ghost use Rattle.std.specs.Prelude.{◌≡◌, ◌/◌, ◌%◌, ◌*ℤ◌, pos};
 ghost use Rattle.std.specs.Int.{saturate_signed, w64};
 ghost use Rattle.td_calls.specs.Stock.{saturating_add};
-ghost use Rattle.td_catalogue.specs.Codes.{map_of};
-ghost use Rattle.td_catalogue.specs.Sent.{map_sent};
+ghost use Rattle.td_catalogue.specs.Maps.{map_of, map_sent};
 
-use crate::steps::MapStep;
 use crate::values::{divisor, record_if, single};
 use td_stamp::{Few, Rec};
+
+/// A map.
+#[derive(Clone, Copy, Debug, PartialEq, Eq)]
+pub enum MapStep {
+    /// The value, under the key P.
+    ConstantKey(u16),
+    /// The value, under the key divided by P and rounded down; by 1,000 where P is 0.
+    KeyDivided(u16),
+    /// The value, under the key modulo P; modulo 1,000 where P is 0.
+    KeyModulo(u16),
+    /// The value modulo P, from 0 to P - 1; modulo 1,000 where P is 0.
+    ValueModulo(u16),
+    /// The record where its value is above P, else nothing.
+    Above(u16),
+    /// The record where its value is below P, else nothing.
+    Below(u16),
+    /// The record where its value is P, else nothing.
+    Equal(u16),
+    /// The value divided by P and rounded down, below 0 too; by 1,000 where P is 0.
+    ValueDivided(u16),
+    /// The key as the value, under the value as the key: from 2^63 on a key is the value 2^64 below it.
+    Exchanged,
+    /// The value with the other sign; of the least value the greatest.
+    Negated,
+    /// The value without its sign; of the least value the greatest.
+    Absolute,
+    /// The value times 1,000,000, and the key modulo 1,000,000 added to it.
+    Packed,
+    /// What was packed: the value divided by 1,000,000, under the key that is the rest.
+    Unpacked,
+    /// The key as the value, under the key.
+    KeyAsValue,
+}
 
 impl MapStep {
     /// The map of this code, if the second shelf has one.

@@ -12,7 +12,8 @@ use Rattle.td_plan.specs.Faults.{IsPlan}
 use Rattle.td_plan.specs.Texts.{AreReadAs, IsReadAs, plan_lines, PlanText}
 use Rattle.td_picture.specs.Words.{Text, told_of, has_closure}
 use Rattle.td_picture.specs.Listed.{listed_line, listing_of}
-use Rattle.td_picture.proofs.Printable.{is_plain, both, words_plain, line_plain}
+use Rattle.td_picture.proofs.Printable.{is_plain, words_plain, line_plain}
+use Rattle.td_picture.proofs.Rows.{both}
 
 -- THE FIRST LINE OF A TEXT
 no_feed : (x : ℕ) → is_printable x ≡ true → (x == 10) ≡ false

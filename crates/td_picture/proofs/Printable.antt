@@ -1,8 +1,7 @@
 -- What is printed of closures and of lines are printable characters.
-use Rattle.std.proofs.Common.{◌≡◌, ℕ, ◌+◌, ◌*◌, ◌/◌, ◌%◌, ◌<◌, ◌≤◌, ◌^◌, Bool, true, false, ◌&&◌, ◌==◌, nat_le, if◌then◌else◌, List, [], ◌∷◌, ◌++◌, length, map, codes, refl, ◌∙◌, arith, rules}
-use Rattle.std.specs.Prelude.{Option, Some, None, decimal, unwrap_or}
-use Rattle.std.specs.List.{list_all, join_with_byte, AllByRecursion}
-use Rattle.std.specs.Map.{lookup}
+use Rattle.std.proofs.Common.{◌≡◌, ℕ, ◌+◌, ◌-◌, ◌*◌, ◌<◌, ◌≤◌, ◌^◌, Bool, true, false, ◌&&◌, ◌==◌, nat_le, nat_lt, if◌then◌else◌, List, [], ◌∷◌, ◌++◌, length, map, codes, refl, ◌∙◌, arith, rules}
+use Rattle.std.specs.Prelude.{Some, cond, decimal, option_map, unwrap_or}
+use Rattle.std.specs.List.{find, list_all, join_with_byte}
 use Rattle.std.specs.Char.{is_ascii_digit}
 use Rattle.std.specs.Str.Parse.{digits_value}
 use Rattle.std.proofs.lemmas.List.Folds.{list_all-append}
@@ -14,14 +13,13 @@ use Rattle.td_plan.specs.declared.vertex.Kind.TheVariants.{Input, Map, Distinct,
 use Rattle.td_plan.specs.Text.{is_printable, has_nine_digits}
 use Rattle.td_plan.specs.Lines.{Line, words_of as line_words, words_of_kind, has_form, has_code, has_arity}
 use Rattle.td_plan.specs.Lines.Line.{vertex, loop, end}
-use Rattle.td_picture.specs.Words.{Text, text_at, map_texts, map_family, map_families, divisor, group_texts, group_family, eight_from, fold_texts, fold_family, unknown, or_family, told_of}
+use Rattle.td_picture.specs.declared.table.Form.{Form}
+use Rattle.td_picture.specs.declared.table.Form.TheVariants.{Plain, Number, Divisor, Count, Eight}
+use Rattle.td_picture.specs.Words.{Text, Row, map_rows, group_rows, fold_rows, divisor, words_in, words_at, is_in, unknown, told_of}
+use Rattle.td_picture.proofs.Rows.{both}
 
 abbrev pub is_plain : Text → Bool
 is_plain text = list_all is_printable text
-
-pub both : (p q : Bool) → (p && q) ≡ true → (p ≡ true) × (q ≡ true)
-both true q e = (refl, e)
-both false q e = cc
 
 -- NUMBERS
 test : IsDigitsTest (λ ds. list_all is_ascii_digit ds ≡ true)
@@ -50,74 +48,62 @@ before : (n : ℕ) (rest : Text) → n < 2 ^ 64 → is_plain rest ≡ true → i
 before n rest h e = list_all-append is_printable (decimal n) rest ∙ rw (number n h, e) refl
 
 -- THE WORDS OF A CLOSURE
-abbrev told : Option Text → Bool
-told None = true
-told (Some text) = is_plain text
+-- whether the texts of a row are printable, and its codes those of a program
+abbrev is_fit : Row → Bool
+is_fit row = nat_lt row.1 65536 && (is_plain row.3 && is_plain row.4)
 
-text_told : (texts : List (ℕ × Text)) (code : ℕ) → list_all (λ row. is_plain row.1) texts ≡ true → told (text_at texts code) ≡ true
-text_told [] code h = refl
-text_told (row ∷ rows) code h = by (row.0 == code) (text_told rows code parts.1)
-  where
-    parts : (is_plain row.1 ≡ true) × (list_all (λ row. is_plain row.1) rows ≡ true)
-    parts = both (is_plain row.1) (list_all (λ row. is_plain row.1) rows) h
-
-    by : (b : Bool) → told (text_at rows code) ≡ true → told (if b then Some row.1 else text_at rows code) ≡ true
-    by true rest = parts.0
-    by false rest = rest
-
-family_told : (rows : List (ℕ × (ℕ → Text))) (thousands rest : ℕ) → AllByRecursion (λ row. is_plain (row.1 rest) ≡ true) rows
-    → told (elim (lookup (λ f. f == thousands) rows) [ Some words ↦ Some (words rest) | None ↦ None ]) ≡ true
-family_told [] thousands rest h = refl
-family_told (row ∷ rows) thousands rest h = by (row.0 == thousands) (family_told rows thousands rest h.1)
-  where
-    by : (b : Bool) → told (elim (lookup (λ f. f == thousands) rows) [ Some words ↦ Some (words rest) | None ↦ None ]) ≡ true → told (elim (if b then Some row.1 else lookup (λ f. f == thousands) rows) [ Some words ↦ Some (words rest) | None ↦ None ]) ≡ true
-    by true others = h.0
-    by false others = others
-
-divided : (p : ℕ) → p < 1000 → is_plain (decimal (divisor p)) ≡ true
+divided : (p : ℕ) → p < 65536 → is_plain (decimal (divisor p)) ≡ true
 divided p h = by (p == 0)
   where
     by : (b : Bool) → is_plain (decimal (if b then 1000 else p)) ≡ true
     by true = number 1000 (omega arith)
     by false = number p (omega arith)
 
-map_told : (thousands p : ℕ) → p < 1000 → told (map_family thousands p) ≡ true
-map_told thousands p h =
-    let n = number p (omega arith) in
-    let d = divided p h in
-    family_told map_families thousands p (n, (d, (d, (d, (n, (n, (n, (d, tt))))))))
+between : (front back : Text) (n : ℕ) → n < 2 ^ 64 → is_plain front ≡ true → is_plain back ≡ true → is_plain (front ++ (decimal n ++ back)) ≡ true
+between front back n h f b = list_all-append is_printable front (decimal n ++ back) ∙ rw (f, before n back h b) refl
 
-group_told : (code : ℕ) → told (group_family code) ≡ true
-group_told code = by (code / 10 == 910) (code / 10 == 911)
+in_plain : (form : Form) (front back : Text) (p : ℕ) → p < 65536 → is_plain front ≡ true → is_plain back ≡ true → is_plain (words_in form front back p) ≡ true
+in_plain Plain front back p small f b = f
+in_plain Number front back p small f b = between front back p (omega arith) f b
+in_plain Divisor front back p small f b = list_all-append is_printable front (decimal (divisor p)) ∙ rw (f, divided p small) refl
+in_plain Count front back p small f b = by (p == 0)
   where
-    digit : code % 10 < 10
-    digit = omega arith
+    behind : is_plain (codes " " ++ (back ++ codes "s")) ≡ true
+    behind = list_all-append is_printable back (codes "s") ∙ rw b refl
 
-    by : (b c : Bool) → told (if b then Some (codes "the " ++ decimal (code % 10) ++ codes " greatest values") else if c then Some (eight_from (codes "pairs of port 0 and port 1") (code % 10)) else None) ≡ true
-    by true c = before (code % 10) (codes " greatest values") (omega arith) refl
-    by false true = before (8 * (code % 10) + 1) (codes " to " ++ decimal (8 * (code % 10) + 8)) (omega arith) (number (8 * (code % 10) + 8) (omega arith))
-    by false false = refl
+    by : (first : Bool) → is_plain (if first then front ++ back else front ++ (decimal (p + 1) ++ (codes " " ++ (back ++ codes "s")))) ≡ true
+    by true = list_all-append is_printable front back ∙ rw (f, b) refl
+    by false = between front (codes " " ++ (back ++ codes "s")) (p + 1) (omega (arith, small)) f behind
+in_plain Eight front back p small f b =
+    let last = number (8 * p + 8) (omega (arith, small)) in
+    let eight = before (8 * p + 1) (codes " to " ++ decimal (8 * p + 8)) (omega (arith, small)) last in
+    list_all-append is_printable front (codes ", from number " ++ (decimal (8 * p + 1) ++ (codes " to " ++ decimal (8 * p + 8)))) ∙ rw (f, eight) refl
 
-fold_told : (code : ℕ) → told (fold_family code) ≡ true
-fold_told code = by (code / 10 == 921) (code / 100 == 93)
+row_plain : (row : Row) (code : ℕ) → is_fit row ≡ true → is_in code row ≡ true → is_plain (words_in row.2 row.3 row.4 (code - row.0)) ≡ true
+row_plain row code fit found =
+    let parts = both (nat_lt row.1 65536) (is_plain row.3 && is_plain row.4) fit in
+    let texts = both (is_plain row.3) (is_plain row.4) parts.1 in
+    let bounds = both (nat_le row.0 code) (nat_le code row.1) found in
+    let least : row.1 < 65536 = ltb-true row.1 65536 parts.0 in
+    let below : code ≤ row.1 = leb-true code row.1 bounds.1 in
+    in_plain row.2 row.3 row.4 (code - row.0) (omega (arith, least, below)) texts.0 texts.1
+
+rows_plain : (rows : List Row) (code : ℕ) → list_all is_fit rows ≡ true → is_plain (unwrap_or (words_at rows code) unknown) ≡ true
+rows_plain [] code h = refl
+rows_plain (row ∷ rows) code h = by (is_in code row) refl (rows_plain rows code parts.1)
   where
-    digit : code % 10 < 10
-    digit = omega arith
+    parts : (is_fit row ≡ true) × (list_all is_fit rows ≡ true)
+    parts = both (is_fit row) (list_all is_fit rows) h
 
-    by : (b c : Bool) → told (if b then Some (eight_from (codes "values of port 0 with the last value of port 1") (code % 10)) else if c then Some (codes "sessions, a gap of more than " ++ decimal (code % 100) ++ codes " apart") else None) ≡ true
-    by true c = before (8 * (code % 10) + 1) (codes " to " ++ decimal (8 * (code % 10) + 8)) (omega arith) (number (8 * (code % 10) + 8) (omega arith))
-    by false true = before (code % 100) (codes " apart") (omega arith) refl
-    by false false = refl
-
-either : (o f : Option Text) → told o ≡ true → told f ≡ true → is_plain (unwrap_or (or_family o f) unknown) ≡ true
-either (Some text) f a b = a
-either None (Some text) a b = b
-either None None a b = refl
+    by : (b : Bool) → is_in code row ≡ b → is_plain (unwrap_or (words_at rows code) unknown) ≡ true
+        → is_plain (unwrap_or (option_map (λ r. words_in r.2 r.3 r.4 (code - r.0)) (cond b (Some row) (find (is_in code) rows))) unknown) ≡ true
+    by true found rest = row_plain row code parts.0 found
+    by false found rest = rest
 
 pub words_plain : (k : Kind) → is_plain (told_of k) ≡ true
-words_plain (Map code) = either (text_at map_texts code) (map_family (code / 1000) (code % 1000)) (text_told map_texts code refl) (map_told (code / 1000) (code % 1000) (omega arith))
-words_plain (Group code) = either (text_at group_texts code) (group_family code) (text_told group_texts code refl) (group_told code)
-words_plain (Fold code) = either (text_at fold_texts code) (fold_family code) (text_told fold_texts code refl) (fold_told code)
+words_plain (Map code) = rows_plain map_rows code refl
+words_plain (Group code) = rows_plain group_rows code refl
+words_plain (Fold code) = rows_plain fold_rows code refl
 words_plain _ = refl
 
 -- THE WORDS OF A LINE

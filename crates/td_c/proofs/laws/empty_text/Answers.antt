@@ -4,7 +4,9 @@ use Rattle.std.proofs.lemmas.Bool.{or_from}
 use Rattle.td_plan.specs.declared.vertex.Kind.TheVariants.{Map, Group, Fold}
 use Rattle.td_calls.specs.Stock.{map_answers, group_answers, fold_answers}
 use Rattle.td_catalogue.specs.Shelves.{in_catalogue, is_first}
-use Rattle.td_catalogue.specs.Codes.{map_of, group_of, fold_of}
+use Rattle.td_catalogue.specs.Maps.{map_of}
+use Rattle.td_catalogue.specs.Groups.{group_of}
+use Rattle.td_catalogue.specs.Folds.{fold_of}
 use Rattle.td_c.specs.Stores.{stored_catalogue, stored_beside}
 use Rattle.td_c.proofs.Empty.{spells_none, not_first, adds_nothing}
 use Rattle.td_c.proofs.laws.empty_text.Goals as goal

@@ -1,47 +1,32 @@
--- What the closures of the second shelf send and keep.
-use Rattle.std.specs.Prelude.{ℕ, ◌/◌, ◌%◌, ◌^◌, ◌-◌, ℤ, pos, negsuc, neg_ℤ, ◌*ℤ◌, int_lt, unsigned_abs, min, if◌then◌else◌}
-use Rattle.std.specs.Prelude.{List, [], ◌∷◌, ◌++◌, fold, length, map, Option, Some, None, option_map, unwrap_or}
-use Rattle.std.specs.Ordering.{int_eq}
-use Rattle.std.specs.Int.{cast_signed, cast_unsigned, int_div_euclid, int_rem_euclid, saturate_signed, w64}
+-- THE FOLDS of the second shelf: which one a code is, what it keeps and what it sends. A parameter stands in the code's last digits.
+use Rattle.std.specs.Prelude.{ℕ, ◌^◌, ◌-◌, ◌==◌, if◌then◌else◌, ℤ, pos, negsuc, ◌*ℤ◌, int_lt}
+use Rattle.std.specs.Prelude.{List, [], ◌∷◌, ◌++◌, fold, length, Option, Some, None, option_map, unwrap_or}
+use Rattle.std.specs.Int.{saturate_signed, w64}
+use Rattle.std.specs.Map.{lookup}
 use Rattle.td_stamp.specs.declared.values.Rec.{Rec}
 use Rattle.td_stamp.specs.declared.values.Item.{Item}
 use Rattle.td_stamp.specs.declared.values.State.{State}
 use Rattle.td_calls.specs.Stock.{saturating_add, sum_from, at_port, single, record_if, by_first}
-use Rattle.td_catalogue.specs.declared.steps.MapStep.{MapStep}
-use Rattle.td_catalogue.specs.declared.steps.MapStep.TheVariants as maps
-use Rattle.td_catalogue.specs.declared.steps.GroupStep.{GroupStep}
-use Rattle.td_catalogue.specs.declared.steps.GroupStep.TheVariants as groups
-use Rattle.td_catalogue.specs.declared.steps.FoldStep.{FoldStep}
-use Rattle.td_catalogue.specs.declared.steps.FoldStep.TheVariants as folds
-use Rattle.td_catalogue.specs.Values.{divisor, count_of, last_items, runs, higher, lower, later, chosen, latest, eight_from, pair_at, joined_at, with_third, balanced, with_visit}
+use Rattle.td_catalogue.specs.declared.fold_step.FoldStep.{FoldStep}
+use Rattle.td_catalogue.specs.declared.fold_step.FoldStep.TheVariants as folds
+use Rattle.td_catalogue.specs.Values.{is_between, higher, lower, later, chosen, latest, eight_from, joined_at, with_third, balanced, with_visit, averaged}
 
--- what a map sends of a record
-abbrev pub map_sent : MapStep → Rec → List Rec
-map_sent (maps.ConstantKey p) r = single p r.val
-map_sent (maps.KeyDivided p) r = single (r.key / divisor p) r.val
-map_sent (maps.KeyModulo p) r = single (r.key % divisor p) r.val
-map_sent (maps.ValueModulo p) r = single r.key (int_rem_euclid r.val (pos (divisor p)))
-map_sent (maps.Above p) r = record_if (int_lt (pos p) r.val) r
-map_sent (maps.Below p) r = record_if (int_lt r.val (pos p)) r
-map_sent (maps.Equal p) r = record_if (int_eq r.val (pos p)) r
-map_sent (maps.ValueDivided p) r = single r.key (int_div_euclid r.val (pos (divisor p)))
-map_sent maps.Exchanged r = single (cast_unsigned w64 r.val) (cast_signed w64 r.key)
-map_sent maps.Negated r = single r.key (saturate_signed w64 (neg_ℤ r.val))
-map_sent maps.Absolute r = single r.key (saturate_signed w64 (pos (unsigned_abs r.val)))
-map_sent maps.Packed r = single r.key (saturating_add (saturate_signed w64 (r.val *ℤ pos 1000000)) (pos (r.key % 1000000)))
-map_sent maps.Unpacked r = single (cast_unsigned w64 (int_rem_euclid r.val (pos 1000000))) (int_div_euclid r.val (pos 1000000))
-map_sent maps.KeyAsValue r = single r.key (cast_signed w64 r.key)
+-- the folds without a parameter
+abbrev pub plain_folds : List (ℕ × FoldStep)
+plain_folds =
+    (9200, folds.GreatestSoFar)
+    ∷ (9201, folds.LeastSoFar)
+    ∷ (9202, folds.LastValue)
+    ∷ (9203, folds.CountSoFar)
+    ∷ (9204, folds.AverageSoFar)
+    ∷ (9205, folds.TwoGreatest)
+    ∷ (9206, folds.Balance)
+    ∷ (9207, folds.Amount)
+    ∷ []
 
--- the sum divided by how many there are, rounded down; nothing of none
-abbrev pub averaged : ℕ → ℤ → ℤ → List Rec
-averaged key sum count = if int_lt (pos 0) count then single key (int_div_euclid sum count) else []
-
--- what a group sends of a key and its sorted items
-abbrev pub group_sent : GroupStep → ℕ → List Item → List Rec
-group_sent groups.DistinctValues key items = single key (runs items)
-group_sent (groups.GreatestValues n) key items = map (λ i. record { key = key; val = i.val }) (last_items (min n 8) items)
-group_sent groups.Average key items = averaged key (sum_from (pos 0) items) (count_of items)
-group_sent (groups.Pairs i) key items = eight_from i (pair_at items)
+abbrev pub fold_of : ℕ → Option FoldStep
+fold_of code =
+    if is_between 9210 9219 code then Some (folds.Joined (code - 9210)) else (if is_between 9300 9399 code then Some (folds.Sessions (code - 9300)) else lookup (λ c. c == code) plain_folds)
 
 -- the value of a state, and a state of a value alone
 abbrev pub value_of : Option State → Option ℤ

@@ -1,12 +1,25 @@
-//! The closures of the catalogue, of both shelves, without a stored one: each is made of its code at each call.
+//! The closures of the catalogue, of both shelves, with their law. None is stored: each is made of its code at each call.
 ghost use Rattle.std.specs.Prelude.{◌≡◌, IfSome, is_some};
 ghost use Rattle.td_plan.specs.declared.vertex.Kind.TheVariants.{Map, Group, Fold};
 ghost use Rattle.td_calls.specs.Stock.{stock, map_answers, group_answers, fold_answers};
+ghost use Rattle.td_catalogue.specs.Catalogue.{catalogue};
+ghost use Rattle.td_catalogue.specs.ProvedCatalogue.{catalogue_few};
 ghost use Rattle.td_catalogue.specs.Shelves.{in_catalogue, is_first};
 
-use td_calls::{Closures, stock};
-use td_catalogue::{Catalogue, FoldStep, GroupStep, MapStep};
+use crate::fold_step::FoldStep;
+use crate::group_step::GroupStep;
+use crate::map_step::MapStep;
+use td_calls::{Closures, Law, stock};
 use td_stamp::{Few, Item, Rec, State};
+
+/// The law of the catalogue: what the second shelf answers for its codes, and the first for all others.
+pub struct Catalogue;
+
+impl Law for Catalogue {
+    ghost answers = { catalogue };
+
+    ghost few = { catalogue_few };
+}
 
 /// The closures of the catalogue.
 #[derive(Clone, Copy, Debug)]
@@ -47,15 +60,16 @@ impl Closures<Catalogue> for Shelves {
     }
 
     fn contains_map(&self, code: u16) -> bool {
-        MapStep::of(code).is_some() || is_first_map(code)
+        let any = Rec { key: 0, val: 0 };
+        Closures::<Catalogue>::map(self, code, 0, any).is_some()
     }
 
     fn contains_group(&self, code: u16) -> bool {
-        GroupStep::of(code).is_some() || is_first_group(code)
+        Closures::<Catalogue>::group(self, code, 0, &[]).is_some()
     }
 
     fn contains_fold(&self, code: u16) -> bool {
-        FoldStep::of(code).is_some() || is_first_fold(code)
+        Closures::<Catalogue>::fold(self, code, 0, None, &[]).is_some()
     }
 }
 
@@ -111,34 +125,4 @@ fn first_fold(
         _ => return None,
     };
     Some(answer)
-}
-
-/// Whether the first shelf has a map of this code.
-fn is_first_map(code: u16) -> bool
-    ensures { result ≡ is_first map_answers code }
-{
-    match code {
-        1..=9 => true,
-        _ => false,
-    }
-}
-
-/// Whether the first shelf has a group of this code.
-fn is_first_group(code: u16) -> bool
-    ensures { result ≡ is_first group_answers code }
-{
-    match code {
-        20..=24 => true,
-        _ => false,
-    }
-}
-
-/// Whether the first shelf has a fold of this code.
-fn is_first_fold(code: u16) -> bool
-    ensures { result ≡ is_first fold_answers code }
-{
-    match code {
-        40 | 41 => true,
-        _ => false,
-    }
 }
