@@ -102,6 +102,7 @@ ON_FILES = [
     ("feed disk plan", b"req 3\n0 9 4\n.\nreq 3\n0 9 4\n.\ncut\nreq 4\n0 7 1\n0 8 1\n.\n", MADE),
     ("stream disk plan", b"0 9 4\n.\ncut\n0 7 1\n.\n", MADE_WITH_CLOSURES[:2]),
     ("stream disk plan --workers 2 --cut-every 2", b"req 3\n0 9 4\n.\nreq 4\n.\nreq 4\n0 9 4\n.\ncut\nreq 5\n0 7 1\n0 8 1\n.\n", MADE),
+    ("stream disk plan --refuse", b"req 3\n0 9 4\n.\nreq 4\n0 9\n.\n0 9 4\n0 9\n.\nreq 5\n0 7 1\n0 8 1\n.\n", MADE),
     ("stream disk plan --marks", b"req 3\n0 9 4\n.\nreq 4\n.\nreq 4\n.\ncut\nreq 5\n0 7 1\n0 8 1\n.\nreq 6\n.\n", MADE),
 ]
 # Those of them that may change the disk though they are refused, but not what it tells, but to what they would make of it.

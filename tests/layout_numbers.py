@@ -105,6 +105,7 @@ PLACES = {
         "td_console/specs/Answer.antt: 32, 3",
         "td_console/specs/Turns.antt: 32, 2",
         "td_feed/specs/Dumped.antt: 32, 2",
+        "td_feed/specs/Noted.antt: 32, 1",
         "td_feed/specs/Shown.antt: 32, 5",
         "td_states/specs/Lines.antt: 32, 3",
     ],

@@ -138,6 +138,7 @@ fn done<
             most,
             progress,
             marks,
+            refuse,
         } => {
             let (disk, plan) = open_disk_or_tell(rt, path, plan)?;
             let closures = closures_of_disk(rt, path)?;
@@ -146,6 +147,7 @@ fn done<
                 cut_every,
                 most,
                 marks,
+                refuse,
             };
             run_engine(
                 rt,

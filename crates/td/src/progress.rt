@@ -99,6 +99,7 @@ pub(crate) fn stream_told<
         workers,
         options.cut_every,
         options.most,
+        options.refuse,
         reader,
         writer,
         watch,

@@ -4,7 +4,7 @@ use Rattle.std.specs.declared.cmp.Ordering.{Ordering}
 use Rattle.std.specs.declared.cmp.Ordering.TheVariants.{Less, Equal, Greater}
 use Rattle.std.specs.List.{list_all}
 use Rattle.std.proofs.lemmas.List.Folds.{list_all-append}
-use Rattle.std.proofs.lemmas.List.Elements.{All-nil, All-cons, All-append}
+use Rattle.std.proofs.lemmas.List.Elements.{All-nil, All-cons, All-append, All-head, All-tail}
 use Rattle.td_stamp.specs.declared.values.Entry.{Entry}
 use Rattle.td_stamp.specs.Orders.{entry_cmp}
 use Rattle.td_stamp.specs.Bag.{bag_of, bag_insert}
@@ -19,7 +19,7 @@ use Rattle.td_feed.specs.declared.order.FeedLine.{FeedLine}
 use Rattle.td_feed.specs.declared.order.FeedLine.TheVariants.{Data, Request, Cut}
 use Rattle.td_feed.specs.declared.order.Order.{Order}
 use Rattle.td_feed.specs.declared.order.Order.TheVariants as order
-use Rattle.td_feed.specs.Orders.{Orders, IsAccepted, is_between, order_for, with_cut, with_request, with_line, and_then, ended, orders_from, orders_of, feed_line_of}
+use Rattle.td_feed.specs.Orders.{Orders, IsAccepted, is_between, order_for, with_cut, with_request, with_line, and_then, ended, orders_from, orders_of, feed_line_of, notes_in}
 
 -- entries that all name inputs
 abbrev AreInputs : List PlanLine → List Entry → Type 0
@@ -97,3 +97,14 @@ from plan n orders request current (line ∷ lines) os h k e =
 -- THE ORDERS OF AN INPUT are accepted
 pub accepted : (plan : List PlanLine) (input : List ℕ) (os : List Order) → orders_of plan input ≡ Ok os → All (IsAccepted plan) os
 accepted plan input os e = from plan 1 [] 0 [] (text_lines input) os (All-nil (IsAccepted plan)) refl e
+
+-- they have no notes
+unnoted : (plan : List PlanLine) (os : List Order) → All (IsAccepted plan) os → notes_in os ≡ []
+unnoted plan [] is = refl
+unnoted plan (order.Submit batch ∷ os) is = unnoted plan os (All-tail (IsAccepted plan) (order.Submit batch) os is)
+unnoted plan (order.SubmitAs request batch ∷ os) is = unnoted plan os (All-tail (IsAccepted plan) (order.SubmitAs request batch) os is)
+unnoted plan (order.Cut ∷ os) is = unnoted plan os (All-tail (IsAccepted plan) order.Cut os is)
+unnoted plan (order.Say note ∷ os) is = absurd (All-head (IsAccepted plan) (order.Say note) os is)
+
+pub none_noted : (plan : List PlanLine) (input : List ℕ) (os : List Order) → orders_of plan input ≡ Ok os → notes_in os ≡ []
+none_noted plan input os e = unnoted plan os (accepted plan input os e)

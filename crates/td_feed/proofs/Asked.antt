@@ -1,5 +1,5 @@
 -- Reading what is asked for line by line.
-use Rattle.std.proofs.Common.{◌≡◌, ◌⊎◌, inl, inr, ℕ, ◌+◌, ◌<◌, ◌↔◌, ◌==◌, Bool, true, false, cond, List, [], ◌∷◌, ◌++◌, length, length-append, arith, Option, Some, None, Result, Ok, Err, All, refl, sym, ap, ◌∙◌, subst, append_assoc, append-nil}
+use Rattle.std.proofs.Common.{◌≡◌, ◌⊎◌, ⊎_elim, inl, inr, ℕ, ◌+◌, ◌<◌, ◌↔◌, ◌==◌, Bool, true, false, cond, List, [], ◌∷◌, ◌++◌, length, length-append, arith, Option, Some, None, Result, Ok, Err, All, refl, sym, ap, ◌∙◌, subst, append_assoc, append-nil}
 use Rattle.std.specs.Prelude.{if◌then◌else◌, IfOk, IfSome}
 use Rattle.std.specs.List.{slice_split, onto_first}
 use Rattle.std.specs.Io.KnownBytes.{prepend_known, Consumes, IsAtEnd}
@@ -15,15 +15,16 @@ use Rattle.td_console.specs.declared.data_line.DataLine.TheVariants.{PassedOver,
 use Rattle.td_console.specs.declared.faults.LineFault.{LineFault}
 use Rattle.td_console.specs.declared.faults.LineFault.TheVariants.{NoSuchInput}
 use Rattle.td_console.specs.declared.faults.Fault.{Fault}
-use Rattle.td_console.specs.declared.faults.Fault.TheVariants.{Line}
+use Rattle.td_console.specs.declared.faults.Fault.TheVariants.{Line, Memory}
 use Rattle.td_feed.specs.declared.order.FeedLine.{FeedLine}
 use Rattle.td_feed.specs.declared.order.FeedLine.TheVariants.{Data, Request, Cut}
 use Rattle.td_feed.specs.declared.order.Order.{Order}
 use Rattle.td_feed.specs.declared.at_once.Asked.{Asked}
 use Rattle.td_feed.specs.declared.at_once.Asked.TheVariants.{One}
 use Rattle.td_feed.specs.declared.order.Order.TheVariants as order
-use Rattle.td_feed.specs.Orders.{Orders, order_for, is_between, with_cut, with_request, with_line, feed_line_of, orders_from, and_then, ended}
-use Rattle.td_feed.specs.Asked.{Script, script_after, script_from, after_order, after_orders, script_on, script_ahead, Completes, HasFault, TakesLine, Asks, IsOf, SameScript, script_left}
+use Rattle.td_feed.specs.declared.note.Flaw.{Flaw}
+use Rattle.td_feed.specs.Orders.{Orders, Gives, no_orders, numbered, order_for, is_between, with_cut, with_request, with_line, feed_line_of, orders_from, and_then, ended}
+use Rattle.td_feed.specs.Asked.{Script, Reading, ReadSoFar, refused, is_over, unless_over, flaw_in, unless_refused, judged, with_said, after_line, onward, note_of, with_next, may_end, script_after, script_from, after_order, after_orders, script_on, script_ahead, Completes, HasFault, TakesLine, Asks, IsOf, SameScript, script_left}
 
 -- there is always a part
 some_part : (p : ℕ → Bool) (xs : List ℕ) → (part : List ℕ) × (parts : List (List ℕ)) × (slice_split p xs ≡ part ∷ parts)
@@ -135,6 +136,20 @@ abbrev prefixed_if : List Order → Result Orders Fault → Result Orders Fault
 prefixed_if os (Ok read) = Ok (prefixed os read)
 prefixed_if os (Err fault) = Err fault
 
+abbrev judged_prefixed : List Order → ReadSoFar → ReadSoFar
+judged_prefixed os next = (next.0, prefixed os next.1)
+
+abbrev judged_prefixed_if : List Order → Result ReadSoFar Fault → Result ReadSoFar Fault
+judged_prefixed_if os (Ok next) = Ok (judged_prefixed os next)
+judged_prefixed_if os (Err fault) = Err fault
+
+abbrev reading_prefixed : List Order → Reading → Reading
+reading_prefixed os r = record { plan = r.plan; limit = r.limit; number = r.number; flaw = r.flaw; read = prefixed os r.read }
+
+abbrev reading_prefixed_if : List Order → Result Reading Fault → Result Reading Fault
+reading_prefixed_if os (Ok r) = Ok (reading_prefixed os r)
+reading_prefixed_if os (Err fault) = Err fault
+
 abbrev prefixed_script : List Order → Script → Script
 prefixed_script os script = record { orders = os ++ script.orders; is_sound = script.is_sound }
 
@@ -161,14 +176,48 @@ module _ (plan : List PlanLine) (os : List Order) where
       by true = refl
       by false = refl
 
-  script_prefixed : (n : ℕ) (read : Orders) (lines : List (List ℕ)) → script_from plan n (prefixed os read) lines ≡ prefixed_script os (script_from plan n read lines)
-  script_prefixed n read [] = refl
-  script_prefixed n read (line ∷ lines) =
-      ap (script_after (prefixed os read) (λ more. script_from plan (n + 1) more lines)) (line_prefixed n read (feed_line_of line))
-      ∙ by (with_line plan n read (feed_line_of line)) (λ more. script_prefixed (n + 1) more lines)
+  -- and where an epoch may be refused
+  said_prefixed : (limit : Option ℕ) (n : ℕ) (flaw : Option (ℕ × Flaw)) (read : Orders) (said : Option FeedLine)
+      → with_said plan limit n flaw (prefixed os read) said ≡ judged_prefixed_if os (with_said plan limit n flaw read said)
+  said_prefixed limit n (Some why) read None = refl
+  said_prefixed limit n (Some why) read (Some Cut) = refl
+  said_prefixed limit n (Some why) read (Some (Request q)) = refl
+  said_prefixed limit n (Some why) read (Some (Data PassedOver)) = refl
+  said_prefixed limit n (Some why) read (Some (Data (Record input rec))) = refl
+  said_prefixed limit n (Some why) read (Some (Data Close)) =
+      λ i. Ok (None, record { orders = append_assoc os read.orders (order.Say (note_of read.request why) ∷ []) i; request = 0; current = [] })
+  said_prefixed limit n None read said = ap (judged limit n (prefixed os read)) (line_prefixed n read said) ∙ by (with_line plan n read said)
     where
-      by : (r : Result Orders Fault) → ((more : Orders) → script_from plan (n + 1) (prefixed os more) lines ≡ prefixed_script os (script_from plan (n + 1) more lines))
-          → script_after (prefixed os read) (λ more. script_from plan (n + 1) more lines) (prefixed_if os r) ≡ prefixed_script os (script_after read (λ more. script_from plan (n + 1) more lines) r)
+      over : (next : Orders) (b : Bool) → ◌≡◌ {A = Result ReadSoFar Fault} (Ok (unless_over n (prefixed os read) (prefixed os next) b)) (judged_prefixed_if os (Ok (unless_over n read next b)))
+      over next true = refl
+      over next false = refl
+
+      fault_by : (fault : Fault) (l : Option ℕ) → unless_refused n (prefixed os read) fault l ≡ judged_prefixed_if os (unless_refused n read fault l)
+      fault_by fault None = refl
+      fault_by fault (Some most) = refl
+
+      by : (w : Result Orders Fault) → judged limit n (prefixed os read) (prefixed_if os w) ≡ judged_prefixed_if os (judged limit n read w)
+      by (Ok next) = over next (is_over limit (length next.current))
+      by (Err fault) = fault_by fault limit
+
+module _ (os : List Order) where
+  onward_prefixed : (r : Reading) (w : Result ReadSoFar Fault) → onward (reading_prefixed os r) (judged_prefixed_if os w) ≡ reading_prefixed_if os (onward r w)
+  onward_prefixed r (Ok next) = refl
+  onward_prefixed r (Err fault) = refl
+
+  next_prefixed : (r : Reading) (line : List ℕ) → with_next (reading_prefixed os r) line ≡ reading_prefixed_if os (with_next r line)
+  next_prefixed r line =
+      ap (onward (reading_prefixed os r)) (said_prefixed r.plan os r.limit r.number r.flaw r.read (feed_line_of line))
+      ∙ onward_prefixed r (with_said r.plan r.limit r.number r.flaw r.read (feed_line_of line))
+
+  script_prefixed : (r : Reading) (lines : List (List ℕ)) → script_from (reading_prefixed os r) lines ≡ prefixed_script os (script_from r lines)
+  script_prefixed r [] = refl
+  script_prefixed r (line ∷ lines) =
+      ap (script_after (prefixed os r.read) (λ more. script_from more lines)) (next_prefixed r line)
+      ∙ by (with_next r line) (λ more. script_prefixed more lines)
+    where
+      by : (w : Result Reading Fault) → ((more : Reading) → script_from (reading_prefixed os more) lines ≡ prefixed_script os (script_from more lines))
+          → script_after (prefixed os r.read) (λ more. script_from more lines) (reading_prefixed_if os w) ≡ prefixed_script os (script_after r.read (λ more. script_from more lines) w)
       by (Ok more) rest = rest more
       by (Err fault) rest = refl
 
@@ -183,18 +232,29 @@ orders_or (Err fault) = []
 orders_in : {a b : Orders} → ◌≡◌ {A = Result Orders Fault} (Ok a) (Ok b) → a.orders ≡ b.orders
 orders_in e = ap orders_or e
 
+abbrev judged_or : Result ReadSoFar Fault → List Order
+judged_or (Ok next) = next.1.orders
+judged_or (Err fault) = []
+
+judged_in : {a b : ReadSoFar} → ◌≡◌ {A = Result ReadSoFar Fault} (Ok a) (Ok b) → a.1.orders ≡ b.1.orders
+judged_in e = ap judged_or e
+
+-- one order at most
+abbrev AtMostOne : List Order → Type 0
+AtMostOne orders = (orders ≡ []) ⊎ ((order : Order) × (orders ≡ order ∷ []))
+
+-- a line completes one order at most
 module _ (plan : List PlanLine) (n : ℕ) where
-  -- a line completes one order at most
-  one_at_most : (read next : Orders) (said : Option FeedLine) → read.orders ≡ [] → with_line plan n read said ≡ Ok next → (next.orders ≡ []) ⊎ ((order : Order) × (next.orders ≡ order ∷ []))
+  one_at_most : (read next : Orders) (said : Option FeedLine) → read.orders ≡ [] → with_line plan n read said ≡ Ok next → AtMostOne next.orders
   one_at_most read next None none is = absurd (let no = is in cc)
   one_at_most read next (Some Cut) none is = by (is_between read) is
     where
-      by : (b : Bool) → with_cut n read b ≡ Ok next → (next.orders ≡ []) ⊎ ((order : Order) × (next.orders ≡ order ∷ []))
+      by : (b : Bool) → with_cut n read b ≡ Ok next → AtMostOne next.orders
       by true e = inr (order.Cut, sym (orders_in e) ∙ ap (λ l. l ++ order.Cut ∷ []) none)
       by false e = absurd (let no = e in cc)
   one_at_most read next (Some (Request q)) none is = by (is_between read) is
     where
-      by : (b : Bool) → with_request n q read b ≡ Ok next → (next.orders ≡ []) ⊎ ((order : Order) × (next.orders ≡ order ∷ []))
+      by : (b : Bool) → with_request n q read b ≡ Ok next → AtMostOne next.orders
       by true e = inl (sym (orders_in e) ∙ none)
       by false e = absurd (let no = e in cc)
   one_at_most read next (Some (Data PassedOver)) none is = inl (sym (orders_in is) ∙ none)
@@ -202,18 +262,45 @@ module _ (plan : List PlanLine) (n : ℕ) where
   one_at_most read next (Some (Data (Record input rec))) none is = by (is_input_of plan input) is
     where
       by : (b : Bool) → (if b then Ok (record { orders = read.orders; request = read.request; current = read.current ++ record { input = input; rec = rec } ∷ [] }) else Err (Line n NoSuchInput)) ≡ Ok next
-          → (next.orders ≡ []) ⊎ ((order : Order) × (next.orders ≡ order ∷ []))
+          → AtMostOne next.orders
       by true e = inl (sym (orders_in e) ∙ none)
       by false e = absurd (let no = e in cc)
 
-  -- ONE LINE MORE, after which the last order was taken out, if there is one
-  pub completes : (read next : Orders) (line : List ℕ) (left : List Order) (taken : Option Order) → read.orders ≡ [] → with_line plan n read (feed_line_of line) ≡ Ok next
-      → next.orders ≡ left ++ option_to_list taken → (IsSome taken ↔ (0 < length next.orders)) → (left ≡ [])
-      × Completes plan n read (n + 1) (record { orders = left; request = next.request; current = next.current }) line taken
-  completes read next line left taken none is parts some = by (one_at_most read next (feed_line_of line) none is) taken parts some
+  judged_one : (limit : Option ℕ) (flaw : Option (ℕ × Flaw)) (read : Orders) (next : ReadSoFar) (said : Option FeedLine) → read.orders ≡ [] → with_said plan limit n flaw read said ≡ Ok next
+      → AtMostOne next.1.orders
+  judged_one limit (Some why) read next None none is = inl (sym (judged_in is) ∙ none)
+  judged_one limit (Some why) read next (Some Cut) none is = inl (sym (judged_in is) ∙ none)
+  judged_one limit (Some why) read next (Some (Request q)) none is = inl (sym (judged_in is) ∙ none)
+  judged_one limit (Some why) read next (Some (Data PassedOver)) none is = inl (sym (judged_in is) ∙ none)
+  judged_one limit (Some why) read next (Some (Data (Record input rec))) none is = inl (sym (judged_in is) ∙ none)
+  judged_one limit (Some why) read next (Some (Data Close)) none is =
+      let note = order.Say (note_of read.request why) in inr (note, sym (judged_in is) ∙ ap (λ l. l ++ note ∷ []) none)
+  judged_one limit None read next said none is = by (with_line plan n read said) refl is
     where
-      follows : (more : List (List ℕ)) → script_from plan n read (line ∷ more) ≡ script_from plan (n + 1) next more
-      follows more = ap (script_after read (λ r. script_from plan (n + 1) r more)) is
+      over : (more : Orders) → AtMostOne more.orders → (b : Bool) → ◌≡◌ {A = Result ReadSoFar Fault} (Ok (unless_over n read more b)) (Ok next) → AtMostOne next.1.orders
+      over more one true e = inl (sym (judged_in e) ∙ none)
+      over more one false e = subst (λ (l : List Order). AtMostOne l) (judged_in e) one
+
+      fault_by : (fault : Fault) (l : Option ℕ) → unless_refused n read fault l ≡ Ok next → AtMostOne next.1.orders
+      fault_by fault None e = absurd (let no = e in cc)
+      fault_by fault (Some most) e = inl (sym (judged_in e) ∙ none)
+
+      by : (w : Result Orders Fault) → with_line plan n read said ≡ w → judged limit n read w ≡ Ok next → AtMostOne next.1.orders
+      by (Ok more) known e = over more (one_at_most read more said none known) (is_over limit (length more.current)) e
+      by (Err fault) known e = fault_by fault limit e
+
+-- with what is left of its orders
+abbrev pub leaving : List Order → ReadSoFar → ReadSoFar
+leaving left next = (next.0, record { orders = left; request = next.1.request; current = next.1.current })
+
+module _ (r : Reading) where
+  -- ONE LINE MORE, after which the last order was taken out, if there is one
+  pub completes : (next : ReadSoFar) (line : List ℕ) (left : List Order) (taken : Option Order) → r.read.orders ≡ [] → with_said r.plan r.limit r.number r.flaw r.read (feed_line_of line) ≡ Ok next
+      → next.1.orders ≡ left ++ option_to_list taken → (IsSome taken ↔ (0 < length next.1.orders)) → (left ≡ []) × Completes r (after_line r (leaving left next)) line taken
+  completes next line left taken none is parts some = by (judged_one r.plan r.number r.limit r.flaw r.read next (feed_line_of line) none is) taken parts some
+    where
+      follows : (more : List (List ℕ)) → script_from r (line ∷ more) ≡ script_from (after_line r next) more
+      follows more = ap (λ (w : Result ReadSoFar Fault). script_after r.read (λ q. script_from q more) (onward r w)) is
 
       nothing : (xs : List Order) → (0 < length xs → ⊥) → xs ≡ []
       nothing [] no_more = refl
@@ -224,60 +311,101 @@ module _ (plan : List PlanLine) (n : ℕ) where
       nothing_before (x ∷ []) o p e = absurd (let long = ap length e in omega (arith, long))
       nothing_before (x ∷ y ∷ xs) o p e = absurd (let long = ap length e in let rest = length-append xs (o ∷ []) in omega (arith, long, rest))
 
-      by : (next.orders ≡ []) ⊎ ((order : Order) × (next.orders ≡ order ∷ [])) → (taken : Option Order) → next.orders ≡ left ++ option_to_list taken → (IsSome taken ↔ (0 < length next.orders))
-          → (left ≡ []) × Completes plan n read (n + 1) (record { orders = left; request = next.request; current = next.current }) line taken
+      by : AtMostOne next.1.orders → (taken : Option Order) → next.1.orders ≡ left ++ option_to_list taken → (IsSome taken ↔ (0 < length next.1.orders))
+          → (left ≡ []) × Completes r (after_line r (leaving left next)) line taken
       by which None e some =
-          let gone : next.orders ≡ [] = nothing next.orders (λ more. absurd (let is_some = some.1 more in cc)) in
+          let gone : next.1.orders ≡ [] = nothing next.1.orders (λ more. absurd (let is_some = some.1 more in cc)) in
           let empty : left ≡ [] = sym (append-nil left) ∙ sym e ∙ gone in (
             empty,
-            λ more. follows more ∙ ap (λ (r : Orders). script_from plan (n + 1) r more) (λ i. record { orders = (gone ∙ sym empty) i; request = next.request; current = next.current }),
+            λ more. follows more
+                ∙ ap (λ (l : List Order). script_from (after_line r (leaving l next)) more) (gone ∙ sym empty),
           )
       by (inl gone) (Some o) e some = absurd (let long = ap length (sym gone ∙ e) in let rest = length-append left (o ∷ []) in omega (arith, long, rest))
       by (inr one) (Some o) e some =
           let both = nothing_before left o one.0 (sym one.1 ∙ e) in (
             both.0,
             λ more. follows more
-                ∙ ap (λ (r : Orders). script_from plan (n + 1) r more) (λ i. record { orders = (one.1 ∙ ap (λ x. x ∷ []) both.1 ∙ ap (λ l. o ∷ l) (sym both.0)) i; request = next.request; current = next.current })
-                ∙ script_prefixed plan (o ∷ []) (n + 1) (record { orders = left; request = next.request; current = next.current }) more,
+                ∙ ap (λ (l : List Order). script_from (after_line r (leaving l next)) more) (one.1 ∙ ap (λ x. x ∷ []) both.1 ∙ ap (λ l. o ∷ l) (sym both.0))
+                ∙ script_prefixed (o ∷ []) (after_line r (leaving left next)) more,
           )
+
+  pub at_fault : (line : List ℕ) (fault : Fault) → r.read.orders ≡ [] → with_said r.plan r.limit r.number r.flaw r.read (feed_line_of line) ≡ Err fault → HasFault r line
+  at_fault line fault none is more =
+      ap (λ (w : Result ReadSoFar Fault). script_after r.read (λ q. script_from q more) (onward r w)) is ∙ (λ i. record { orders = none i; is_sound = false })
+
+-- an epoch that may be refused, by what its line came to
+abbrev pub as_said : ReadSoFar → Result ReadSoFar Fault
+as_said next = Ok next
+
+pub refused_alone : (n : ℕ) (read : Orders) (why : Flaw) → read.orders ≡ [] → refused n read why ≡ refused n (numbered read.request no_orders) why
+refused_alone n read why none = λ i. (Some (n, why), record { orders = none i; request = read.request; current = [] })
+
+pub over_or_not : (limit : Option ℕ) (n : ℕ) (read next : Orders) (w : Result Orders Fault) (b : Bool) → w ≡ Ok next → is_over limit (length next.current) ≡ b
+    → judged limit n read w ≡ Ok (unless_over n read next b)
+over_or_not limit n read next w b is over = ap (judged limit n read) is ∙ ap (λ (c : Bool). as_said (unless_over n read next c)) over
+
+pub fault_or_not : (limit : Option ℕ) (n : ℕ) (read : Orders) (fault : Fault) (w : Result Orders Fault) → read.orders ≡ [] → w ≡ Err fault
+    → judged limit n read w ≡ unless_refused n (numbered read.request no_orders) fault limit
+fault_or_not limit n read fault w none is = ap (judged limit n read) is ∙ by limit
+  where
+    by : (l : Option ℕ) → unless_refused n read fault l ≡ unless_refused n (numbered read.request no_orders) fault l
+    by None = refl
+    by (Some most) = ap as_said (refused_alone n read (flaw_in fault) none)
+
+-- want of memory is given for anything
+pub memory_gives : {A : Type 0} (r a : Result A Fault) → r ≡ Err Memory → Gives r a
+memory_gives r a is = subst (λ (q : Result _ Fault). Gives q a) (sym is) (inl refl)
+
+-- what is given, in the place of another
+pub gives_as : {A : Type 0} (r a b : Result A Fault) → b ≡ a → Gives r a → Gives r b
+gives_as (Ok x) a b is given = is ∙ given
+gives_as (Err f) a b is given = ⊎_elim inl (λ e. inr (is ∙ e)) given
+
+-- and the others stand for what was read then
+pub line_read : (r : Reading) (next : ReadSoFar) (line : List ℕ) (left : Orders) (taken : Option Order) (m : ℕ) → r.read.orders ≡ []
+    → with_said r.plan r.limit r.number r.flaw r.read (feed_line_of line) ≡ Ok next → next.1.orders ≡ left.orders ++ option_to_list taken → (IsSome taken ↔ (0 < length next.1.orders))
+    → left ≡ record { orders = left.orders; request = next.1.request; current = next.1.current } → m ≡ r.number + 1
+    → (left.orders ≡ []) × Completes r (record { plan = r.plan; limit = r.limit; number = m; flaw = next.0; read = left }) line taken
+line_read r next line left taken m none is parts some same number =
+    let all = completes r next line left.orders taken none is parts some in
+    (all.0, subst (λ (q : Reading). Completes r q line taken) (λ i. record { plan = r.plan; limit = r.limit; number = sym number i; flaw = next.0; read = sym same i }) all.1)
 
 -- what was asked for, as lines are taken
 pub same_itself : (s : Option Script) → SameScript s s
 same_itself None = tt
 same_itself (Some s) = refl
 
-module _ (plan : List PlanLine) (n m : ℕ) (read next : Orders) (rest left : Option (List ℕ)) where
-  pub on_none : (s : Option Script) (line : List ℕ) → SameScript s (script_left rest plan n read) → TakesLine rest left (Some line) → Completes plan n read m next line None
-      → SameScript s (script_left left plan m next)
+module _ (r next : Reading) (rest left : Option (List ℕ)) where
+  pub on_none : (s : Option Script) (line : List ℕ) → SameScript s (script_left rest r) → TakesLine rest left (Some line) → Completes r next line None → SameScript s (script_left left next)
   on_none s line same takes is = by s rest left same takes
     where
-      by : (s : Option Script) (rest left : Option (List ℕ)) → SameScript s (script_left rest plan n read) → TakesLine rest left (Some line) → SameScript s (script_left left plan m next)
+      by : (s : Option Script) (rest left : Option (List ℕ)) → SameScript s (script_left rest r) → TakesLine rest left (Some line) → SameScript s (script_left left next)
       by None rest left same takes = tt
       by (Some s) None left same takes = absurd same
-      by (Some s) (Some r) None same takes = absurd takes
-      by (Some s) (Some r) (Some l) same takes = same ∙ ap (script_from plan n read) takes ∙ is (text_lines l)
+      by (Some s) (Some t) None same takes = absurd takes
+      by (Some s) (Some t) (Some l) same takes = same ∙ ap (script_from r) takes ∙ is (text_lines l)
 
-  pub on_some : (s : Option Script) (line : List ℕ) (order : Order) → SameScript s (script_left rest plan n read) → TakesLine rest left (Some line) → Completes plan n read m next line (Some order)
-      → Asks s (script_left left plan m next) (Some (One order))
+  pub on_some : (s : Option Script) (line : List ℕ) (order : Order) → SameScript s (script_left rest r) → TakesLine rest left (Some line) → Completes r next line (Some order)
+      → Asks s (script_left left next) (Some (One order))
   on_some s line order same takes is = by s rest left same takes
     where
-      by : (s : Option Script) (rest left : Option (List ℕ)) → SameScript s (script_left rest plan n read) → TakesLine rest left (Some line) → Asks s (script_left left plan m next) (Some (One order))
+      by : (s : Option Script) (rest left : Option (List ℕ)) → SameScript s (script_left rest r) → TakesLine rest left (Some line) → Asks s (script_left left next) (Some (One order))
       by None rest left same takes = tt
       by (Some s) None left same takes = absurd same
-      by (Some s) (Some r) None same takes = absurd takes
-      by (Some s) (Some r) (Some l) same takes =
-          let is_so : s ≡ after_order (Some order) (script_from plan m next (text_lines l)) = same ∙ ap (script_from plan n read) takes ∙ is (text_lines l) in
+      by (Some s) (Some t) None same takes = absurd takes
+      by (Some s) (Some t) (Some l) same takes =
+          let is_so : s ≡ after_order (Some order) (script_from next (text_lines l)) = same ∙ ap (script_from r) takes ∙ is (text_lines l) in
           (order ∷ [], refl, ap (λ (t : Script). t.orders) is_so, ap (λ (t : Script). t.is_sound) is_so)
 
-  pub on_end : (s : Option Script) → SameScript s (script_left rest plan n read) → TakesLine rest left None → read.orders ≡ [] → is_between read ≡ true → Asks s (script_left left plan n read) None
+  pub on_end : (s : Option Script) → SameScript s (script_left rest r) → TakesLine rest left None → r.read.orders ≡ [] → may_end r.flaw (is_between r.read) ≡ true → Asks s (script_left left r) None
   on_end s same takes none between = by s rest left same takes
     where
-      by : (s : Option Script) (rest left : Option (List ℕ)) → SameScript s (script_left rest plan n read) → TakesLine rest left None → Asks s (script_left left plan n read) None
+      by : (s : Option Script) (rest left : Option (List ℕ)) → SameScript s (script_left rest r) → TakesLine rest left None → Asks s (script_left left r) None
       by None rest left same takes = tt
       by (Some s) None left same takes = absurd same
-      by (Some s) (Some r) None same takes = absurd takes
-      by (Some s) (Some r) (Some l) same takes =
-          let is_so : s ≡ record { orders = read.orders; is_sound = is_between read } = same ∙ ap (script_from plan n read) takes in
+      by (Some s) (Some t) None same takes = absurd takes
+      by (Some s) (Some t) (Some l) same takes =
+          let is_so : s ≡ record { orders = r.read.orders; is_sound = may_end r.flaw (is_between r.read) } = same ∙ ap (script_from r) takes in
           (ap (λ (t : Script). t.orders) is_so ∙ none, ap (λ (t : Script). t.is_sound) is_so ∙ between)
 
 -- WHAT STANDS AHEAD
@@ -292,70 +420,69 @@ asks_through None b c asked ab bc = tt
 asks_through (Some a) None c asked ab bc = absurd ab
 asks_through (Some a) (Some b) c asked ab bc = subst (λ s. Asks (Some s) c asked) (sym ab) bc
 
-pub at_fault : (plan : List PlanLine) (n : ℕ) (read : Orders) (line : List ℕ) (fault : Fault) → read.orders ≡ [] → with_line plan n read (feed_line_of line) ≡ Err fault
-    → HasFault plan n read line
-at_fault plan n read line fault none is more =
-    ap (script_after read (λ r. script_from plan (n + 1) r more)) is ∙ (λ i. record { orders = none i; is_sound = false })
-
 -- a line was added
-pub line_added : (plan : List PlanLine) (n m : ℕ) (read next : Orders) (before after : List Order) (stopped : Option (ℕ × LineFault)) (rest left : Option (List ℕ)) (line : List ℕ)
+pub line_added : (r next : Reading) (before after : List Order) (stopped : Option (ℕ × LineFault)) (rest left : Option (List ℕ)) (line : List ℕ)
     → TakesLine rest left (Some line)
-    → ((more : List (List ℕ)) → script_on plan n read before None (line ∷ more) ≡ script_on plan m next after stopped more)
-    → SameScript (script_ahead rest plan n read before None) (script_ahead left plan m next after stopped)
-line_added plan n m read next before after stopped None left line takes added = tt
-line_added plan n m read next before after stopped (Some r) None line takes added = absurd takes
-line_added plan n m read next before after stopped (Some r) (Some l) line takes added = ap (script_on plan n read before None) takes ∙ added (text_lines l)
+    → ((more : List (List ℕ)) → script_on r before None (line ∷ more) ≡ script_on next after stopped more)
+    → SameScript (script_ahead rest r before None) (script_ahead left next after stopped)
+line_added r next before after stopped None left line takes added = tt
+line_added r next before after stopped (Some t) None line takes added = absurd takes
+line_added r next before after stopped (Some t) (Some l) line takes added = ap (script_on r before None) takes ∙ added (text_lines l)
 
 -- an order was put ahead, after those that stand there, or a fault
-pub one_ahead : (plan : List PlanLine) (n m : ℕ) (read next : Orders) (line : List ℕ) (before after : List Order) (order : Order)
-    → Completes plan n read m next line (Some order) → after ≡ before ++ order ∷ []
-    → (more : List (List ℕ)) → script_on plan n read before None (line ∷ more) ≡ script_on plan m next after None more
-one_ahead plan n m read next line before after order is pushed more =
+pub one_ahead : (r next : Reading) (line : List ℕ) (before after : List Order) (order : Order)
+    → Completes r next line (Some order) → after ≡ before ++ order ∷ []
+    → (more : List (List ℕ)) → script_on r before None (line ∷ more) ≡ script_on next after None more
+one_ahead r next line before after order is pushed more =
     ap (after_orders before) (is more)
-    ∙ (λ i. record { orders = sym (append_assoc before (order ∷ []) (script_from plan m next more).orders) i; is_sound = (script_from plan m next more).is_sound })
-    ∙ (λ i. record { orders = sym pushed i ++ (script_from plan m next more).orders; is_sound = (script_from plan m next more).is_sound })
+    ∙ (λ i. record { orders = sym (append_assoc before (order ∷ []) (script_from next more).orders) i; is_sound = (script_from next more).is_sound })
+    ∙ (λ i. record { orders = sym pushed i ++ (script_from next more).orders; is_sound = (script_from next more).is_sound })
 
-pub none_ahead : (plan : List PlanLine) (n m : ℕ) (read next : Orders) (line : List ℕ) (before : List Order) → Completes plan n read m next line None
-    → (more : List (List ℕ)) → script_on plan n read before None (line ∷ more) ≡ script_on plan m next before None more
-none_ahead plan n m read next line before is more = ap (after_orders before) (is more)
+pub none_ahead : (r next : Reading) (line : List ℕ) (before : List Order) → Completes r next line None
+    → (more : List (List ℕ)) → script_on r before None (line ∷ more) ≡ script_on next before None more
+none_ahead r next line before is more = ap (after_orders before) (is more)
 
-pub fault_ahead : (plan : List PlanLine) (n m : ℕ) (read next : Orders) (line : List ℕ) (before : List Order) (fault : ℕ × LineFault) → HasFault plan n read line
-    → (more : List (List ℕ)) → script_on plan n read before None (line ∷ more) ≡ script_on plan m next before (Some fault) more
-fault_ahead plan n m read next line before fault is more = ap (after_orders before) (is more)
+pub fault_ahead : (r next : Reading) (line : List ℕ) (before : List Order) (fault : ℕ × LineFault) → HasFault r line
+    → (more : List (List ℕ)) → script_on r before None (line ∷ more) ≡ script_on next before (Some fault) more
+fault_ahead r next line before fault is more = ap (after_orders before) (is more)
 
 -- the first order was put ahead, or there is none
-pub first_ahead : (plan : List PlanLine) (n m : ℕ) (read next : Orders) (after : List Order) (order : Order) (rest left : Option (List ℕ))
-    → Asks (script_left rest plan n read) (script_left left plan m next) (Some (One order)) → after ≡ order ∷ []
-    → SameScript (script_ahead rest plan n read [] None) (script_ahead left plan m next after None)
-first_ahead plan n m read next after order None left asks pushed = tt
-first_ahead plan n m read next after order (Some r) None asks pushed = absurd asks
-first_ahead plan n m read next after order (Some r) (Some l) asks pushed =
-    λ i. record { orders = (asks.2 ∙ ap (λ os. os ++ (script_from plan m next (text_lines l)).orders) (asks.1 ∙ sym pushed)) i; is_sound = asks.3 i }
+pub first_ahead : (r next : Reading) (after : List Order) (order : Order) (rest left : Option (List ℕ))
+    → Asks (script_left rest r) (script_left left next) (Some (One order)) → after ≡ order ∷ []
+    → SameScript (script_ahead rest r [] None) (script_ahead left next after None)
+first_ahead r next after order None left asks pushed = tt
+first_ahead r next after order (Some t) None asks pushed = absurd asks
+first_ahead r next after order (Some t) (Some l) asks pushed =
+    λ i. record { orders = (asks.2 ∙ ap (λ os. os ++ (script_from next (text_lines l)).orders) (asks.1 ∙ sym pushed)) i; is_sound = asks.3 i }
 
-pub none_follows : (plan : List PlanLine) (n m : ℕ) (read next : Orders) (rest left : Option (List ℕ))
-    → Asks (script_left rest plan n read) (script_left left plan m next) None
-    → Asks (script_ahead rest plan n read [] None) (script_ahead left plan m next [] None) None
-none_follows plan n m read next None left asks = tt
-none_follows plan n m read next (Some r) None asks = absurd asks
-none_follows plan n m read next (Some r) (Some l) asks = asks
+pub none_follows : (r next : Reading) (rest left : Option (List ℕ))
+    → Asks (script_left rest r) (script_left left next) None
+    → Asks (script_ahead rest r [] None) (script_ahead left next [] None) None
+none_follows r next None left asks = tt
+none_follows r next (Some t) None asks = absurd asks
+none_follows r next (Some t) (Some l) asks = asks
 
 -- some that stand ahead are asked for
-pub asks_ahead : (plan : List PlanLine) (n : ℕ) (read : Orders) (before taken after : List Order) (stopped : Option (ℕ × LineFault)) (rest : Option (List ℕ)) (asked : Asked)
+pub asks_ahead : (r : Reading) (before taken after : List Order) (stopped : Option (ℕ × LineFault)) (rest : Option (List ℕ)) (asked : Asked)
     → IsOf asked taken → before ≡ taken ++ after
-    → Asks (script_ahead rest plan n read before stopped) (script_ahead rest plan n read after stopped) (Some asked)
-asks_ahead plan n read before taken after stopped None asked of is = tt
-asks_ahead plan n read before taken after None (Some r) asked of is =
-    (taken, of, ap (λ os. os ++ (script_from plan n read (text_lines r)).orders) is ∙ append_assoc taken after (script_from plan n read (text_lines r)).orders, refl)
-asks_ahead plan n read before taken after (Some fault) (Some r) asked of is =
+    → Asks (script_ahead rest r before stopped) (script_ahead rest r after stopped) (Some asked)
+asks_ahead r before taken after stopped None asked of is = tt
+asks_ahead r before taken after None (Some t) asked of is =
+    (taken, of, ap (λ os. os ++ (script_from r (text_lines t)).orders) is ∙ append_assoc taken after (script_from r (text_lines t)).orders, refl)
+asks_ahead r before taken after (Some fault) (Some t) asked of is =
     (taken, of, ap (λ os. os ++ []) is ∙ append_assoc taken after [], refl)
 
 abbrev got : Result (List Order) Fault → List Order
 got (Ok os) = os
 got (Err fault) = []
 
+-- where no epoch is refused
+abbrev plainly : List PlanLine → ℕ → Orders → Reading
+plainly plan n read = record { plan = plan; limit = None; number = n; flaw = None; read = read }
+
 -- AN INPUT WITHOUT A FAULT: its script is its orders
 pub script_is : (plan : List PlanLine) (n : ℕ) (read : Orders) (lines : List (List ℕ)) (orders : List Order) → orders_from plan n read lines ≡ Ok orders
-    → ◌≡◌ {A = Script} (script_from plan n read lines) (record { orders = orders; is_sound = true })
+    → ◌≡◌ {A = Script} (script_from (plainly plan n read) lines) (record { orders = orders; is_sound = true })
 script_is plan n read [] orders is = by (is_between read) refl is
   where
     by : (b : Bool) → is_between read ≡ b → ended n read.orders b ≡ Ok orders → ◌≡◌ {A = Script} (record { orders = read.orders; is_sound = is_between read }) (record { orders = orders; is_sound = true })
@@ -363,8 +490,8 @@ script_is plan n read [] orders is = by (is_between read) refl is
     by false e h = absurd (let no = h in cc)
 script_is plan n read (line ∷ lines) orders is = by (with_line plan n read (feed_line_of line)) is (λ more. script_is plan (n + 1) more lines orders)
   where
-    by : (r : Result Orders Fault) → and_then (λ more. orders_from plan (n + 1) more lines) r ≡ Ok orders
-        → ((more : Orders) → orders_from plan (n + 1) more lines ≡ Ok orders → ◌≡◌ {A = Script} (script_from plan (n + 1) more lines) (record { orders = orders; is_sound = true }))
-        → ◌≡◌ {A = Script} (script_after read (λ more. script_from plan (n + 1) more lines) r) (record { orders = orders; is_sound = true })
+    by : (w : Result Orders Fault) → and_then (λ more. orders_from plan (n + 1) more lines) w ≡ Ok orders
+        → ((more : Orders) → orders_from plan (n + 1) more lines ≡ Ok orders → ◌≡◌ {A = Script} (script_from (plainly plan (n + 1) more) lines) (record { orders = orders; is_sound = true }))
+        → ◌≡◌ {A = Script} (script_after read (λ q. script_from q lines) (onward (plainly plan n read) (judged None n read w))) (record { orders = orders; is_sound = true })
     by (Ok more) h rest = rest more h
     by (Err fault) h rest = absurd (let no = h in cc)

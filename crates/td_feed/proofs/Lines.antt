@@ -20,9 +20,12 @@ use Rattle.td_keeper.specs.Driven.{submitted_in, submitted_by, Obeys, Driven}
 use Rattle.td_pool.specs.declared.error.PoolError.{PoolError}
 use Rattle.td_console.specs.declared.faults.Fault.{Fault}
 use Rattle.td_console.specs.declared.faults.Fault.TheVariants.{Output, Memory, Keeper}
+use Rattle.td_feed.specs.declared.note.Note.{Note}
+use Rattle.td_feed.specs.Noted.{note_line}
 use Rattle.td_feed.specs.Carried.{is_refused}
 use Rattle.td_feed.specs.Fed.{pool_fault}
-use Rattle.td_feed.specs.Said.{request_in, line_of, lines_of, Says, SaysSome, SaysUnheard, SaysBy, SaysFrom, SaysFed, Refuses}
+use Rattle.td_feed.specs.Said.{request_in, line_of, Saying, commands_in, replies_in, notes_among, lines_of, Wanted, Says, SaysSome, SaysUnheard, SaysBy, SaysFrom, SaysFed, Refuses}
+use Rattle.td_feed.specs.Said.Saying.{replied, aside}
 
 -- whether a command's reply has no line
 abbrev pub is_quiet : Command → Bool
@@ -33,133 +36,179 @@ is_quiet Cut = true
 is_quiet (CloseFree most) = true
 is_quiet _ = false
 
+-- notes, and then others
+pub notes-append : (ss ts : List Saying) → notes_among (ss ++ ts) ≡ notes_among ss ++ notes_among ts
+notes-append [] ts = refl
+notes-append (replied x r ∷ ss) ts = notes-append ss ts
+notes-append (aside n ∷ ss) ts = ap (λ (l : List Note). n ∷ l) (notes-append ss ts)
+
 module _ {D : Type 0} (is_lawful : D → Type 0) (state : D → DiskState) (failures : D → ℕ) (answers : Answers) (marks : Bool) where
-  -- commands, and then others
-  pub driven-append : (cs : List Command) (rs : List Reply) (ds : List Command) (ss : List Reply) (a b c : Keeping D) → Driven is_lawful state failures answers cs rs a b
+  -- what is said, as commands and their replies
+  abbrev Told : List Saying → Keeping D → Keeping D → Type 0
+  Told ss a b = Driven is_lawful state failures answers (commands_in ss) (replies_in ss) a b
+
+  told-append : (ss ts : List Saying) (a b c : Keeping D) → Told ss a b → Told ts b c → Told (ss ++ ts) a c
+  told-append [] ts a b c is rest = subst (λ (k : Keeping D). Told ts k c) is rest
+  told-append (replied x r ∷ ss) ts a b c first rest = (first.0, first.1, first.2, told-append ss ts first.0 b c first.3 rest)
+  told-append (aside n ∷ ss) ts a b c first rest = told-append ss ts a b c first rest
+
+  submitted-append : (ss ts : List Saying) → submitted_by (commands_in (ss ++ ts)) (replies_in (ss ++ ts)) ≡ submitted_by (commands_in ss) (replies_in ss) ++ submitted_by (commands_in ts) (replies_in ts)
+  submitted-append [] ts = refl
+  submitted-append (replied x r ∷ ss) ts =
+      ap (λ (l : List AnySubmitted). submitted_in x r ++ l) (submitted-append ss ts)
+      ∙ sym (append_assoc (submitted_in x r) (submitted_by (commands_in ss) (replies_in ss)) (submitted_by (commands_in ts) (replies_in ts)))
+  submitted-append (aside n ∷ ss) ts = submitted-append ss ts
+
+  -- lines of what is said, one after another
+  lines-append : (ss ts : List Saying) → lines_of marks (ss ++ ts) ≡ lines_of marks ss ++ lines_of marks ts
+  lines-append [] ts = refl
+  lines-append (replied x r ∷ ss) ts =
+      ap (λ (l : List ℕ). line_of marks (request_in x) r ++ l) (lines-append ss ts) ∙ sym (append_assoc (line_of marks (request_in x) r) (lines_of marks ss) (lines_of marks ts))
+  lines-append (aside n ∷ ss) ts = ap (λ (l : List ℕ). note_line n ++ l) (lines-append ss ts) ∙ sym (append_assoc (note_line n) (lines_of marks ss) (lines_of marks ts))
+
+  -- the notes of two, where the second has only the first of them
+  some_noted : (ss ts : List Saying) (later ns ms : List Note) → notes_among ss ≡ ns → notes_among ts ++ later ≡ ms → notes_among (ss ++ ts) ++ later ≡ ns ++ ms
+  some_noted ss ts later ns ms first rest =
+      ap (λ (l : List Note). l ++ later) (notes-append ss ts) ∙ append_assoc (notes_among ss) (notes_among ts) later ∙ (λ i. first i ++ rest i)
+
+  -- nothing was told
+  pub says_nothing : (w : Option (List ℕ)) (k : Keeping D) → Says is_lawful state failures answers marks w w k k [] []
+  says_nothing w k = record { sayings = []; driven = refl; submitted = refl; noted = refl; said = Appends-nil w }
+
+  -- one command was told, and its line was written
+  pub says_one : (before after : Option (List ℕ)) (c : Command) (r : Reply) (old new : Keeping D) → Driven is_lawful state failures answers (c ∷ []) (r ∷ []) old new
+      → Appends before after (line_of marks (request_in c) r) → Says is_lawful state failures answers marks before after old new (submitted_in c r) []
+  says_one before after c r old new driven said = record {
+    sayings = replied c r ∷ [];
+    driven = driven;
+    submitted = append-nil (submitted_in c r);
+    noted = refl;
+    said = subst (λ (l : List ℕ). Appends before after l) (sym (append-nil (line_of marks (request_in c) r))) said;
+  }
+
+  -- a note was written
+  pub says_note : (before after : Option (List ℕ)) (n : Note) (k : Keeping D) → Appends before after (note_line n) → Says is_lawful state failures answers marks before after k k [] (n ∷ [])
+  says_note before after n k said = record {
+    sayings = aside n ∷ [];
+    driven = refl;
+    submitted = refl;
+    noted = refl;
+    said = subst (λ (l : List ℕ). Appends before after l) (sym (append-nil (note_line n))) said;
+  }
+
+  -- one after the other
+  pub says_then : (u v w : Option (List ℕ)) (a b c : Keeping D) (x y : List AnySubmitted) (ns ms : List Note) → Says is_lawful state failures answers marks u v a b x ns
+      → Says is_lawful state failures answers marks v w b c y ms → Says is_lawful state failures answers marks u w a c (x ++ y) (ns ++ ms)
+  says_then u v w a b c x y ns ms first rest = record {
+    sayings = first.sayings ++ rest.sayings;
+    driven = told-append first.sayings rest.sayings a b c first.driven rest.driven;
+    submitted = submitted-append first.sayings rest.sayings ∙ (λ i. first.submitted i ++ rest.submitted i);
+    noted = notes-append first.sayings rest.sayings ∙ (λ i. first.noted i ++ rest.noted i);
+    said = subst (λ (l : List ℕ). Appends u w l) (sym (lines-append first.sayings rest.sayings)) (Appends-trans u v w (lines_of marks first.sayings) (lines_of marks rest.sayings) first.said rest.said);
+  }
+
+  pub then_some : (u v w : Option (List ℕ)) (a b c : Keeping D) (x : List AnySubmitted) (ns ms : List Note) → Says is_lawful state failures answers marks u v a b x ns
+      → SaysSome is_lawful state failures answers marks v w b c ms → SaysSome is_lawful state failures answers marks u w a c (ns ++ ms)
+  then_some u v w a b c x ns ms first rest = record {
+    sayings = first.sayings ++ rest.sayings;
+    driven = told-append first.sayings rest.sayings a b c first.driven rest.driven;
+    later = rest.later;
+    noted = some_noted first.sayings rest.sayings rest.later ns ms first.noted rest.noted;
+    text = lines_of marks first.sayings ++ rest.text;
+    unsaid = rest.unsaid;
+    lines = lines-append first.sayings rest.sayings ∙ ap (λ (l : List ℕ). lines_of marks first.sayings ++ l) rest.lines ∙ sym (append_assoc (lines_of marks first.sayings) rest.text rest.unsaid);
+    said = Appends-trans u v w (lines_of marks first.sayings) rest.text first.said rest.said;
+  }
+
+  -- all is some
+  pub some_of_all : (u v : Option (List ℕ)) (a b : Keeping D) (x : List AnySubmitted) (ns : List Note) → Says is_lawful state failures answers marks u v a b x ns
+      → SaysSome is_lawful state failures answers marks u v a b ns
+  some_of_all u v a b x ns all = record {
+    sayings = all.sayings;
+    driven = all.driven;
+    later = [];
+    noted = append-nil (notes_among all.sayings) ∙ all.noted;
+    text = lines_of marks all.sayings;
+    unsaid = [];
+    lines = sym (append-nil (lines_of marks all.sayings));
+    said = all.said;
+  }
+
+  -- of more notes
+  pub some_of_more : (u v : Option (List ℕ)) (a b : Keeping D) (ns more ms : List Note) → ns ++ more ≡ ms → SaysSome is_lawful state failures answers marks u v a b ns
+      → SaysSome is_lawful state failures answers marks u v a b ms
+  some_of_more u v a b ns more ms is some = record {
+    sayings = some.sayings;
+    driven = some.driven;
+    later = some.later ++ more;
+    noted = sym (append_assoc (notes_among some.sayings) some.later more) ∙ ap (λ (l : List Note). l ++ more) some.noted ∙ is;
+    text = some.text;
+    unsaid = some.unsaid;
+    lines = some.lines;
+    said = some.said;
+  }
+
+  -- the last line was not written
+  pub unsaid_one : (w : Option (List ℕ)) (c : Command) (r : Reply) (old new : Keeping D) → Driven is_lawful state failures answers (c ∷ []) (r ∷ []) old new
+      → SaysSome is_lawful state failures answers marks w w old new []
+  unsaid_one w c r old new driven =
+      record { sayings = replied c r ∷ []; driven = driven; later = []; noted = refl; text = []; unsaid = lines_of marks (replied c r ∷ []); lines = refl; said = Appends-nil w }
+
+  pub unsaid_none : (w : Option (List ℕ)) (k : Keeping D) (ns : List Note) → SaysSome is_lawful state failures answers marks w w k k ns
+  unsaid_none w k ns = record { sayings = []; driven = refl; later = ns; noted = refl; text = []; unsaid = []; lines = refl; said = Appends-nil w }
+
+  -- a refused command writes nothing
+  pub refused_some : (w : Option (List ℕ)) (c : Command) (old new : Keeping D) → Refuses is_lawful state failures answers c old new → SaysSome is_lawful state failures answers marks w w old new []
+  refused_some w c old new (inl is) = record { sayings = []; driven = is; later = []; noted = refl; text = []; unsaid = []; lines = refl; said = Appends-nil w }
+  refused_some w c old new (inr told) = unsaid_one w c told.0 old new told.2
+
+  -- whatever was written, the keeper was told
+  pub unheard : (u v : Option (List ℕ)) (a b : Keeping D) (ns : List Note) → SaysSome is_lawful state failures answers marks u v a b ns → SaysUnheard is_lawful state failures answers marks a b
+  unheard u v a b ns some = record { commands = commands_in some.sayings; replies = replies_in some.sayings; driven = some.driven }
+
+  driven-append : (cs : List Command) (rs : List Reply) (ds : List Command) (ss : List Reply) (a b c : Keeping D) → Driven is_lawful state failures answers cs rs a b
       → Driven is_lawful state failures answers ds ss b c → Driven is_lawful state failures answers (cs ++ ds) (rs ++ ss) a c
   driven-append [] [] ds ss a b c is rest = subst (λ (k : Keeping D). Driven is_lawful state failures answers ds ss k c) is rest
   driven-append [] (r ∷ rs) ds ss a b c none rest = absurd none
   driven-append (x ∷ cs) [] ds ss a b c none rest = absurd none
   driven-append (x ∷ cs) (r ∷ rs) ds ss a b c first rest = (first.0, first.1, first.2, driven-append cs rs ds ss first.0 b c first.3 rest)
 
-  pub submitted-append : (cs : List Command) (rs : List Reply) (ds : List Command) (ss : List Reply) (a b : Keeping D) → Driven is_lawful state failures answers cs rs a b
-      → submitted_by (cs ++ ds) (rs ++ ss) ≡ submitted_by cs rs ++ submitted_by ds ss
-  submitted-append [] [] ds ss a b is = refl
-  submitted-append [] (r ∷ rs) ds ss a b none = absurd none
-  submitted-append (x ∷ cs) [] ds ss a b none = absurd none
-  submitted-append (x ∷ cs) (r ∷ rs) ds ss a b first =
-      ap (λ (l : List AnySubmitted). submitted_in x r ++ l) (submitted-append cs rs ds ss first.0 b first.3)
-      ∙ sym (append_assoc (submitted_in x r) (submitted_by cs rs) (submitted_by ds ss))
-
-  -- lines of replies, one after another
-  pub lines-append : (cs : List Command) (rs : List Reply) (ds : List Command) (ss : List Reply) (a b : Keeping D) → Driven is_lawful state failures answers cs rs a b
-      → lines_of marks (cs ++ ds) (rs ++ ss) ≡ lines_of marks cs rs ++ lines_of marks ds ss
-  lines-append [] [] ds ss a b is = refl
-  lines-append [] (r ∷ rs) ds ss a b none = absurd none
-  lines-append (x ∷ cs) [] ds ss a b none = absurd none
-  lines-append (x ∷ cs) (r ∷ rs) ds ss a b first =
-      ap (λ (l : List ℕ). line_of marks (request_in x) r ++ l) (lines-append cs rs ds ss first.0 b first.3)
-      ∙ sym (append_assoc (line_of marks (request_in x) r) (lines_of marks cs rs) (lines_of marks ds ss))
-
-  -- nothing was told
-  pub says_nothing : (w : Option (List ℕ)) (k : Keeping D) → Says is_lawful state failures answers marks w w k k []
-  says_nothing w k = record { commands = []; replies = []; driven = refl; submitted = refl; said = Appends-nil w }
-
-  -- one command was told, and its line was written
-  pub says_one : (before after : Option (List ℕ)) (c : Command) (r : Reply) (old new : Keeping D) → Driven is_lawful state failures answers (c ∷ []) (r ∷ []) old new
-      → Appends before after (line_of marks (request_in c) r) → Says is_lawful state failures answers marks before after old new (submitted_in c r)
-  says_one before after c r old new driven said = record {
-    commands = c ∷ [];
-    replies = r ∷ [];
-    driven = driven;
-    submitted = append-nil (submitted_in c r);
-    said = subst (λ (l : List ℕ). Appends before after l) (sym (append-nil (line_of marks (request_in c) r))) said;
-  }
-
-  -- one after the other
-  pub says_then : (u v w : Option (List ℕ)) (a b c : Keeping D) (x y : List AnySubmitted) → Says is_lawful state failures answers marks u v a b x
-      → Says is_lawful state failures answers marks v w b c y → Says is_lawful state failures answers marks u w a c (x ++ y)
-  says_then u v w a b c x y first rest = record {
-    commands = first.commands ++ rest.commands;
-    replies = first.replies ++ rest.replies;
-    driven = driven-append first.commands first.replies rest.commands rest.replies a b c first.driven rest.driven;
-    submitted = submitted-append first.commands first.replies rest.commands rest.replies a b first.driven
-        ∙ ap (λ (l : List AnySubmitted). l ++ submitted_by rest.commands rest.replies) first.submitted ∙ ap (λ (l : List AnySubmitted). x ++ l) rest.submitted;
-    said = subst (λ (l : List ℕ). Appends u w l) (sym (lines-append first.commands first.replies rest.commands rest.replies a b first.driven))
-        (Appends-trans u v w (lines_of marks first.commands first.replies) (lines_of marks rest.commands rest.replies) first.said rest.said);
-  }
-
-  pub then_some : (u v w : Option (List ℕ)) (a b c : Keeping D) (x : List AnySubmitted) → Says is_lawful state failures answers marks u v a b x
-      → SaysSome is_lawful state failures answers marks v w b c → SaysSome is_lawful state failures answers marks u w a c
-  then_some u v w a b c x first rest = record {
-    commands = first.commands ++ rest.commands;
-    replies = first.replies ++ rest.replies;
-    driven = driven-append first.commands first.replies rest.commands rest.replies a b c first.driven rest.driven;
-    text = lines_of marks first.commands first.replies ++ rest.text;
-    unsaid = rest.unsaid;
-    lines = lines-append first.commands first.replies rest.commands rest.replies a b first.driven ∙ ap (λ (l : List ℕ). lines_of marks first.commands first.replies ++ l) rest.lines
-        ∙ sym (append_assoc (lines_of marks first.commands first.replies) rest.text rest.unsaid);
-    said = Appends-trans u v w (lines_of marks first.commands first.replies) rest.text first.said rest.said;
-  }
-
-  -- all is some
-  pub some_of_all : (u v : Option (List ℕ)) (a b : Keeping D) (x : List AnySubmitted) → Says is_lawful state failures answers marks u v a b x → SaysSome is_lawful state failures answers marks u v a b
-  some_of_all u v a b x all = record {
-    commands = all.commands;
-    replies = all.replies;
-    driven = all.driven;
-    text = lines_of marks all.commands all.replies;
-    unsaid = [];
-    lines = sym (append-nil (lines_of marks all.commands all.replies));
-    said = all.said;
-  }
-
-  -- the last line was not written
-  pub unsaid_one : (w : Option (List ℕ)) (c : Command) (r : Reply) (old new : Keeping D) → Driven is_lawful state failures answers (c ∷ []) (r ∷ []) old new
-      → SaysSome is_lawful state failures answers marks w w old new
-  unsaid_one w c r old new driven = record { commands = c ∷ []; replies = r ∷ []; driven = driven; text = []; unsaid = lines_of marks (c ∷ []) (r ∷ []); lines = refl; said = Appends-nil w }
-
-  -- a refused command writes nothing
-  pub refused_some : (w : Option (List ℕ)) (c : Command) (old new : Keeping D) → Refuses is_lawful state failures answers c old new → SaysSome is_lawful state failures answers marks w w old new
-  refused_some w c old new (inl is) = record { commands = []; replies = []; driven = is; text = []; unsaid = []; lines = refl; said = Appends-nil w }
-  refused_some w c old new (inr told) = unsaid_one w c told.0 old new told.2
-
-  -- whatever was written, the keeper was told
-  pub unheard : (u v : Option (List ℕ)) (a b : Keeping D) → SaysSome is_lawful state failures answers marks u v a b → SaysUnheard is_lawful state failures answers marks a b
-  unheard u v a b some = record { commands = some.commands; replies = some.replies; driven = some.driven }
-
-  pub then_unheard : (u v : Option (List ℕ)) (a b c : Keeping D) (x : List AnySubmitted) → Says is_lawful state failures answers marks u v a b x
+  pub then_unheard : (u v : Option (List ℕ)) (a b c : Keeping D) (x : List AnySubmitted) (ns : List Note) → Says is_lawful state failures answers marks u v a b x ns
       → SaysUnheard is_lawful state failures answers marks b c → SaysUnheard is_lawful state failures answers marks a c
-  then_unheard u v a b c x first rest = record {
-    commands = first.commands ++ rest.commands;
-    replies = first.replies ++ rest.replies;
-    driven = driven-append first.commands first.replies rest.commands rest.replies a b c first.driven rest.driven;
+  then_unheard u v a b c x ns first rest = record {
+    commands = commands_in first.sayings ++ rest.commands;
+    replies = replies_in first.sayings ++ rest.replies;
+    driven = driven-append (commands_in first.sayings) (replies_in first.sayings) rest.commands rest.replies a b c first.driven rest.driven;
   }
 
   -- AT AN ANSWER
-  pub then_by : (result : Result (Unit {0}) Fault) (u v w : Option (List ℕ)) (a b c : Keeping D) (x y : List AnySubmitted) → Says is_lawful state failures answers marks u v a b x
-      → SaysBy is_lawful state failures answers marks result v w b c y → SaysBy is_lawful state failures answers marks result u w a c (x ++ y)
-  then_by (Ok done) u v w a b c x y first rest = says_then u v w a b c x y first rest
-  then_by (Err fault) u v w a b c x y first rest = ⊎_elim (λ output. inl (output.0, then_unheard u v a b c x first output.1)) (λ some. inr (then_some u v w a b c x first some)) rest
+  pub then_by : (result : Result (Unit {0}) Fault) (u v w : Option (List ℕ)) (a b c : Keeping D) (x y : List AnySubmitted) (ns ms : List Note) → Says is_lawful state failures answers marks u v a b x ns
+      → SaysBy is_lawful state failures answers marks result v w b c y ms → SaysBy is_lawful state failures answers marks result u w a c (x ++ y) (ns ++ ms)
+  then_by (Ok done) u v w a b c x y ns ms first rest = says_then u v w a b c x y ns ms first rest
+  then_by (Err fault) u v w a b c x y ns ms first rest = ⊎_elim (λ output. inl (output.0, then_unheard u v a b c x ns first output.1)) (λ some. inr (then_some u v w a b c x ns ms first some)) rest
 
-  pub by_ok : (result : Result (Unit {0}) Fault) (u v : Option (List ℕ)) (a b : Keeping D) (x : List AnySubmitted) → result ≡ Ok tt
-      → Says is_lawful state failures answers marks u v a b x → SaysBy is_lawful state failures answers marks result u v a b x
-  by_ok result u v a b x is says = subst (λ (r : Result (Unit {0}) Fault). SaysBy is_lawful state failures answers marks r u v a b x) (sym is) says
+  pub by_ok : (result : Result (Unit {0}) Fault) (u v : Option (List ℕ)) (a b : Keeping D) (x : List AnySubmitted) (ns : List Note) → result ≡ Ok tt
+      → Says is_lawful state failures answers marks u v a b x ns → SaysBy is_lawful state failures answers marks result u v a b x ns
+  by_ok result u v a b x ns is says = subst (λ (r : Result (Unit {0}) Fault). SaysBy is_lawful state failures answers marks r u v a b x ns) (sym is) says
 
-  pub by_refusal : (result : Result (Unit {0}) Fault) (P : Fault → Type 0) (u v : Option (List ℕ)) (a b : Keeping D) (x : List AnySubmitted) → IsErrAnd result P
-      → ((f : Fault) → P f → ((f ≡ Output) × SaysUnheard is_lawful state failures answers marks a b) ⊎ SaysSome is_lawful state failures answers marks u v a b) → SaysBy is_lawful state failures answers marks result u v a b x
-  by_refusal (Ok done) P u v a b x none step = absurd none
-  by_refusal (Err fault) P u v a b x is step = step fault is
+  pub by_refusal : (result : Result (Unit {0}) Fault) (P : Fault → Type 0) (u v : Option (List ℕ)) (a b : Keeping D) (x : List AnySubmitted) (ns : List Note) → IsErrAnd result P
+      → ((f : Fault) → P f → ((f ≡ Output) × SaysUnheard is_lawful state failures answers marks a b) ⊎ SaysSome is_lawful state failures answers marks u v a b ns)
+      → SaysBy is_lawful state failures answers marks result u v a b x ns
+  by_refusal (Ok done) P u v a b x ns none step = absurd none
+  by_refusal (Err fault) P u v a b x ns is step = step fault is
 
-  -- the same fault is handed on
-  pub handed_on : (result : Result (Unit {0}) Fault) (e : Fault) (u v w : Option (List ℕ)) (a b c : Keeping D) (x y z : List AnySubmitted) → IsErrAnd result (λ f. f ≡ e)
-      → Says is_lawful state failures answers marks u v a b x → SaysBy is_lawful state failures answers marks (Err e) v w b c y → SaysBy is_lawful state failures answers marks result u w a c z
-  handed_on (Ok done) e u v w a b c x y z none first rest = absurd none
-  handed_on (Err f) e u v w a b c x y z is first rest = ⊎_elim (λ output. inl (is ∙ output.0, then_unheard u v a b c x first output.1)) (λ some. inr (then_some u v w a b c x first some)) rest
+  -- the same fault is handed on, with more that was asked for
+  pub handed_on : (result : Result (Unit {0}) Fault) (e : Fault) (u v w : Option (List ℕ)) (a b c : Keeping D) (x y z : List AnySubmitted) (ns ms more all : List Note) → (ns ++ ms) ++ more ≡ all
+      → IsErrAnd result (λ f. f ≡ e) → Says is_lawful state failures answers marks u v a b x ns → SaysBy is_lawful state failures answers marks (Err e) v w b c y ms
+      → SaysBy is_lawful state failures answers marks result u w a c z all
+  handed_on (Ok done) e u v w a b c x y z ns ms more all whole none first rest = absurd none
+  handed_on (Err f) e u v w a b c x y z ns ms more all whole is first rest =
+      ⊎_elim (λ output. inl (is ∙ output.0, then_unheard u v a b c x ns first output.1))
+      (λ some. inr (some_of_more u w a c (ns ++ ms) more all whole (then_some u v w a b c x ns ms first some))) rest
 
   -- a command whose reply has no line
   pub says_silent : (w : Option (List ℕ)) (c : Command) (r : Reply) (old new : Keeping D) → Driven is_lawful state failures answers (c ∷ []) (r ∷ []) old new → line_of marks (request_in c) r ≡ []
-      → Says is_lawful state failures answers marks w w old new (submitted_in c r)
+      → Says is_lawful state failures answers marks w w old new (submitted_in c r) []
   says_silent w c r old new driven none = says_one w w c r old new driven (subst (λ (l : List ℕ). Appends w w l) (sym none) (Appends-nil w))
 
   quiet_release : (r : Reply) (old new : Keeping D) → Obeys is_lawful state failures answers Release r old new → line_of marks 0 r ≡ []
@@ -234,7 +283,7 @@ module _ {D : Type 0} (is_lawful : D → Type 0) (state : D → DiskState) (fail
 
   -- releasing, settling, collecting, cutting and closing cells write no line
   pub quietly : (w : Option (List ℕ)) (c : Command) (r : Reply) (old new : Keeping D) → is_quiet c ≡ true → Obeys is_lawful state failures answers c r old new
-      → Driven is_lawful state failures answers (c ∷ []) (r ∷ []) old new → Says is_lawful state failures answers marks w w old new []
+      → Driven is_lawful state failures answers (c ∷ []) (r ∷ []) old new → Says is_lawful state failures answers marks w w old new [] []
   quietly w Release r old new quiet is driven = says_silent w Release r old new driven (quiet_release r old new is)
   quietly w Settle r old new quiet is driven = says_silent w Settle r old new driven (quiet_settle r old new is)
   quietly w Collect r old new quiet is driven = says_silent w Collect r old new driven (quiet_collect r old new is)
@@ -249,33 +298,42 @@ module _ {D : Type 0} (is_lawful : D → Type 0) (state : D → DiskState) (fail
   -- the lines of one reply, where they were to be written
   pub said_by : (result : Result (Unit {0}) Fault) (w v : Option (List ℕ)) (c : Command) (r : Reply) (old new : Keeping D) (x : List AnySubmitted) (P : Type 0)
       → Driven is_lawful state failures answers (c ∷ []) (r ∷ []) old new → submitted_in c r ≡ x → OnOk result (Appends w v (line_of marks (request_in c) r))
-      → IfErr result (λ f. (f ≡ Output) ⊎ ((f ≡ Memory) × P)) → (P → v ≡ w) → SaysBy is_lawful state failures answers marks result w v old new x
+      → IfErr result (λ f. (f ≡ Output) ⊎ ((f ≡ Memory) × P)) → (P → v ≡ w) → SaysBy is_lawful state failures answers marks result w v old new x []
   said_by (Ok done) w v c r old new x P driven is said none same =
-      subst (λ (l : List AnySubmitted). Says is_lawful state failures answers marks w v old new l) is (says_one w v c r old new driven said)
+      subst (λ (l : List AnySubmitted). Says is_lawful state failures answers marks w v old new l []) is (says_one w v c r old new driven said)
   said_by (Err f) w v c r old new x P driven is said why same =
-      ⊎_elim (λ output. inl (output, unheard w w old new (unsaid_one w c r old new driven))) (λ memory. inr (subst (λ (u : Option (List ℕ)). SaysSome is_lawful state failures answers marks w u old new) (sym (same memory.1)) (unsaid_one w c r old new driven))) why
+      ⊎_elim (λ output. inl (output, unheard w w old new [] (unsaid_one w c r old new driven))) (λ memory. inr (subst (λ (u : Option (List ℕ)). SaysSome is_lawful state failures answers marks w u old new []) (sym (same memory.1)) (unsaid_one w c r old new driven))) why
+
+  -- the line of a note, where it was to be written
+  pub noted_by : (result : Result (Unit {0}) Fault) (w v : Option (List ℕ)) (n : Note) (k : Keeping D) (P : Type 0) → OnOk result (Appends w v (note_line n))
+      → IfErr result (λ f. (f ≡ Output) ⊎ ((f ≡ Memory) × P)) → (P → v ≡ w) → SaysBy is_lawful state failures answers marks result w v k k [] (n ∷ [])
+  noted_by (Ok done) w v n k P said none same = says_note w v n k said
+  noted_by (Err f) w v n k P said why same =
+      ⊎_elim (λ output. inl (output, unheard w w k k (n ∷ []) (unsaid_none w k (n ∷ []))))
+      (λ memory. inr (subst (λ (u : Option (List ℕ)). SaysSome is_lawful state failures answers marks w u k k (n ∷ [])) (sym (same memory.1)) (unsaid_none w k (n ∷ [])))) why
 
   -- after what was said
-  pub then_quiet : (result : Result (Unit {0}) Fault) (u v w : Option (List ℕ)) (a b c : Keeping D) (x : List AnySubmitted) → Says is_lawful state failures answers marks u v a b x
-      → SaysBy is_lawful state failures answers marks result v w b c [] → SaysBy is_lawful state failures answers marks result u w a c x
-  then_quiet result u v w a b c x first rest =
-      subst (λ (l : List AnySubmitted). SaysBy is_lawful state failures answers marks result u w a c l) (append-nil x) (then_by result u v w a b c x [] first rest)
+  pub then_quiet : (result : Result (Unit {0}) Fault) (u v w : Option (List ℕ)) (a b c : Keeping D) (x : List AnySubmitted) (ns : List Note) → Says is_lawful state failures answers marks u v a b x ns
+      → SaysBy is_lawful state failures answers marks result v w b c [] [] → SaysBy is_lawful state failures answers marks result u w a c x ns
+  then_quiet result u v w a b c x ns first rest =
+      subst (λ (l : List AnySubmitted). SaysBy is_lawful state failures answers marks result u w a c l ns) (append-nil x)
+      (subst (λ (l : List Note). SaysBy is_lawful state failures answers marks result u w a c (x ++ []) l) (append-nil ns) (then_by result u v w a b c x [] ns [] first rest))
 
   -- and a command that was refused
   pub then_refused : (result : Result (Unit {0}) Fault) (P : Fault → Type 0) (u v : Option (List ℕ)) (command : Command) (a b c : Keeping D) (x y : List AnySubmitted) → IsErrAnd result P
-      → Says is_lawful state failures answers marks u v a b x → Refuses is_lawful state failures answers command b c → SaysBy is_lawful state failures answers marks result u v a c y
+      → Says is_lawful state failures answers marks u v a b x [] → Refuses is_lawful state failures answers command b c → SaysBy is_lawful state failures answers marks result u v a c y []
   then_refused result P u v command a b c x y is first refused =
-      by_refusal result P u v a c y is (λ f holds. inr (then_some u v v a b c x first (refused_some v command b c refused)))
+      by_refusal result P u v a c y [] is (λ f holds. inr (then_some u v v a b c x [] [] first (refused_some v command b c refused)))
 
   -- OUTPUTS THAT ARE HELD BACK: the lines of the replies are what was written, and what is held
   pub record Holding (before after : Option (List ℕ)) (old new : Keeping D) (held : List ℕ) : Type 0 where
-    pub some : SaysSome is_lawful state failures answers marks before after old new
+    pub some : SaysSome is_lawful state failures answers marks before after old new []
     pub held_is : some.unsaid ≡ held
-    pub none : submitted_by some.commands some.replies ≡ []
+    pub none : submitted_by (commands_in some.sayings) (replies_in some.sayings) ≡ []
 
   pub holding_nothing : (w : Option (List ℕ)) (k : Keeping D) (held : List ℕ) → held ≡ [] → Holding w w k k held
   holding_nothing w k held is = record {
-    some = record { commands = []; replies = []; driven = refl; text = []; unsaid = []; lines = refl; said = Appends-nil w };
+    some = record { sayings = []; driven = refl; later = []; noted = refl; text = []; unsaid = []; lines = refl; said = Appends-nil w };
     held_is = sym is;
     none = refl;
   }
@@ -285,21 +343,23 @@ module _ {D : Type 0} (is_lawful : D → Type 0) (state : D → DiskState) (fail
       → Driven is_lawful state failures answers (NextOut ∷ []) (Out o ∷ []) b c → more ≡ held ++ line_of marks 0 (Out o) → Holding u v a c more
   holding_more u v a b c o held more so_far driven is =
       let s = so_far.some in
+      let one : List Saying = replied NextOut (Out o) ∷ [] in
       record {
         some = record {
-          commands = s.commands ++ NextOut ∷ [];
-          replies = s.replies ++ Out o ∷ [];
-          driven = driven-append s.commands s.replies (NextOut ∷ []) (Out o ∷ []) a b c s.driven driven;
+          sayings = s.sayings ++ one;
+          driven = told-append s.sayings one a b c s.driven driven;
+          later = s.later;
+          noted = ap (λ (l : List Note). l ++ s.later) (notes-append s.sayings one ∙ append-nil (notes_among s.sayings)) ∙ s.noted;
           text = s.text;
           unsaid = more;
-          lines = lines-append s.commands s.replies (NextOut ∷ []) (Out o ∷ []) a b s.driven
-              ∙ ap (λ (l : List ℕ). l ++ lines_of marks (NextOut ∷ []) (Out o ∷ [])) s.lines
-              ∙ append_assoc s.text s.unsaid (lines_of marks (NextOut ∷ []) (Out o ∷ []))
-              ∙ ap (λ (l : List ℕ). s.text ++ l) (ap (λ (l : List ℕ). l ++ lines_of marks (NextOut ∷ []) (Out o ∷ [])) so_far.held_is ∙ ap (λ (l : List ℕ). held ++ l) (append-nil (line_of marks 0 (Out o))) ∙ sym is);
+          lines = lines-append s.sayings one
+              ∙ ap (λ (l : List ℕ). l ++ lines_of marks one) s.lines
+              ∙ append_assoc s.text s.unsaid (lines_of marks one)
+              ∙ ap (λ (l : List ℕ). s.text ++ l) (ap (λ (l : List ℕ). l ++ lines_of marks one) so_far.held_is ∙ ap (λ (l : List ℕ). held ++ l) (append-nil (line_of marks 0 (Out o))) ∙ sym is);
           said = s.said;
         };
         held_is = refl;
-        none = submitted-append s.commands s.replies (NextOut ∷ []) (Out o ∷ []) a b s.driven ∙ append-nil (submitted_by s.commands s.replies) ∙ so_far.none;
+        none = submitted-append s.sayings one ∙ append-nil (submitted_by (commands_in s.sayings) (replies_in s.sayings)) ∙ so_far.none;
       }
 
   -- a reply that has none
@@ -324,20 +384,20 @@ module _ {D : Type 0} (is_lawful : D → Type 0) (state : D → DiskState) (fail
 
   -- and a command that is refused
   pub holding_refused : (u v : Option (List ℕ)) (a b c : Keeping D) (held : List ℕ) → Holding u v a b held → Refuses is_lawful state failures answers NextOut b c
-      → SaysSome is_lawful state failures answers marks u v a c
-  holding_refused u v a b c held so_far (inl is) = subst (λ (k : Keeping D). SaysSome is_lawful state failures answers marks u v a k) (sym is) so_far.some
+      → SaysSome is_lawful state failures answers marks u v a c []
+  holding_refused u v a b c held so_far (inl is) = subst (λ (k : Keeping D). SaysSome is_lawful state failures answers marks u v a k []) (sym is) so_far.some
   holding_refused u v a b c held so_far (inr told) =
       let s = so_far.some in
-      let r : Reply = told.0 in
-      let nothing : lines_of marks (NextOut ∷ []) (r ∷ []) ≡ [] = ap (λ (l : List ℕ). l ++ []) (quiet_refused r told.1) in
+      let one : List Saying = replied NextOut told.0 ∷ [] in
+      let nothing : lines_of marks one ≡ [] = ap (λ (l : List ℕ). l ++ []) (quiet_refused told.0 told.1) in
       record {
-        commands = s.commands ++ NextOut ∷ [];
-        replies = s.replies ++ r ∷ [];
-        driven = driven-append s.commands s.replies (NextOut ∷ []) (r ∷ []) a b c s.driven told.2;
+        sayings = s.sayings ++ one;
+        driven = told-append s.sayings one a b c s.driven told.2;
+        later = s.later;
+        noted = ap (λ (l : List Note). l ++ s.later) (notes-append s.sayings one ∙ append-nil (notes_among s.sayings)) ∙ s.noted;
         text = s.text;
         unsaid = s.unsaid;
-        lines = lines-append s.commands s.replies (NextOut ∷ []) (r ∷ []) a b s.driven
-            ∙ (ap (λ (l : List ℕ). lines_of marks s.commands s.replies ++ l) nothing ∙ (append-nil (lines_of marks s.commands s.replies) ∙ s.lines));
+        lines = lines-append s.sayings one ∙ (ap (λ (l : List ℕ). lines_of marks s.sayings ++ l) nothing ∙ (append-nil (lines_of marks s.sayings) ∙ s.lines));
         said = s.said;
       }
 
@@ -347,9 +407,10 @@ module _ {D : Type 0} (is_lawful : D → Type 0) (state : D → DiskState) (fail
       let s = so_far.some in
       record {
         some = record {
-          commands = s.commands;
-          replies = s.replies;
+          sayings = s.sayings;
           driven = s.driven;
+          later = s.later;
+          noted = s.noted;
           text = s.text ++ s.unsaid;
           unsaid = [];
           lines = s.lines ∙ sym (append-nil (s.text ++ s.unsaid));
@@ -368,22 +429,26 @@ module _ {D : Type 0} (is_lawful : D → Type 0) (state : D → DiskState) (fail
       subst (λ (l : List ℕ). Holding u (contents w) a b l) (ap bytes (sym same.1)) (subst (λ x. Holding u (contents x) a b (bytes held)) (sym same.0) so_far)
 
   -- nothing is held any more
-  pub all_written : (u v : Option (List ℕ)) (a b : Keeping D) (held : List ℕ) → Holding u v a b held → held ≡ [] → Says is_lawful state failures answers marks u v a b []
+  no_notes : (ns later : List Note) → ns ++ later ≡ [] → ns ≡ []
+  no_notes [] later is = refl
+  no_notes (n ∷ ns) later is = absurd (let no = is in cc)
+
+  pub all_written : (u v : Option (List ℕ)) (a b : Keeping D) (held : List ℕ) → Holding u v a b held → held ≡ [] → Says is_lawful state failures answers marks u v a b [] []
   all_written u v a b held so_far none =
       let s = so_far.some in
       record {
-        commands = s.commands;
-        replies = s.replies;
+        sayings = s.sayings;
         driven = s.driven;
         submitted = so_far.none;
+        noted = no_notes (notes_among s.sayings) s.later s.noted;
         said = subst (λ (l : List ℕ). Appends u v l) (sym (s.lines ∙ ap (λ (l : List ℕ). s.text ++ l) (so_far.held_is ∙ none) ∙ append-nil s.text)) s.said;
       }
 
   -- the last of it
   pub last_written : (result : Result (Unit {0}) Fault) (u v w : Option (List ℕ)) (a b : Keeping D) (held : List ℕ) → Holding u v a b held
-      → OnOk result (Appends v w held) → IfErr result (λ f. f ≡ Output) → SaysBy is_lawful state failures answers marks result u w a b []
+      → OnOk result (Appends v w held) → IfErr result (λ f. f ≡ Output) → SaysBy is_lawful state failures answers marks result u w a b [] []
   last_written (Ok done) u v w a b held so_far written why = all_written u w a b [] (holding_written u v w a b held [] so_far written refl) refl
-  last_written (Err f) u v w a b held so_far written why = inl (why, unheard u v a b so_far.some)
+  last_written (Err f) u v w a b held so_far written why = inl (why, unheard u v a b [] so_far.some)
 
 -- a refusal of a writer's, or for want of memory, is not the device's
 pub no_device_if : {T : Type 0} (result : Result T Fault) (P : Type 0) → IfErr result (λ f. (f ≡ Output) ⊎ ((f ≡ Memory) × P)) → result ≡ Err (Keeper error.Device) → ⊥
@@ -398,22 +463,22 @@ output_no_device (Err f) why is = absurd (let not_so = is in let other = why in 
 abbrev pub EndedAs : Result (Unit {0}) Fault → Result (Unit {0}) PoolError → Fault → Type 0
 EndedAs obeyed worked f = (obeyed ≡ Err f) ⊎ (((obeyed ≡ Ok tt) ⊎ ((e : ℕ) × (obeyed ≡ Err (Keeper (error.NotPassed e))))) × ((r : PoolError) × (worked ≡ Err r) × (f ≡ pool_fault r)))
 
-module _ {D : Type 0} (is_lawful : D → Type 0) (state : D → DiskState) (failures : D → ℕ) (answers : Answers) (marks : Bool) (u v : Option (List ℕ)) (a b : Keeping D) (x : List AnySubmitted) where
-  some_by : (obeyed : Result (Unit {0}) Fault) → SaysBy is_lawful state failures answers marks obeyed u v a b x → (obeyed ≡ Ok tt) ⊎ ((e : ℕ) × (obeyed ≡ Err (Keeper (error.NotPassed e))))
-      → SaysSome is_lawful state failures answers marks u v a b
-  some_by (Ok done) says why = some_of_all is_lawful state failures answers marks u v a b x says
+module _ {D : Type 0} (is_lawful : D → Type 0) (state : D → DiskState) (failures : D → ℕ) (answers : Answers) (marks : Bool) (u v : Option (List ℕ)) (a b : Keeping D) (x : List AnySubmitted) (ns : List Note) where
+  some_by : (obeyed : Result (Unit {0}) Fault) → SaysBy is_lawful state failures answers marks obeyed u v a b x ns → (obeyed ≡ Ok tt) ⊎ ((e : ℕ) × (obeyed ≡ Err (Keeper (error.NotPassed e))))
+      → SaysSome is_lawful state failures answers marks u v a b ns
+  some_by (Ok done) says why = some_of_all is_lawful state failures answers marks u v a b x ns says
   some_by (Err f) says why =
       ⊎_elim (λ output. ⊎_elim (λ not_so. absurd (let is = not_so in cc)) (λ unpassed. absurd (let is = unpassed.1 in let other = output.0 in cc)) why) (λ some. some) says
 
   pub ended_says : (obeyed result : Result (Unit {0}) Fault) (worked : Result (Unit {0}) PoolError) → OnOk result ((obeyed ≡ Ok tt) × (worked ≡ Ok tt)) → IfErr result (EndedAs obeyed worked)
-      → SaysBy is_lawful state failures answers marks obeyed u v a b x → SaysBy is_lawful state failures answers marks result u v a b x
-  ended_says obeyed (Ok done) worked ok err says = subst (λ (r : Result (Unit {0}) Fault). SaysBy is_lawful state failures answers marks r u v a b x) ok.0 says
+      → SaysBy is_lawful state failures answers marks obeyed u v a b x ns → SaysBy is_lawful state failures answers marks result u v a b x ns
+  ended_says obeyed (Ok done) worked ok err says = subst (λ (r : Result (Unit {0}) Fault). SaysBy is_lawful state failures answers marks r u v a b x ns) ok.0 says
   ended_says obeyed (Err f) worked ok err says =
-      ⊎_elim (λ same. subst (λ (r : Result (Unit {0}) Fault). SaysBy is_lawful state failures answers marks r u v a b x) same says) (λ other. inr (some_by obeyed says other.0)) err
+      ⊎_elim (λ same. subst (λ (r : Result (Unit {0}) Fault). SaysBy is_lawful state failures answers marks r u v a b x ns) same says) (λ other. inr (some_by obeyed says other.0)) err
 
 -- a feed of a disk
 module _ {D : Type 0} (is_lawful : D → Type 0) (state : D → DiskState) (failures : D → ℕ) (answers : Answers) (marks : Bool) where
-  pub fed_says : (result : Result (Unit {0}) Fault) (plan : List PlanLine) (alone : Bool) (disk left : D) (before after : Option (List ℕ)) (x : List AnySubmitted)
-      → SaysFrom is_lawful state failures answers marks result plan alone disk left before after x → SaysFed is_lawful state failures answers marks result plan alone disk left before after x
-  fed_says (Ok done) plan alone disk left before after x says = says
-  fed_says (Err f) plan alone disk left before after x says = inr says
+  pub fed_says : (result : Result (Unit {0}) Fault) (plan : List PlanLine) (alone : Bool) (disk left : D) (before after : Option (List ℕ)) (wanted : Wanted)
+      → SaysFrom is_lawful state failures answers marks result plan alone disk left before after wanted → SaysFed is_lawful state failures answers marks result plan alone disk left before after wanted
+  fed_says (Ok done) plan alone disk left before after wanted says = says
+  fed_says (Err f) plan alone disk left before after wanted says = inr says

@@ -13,15 +13,16 @@ use Rattle.td_keeper.specs.Keeping.{Keeping}
 use Rattle.td_feed.specs.declared.order.Order.{Order}
 use Rattle.td_feed.specs.declared.at_once.Asked.{Asked}
 use Rattle.td_feed.specs.declared.at_once.Asked.TheVariants.{One, Epochs}
-use Rattle.td_feed.specs.Orders.{submissions, order_for, new_after}
-use Rattle.td_feed.specs.Asked.{Script, Asks, IsOf, asked_for}
+use Rattle.td_feed.specs.declared.note.Note.{Note}
+use Rattle.td_feed.specs.Orders.{submissions, notes_in, order_for, new_after}
+use Rattle.td_feed.specs.Asked.{Script, Asks, IsOf, asked_for, notes_for}
 use Rattle.td_feed.specs.Carried.{new_to, Carries, Leaves}
 use Rattle.td_console.specs.declared.faults.Fault.{Fault}
 use Rattle.td_feed.specs.Said.{Says, SaysBy}
 use Rattle.td_feed.proofs.Carrying.{unmoved, then_carries, carries_then, then_leaves, leaves_all}
 use Rattle.td_feed.proofs.Lines.{says_then, then_quiet}
 use Rattle.td_feed.proofs.Newness.{new_on, new_after-append}
-use Rattle.td_feed.proofs.Released.{submissions-append}
+use Rattle.td_feed.proofs.Released.{submissions-append, notes-append}
 
 -- of a script some orders are done, and this is left
 abbrev pub IsPart : Option Script → List Order → Option Script → Type 0
@@ -52,20 +53,38 @@ unfolding as_orders
 these (One order) = refl
 these (Epochs group) = each_submits group
 
+one_notes : (request : ℕ) (batch : List Entry) (orders : List Order) → notes_in (order_for request batch ∷ orders) ≡ notes_in orders
+one_notes zero batch orders = refl
+one_notes (suc q) batch orders = refl
+
+each_notes : (group : List Submitted) → notes_in (each_order group) ≡ []
+unfolding each_order
+each_notes [] = refl
+each_notes (s ∷ group) = one_notes s.request s.batch (each_order group) ∙ each_notes group
+
+their_notes : (asked : Asked) → notes_in (as_orders asked) ≡ notes_for asked
+unfolding as_orders
+their_notes (One order) = refl
+their_notes (Epochs group) = each_notes group
+
 -- and where they are
 those : (asked : Asked) (orders : List Order) → IsOf asked orders → submissions orders ≡ asked_for asked
 those (One order) orders is = ap submissions is
-those (Epochs group) orders is = is
+those (Epochs group) orders is = is.0
+
+those_notes : (asked : Asked) (orders : List Order) → IsOf asked orders → notes_in orders ≡ notes_for asked
+those_notes (One order) orders is = ap notes_in is
+those_notes (Epochs group) orders is = is.1
 
 module _ {D : Type 0} (is_lawful : D → Type 0) (state : D → DiskState) (failures : D → ℕ) (answers : Answers) (marks : Bool) where
   -- THE ORDERS SO FAR were obeyed by a keeper, and its lines written
   pub record HasObeyed (all left : Option Script) (u v : Option (List ℕ)) (old new : Keeping D) : Type 0 where
     pub done : List Order
     pub known : IsPart all done left
-    pub said : Says is_lawful state failures answers marks u v old new (new_to old (submissions done))
+    pub said : Says is_lawful state failures answers marks u v old new (new_to old (submissions done)) (notes_in done)
     pub carried : Carries answers old new (new_to old (submissions done))
 
-  pub none_obeyed : (all : Option Script) (u v : Option (List ℕ)) (old new : Keeping D) → Says is_lawful state failures answers marks u v old new [] → Carries answers old new [] → HasObeyed all all u v old new
+  pub none_obeyed : (all : Option Script) (u v : Option (List ℕ)) (old new : Keeping D) → Says is_lawful state failures answers marks u v old new [] [] → Carries answers old new [] → HasObeyed all all u v old new
   none_obeyed all u v old new said carried = record { done = []; known = by all; said = said; carried = carried }
     where
       by : (all : Option Script) → IsPart all [] all
@@ -76,28 +95,35 @@ module _ {D : Type 0} (is_lawful : D → Type 0) (state : D → DiskState) (fail
     abbrev more : List Submitted
     more = asked_for asked
 
+    abbrev noted : List Note
+    noted = notes_for asked
+
     -- the orders that were asked for
-    orders : (o : List Order) × (submissions o ≡ more) × IsPart all (so.done ++ o) next
+    orders : (o : List Order) × (submissions o ≡ more) × IsPart all (so.done ++ o) next × (notes_in o ≡ noted)
     orders = by all left next so.known asks
       where
-        by : (all left next : Option Script) → IsPart all so.done left → Asks left next (Some asked) → (o : List Order) × (submissions o ≡ more) × IsPart all (so.done ++ o) next
-        by None left next is a = (as_orders asked, these asked, tt)
+        by : (all left next : Option Script) → IsPart all so.done left → Asks left next (Some asked) → (o : List Order) × (submissions o ≡ more) × IsPart all (so.done ++ o) next × (notes_in o ≡ noted)
+        by None left next is a = (as_orders asked, these asked, tt, their_notes asked)
         by (Some s) None next is a = absurd is
         by (Some s) (Some l) None is a = absurd a
         by (Some s) (Some l) (Some n) is a =
-            (a.0, those asked a.0 a.1, (is.0 ∙ ap (λ os. so.done ++ os) a.2 ∙ sym (append_assoc so.done a.0 n.orders), is.1 ∙ a.3))
+            (a.0, those asked a.0 a.1, (is.0 ∙ ap (λ os. so.done ++ os) a.2 ∙ sym (append_assoc so.done a.0 n.orders), is.1 ∙ a.3), those_notes asked a.0 a.1)
 
     also_new : new_to old (submissions (so.done ++ orders.0)) ≡ new_to old (submissions so.done) ++ new_to there more
     also_new =
         ap (new_to old) (submissions-append so.done orders.0 ∙ ap (λ (l : List Submitted). submissions so.done ++ l) orders.1)
         ∙ new_on answers old there (submissions so.done) more so.carried
 
-    pub some_obeyed : Says is_lawful state failures answers marks v w there new (new_to there more) → Carries answers there new (new_to there more) → HasObeyed all next u w old new
+    noted_so_far : notes_in (so.done ++ orders.0) ≡ notes_in so.done ++ noted
+    noted_so_far = notes-append so.done orders.0 ∙ ap (λ (l : List Note). notes_in so.done ++ l) orders.3
+
+    pub some_obeyed : Says is_lawful state failures answers marks v w there new (new_to there more) noted → Carries answers there new (new_to there more) → HasObeyed all next u w old new
     some_obeyed said carried = record {
       done = so.done ++ orders.0;
       known = orders.2;
-      said = subst (λ (x : List Submitted). Says is_lawful state failures answers marks u w old new x) (sym also_new)
-          (says_then is_lawful state failures answers marks u v w old there new (new_to old (submissions so.done)) (new_to there more) so.said said);
+      said = subst (λ (x : List Submitted). Says is_lawful state failures answers marks u w old new x (notes_in (so.done ++ orders.0))) (sym also_new)
+          (subst (λ (ns : List Note). Says is_lawful state failures answers marks u w old new (new_to old (submissions so.done) ++ new_to there more) ns) (sym noted_so_far)
+          (says_then is_lawful state failures answers marks u v w old there new (new_to old (submissions so.done)) (new_to there more) (notes_in so.done) noted so.said said));
       carried = subst (λ (x : List Submitted). Carries answers old new x) (sym also_new) (then_carries answers old there new (new_to old (submissions so.done)) (new_to there more) so.carried carried);
     }
 
@@ -126,7 +152,25 @@ module _ {D : Type 0} (is_lawful : D → Type 0) (state : D → DiskState) (fail
             then_leaves is_lawful state answers old there new (new_to old (submissions so.done)) (new_to there more) (others n.orders) (new_to old (submissions s.orders))
             (whole s n.orders is.0) so.carried leaves
 
+    -- the notes so far are a beginning of the script's
+    pub notes_left : IfSome all (λ s. (later : List Note) × ((notes_in so.done ++ noted) ++ later ≡ notes_in s.orders))
+    notes_left = by all next orders.2
+      where
+        by : (all next : Option Script) → IsPart all (so.done ++ orders.0) next → IfSome all (λ s. (later : List Note) × ((notes_in so.done ++ noted) ++ later ≡ notes_in s.orders))
+        by None next is = tt
+        by (Some s) None is = absurd is
+        by (Some s) (Some n) is =
+            (notes_in n.orders, ap (λ (l : List Note). l ++ notes_in n.orders) (sym noted_so_far) ∙ sym (notes-append (so.done ++ orders.0) n.orders) ∙ sym (ap notes_in is.0))
+
   module _ (all left next : Option Script) (u v : Option (List ℕ)) (old there : Keeping D) (so : HasObeyed all left u v old there) where
+    pub notes_there : IfSome all (λ s. (later : List Note) × (notes_in so.done ++ later ≡ notes_in s.orders))
+    notes_there = by all left so.known
+      where
+        by : (all left : Option Script) → IsPart all so.done left → IfSome all (λ s. (later : List Note) × (notes_in so.done ++ later ≡ notes_in s.orders))
+        by None left is = tt
+        by (Some s) None is = absurd is
+        by (Some s) (Some l) is = (notes_in l.orders, sym (notes-append so.done l.orders) ∙ sym (ap notes_in is.0))
+
     -- where no further one was asked for
     pub left_there : IfSome all (λ s. Leaves is_lawful state answers old there (new_to old (submissions s.orders)))
     left_there = by all left so.known
@@ -166,11 +210,11 @@ module _ {D : Type 0} (is_lawful : D → Type 0) (state : D → DiskState) (fail
     pub at_end_left : (new : Keeping D) → Asks left next None → Carries answers there new [] → IfSome all (λ s. Leaves is_lawful state answers old new (new_to old (submissions s.orders)))
     at_end_left new asks carried = IfSome_then all (at_end_carried new asks carried) (λ s whole. leaves_all is_lawful state answers old new (new_to old (submissions s.orders)) whole)
 
-    pub at_end_said : (result : Result (Unit {0}) Fault) (w : Option (List ℕ)) (new : Keeping D) → Asks left next None → SaysBy is_lawful state failures answers marks result v w there new []
-        → IfSome all (λ s. SaysBy is_lawful state failures answers marks result u w old new (new_to old (submissions s.orders)))
+    pub at_end_said : (result : Result (Unit {0}) Fault) (w : Option (List ℕ)) (new : Keeping D) → Asks left next None → SaysBy is_lawful state failures answers marks result v w there new [] []
+        → IfSome all (λ s. SaysBy is_lawful state failures answers marks result u w old new (new_to old (submissions s.orders)) (notes_in s.orders))
     at_end_said result w new asks said =
-        IfSome_then all (all_done asks) (λ s is. subst (λ (os : List Order). SaysBy is_lawful state failures answers marks result u w old new (new_to old (submissions os))) (sym is)
-        (then_quiet is_lawful state failures answers marks result u v w old there new (new_to old (submissions so.done)) so.said said))
+        IfSome_then all (all_done asks) (λ s is. subst (λ (os : List Order). SaysBy is_lawful state failures answers marks result u w old new (new_to old (submissions os)) (notes_in os)) (sym is)
+        (then_quiet is_lawful state failures answers marks result u v w old there new (new_to old (submissions so.done)) (notes_in so.done) so.said said))
 
   -- a refusal before the first order
   pub none_left : (old new : Keeping D) (more : List Submitted) → old.broken ≡ false → Leaves is_lawful state answers old new [] → Leaves is_lawful state answers old new more

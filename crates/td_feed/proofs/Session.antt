@@ -18,15 +18,18 @@ use Rattle.td_keeper.specs.Keeping.{Keeping, since_base}
 use Rattle.td_keeper.specs.Driven.{Obeys, ComesOf, submitted_in}
 use Rattle.td_pool.specs.declared.error.PoolError.{PoolError}
 use Rattle.td_console.specs.declared.faults.Fault.{Fault}
-use Rattle.td_console.specs.declared.faults.Fault.TheVariants.{Keeper}
+use Rattle.std.specs.Io.KnownBytes.{Appends}
+use Rattle.td_console.specs.declared.faults.Fault.TheVariants.{Keeper, Output, Memory}
+use Rattle.td_feed.specs.Noted.{note_line}
 use Rattle.td_feed.specs.Carried.{batch_in, new_to, is_refused, Carries, Leaves}
 use Rattle.td_feed.specs.Said.{Says, SaysBy}
-use Rattle.td_feed.specs.Orders.{submissions}
+use Rattle.td_feed.specs.declared.note.Note.{Note}
+use Rattle.td_feed.specs.Orders.{submissions, notes_in}
 use Rattle.td_feed.specs.Asked.{Script}
-use Rattle.td_feed.specs.Session.{KeepsDisk, Feeds, FeedsScript, IsObeyed, IsNotObeyed}
+use Rattle.td_feed.specs.Session.{KeepsDisk, FeedsNoting, Feeds, FeedsScript, IsObeyed, IsNotObeyed}
 use Rattle.td_feed.proofs.Carrying.{at_err, at_ok, ok_only, ended_ok, ended_err, unmoved, then_carries, carries_then, carries_after, leaves_none, leaves_all, leaves_then, leaves_after}
 use Rattle.td_feed.proofs.Counting.{counts_same, counts_handed, counts_after, same_count, ended_counts}
-use Rattle.td_feed.proofs.Lines.{EndedAs, is_quiet, says_nothing, then_quiet, then_by, quietly, some_of_all, refused_some, ended_says}
+use Rattle.td_feed.proofs.Lines.{EndedAs, is_quiet, says_nothing, then_quiet, then_by, quietly, noted_by, unsaid_none, refused_some, ended_says}
 
 -- what holds of the value, where it is known
 pub known : {A : Type 0} (P : A → Type 0) (o : Option A) (a : A) → o ≡ Some a → IfSome o P → P a
@@ -94,12 +97,12 @@ module _ {D : Type 0} {is_lawful : D → Type 0} {state : D → DiskState} {fail
   fed_nothing {w = w} {k = k} whole = record { carried = unmoved answers k k refl refl whole; left = tt; said = says_nothing is_lawful state failures answers marks w k }
 
   -- and then nothing more
-  pub fed_then : {d : Unit {0}} {r : Result (Unit {0}) Fault} {u v w : Option (List ℕ)} {a b c : Keeping D} {x : List Submitted} → Feeds is_lawful state failures answers marks (Ok d) u v a b x
-      → Feeds is_lawful state failures answers marks r v w b c [] → Feeds is_lawful state failures answers marks r u w a c x
-  fed_then {r = r} {u = u} {v = v} {w = w} {a = a} {b = b} {c = c} {x = x} first next = record {
+  pub fed_then : {d : Unit {0}} {r : Result (Unit {0}) Fault} {u v w : Option (List ℕ)} {a b c : Keeping D} {x : List Submitted} {ns : List Note} → FeedsNoting is_lawful state failures answers marks (Ok d) u v a b x ns
+      → Feeds is_lawful state failures answers marks r v w b c [] → FeedsNoting is_lawful state failures answers marks r u w a c x ns
+  fed_then {r = r} {u = u} {v = v} {w = w} {a = a} {b = b} {c = c} {x = x} {ns = ns} first next = record {
     carried = on_ok_weaker r (λ more. carries_then is_lawful state answers a b c x first.carried more) next.carried;
     left = on_err_weaker r (λ more. leaves_then is_lawful state answers a b c x first.carried more) next.left;
-    said = then_quiet is_lawful state failures answers marks r u v w a b c x first.said next.said;
+    said = then_quiet is_lawful state failures answers marks r u v w a b c x ns first.said next.said;
   }
 
   -- nothing, and then these
@@ -108,15 +111,15 @@ module _ {D : Type 0} {is_lawful : D → Type 0} {state : D → DiskState} {fail
   fed_after {r = r} {u = u} {v = v} {w = w} {a = a} {b = b} {c = c} {x = x} first next = record {
     carried = on_ok_weaker r (λ more. carries_after is_lawful state answers a b c x first.carried more) next.carried;
     left = on_err_weaker r (λ more. leaves_after is_lawful state answers a b c x first.carried more) next.left;
-    said = then_by is_lawful state failures answers marks r u v w a b c [] x first.said next.said;
+    said = then_by is_lawful state failures answers marks r u v w a b c [] x [] [] first.said next.said;
   }
 
   -- the same fault is handed on
-  pub fed_handed : {e : Fault} {u v : Option (List ℕ)} {a b : Keeping D} {x : List Submitted} (r : Result (Unit {0}) Fault) → IsErrAnd r (λ f. f ≡ e)
-      → Feeds is_lawful state failures answers marks (Err e) u v a b x → Feeds is_lawful state failures answers marks r u v a b x
+  pub fed_handed : {e : Fault} {u v : Option (List ℕ)} {a b : Keeping D} {x : List Submitted} {ns : List Note} (r : Result (Unit {0}) Fault) → IsErrAnd r (λ f. f ≡ e)
+      → FeedsNoting is_lawful state failures answers marks (Err e) u v a b x ns → FeedsNoting is_lawful state failures answers marks r u v a b x ns
   fed_handed (Ok d) none fed = absurd none
-  fed_handed {u = u} {v = v} {a = a} {b = b} {x = x} (Err f) is fed =
-      subst (λ (g : Fault). Feeds is_lawful state failures answers marks (Err g) u v a b x) (sym is) fed
+  fed_handed {u = u} {v = v} {a = a} {b = b} {x = x} {ns = ns} (Err f) is fed =
+      subst (λ (g : Fault). FeedsNoting is_lawful state failures answers marks (Err g) u v a b x ns) (sym is) fed
 
   -- a command whose reply has no line was obeyed
   pub fed_quietly : {w : Option (List ℕ)} {a b : Keeping D} (command : Command) (reply : Reply) → is_quiet command ≡ true → Carries answers a b [] → IsObeyed is_lawful state failures answers command reply a b
@@ -125,7 +128,7 @@ module _ {D : Type 0} {is_lawful : D → Type 0} {state : D → DiskState} {fail
       record { carried = carried; left = tt; said = quietly is_lawful state failures answers marks w command reply a b quiet is.obeyed is.driven }
 
   -- nothing was submitted, at whatever answer
-  pub fed_quiet : {u v : Option (List ℕ)} {a b : Keeping D} (r : Result (Unit {0}) Fault) → Carries answers a b [] → SaysBy is_lawful state failures answers marks r u v a b []
+  pub fed_quiet : {u v : Option (List ℕ)} {a b : Keeping D} (r : Result (Unit {0}) Fault) → Carries answers a b [] → SaysBy is_lawful state failures answers marks r u v a b [] []
       → Feeds is_lawful state failures answers marks r u v a b []
   fed_quiet {a = a} {b = b} r carried said = record { carried = at_ok r carried; left = at_err r (leaves_none is_lawful state answers a b [] carried); said = said }
 
@@ -139,19 +142,28 @@ module _ {D : Type 0} {is_lawful : D → Type 0} {state : D → DiskState} {fail
     said = inr (refused_some is_lawful state failures answers marks w command a b refused.refused);
   }
 
+  -- a note was to be written
+  pub fed_note : {u v : Option (List ℕ)} {k : Keeping D} {P : Type 0} (r : Result (Unit {0}) Fault) (note : Note) → k.broken ≡ false → OnOk r (Appends u v (note_line note))
+      → IfErr r (λ f. (f ≡ Output) ⊎ ((f ≡ Memory) × P)) → (P → v ≡ u) → FeedsNoting is_lawful state failures answers marks r u v k k [] (note ∷ [])
+  fed_note {u = u} {v = v} {k = k} {P = P} r note whole said unsaid same = record {
+    carried = at_ok r (unmoved answers k k refl refl whole);
+    left = at_err r (leaves_none is_lawful state answers k k [] (unmoved answers k k refl refl whole));
+    said = noted_by is_lawful state failures answers marks r u v note k P said unsaid same;
+  }
+
   -- nothing was done
-  pub unfed : {w : Option (List ℕ)} {k : Keeping D} {x : List Submitted} (f : Fault) → k.broken ≡ false → Feeds is_lawful state failures answers marks (Err f) w w k k x
-  unfed {w = w} {k = k} {x = x} f whole = record {
+  pub unfed : {w : Option (List ℕ)} {k : Keeping D} {x : List Submitted} {ns : List Note} (f : Fault) → k.broken ≡ false → FeedsNoting is_lawful state failures answers marks (Err f) w w k k x ns
+  unfed {w = w} {k = k} {x = x} {ns = ns} f whole = record {
     carried = tt;
     left = leaves_none is_lawful state answers k k x (unmoved answers k k refl refl whole);
-    said = inr (some_of_all is_lawful state failures answers marks w w k k [] (says_nothing is_lawful state failures answers marks w k));
+    said = inr (unsaid_none is_lawful state failures answers marks w k ns);
   }
 
   pub none_fed : {w : Option (List ℕ)} {k : Keeping D} {s : Script} (f : Fault) → k.broken ≡ false → FeedsScript is_lawful state failures answers marks (Err f) w w k k s
   none_fed f whole = record { sound = tt; fed = unfed f whole }
 
   -- what is left at any answer
-  pub left_of : {u v : Option (List ℕ)} {a b : Keeping D} {x : List Submitted} (r : Result (Unit {0}) Fault) → Feeds is_lawful state failures answers marks r u v a b x → Leaves is_lawful state answers a b x
+  pub left_of : {u v : Option (List ℕ)} {a b : Keeping D} {x : List Submitted} {ns : List Note} (r : Result (Unit {0}) Fault) → FeedsNoting is_lawful state failures answers marks r u v a b x ns → Leaves is_lawful state answers a b x
   left_of {a = a} {b = b} {x = x} (Ok d) fed = leaves_all is_lawful state answers a b x fed.carried
   left_of (Err f) fed = fed.left
 
@@ -165,13 +177,13 @@ module _ {D : Type 0} {is_lawful : D → Type 0} {state : D → DiskState} {fail
         fed = record {
           carried = ended_ok (Carries answers a b x) tt obeyed r same fed.fed.carried;
           left = ended_err (Carries answers a b x) (Leaves is_lawful state answers a b x) obeyed r (λ whole. leaves_all is_lawful state answers a b x whole) fed.fed.carried fed.fed.left;
-          said = ended_says is_lawful state failures answers marks u v a b x obeyed r worked ok err fed.fed.said;
+          said = ended_says is_lawful state failures answers marks u v a b x (notes_in s.orders) obeyed r worked ok err fed.fed.said;
         };
       }
 
   -- a script was refused
   pub err_fed : {u v : Option (List ℕ)} {a b : Keeping D} {s : Script} (P : Fault → Type 0) (r : Result (Unit {0}) Fault) → IsErrAnd r P → Leaves is_lawful state answers a b (new_to a (submissions s.orders))
-      → SaysBy is_lawful state failures answers marks r u v a b (new_to a (submissions s.orders)) → FeedsScript is_lawful state failures answers marks r u v a b s
+      → SaysBy is_lawful state failures answers marks r u v a b (new_to a (submissions s.orders)) (notes_in s.orders) → FeedsScript is_lawful state failures answers marks r u v a b s
   err_fed P (Ok d) none left said = absurd none
   err_fed P (Err f) holds left said = record { sound = tt; fed = record { carried = tt; left = left; said = said } }
 

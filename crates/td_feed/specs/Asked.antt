@@ -1,20 +1,28 @@
 -- What an input asks for that is read line by line.
-use Rattle.std.specs.Prelude.{◌≡◌, ℕ, ◌+◌, Bool, true, false, List, [], ◌∷◌, ◌++◌, Option, Some, None, option_map, Result, Ok, Err}
+use Rattle.std.specs.Prelude.{◌≡◌, ℕ, ◌+◌, ◌==◌, nat_lt, if◌then◌else◌, Bool, true, false, List, [], ◌∷◌, ◌++◌, length, Option, Some, None, option_map, Result, Ok, Err}
 use Rattle.std.specs.Io.KnownBytes.{prepend_known}
 use Rattle.td_plan.specs.Lines.{Line as PlanLine}
 use Rattle.td_plan.specs.Text.{text_lines}
+use Rattle.td_console.specs.declared.data_line.DataLine.TheVariants.{Close}
 use Rattle.td_console.specs.declared.faults.LineFault.{LineFault}
+use Rattle.td_console.specs.declared.faults.LineFault.TheVariants.{Syntax}
 use Rattle.td_console.specs.declared.faults.Fault.{Fault}
 use Rattle.td_console.specs.declared.faults.Fault.TheVariants.{Input, Line, Memory, Keeper}
 use Rattle.td_standing.specs.declared.error.KeeperError.TheVariants.{TooManyRecords}
 use Rattle.td_journal.specs.declared.submitted.Submitted.{Submitted}
 use Rattle.td_group.specs.Groups.{may_follow}
 use Rattle.td_journal.specs.Numbers.{may_come}
+use Rattle.td_feed.specs.declared.note.Flaw.{Flaw}
+use Rattle.td_feed.specs.declared.note.Flaw.TheVariants as flaws
+use Rattle.td_feed.specs.declared.note.Note.{Note}
+use Rattle.td_feed.specs.declared.order.FeedLine.{FeedLine}
+use Rattle.td_feed.specs.declared.order.FeedLine.TheVariants.{Data, Request}
 use Rattle.td_feed.specs.declared.order.Order.{Order}
 use Rattle.td_feed.specs.declared.order.Order.TheVariants as order
+use Rattle.td_feed.specs.declared.reading.Reading.{Reading as AnyReading}
 use Rattle.td_feed.specs.declared.at_once.Asked.{Asked}
 use Rattle.td_feed.specs.declared.at_once.Asked.TheVariants.{One, Epochs}
-use Rattle.td_feed.specs.Orders.{Orders, no_orders, is_between, feed_line_of, with_line, submissions}
+use Rattle.td_feed.specs.Orders.{Orders, no_orders, numbered, is_between, feed_line_of, with_line, with_order, submissions, notes_in}
 
 -- what is left of an input, of which some bytes were read and are in no line yet
 abbrev pub unread : Option (List ℕ) → List ℕ → Option (List ℕ)
@@ -32,23 +40,107 @@ pub record Script : Type 0 where
   pub orders : List Order
   pub is_sound : Bool
 
+-- what was read, and why the epoch that is open is refused, if it is, with the number of a line
+abbrev pub ReadSoFar : Type 0
+ReadSoFar = Option (ℕ × Flaw) × Orders
+
+-- AN EPOCH IS REFUSED for the line with this number
+abbrev pub refused : ℕ → Orders → Flaw → ReadSoFar
+refused n read why = (Some (n, why), numbered read.request read)
+
+-- whether an epoch has more records than it may have, where it is refused then
+abbrev pub is_over : Option ℕ → ℕ → Bool
+is_over None n = false
+is_over (Some most) n = nat_lt most n
+
+-- with one line more, unless the epoch is refused for what it has then
+abbrev pub unless_over : ℕ → Orders → Orders → Bool → ReadSoFar
+unless_over n read next true = refused n read flaws.TooManyRecords
+unless_over n read next false = (None, next)
+
+-- a fault, for which an epoch is refused where that is to be
+abbrev pub flaw_in : Fault → Flaw
+flaw_in (Line n fault) = flaws.Line fault
+flaw_in _ = flaws.Line Syntax
+
+abbrev pub unless_refused : ℕ → Orders → Fault → Option ℕ → Result ReadSoFar Fault
+unless_refused n read fault None = Err fault
+unless_refused n read fault (Some most) = Ok (refused n read (flaw_in fault))
+
+abbrev pub judged : Option ℕ → ℕ → Orders → Result Orders Fault → Result ReadSoFar Fault
+judged limit n read (Ok next) = Ok (unless_over n read next (is_over limit (length next.current)))
+judged limit n read (Err fault) = unless_refused n read fault limit
+
+-- a request number stands in an epoch that is refused, where there is none yet
+abbrev pub first_number : ℕ → ℕ → ℕ
+first_number request q = if request == 0 then q else request
+
+-- the note for an epoch that is refused
+abbrev pub note_of : ℕ → ℕ × Flaw → Note
+note_of request why = record { request = request; line = why.0; flaw = why.1 }
+
+-- A LINE OF AN EPOCH THAT IS REFUSED: a `.` ends it, and its note is to be written; a request number is its own; all others are passed over
+abbrev pub passed_over : ℕ × Flaw → Orders → Option FeedLine → ReadSoFar
+passed_over why read (Some (Data Close)) = (None, with_order (order.Say (note_of read.request why)) read)
+passed_over why read (Some (Request q)) = (Some why, numbered (first_number read.request q) read)
+passed_over why read _ = (Some why, numbered read.request read)
+
+-- WITH ONE LINE MORE, which has the number n, or its fault: an epoch with a faulty line, or with too many records, is refused where
+-- there is a limit of these
+abbrev pub with_said : List PlanLine → Option ℕ → ℕ → Option (ℕ × Flaw) → Orders → Option FeedLine → Result ReadSoFar Fault
+with_said plan limit n (Some why) read said = Ok (passed_over why read said)
+with_said plan limit n None read said = judged limit n read (with_line plan n read said)
+
+-- WHERE A STREAM IS in its input: its plan; where it refuses epochs, how many records one may have; the number of the next line; why the
+-- epoch that is open is refused, if it is; and what was read
+pub record Reading : Type 0 where
+  pub plan : List PlanLine
+  pub limit : Option ℕ
+  pub number : ℕ
+  pub flaw : Option (ℕ × Flaw)
+  pub read : Orders
+
+-- of a reader of lines
+abbrev pub place : AnyReading → Reading
+place r = record { plan = r.plan.now; limit = r.limit; number = r.number; flaw = r.flaw; read = r.read }
+
+-- before the first line
+abbrev pub at_start : Option ℕ → List PlanLine → Reading
+at_start limit plan = record { plan = plan; limit = limit; number = 1; flaw = None; read = no_orders }
+
+-- after one line more, or its fault
+abbrev pub after_line : Reading → ReadSoFar → Reading
+after_line r next = record { plan = r.plan; limit = r.limit; number = r.number + 1; flaw = next.0; read = next.1 }
+
+abbrev pub onward : Reading → Result ReadSoFar Fault → Result Reading Fault
+onward r (Ok next) = Ok (after_line r next)
+onward r (Err fault) = Err fault
+
+abbrev pub with_next : Reading → List ℕ → Result Reading Fault
+with_next r line = onward r (with_said r.plan r.limit r.number r.flaw r.read (feed_line_of line))
+
+-- at the end, no epoch may have begun
+abbrev pub may_end : Option (ℕ × Flaw) → Bool → Bool
+may_end (Some why) between = false
+may_end None between = between
+
 -- what comes after a line, unless it is a fault
-abbrev pub script_after : Orders → (Orders → Script) → Result Orders Fault → Script
+abbrev pub script_after : Orders → (Reading → Script) → Result Reading Fault → Script
 script_after read next (Ok more) = next more
 script_after read next (Err fault) = record { orders = read.orders; is_sound = false }
 
--- the script with some more lines, of which the first has the number n
-abbrev pub script_from : List PlanLine → ℕ → Orders → List (List ℕ) → Script
-script_from plan n read [] = record { orders = read.orders; is_sound = is_between read }
-script_from plan n read (line ∷ lines) = script_after read (λ more. script_from plan (n + 1) more lines) (with_line plan n read (feed_line_of line))
+-- the script with some more lines
+abbrev pub script_from : Reading → List (List ℕ) → Script
+script_from r [] = record { orders = r.read.orders; is_sound = may_end r.flaw (is_between r.read) }
+script_from r (line ∷ lines) = script_after r.read (λ more. script_from more lines) (with_next r line)
 
--- THE SCRIPT OF AN INPUT
-abbrev pub script_of : List PlanLine → List ℕ → Script
-script_of plan input = script_from plan 1 no_orders (text_lines input)
+-- THE SCRIPT OF AN INPUT, of a stream that refuses epochs, with so many records at most, or of another one
+abbrev pub script_of : Option ℕ → List PlanLine → List ℕ → Script
+script_of limit plan input = script_from (at_start limit plan) (text_lines input)
 
 -- what is left of a script, where the rest of the input is known
-abbrev pub script_left : Option (List ℕ) → List PlanLine → ℕ → Orders → Option Script
-script_left rest plan n read = option_map (λ input. script_from plan n read (text_lines input)) rest
+abbrev pub script_left : Option (List ℕ) → Reading → Option Script
+script_left rest r = option_map (λ input. script_from r (text_lines input)) rest
 
 -- a script after some orders, and one that has come to a fault
 abbrev pub after_orders : List Order → Script → Script
@@ -58,13 +150,13 @@ abbrev pub faulty : Script
 faulty = record { orders = []; is_sound = false }
 
 -- the script with some more lines, where orders were read ahead, and perhaps the fault after them
-abbrev pub script_on : List PlanLine → ℕ → Orders → List Order → Option (ℕ × LineFault) → List (List ℕ) → Script
-script_on plan n read ahead None lines = after_orders ahead (script_from plan n read lines)
-script_on plan n read ahead (Some fault) lines = after_orders ahead faulty
+abbrev pub script_on : Reading → List Order → Option (ℕ × LineFault) → List (List ℕ) → Script
+script_on r ahead None lines = after_orders ahead (script_from r lines)
+script_on r ahead (Some fault) lines = after_orders ahead faulty
 
 -- what is left of it, where the rest of the input is known
-abbrev pub script_ahead : Option (List ℕ) → List PlanLine → ℕ → Orders → List Order → Option (ℕ × LineFault) → Option Script
-script_ahead rest plan n read ahead stopped = option_map (λ input. script_on plan n read ahead stopped (text_lines input)) rest
+abbrev pub script_ahead : Option (List ℕ) → Reading → List Order → Option (ℕ × LineFault) → Option Script
+script_ahead rest r ahead stopped = option_map (λ input. script_on r ahead stopped (text_lines input)) rest
 
 -- a script before an order, if there is one
 abbrev pub after_order : Option Order → Script → Script
@@ -72,12 +164,12 @@ after_order None script = script
 after_order (Some order) script = record { orders = order ∷ script.orders; is_sound = script.is_sound }
 
 -- one line more, by which an order was completed, or none
-abbrev pub Completes : List PlanLine → ℕ → Orders → ℕ → Orders → List ℕ → Option Order → Type 0
-Completes plan n read m next line order = (more : List (List ℕ)) → script_from plan n read (line ∷ more) ≡ after_order order (script_from plan m next more)
+abbrev pub Completes : Reading → Reading → List ℕ → Option Order → Type 0
+Completes r next line order = (more : List (List ℕ)) → script_from r (line ∷ more) ≡ after_order order (script_from next more)
 
 -- one line more, which has a fault
-abbrev pub HasFault : List PlanLine → ℕ → Orders → List ℕ → Type 0
-HasFault plan n read line = (more : List (List ℕ)) → script_from plan n read (line ∷ more) ≡ faulty
+abbrev pub HasFault : Reading → List ℕ → Type 0
+HasFault r line = (more : List (List ℕ)) → script_from r (line ∷ more) ≡ faulty
 
 -- a script is the same where it is known
 abbrev pub SameScript : Option Script → Option Script → Type 0
@@ -90,16 +182,22 @@ abbrev pub IsNext : ℕ → Order → Type 0
 IsNext last (order.Submit batch) = Unit {0}
 IsNext last (order.SubmitAs request batch) = may_come (Some last) request ≡ true
 IsNext last order.Cut = ⊥
+IsNext last (order.Say note) = ⊥
 
 -- what is asked for at once submits these
 abbrev pub asked_for : Asked → List Submitted
 asked_for (One order) = submissions (order ∷ [])
 asked_for (Epochs group) = group
 
+-- and has these notes written
+abbrev pub notes_for : Asked → List Note
+notes_for (One order) = notes_in (order ∷ [])
+notes_for (Epochs group) = []
+
 -- and is these orders: one alone, or some that submit a group
 abbrev pub IsOf : Asked → List Order → Type 0
 IsOf (One order) orders = orders ≡ order ∷ []
-IsOf (Epochs group) orders = submissions orders ≡ group
+IsOf (Epochs group) orders = (submissions orders ≡ group) × (notes_in orders ≡ [])
 
 -- something was asked for, the first of a script; or nothing, and the script has ended without a fault
 abbrev pub Asks : Option Script → Option Script → Option Asked → Type 0

@@ -1,3 +1,4 @@
+pub mod Noted
 pub mod Orders
 pub mod Narrowed
 pub mod Shown

@@ -21,6 +21,7 @@ use Rattle.td_feed.specs.declared.order.FeedLine.{FeedLine}
 use Rattle.td_feed.specs.declared.order.FeedLine.TheVariants.{Data, Request, Cut}
 use Rattle.td_feed.specs.declared.order.Order.{Order}
 use Rattle.td_feed.specs.declared.order.Order.TheVariants as order
+use Rattle.td_feed.specs.declared.note.Note.{Note}
 
 -- whether the one word is `cut`
 abbrev pub is_cut : List (List ℕ) → Bool
@@ -62,6 +63,10 @@ no_orders = record { orders = []; request = 0; current = [] }
 -- with one order more, and nothing after it
 abbrev pub with_order : Order → Orders → Orders
 with_order o read = record { orders = read.orders ++ o ∷ []; request = 0; current = [] }
+
+-- with this request number, of an epoch without records
+abbrev pub numbered : ℕ → Orders → Orders
+numbered request read = record { orders = read.orders; request = request; current = [] }
 
 -- whether there is no record
 abbrev pub has_none : List Entry → Bool
@@ -123,6 +128,15 @@ submissions [] = []
 submissions (order.Submit batch ∷ orders) = submission 0 batch ∷ submissions orders
 submissions (order.SubmitAs request batch ∷ orders) = submission request batch ∷ submissions orders
 submissions (order.Cut ∷ orders) = submissions orders
+submissions (order.Say note ∷ orders) = submissions orders
+
+-- what orders would have written beside
+abbrev pub notes_in : List Order → List Note
+notes_in [] = []
+notes_in (order.Submit batch ∷ orders) = notes_in orders
+notes_in (order.SubmitAs request batch ∷ orders) = notes_in orders
+notes_in (order.Cut ∷ orders) = notes_in orders
+notes_in (order.Say note ∷ orders) = note ∷ notes_in orders
 
 -- WHICH OF THESE ARE NEW after a greatest request number: each that has no number, and each whose number is above all before
 abbrev pub new_after : ℕ → List Submitted → List Submitted
@@ -134,11 +148,12 @@ abbrev pub submitted_by : Result (List Order) Fault → List Submitted
 submitted_by (Ok orders) = submissions orders
 submitted_by (Err fault) = []
 
--- what an order submits names inputs of the plan
+-- what an order of a feed submits names inputs of the plan; it has no notes
 abbrev pub IsAccepted : List PlanLine → Order → Type 0
 IsAccepted plan (order.Submit batch) = IsTrue (list_all (λ e. is_input_of plan e.input) batch)
 IsAccepted plan (order.SubmitAs request batch) = IsTrue (list_all (λ e. is_input_of plan e.input) batch)
 IsAccepted plan order.Cut = Unit {0}
+IsAccepted plan (order.Say note) = ⊥
 
 -- a fault of an input: of a line, or for want of memory
 abbrev pub is_of_input : Fault → Bool
@@ -147,7 +162,7 @@ is_of_input Memory = true
 is_of_input _ = false
 
 -- a call gave this answer, or was refused a growth
-abbrev pub Gives : Result Orders Fault → Result Orders Fault → Type 0
+abbrev pub Gives : {A : Type 0} → Result A Fault → Result A Fault → Type 0
 Gives (Ok read) wanted = wanted ≡ Ok read
 Gives (Err fault) wanted = (fault ≡ Memory) ⊎ (wanted ≡ Err fault)
 

@@ -1,5 +1,5 @@
--- What a feed writes: the lines of what its keeper replied.
-use Rattle.std.specs.Prelude.{◌≡◌, ◌⊎◌, ℕ, zero, suc, ◌-◌, Bool, true, false, List, [], ◌∷◌, ◌++◌, codes, All, Option, Some, Result, Ok, Err, OnOk}
+-- What a feed writes: the lines of what its keeper replied, and notes.
+use Rattle.std.specs.Prelude.{◌≡◌, ◌⊎◌, ℕ, zero, suc, ◌-◌, Bool, true, false, List, [], ◌∷◌, ◌++◌, codes, All, Option, Some, None, IfSome, Result, Ok, Err, OnOk}
 use Rattle.std.specs.Fmt.{decimal}
 use Rattle.std.specs.Io.KnownBytes.{Appends}
 use Rattle.td_stamp.specs.declared.epoch_out.EpochOut.{EpochOut}
@@ -23,6 +23,8 @@ use Rattle.td_keeper.specs.declared.command.Command.TheVariants.{SubmitAs}
 use Rattle.td_keeper.specs.declared.receipt.Receipt.TheVariants.{New, Already}
 use Rattle.td_keeper.specs.Keeping.{Keeping, IsKeeping, IsFreshlyOpened}
 use Rattle.td_keeper.specs.Driven.{submitted_by, AcknowledgesUpTo, Driven}
+use Rattle.td_feed.specs.declared.note.Note.{Note}
+use Rattle.td_feed.specs.Noted.{note_line}
 use Rattle.td_feed.specs.Carried.{new_to, is_refused}
 use Rattle.td_feed.specs.Shown.{IsRefusedAs}
 use Rattle.td_console.specs.Answer.{output_text}
@@ -70,10 +72,32 @@ line_of marks request (Out (Some out)) = out_lines marks out
 line_of marks request (Written (Some epoch)) = cut_line epoch
 line_of marks request _ = []
 
--- of replies to commands, one after another
-abbrev pub lines_of : Bool → List Command → List Reply → List ℕ
-lines_of marks (command ∷ commands) (reply ∷ replies) = line_of marks (request_in command) reply ++ lines_of marks commands replies
-lines_of marks _ _ = []
+-- WHAT IS SAID: the lines of a reply to a command, or a note
+pub data Saying : Type 0 where
+  replied : Command → Reply → Saying
+  aside : Note → Saying
+
+-- the commands of what is said, the replies, and the notes
+abbrev pub commands_in : List Saying → List Command
+commands_in [] = []
+commands_in (replied command reply ∷ more) = command ∷ commands_in more
+commands_in (aside note ∷ more) = commands_in more
+
+abbrev pub replies_in : List Saying → List Reply
+replies_in [] = []
+replies_in (replied command reply ∷ more) = reply ∷ replies_in more
+replies_in (aside note ∷ more) = replies_in more
+
+abbrev pub notes_among : List Saying → List Note
+notes_among [] = []
+notes_among (replied command reply ∷ more) = notes_among more
+notes_among (aside note ∷ more) = note ∷ notes_among more
+
+-- the lines of it, one after another
+abbrev pub lines_of : Bool → List Saying → List ℕ
+lines_of marks [] = []
+lines_of marks (replied command reply ∷ more) = line_of marks (request_in command) reply ++ lines_of marks more
+lines_of marks (aside note ∷ more) = note_line note ++ lines_of marks more
 
 -- ALL OUTPUTS of a keeper's epochs were handed out
 pub record IsAllOut {D : Type 0} (k : Keeping D) : Type 0 where
@@ -86,23 +110,35 @@ fault_in (Refused error back) = keeper_fault error
 fault_in (RefusedAll (Keeper error) back) = keeper_fault error
 fault_in _ = Memory
 
-module _ {D : Type 0} (is_lawful : D → Type 0) (state : D → DiskState) (failures : D → ℕ) (answers : Answers) (marks : Bool) where
-  -- A KEEPER WAS TOLD WHAT SUBMITS THESE, and the lines of its replies were appended to what a writer holds, all of them, in order
-  pub record Says (before after : Option (List ℕ)) (old new : Keeping D) (x : List AnySubmitted) : Type 0 where
-    pub commands : List Command
-    pub replies : List Reply
-    pub driven : Driven is_lawful state failures answers commands replies old new
-    pub submitted : submitted_by commands replies ≡ x
-    pub said : Appends before after (lines_of marks commands replies)
+-- WHAT AN INPUT ASKS FOR: epochs; notes; and of a stream that refuses epochs how many records one may have
+pub record Wanted : Type 0 where
+  pub epochs : List AnySubmitted
+  pub notes : List Note
+  pub limit : Option ℕ
 
-  -- or a beginning of them: no line is written before its reply
-  pub record SaysSome (before after : Option (List ℕ)) (old new : Keeping D) : Type 0 where
-    pub commands : List Command
-    pub replies : List Reply
-    pub driven : Driven is_lawful state failures answers commands replies old new
+-- epochs alone
+abbrev pub epochs_alone : List AnySubmitted → Wanted
+epochs_alone x = record { epochs = x; notes = []; limit = None }
+
+module _ {D : Type 0} (is_lawful : D → Type 0) (state : D → DiskState) (failures : D → ℕ) (answers : Answers) (marks : Bool) where
+  -- A KEEPER WAS TOLD WHAT SUBMITS THESE, and the lines of its replies were appended to what a writer holds, and these notes beside them,
+  -- all of them, in order
+  pub record Says (before after : Option (List ℕ)) (old new : Keeping D) (x : List AnySubmitted) (notes : List Note) : Type 0 where
+    pub sayings : List Saying
+    pub driven : Driven is_lawful state failures answers (commands_in sayings) (replies_in sayings) old new
+    pub submitted : submitted_by (commands_in sayings) (replies_in sayings) ≡ x
+    pub noted : notes_among sayings ≡ notes
+    pub said : Appends before after (lines_of marks sayings)
+
+  -- or a beginning of them: no line is written before its reply, and the notes are the first of these
+  pub record SaysSome (before after : Option (List ℕ)) (old new : Keeping D) (notes : List Note) : Type 0 where
+    pub sayings : List Saying
+    pub driven : Driven is_lawful state failures answers (commands_in sayings) (replies_in sayings) old new
+    pub later : List Note
+    pub noted : notes_among sayings ++ later ≡ notes
     pub text : List ℕ
     pub unsaid : List ℕ
-    pub lines : lines_of marks commands replies ≡ text ++ unsaid
+    pub lines : lines_of marks sayings ≡ text ++ unsaid
     pub said : Appends before after text
 
   -- or nothing is known of the writer, which failed
@@ -112,14 +148,15 @@ module _ {D : Type 0} (is_lawful : D → Type 0) (state : D → DiskState) (fail
     pub driven : Driven is_lawful state failures answers commands replies old new
 
   -- all of them after Ok, and a beginning at a refusal
-  abbrev pub SaysBy : Result (Unit {0}) Fault → Option (List ℕ) → Option (List ℕ) → Keeping D → Keeping D → List AnySubmitted → Type 0
-  SaysBy (Ok done) before after old new x = Says before after old new x
-  SaysBy (Err fault) before after old new x = ((fault ≡ Output) × SaysUnheard old new) ⊎ SaysSome before after old new
+  abbrev pub SaysBy : Result (Unit {0}) Fault → Option (List ℕ) → Option (List ℕ) → Keeping D → Keeping D → List AnySubmitted → List Note → Type 0
+  SaysBy (Ok done) before after old new x notes = Says before after old new x notes
+  SaysBy (Err fault) before after old new x notes = ((fault ≡ Output) × SaysUnheard old new) ⊎ SaysSome before after old new notes
 
   -- A FEED OF A DISK: its keeper is what the disk tells, perhaps with a watch attached, and what was written are the lines of what
   -- that keeper replied; it was told what submits those of these that are new to it; and the disk that is left holds what the keeper
-  -- stands for in the end, image by image. Of a keeper that worked alone, with a hall of its own, all outputs went out by an Ok
-  pub record SaysFrom (result : Result (Unit {0}) Fault) (plan : List PlanLine) (alone : Bool) (disk left : D) (before after : Option (List ℕ)) (x : List AnySubmitted) : Type 0 where
+  -- stands for in the end, image by image. Of a keeper that worked alone, with a hall of its own, all outputs went out by an Ok. Where
+  -- epochs are refused, one may have as many records as the disk's cells
+  pub record SaysFrom (result : Result (Unit {0}) Fault) (plan : List PlanLine) (alone : Bool) (disk left : D) (before after : Option (List ℕ)) (wanted : Wanted) : Type 0 where
     pub keeper : Keeping D
     pub fresh : IsFreshlyOpened keeper
     pub plan_is : keeper.plan ≡ plan
@@ -133,7 +170,8 @@ module _ {D : Type 0} (is_lawful : D → Type 0) (state : D → DiskState) (fail
     pub left_is : left ≡ ended.device
     pub lawful_left : is_lawful disk → is_lawful left
     pub holds : is_lawful left → HeldWhere ended.broken answers ended.plan ended.head ended.side ended.standing (state left)
-    pub said : SaysBy result before after (record keeper { watch = watch }) ended (new_to keeper x)
+    pub limit : IfSome wanted.limit (λ most. most ≡ keeper.head.shape.m)
+    pub said : SaysBy result before after (record keeper { watch = watch }) ended (new_to keeper wanted.epochs) wanted.notes
     pub all_out : alone ≡ true → OnOk result (IsAllOut ended)
 
   -- OR NO KEEPER WAS FOUND on it: the disk tells this refusal, or a call of it or memory failed; and nothing was written, there or to a writer
@@ -143,9 +181,9 @@ module _ {D : Type 0} (is_lawful : D → Type 0) (state : D → DiskState) (fail
     pub unwritten : is_lawful disk → CrashSafe Unchanged (state disk) (state left)
     pub said : after ≡ before
 
-  abbrev pub SaysFed : Result (Unit {0}) Fault → List PlanLine → Bool → D → D → Option (List ℕ) → Option (List ℕ) → List AnySubmitted → Type 0
-  SaysFed (Ok done) plan alone disk left before after x = SaysFrom (Ok done) plan alone disk left before after x
-  SaysFed (Err fault) plan alone disk left before after x = IsUntouched fault plan disk left before after ⊎ SaysFrom (Err fault) plan alone disk left before after x
+  abbrev pub SaysFed : Result (Unit {0}) Fault → List PlanLine → Bool → D → D → Option (List ℕ) → Option (List ℕ) → Wanted → Type 0
+  SaysFed (Ok done) plan alone disk left before after wanted = SaysFrom (Ok done) plan alone disk left before after wanted
+  SaysFed (Err fault) plan alone disk left before after wanted = IsUntouched fault plan disk left before after ⊎ SaysFrom (Err fault) plan alone disk left before after wanted
 
 module _ {D : Type 0} (is_lawful : D → Type 0) (state : D → DiskState) (failures : D → ℕ) (answers : Answers) where
   -- ONE COMMAND that was refused: by the keeper, or before it was told

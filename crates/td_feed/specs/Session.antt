@@ -1,5 +1,5 @@
 -- What a call does with a disk, with a keeper at work and with a writer, by its answer.
-use Rattle.std.specs.Prelude.{◌≡◌, ◌↔◌, ℕ, Bool, false, true, List, [], ◌∷◌, ◌++◌, Option, Result, OnOk, OnErr}
+use Rattle.std.specs.Prelude.{◌≡◌, ◌↔◌, ℕ, Bool, false, true, List, [], ◌∷◌, ◌++◌, Option, Some, None, Result, OnOk, OnErr}
 use Rattle.td_plan.specs.Lines.{Line as PlanLine}
 use Rattle.td_calls.specs.Answers.{Answers}
 use Rattle.td_disk.specs.Disk.{DiskState, CountsDevice}
@@ -12,11 +12,21 @@ use Rattle.td_keeper.specs.Keeping.{Keeping}
 use Rattle.td_keeper.specs.Driven.{submitted_in, Obeys, Driven}
 use Rattle.td_console.specs.declared.faults.Fault.{Fault}
 use Rattle.td_console.specs.declared.faults.Fault.TheVariants.{Keeper}
-use Rattle.td_feed.specs.Orders.{submissions, new_after}
-use Rattle.td_feed.specs.Asked.{Script}
+use Rattle.td_feed.specs.declared.note.Note.{Note}
+use Rattle.td_feed.specs.Orders.{submissions, notes_in, new_after}
+use Rattle.td_feed.specs.Asked.{Script, script_of}
 use Rattle.td_feed.specs.Fed.{EachTellsHistory, EachTellsSome}
 use Rattle.td_feed.specs.Carried.{batch_in, new_to, is_refused, Carries, Leaves}
-use Rattle.td_feed.specs.Said.{SaysBy, SaysFed, Refuses}
+use Rattle.td_feed.specs.Said.{Wanted, SaysBy, SaysFed, Refuses}
+
+-- how many records an epoch may have, where a stream refuses epochs
+abbrev pub limit_of : Bool → ℕ → Option ℕ
+limit_of true records = Some records
+limit_of false records = None
+
+-- what a script asks for
+abbrev pub wanted_by : Option ℕ → Script → Wanted
+wanted_by limit script = record { epochs = submissions script.orders; notes = notes_in script.orders; limit = limit }
 
 -- THE DISK IS KEPT: it is as large as it was, and as lawful; and its device is told to have failed exactly where it did
 pub record KeepsDisk {D T : Type 0} (capacity : D → ℕ) (is_lawful : D → Type 0) (failures : D → ℕ) (result : Result T Fault) (old new : D) : Type 0 where
@@ -38,26 +48,39 @@ module _ {D : Type 0} (is_lawful : D → Type 0) (state : D → DiskState) (fail
     pub left : Leaves is_lawful state answers old new (new_to old (batch_in command))
 
 module _ {D : Type 0} (is_lawful : D → Type 0) (state : D → DiskState) (failures : D → ℕ) (answers : Answers) (marks : Bool) where
-  -- THESE ARE FED: after Ok the keeper goes on with all of them, after a refusal with some; and what was written are the lines of its replies
-  pub record Feeds (result : Result (Unit {0}) Fault) (before after : Option (List ℕ)) (old new : Keeping D) (x : List AnySubmitted) : Type 0 where
+  -- THESE ARE FED, and these noted: after Ok the keeper goes on with all of them, after a refusal with some; and what was written are the
+  -- lines of its replies, and the notes
+  pub record FeedsNoting (result : Result (Unit {0}) Fault) (before after : Option (List ℕ)) (old new : Keeping D) (x : List AnySubmitted) (notes : List Note) : Type 0 where
     pub carried : OnOk result (Carries answers old new x)
     pub left : OnErr result (Leaves is_lawful state answers old new x)
-    pub said : SaysBy is_lawful state failures answers marks result before after old new x
+    pub said : SaysBy is_lawful state failures answers marks result before after old new x notes
 
-  -- A SCRIPT IS FED, those of its batches that are new to the keeper; and Ok is answered only to one without a fault
+  -- with no note
+  abbrev pub Feeds : Result (Unit {0}) Fault → Option (List ℕ) → Option (List ℕ) → Keeping D → Keeping D → List AnySubmitted → Type 0
+  Feeds result before after old new x = FeedsNoting result before after old new x []
+
+  -- A SCRIPT IS FED, those of its batches that are new to the keeper, and its notes are written; and Ok is answered only to one without a
+  -- fault
   pub record FeedsScript (result : Result (Unit {0}) Fault) (before after : Option (List ℕ)) (old new : Keeping D) (script : Script) : Type 0 where
     pub sound : OnOk result (script.is_sound ≡ true)
-    pub fed : Feeds result before after old new (new_to old (submissions script.orders))
+    pub fed : FeedsNoting result before after old new (new_to old (submissions script.orders)) (notes_in script.orders)
 
   -- A DISK IS FED, of an input that asks for these
-  pub record FeedsDisk (result : Result (Unit {0}) Fault) (plan : List PlanLine) (alone : Bool) (disk left : D) (before after : Option (List ℕ)) (x : List AnySubmitted) : Type 0 where
+  pub record FeedsDisk (result : Result (Unit {0}) Fault) (plan : List PlanLine) (alone : Bool) (disk left : D) (before after : Option (List ℕ)) (wanted : Wanted) : Type 0 where
     -- one that stood for a history, whatever a crash had left of it, stands after Ok for that and each of these that is new: has no
     -- request number, or one that is above all before
     pub fed : OnOk result (is_lawful disk → (history : List AnySubmitted) → EachTellsHistory answers plan history (state disk)
-        → EachTellsHistory answers plan (history ++ new_after (greatest 0 history) x) (state left))
+        → EachTellsHistory answers plan (history ++ new_after (greatest 0 history) wanted.epochs) (state left))
     -- at any answer it stands for that and a beginning of them: some number of them, or with these the whole group that came next
     pub safe : is_lawful disk → (history : List AnySubmitted) → EachTellsHistory answers plan history (state disk)
-        → EachTellsSome answers plan history (new_after (greatest 0 history) x) (state left)
-    -- what is written are the lines of what the keeper of the disk replied, one after another: all of them after Ok, and a beginning of
-    -- them at a refusal, where the writer did not fail
-    pub said : SaysFed is_lawful state failures answers marks result plan alone disk left before after x
+        → EachTellsSome answers plan history (new_after (greatest 0 history) wanted.epochs) (state left)
+    -- what is written are the lines of what the keeper of the disk replied, and the notes, one after another: all of them after Ok, and
+    -- a beginning of them at a refusal, where the writer did not fail
+    pub said : SaysFed is_lawful state failures answers marks result plan alone disk left before after wanted
+
+  -- A DISK IS FED AS THE INPUT COMES: what its script asks for; Ok is answered only to one without a fault. Of a stream that refuses epochs,
+  -- one may have so many records
+  pub record StreamsDisk (refuse : Bool) (result : Result (Unit {0}) Fault) (plan : List PlanLine) (alone : Bool) (disk left : D) (before after : Option (List ℕ)) (input : List ℕ) : Type 0 where
+    pub records : ℕ
+    pub sound : OnOk result ((script_of (limit_of refuse records) plan input).is_sound ≡ true)
+    pub fed : FeedsDisk result plan alone disk left before after (wanted_by (limit_of refuse records) (script_of (limit_of refuse records) plan input))

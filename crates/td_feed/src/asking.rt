@@ -9,16 +9,16 @@
 ghost use Rattle.std.specs.Prelude.{◌≡◌, ◌<◌, ◌≤◌, ◌++◌, ◌∷◌, ℕ, List, [], Option, Some, None, true, false, length, option_map, OnOk, IfOk, IfErr, IfSome, IfNone};
 ghost use Rattle.td_group.specs.Groups.{may_follow};
 ghost use Rattle.td_feed.specs.declared.order.Order.{Order as AnyOrder};
-ghost use Rattle.td_feed.specs.Orders.{is_between, submissions};
+ghost use Rattle.td_feed.specs.Orders.{is_between, submissions, notes_in};
 ghost use Rattle.td_feed.specs.declared.at_once.Asked.TheVariants.{One};
-ghost use Rattle.td_feed.specs.Asked.{unread, Script, script_left, script_of, script_on, script_ahead, SameScript, Asks, IsOf, MayFollow, Completes, HasFault, is_of_reader, IsOfLine};
+ghost use Rattle.td_feed.specs.Asked.{unread, Script, script_left, script_of, script_on, script_ahead, place, may_end, SameScript, Asks, IsOf, MayFollow, is_of_reader};
 
 use crate::at_once::{Asked, Room, take_fitting};
 use crate::line_reader::Lines;
-use crate::order::{Order, Orders, has_too_many, is_between, no_orders, with_line};
+use crate::order::Order;
+use crate::reading::Reading;
 use std::alloc::Global;
 use std::collections::VecDeque;
-use std::mem;
 use td_console::{Fault, LineFault, Source};
 use td_journal::Submitted;
 use td_keeper::Group;
@@ -68,7 +68,7 @@ fn take_asked(alloc: Global, orders: &mut VecDeque<Order>, room: &Room) -> Optio
 
 /// Takes the first orders, as many as submit epochs that together find this room; fewer where memory runs out.
 fn take_group(alloc: Global, orders: &mut VecDeque<Order>, room: &Room) -> Vec<Submitted>
-    ensures taken { (taken : List AnyOrder) × (orders.old.items ≡ taken ++ orders.new.items) × (submissions taken ≡ result.items) }
+    ensures taken { (taken : List AnyOrder) × (orders.old.items ≡ taken ++ orders.new.items) × (submissions taken ≡ result.items) × (notes_in taken ≡ []) }
     ensures none { result.items ≡ [] → orders.new.items ≡ orders.old.items }
     ensures rising { may_follow (Some room.now.last) result.items ≡ true }
 {
@@ -87,29 +87,30 @@ fn take_group(alloc: Global, orders: &mut VecDeque<Order>, room: &Room) -> Vec<S
     group
 }
 
-/// The orders of a reader's lines, of which the next has this number. Those whose lines the input has given already are read ahead,
-/// up to the first line with a fault; each other one is read when it is asked for.
+/// The orders of a reader's lines. Those whose lines the input has given already are read ahead, up to the first line with a fault; each
+/// other one is read when it is asked for.
 #[derive(Drop)]
 pub(crate) struct Streamed<'a, I: Source> {
-    plan: &'a Plan,
     lines: Lines<I>,
-    number: u64,
-    read: Orders,
+    reading: Reading<'a>,
     ahead: VecDeque<Order>,
     stopped: Option<(u64, LineFault)>,
-    ghost none_ready: { read.orders ≡ [] },
+    ghost none_ready: { reading.read.orders ≡ [] },
 }
 
 impl<'a, I: Source> Streamed<'a, I> {
-    /// The orders of a reader's lines.
-    pub(crate) fn new(alloc: Global, plan: &'a Plan, reader: I) -> Streamed<'a, I>
-        ensures { script_ahead (unread (I.remaining result.lines.reader) result.lines.unread) result.plan.now result.number result.read result.ahead.items result.stopped ≡ option_map (script_of plan.now) (I.remaining reader) }
+    /// The orders of a reader's lines. Where a limit is given, an epoch with more records than that, or with a faulty line, is refused.
+    pub(crate) fn new(
+        alloc: Global,
+        plan: &'a Plan,
+        limit: Option<usize>,
+        reader: I,
+    ) -> Streamed<'a, I>
+        ensures { script_ahead (unread (I.remaining result.lines.reader) result.lines.unread) (place result.reading) result.ahead.items result.stopped ≡ option_map (script_of limit plan.now) (I.remaining reader) }
     {
         Streamed {
-            plan,
             lines: Lines::new(alloc, reader),
-            number: 1,
-            read: no_orders(alloc),
+            reading: Reading::new(alloc, plan, limit),
             ahead: VecDeque::new(alloc),
             stopped: None,
         }
@@ -119,11 +120,11 @@ impl<'a, I: Source> Streamed<'a, I> {
     /// that stood ahead; those of a reader; a line's fault; `Memory`.
     fn is_any_ahead(&mut self, alloc: Global, room: &Room) -> Result<bool, Fault>
         ensures some { IfOk result (λ any. any ≡ true → (0 < length self.new.ahead.items)
-            × SameScript (script_ahead (unread (I.remaining self.old.lines.reader) self.old.lines.unread) self.old.plan.now self.old.number self.old.read self.old.ahead.items self.old.stopped)
-            (script_ahead (unread (I.remaining self.new.lines.reader) self.new.lines.unread) self.new.plan.now self.new.number self.new.read self.new.ahead.items self.new.stopped)) }
+            × SameScript (script_ahead (unread (I.remaining self.old.lines.reader) self.old.lines.unread) (place self.old.reading) self.old.ahead.items self.old.stopped)
+            (script_ahead (unread (I.remaining self.new.lines.reader) self.new.lines.unread) (place self.new.reading) self.new.ahead.items self.new.stopped)) }
         ensures none { IfOk result (λ any. any ≡ false
-            → Asks (script_ahead (unread (I.remaining self.old.lines.reader) self.old.lines.unread) self.old.plan.now self.old.number self.old.read self.old.ahead.items self.old.stopped)
-            (script_ahead (unread (I.remaining self.new.lines.reader) self.new.lines.unread) self.new.plan.now self.new.number self.new.read self.new.ahead.items self.new.stopped) None) }
+            → Asks (script_ahead (unread (I.remaining self.old.lines.reader) self.old.lines.unread) (place self.old.reading) self.old.ahead.items self.old.stopped)
+            (script_ahead (unread (I.remaining self.new.lines.reader) self.new.lines.unread) (place self.new.reading) self.new.ahead.items self.new.stopped) None) }
         ensures err { IfErr result (λ f. is_of_reader f ≡ true) }
     {
         if !self.ahead.is_empty() {
@@ -142,19 +143,19 @@ impl<'a, I: Source> Streamed<'a, I> {
     /// Waits for the lines of the next order, which it reads. None at the end. Refusals: those of a reader; a line's fault; `Memory`;
     /// and `TooManyRecords`, once the epoch that is open has more records than a cell holds.
     fn next_order(&mut self, alloc: Global, room: &Room) -> Result<Option<Order>, Fault>
-        ensures order { IfOk result (λ order. Asks (script_left (unread (I.remaining self.old.lines.reader) self.old.lines.unread) self.old.plan.now self.old.number self.old.read)
-            (script_left (unread (I.remaining self.new.lines.reader) self.new.lines.unread) self.new.plan.now self.new.number self.new.read) (option_map One order)) }
-        ensures same { (self.new.plan.now ≡ self.old.plan.now) × (self.new.ahead ≡ self.old.ahead) × (self.new.stopped ≡ self.old.stopped) }
+        ensures order { IfOk result (λ order. Asks (script_left (unread (I.remaining self.old.lines.reader) self.old.lines.unread) (place self.old.reading))
+            (script_left (unread (I.remaining self.new.lines.reader) self.new.lines.unread) (place self.new.reading)) (option_map One order)) }
+        ensures same { (self.new.ahead ≡ self.old.ahead) × (self.new.stopped ≡ self.old.stopped) }
         ensures err { IfErr result (λ f. is_of_reader f ≡ true) }
     {
         for _line in 0..LINES {
-            if has_too_many(&self.read, room) {
+            if self.reading.has_too_many(room) {
                 return Err(Fault::Keeper(KeeperError::TooManyRecords));
             }
-            let Some(line) = self.lines.next_line(alloc, self.number)? else {
+            let Some(line) = self.lines.next_line(alloc, self.reading.number())? else {
                 return self.ended();
             };
-            if let Some(order) = self.with_line(alloc, line.as_slice())? {
+            if let Some(order) = self.reading.with_line(alloc, line.as_slice())? {
                 return Ok(Some(order));
             }
         }
@@ -164,15 +165,15 @@ impl<'a, I: Source> Streamed<'a, I> {
     /// Reads the lines that the input has given already, until as many orders stand ahead as find room, or a line has a fault, or the
     /// epoch that is open has too many records. Refusal: `Memory`, and `Input` after more lines than can be numbered.
     fn read_ahead(&mut self, alloc: Global, room: &Room) -> Result<(), Fault>
-        ensures same { OnOk result (SameScript (script_ahead (unread (I.remaining self.old.lines.reader) self.old.lines.unread) self.old.plan.now self.old.number self.old.read self.old.ahead.items self.old.stopped)
-            (script_ahead (unread (I.remaining self.new.lines.reader) self.new.lines.unread) self.new.plan.now self.new.number self.new.read self.new.ahead.items self.new.stopped)) }
+        ensures same { OnOk result (SameScript (script_ahead (unread (I.remaining self.old.lines.reader) self.old.lines.unread) (place self.old.reading) self.old.ahead.items self.old.stopped)
+            (script_ahead (unread (I.remaining self.new.lines.reader) self.new.lines.unread) (place self.new.reading) self.new.ahead.items self.new.stopped)) }
         ensures grows { OnOk result (length self.old.ahead.items ≤ length self.new.ahead.items) }
         ensures err { IfErr result (λ f. is_of_reader f ≡ true) }
     {
         for _line in 0..LINES {
             if self.stopped.is_some()
                 || room.epochs <= self.ahead.len() as u64
-                || has_too_many(&self.read, room)
+                || self.reading.has_too_many(room)
             {
                 return Ok(());
             }
@@ -188,13 +189,13 @@ impl<'a, I: Source> Streamed<'a, I> {
     /// more lines than can be numbered.
     fn add_line(&mut self, alloc: Global, line: &[u8]) -> Result<(), Fault>
         requires { self.old.stopped ≡ None }
-        ensures added { OnOk result ((more : List (List ℕ)) → script_on self.old.plan.now self.old.number self.old.read self.old.ahead.items None (line.now ∷ more)
-            ≡ script_on self.new.plan.now self.new.number self.new.read self.new.ahead.items self.new.stopped more) }
-        ensures same { (self.new.plan.now ≡ self.old.plan.now) × (self.new.lines ≡ self.old.lines) }
+        ensures added { OnOk result ((more : List (List ℕ)) → script_on (place self.old.reading) self.old.ahead.items None (line.now ∷ more)
+            ≡ script_on (place self.new.reading) self.new.ahead.items self.new.stopped more) }
+        ensures same { self.new.lines ≡ self.old.lines }
         ensures grows { OnOk result (length self.old.ahead.items ≤ length self.new.ahead.items) }
         ensures err { IfErr result (λ f. is_of_reader f ≡ true) }
     {
-        match self.with_line(alloc, line) {
+        match self.reading.with_line(alloc, line) {
             Ok(Some(order)) => self.ahead.push_back(order)?,
             Ok(None) => {}
             Err(Fault::Line(number, fault)) => self.stopped = Some((number, fault)),
@@ -203,40 +204,21 @@ impl<'a, I: Source> Streamed<'a, I> {
         Ok(())
     }
 
-    /// The order that one line more completes, if it does. Refusals: the line's fault; `Memory`; `Input` after more lines than can be
-    /// numbered.
-    fn with_line(&mut self, alloc: Global, line: &[u8]) -> Result<Option<Order>, Fault>
-        ensures order { IfOk result (Completes self.old.plan.now self.old.number self.old.read self.new.number self.new.read line.now) }
-        ensures fault { IfErr result (λ f. IsOfLine f → HasFault self.old.plan.now self.old.number self.old.read line.now) }
-        ensures same { (self.new.plan.now ≡ self.old.plan.now) × (self.new.lines ≡ self.old.lines) × (self.new.ahead ≡ self.old.ahead) × (self.new.stopped ≡ self.old.stopped) }
-        ensures err { IfErr result (λ f. is_of_reader f ≡ true) }
-    {
-        let Some(next) = self.number.checked_add(1) else {
-            return Err(Fault::Input);
-        };
-        let read = mem::replace(&mut self.read, no_orders(alloc));
-        let mut read = with_line(alloc, self.plan, read, self.number, line)?;
-        let order = read.orders.pop();
-        self.read = read;
-        self.number = next;
-        Ok(order)
-    }
-
     /// At the end. Refusal: `NotClosed`, where an epoch has begun.
     fn ended(&self) -> Result<Option<Order>, Fault>
-        ensures none { IfOk result (λ o. (o ≡ None) × (is_between self.now.read ≡ true)) }
+        ensures none { IfOk result (λ o. (o ≡ None) × (may_end self.now.reading.flaw (is_between self.now.reading.read) ≡ true)) }
         ensures err { IfErr result (λ f. is_of_reader f ≡ true) }
     {
-        if is_between(&self.read) {
+        if self.reading.is_between() {
             Ok(None)
         } else {
-            Err(Fault::Line(self.number, LineFault::NotClosed))
+            Err(Fault::Line(self.reading.number(), LineFault::NotClosed))
         }
     }
 }
 
 impl<'a, I: Source> Asking for Streamed<'a, I> {
-    ghost script = { λ s. script_ahead (unread (I.remaining s.lines.reader) s.lines.unread) s.plan.now s.number s.read s.ahead.items s.stopped };
+    ghost script = { λ s. script_ahead (unread (I.remaining s.lines.reader) s.lines.unread) (place s.reading) s.ahead.items s.stopped };
 
     fn next_asked(&mut self, alloc: Global, room: &Room) -> Result<Option<Asked>, Fault> {
         if !self.is_any_ahead(alloc, room)? {

@@ -7,7 +7,7 @@ ghost use Rattle.std.specs.Prelude.{◌≡◌, ◌≤◌, ℕ, [], ◌∷◌, So
 ghost use Rattle.td_journal.specs.Numbers.{may_come};
 ghost use Rattle.td_standing.specs.Standing.{last_request};
 ghost use Rattle.td_feed.specs.declared.order.Order.{Order as AnyOrder};
-ghost use Rattle.td_feed.specs.Orders.{submissions};
+ghost use Rattle.td_feed.specs.Orders.{submissions, notes_in};
 ghost use Rattle.td_feed.specs.Asked.{IsNext};
 
 use crate::order::Order;
@@ -96,7 +96,7 @@ impl Room {
             Order::SubmitAs(request, batch) => {
                 self.is_numbered && last < *request && batch.len() <= self.records
             }
-            Order::Cut => false,
+            Order::Cut | Order::Say(_) => false,
         }
     }
 }
@@ -108,7 +108,7 @@ pub(crate) fn take_fitting(
     last: u64,
 ) -> Option<Submitted>
     ensures some { IfSome result (λ s. (order : AnyOrder) × (orders.old.items ≡ order ∷ orders.new.items)
-        × (submissions (order ∷ []) ≡ s ∷ []) × (may_come (Some last) s.request ≡ true)) }
+        × (submissions (order ∷ []) ≡ s ∷ []) × (notes_in (order ∷ []) ≡ []) × (may_come (Some last) s.request ≡ true)) }
     ensures none { IfNone result (orders.new ≡ orders.old) }
 {
     if !room.fits(orders.front()?, last) {
@@ -117,6 +117,6 @@ pub(crate) fn take_fitting(
     match orders.pop_front() {
         Some(Order::Submit(batch)) => Some(Submitted { request: 0, batch }),
         Some(Order::SubmitAs(request, batch)) => Some(Submitted { request, batch }),
-        Some(Order::Cut) | None => unreachable!(),
+        Some(Order::Cut | Order::Say(_)) | None => unreachable!(),
     }
 }

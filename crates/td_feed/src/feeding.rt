@@ -6,6 +6,7 @@ ghost use Rattle.td_standing.specs.declared.error.KeeperError.TheVariants.{Devic
 ghost use Rattle.td_console.specs.Answer.{lack_fault};
 ghost use Rattle.td_feed.specs.Orders.{orders_of, submitted_by};
 ghost use Rattle.td_feed.specs.Carried.{new_to};
+ghost use Rattle.td_feed.specs.Said.{epochs_alone};
 ghost use Rattle.td_feed.specs.Session.{KeepsDisk, Feeds, FeedsDisk};
 
 use crate::asking::Listed;
@@ -68,7 +69,7 @@ pub fn feed<
     ensures fault { IfSome (I.remaining reader.old) (λ input. IfErr (orders_of plan.now input) (λ _. IsErr result.1 × (writer.new ≡ writer.old))) }
     ensures fed { first_lack (C.has_map calls.now) (C.has_group calls.now) (C.has_fold calls.now) (vertices plan.now) ≡ None
         → IfSome (I.remaining reader.old) (λ input. FeedsDisk D.is_lawful D.state D.failures L.answers W.marks result.1 plan.now false disk result.0
-        (W.contents writer.old) (W.contents writer.new) (submitted_by (orders_of plan.now input))) }
+        (W.contents writer.old) (W.contents writer.new) (epochs_alone (submitted_by (orders_of plan.now input)))) }
 {
     laws::told_in_parts();
     if let Err(lack) = calls.fits(plan) {

@@ -1,5 +1,5 @@
 //! Laws of the definitions. Each is the contract of a function that does nothing.
-ghost use Rattle.std.specs.Prelude.{◌≡◌, ◌++◌, List, ℕ, Bool, true, Option, Result as AnyResult, Ok};
+ghost use Rattle.std.specs.Prelude.{◌≡◌, ◌++◌, List, ℕ, Bool, true, Option, None, Result as AnyResult, Ok};
 ghost use Rattle.td_gate.specs.Reading.{Each};
 ghost use Rattle.td_stamp.specs.declared.values.Entry.{Entry as AnyEntry};
 ghost use Rattle.td_stamp.specs.States.{StateList};
@@ -21,7 +21,7 @@ ghost use Rattle.td_keeper.specs.declared.command.Command.{Command as AnyCommand
 ghost use Rattle.td_keeper.specs.declared.command.Reply.{Reply as AnyReply};
 ghost use Rattle.td_keeper.specs.Driven.{submitted_by as submitted_in, Driven};
 ghost use Rattle.td_feed.specs.Fed.{EachTellsHistory, TellsOnward};
-ghost use Rattle.td_feed.specs.Said.{SaysFrom, TellsAcknowledged};
+ghost use Rattle.td_feed.specs.Said.{Wanted, SaysFrom, TellsAcknowledged};
 
 use td_calls::Law;
 use td_disk::Disk;
@@ -46,14 +46,14 @@ pub fn dumps_are_fed()
 
 /// What a stream reads of an input without a fault is what a feed reads of it.
 pub fn scripts()
-    ensures { (plan : List Line) (input : List ℕ) (orders : List AnyOrder) → orders_of plan input ≡ Ok orders → script_of plan input ≡ record { orders = orders; is_sound = true } }
+    ensures { (plan : List Line) (input : List ℕ) (orders : List AnyOrder) → orders_of plan input ≡ Ok orders → script_of None plan input ≡ record { orders = orders; is_sound = true } }
 {}
 
 /// EACH EPOCH THAT IS ACKNOWLEDGED IS TOLD. Whatever a feed or a stream came to, and whatever a crash leaves of its disk then, that tells
 /// each epoch for which an `ack` line was written, and each that the keeper acknowledged beside.
 pub fn acknowledged_is_told<D: Disk, L: Law>()
-    ensures { (marks : Bool) (result : AnyResult (Unit {0}) AnyFault) (plan : List Line) (alone : Bool) (disk left : D) (before after : Option (List ℕ)) (x : List AnySubmitted)
-        (from : SaysFrom D.is_lawful D.state D.failures L.answers marks result plan alone disk left before after x) → D.is_lawful disk
+    ensures { (marks : Bool) (result : AnyResult (Unit {0}) AnyFault) (plan : List Line) (alone : Bool) (disk left : D) (before after : Option (List ℕ)) (wanted : Wanted)
+        (from : SaysFrom D.is_lawful D.state D.failures L.answers marks result plan alone disk left before after wanted) → D.is_lawful disk
         → (commands : List AnyCommand) (replies : List AnyReply)
         → Driven D.is_lawful D.state D.failures L.answers commands replies (record from.keeper { watch = from.watch }) from.ended
         → (c : List ℕ) → (D.state left).images c → TellsAcknowledged plan replies c }
@@ -65,8 +65,8 @@ pub fn acknowledged_is_told<D: Disk, L: Law>()
 /// AT EACH MOMENT of a feed or a stream, in the middle of a write too, and not at its answer alone: of a disk that stood for a history, what
 /// a crash leaves tells that history and a beginning of what the keeper's commands submitted.
 pub fn moments_are_told<D: Disk, L: Law>()
-    ensures { (marks : Bool) (result : AnyResult (Unit {0}) AnyFault) (plan : List Line) (alone : Bool) (disk left : D) (before after : Option (List ℕ)) (x : List AnySubmitted)
-        (from : SaysFrom D.is_lawful D.state D.failures L.answers marks result plan alone disk left before after x) → D.is_lawful disk
+    ensures { (marks : Bool) (result : AnyResult (Unit {0}) AnyFault) (plan : List Line) (alone : Bool) (disk left : D) (before after : Option (List ℕ)) (wanted : Wanted)
+        (from : SaysFrom D.is_lawful D.state D.failures L.answers marks result plan alone disk left before after wanted) → D.is_lawful disk
         → (commands : List AnyCommand) (replies : List AnyReply)
         → Driven D.is_lawful D.state D.failures L.answers commands replies (record from.keeper { watch = from.watch }) from.ended
         → (history : List AnySubmitted) → EachTellsHistory L.answers plan history (D.state disk)

@@ -1,13 +1,15 @@
 //! What the input of a feed asks for, line by line.
 //!
 //! A request number is a line of its own, so a data line is the same in all inputs.
-ghost use Rattle.std.specs.Prelude.{◌≡◌, ◌⊎◌, ◌<◌, ◌^◌, [], true, false, All, IfOk, IfErr, MatchOption, Some, None, Ok, Err, length};
+ghost use Rattle.std.specs.Prelude.{◌≡◌, ◌⊎◌, ◌↔◌, ◌<◌, ◌^◌, ◌++◌, [], true, false, All, IfOk, IfErr, MatchOption, Some, None, Ok, Err, length};
 ghost use Rattle.std.specs.Bool.{OnTrue};
+ghost use Rattle.std.specs.Option.{IsSome, option_to_list};
 ghost use Rattle.td_plan.specs.Text.{text_lines, words};
-ghost use Rattle.td_feed.specs.Orders.{is_cut, request_of, positive, feed_line_of, is_between, order_for, with_cut, with_request, with_line};
+ghost use Rattle.td_feed.specs.Orders.{is_cut, request_of, positive, feed_line_of, is_between, numbered, order_for, with_order, with_cut, with_request, with_line};
 ghost use Rattle.td_feed.specs.Orders.{no_orders, orders_of, is_of_input, IsAccepted, IsFirstLine, Gives};
 
 use crate::at_once::Room;
+use crate::note::Note;
 use std::alloc::Global;
 use std::marker::Model;
 use td_console::{
@@ -37,6 +39,8 @@ pub enum Order {
     SubmitAs(u64, Batch),
     /// To settle, cut, and write the cut.
     Cut,
+    /// To write a note.
+    Say(Note),
 }
 
 /// Orders that were read, and of the epoch that is not closed its request number, 0 for none, and its entries in the order of
@@ -127,6 +131,69 @@ fn with_said(
         DataLine::Close => close(alloc, read),
         DataLine::Record(input, rec) => with_record(plan, read, number, input, rec),
     }
+}
+
+/// The request number of the epoch that is open, 0 for none.
+pub(crate) fn request_in(read: &Orders) -> u64
+    ensures { result ≡ read.now.request }
+{
+    read.request
+}
+
+/// How many records the epoch that is open has.
+pub(crate) fn records_in(read: &Orders) -> usize
+    ensures { result ≡ length read.now.current }
+{
+    read.current.len()
+}
+
+/// With this request number, and without the records of the epoch that is open.
+pub(crate) fn numbered(alloc: Global, read: Orders, request: u64) -> Orders
+    ensures { result ≡ numbered request read }
+{
+    Orders {
+        orders: read.orders,
+        request,
+        current: Vec::new(alloc),
+    }
+}
+
+/// With a note that is to be written in the place of the epoch that is open. Refusal: `Memory`.
+pub(crate) fn with_note(alloc: Global, read: Orders, note: Note) -> Result<Orders, Fault>
+    ensures ok { IfOk result (λ next. next ≡ with_order (Order.Say note) read) }
+    ensures err { IfErr result (λ f. f ≡ Fault.Memory) }
+{
+    let Orders {
+        mut orders,
+        request: _,
+        current: _,
+    } = read;
+    orders.push(Order::Say(note))?;
+    Ok(Orders {
+        orders,
+        request: 0,
+        current: Vec::new(alloc),
+    })
+}
+
+/// The last order that was read, taken out, and the others.
+pub(crate) fn taken_out(read: Orders) -> (Option<Order>, Orders)
+    ensures parts { read.orders ≡ result.1.orders ++ option_to_list result.0 }
+    ensures some { IsSome result.0 ↔ (0 < length read.orders) }
+    ensures same { result.1 ≡ record { orders = result.1.orders; request = read.request; current = read.current } }
+{
+    let Orders {
+        mut orders,
+        request,
+        current,
+    } = read;
+    let order = orders.pop();
+    let others = Orders {
+        orders,
+        request,
+        current,
+    };
+    (order, others)
 }
 
 /// Whether an epoch has not begun: neither a record nor a request number stands in it.
@@ -248,7 +315,7 @@ fn first_feed_line(bytes: &[u8]) -> Option<(Option<FeedLine>, &[u8])>
 }
 
 /// What a line says, if it has a form. A line that begins with a digit is a data line, or has no form.
-fn read_feed_line(line: &[u8]) -> Option<FeedLine>
+pub(crate) fn read_feed_line(line: &[u8]) -> Option<FeedLine>
     ensures { result ≡ feed_line_of line.now }
 {
     let text = ascii_text(line)?;

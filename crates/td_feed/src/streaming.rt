@@ -8,10 +8,9 @@ ghost use Rattle.td_plan.specs.Blocks.{vertices};
 ghost use Rattle.td_calls.specs.Fits.{first_lack};
 ghost use Rattle.td_watch.specs.View.{View};
 ghost use Rattle.td_console.specs.Answer.{lack_fault};
-ghost use Rattle.td_feed.specs.Orders.{submissions};
 ghost use Rattle.td_feed.specs.Asked.{script_of};
 ghost use Rattle.td_feed.specs.Said.{IsAllOut};
-ghost use Rattle.td_feed.specs.Session.{KeepsDisk, FeedsScript, FeedsDisk};
+ghost use Rattle.td_feed.specs.Session.{limit_of, KeepsDisk, FeedsScript, StreamsDisk};
 
 use crate::alone::obey_alone;
 use crate::asking::Streamed;
@@ -46,6 +45,9 @@ use td_watch::Writer;
 /// have taken more than so many tasks each: a task has up to 64 records of one edge and time, or is a notification. What stands on the
 /// disk stays there.
 ///
+/// Where epochs are refused, one with a faulty line, or with more records than a cell of the disk holds, is not put on the disk: at its
+/// `.` a line `no Q L: WHAT` is written, with its request number Q, or `-`, and the number L of the line, and the stream goes on.
+///
 /// Refusals: a missing closure, before anything else; what the disk refuses as it is recovered; and then the first of what a line,
 /// the reader, the keeper, a worker or the writer refuse, after all that was asked for before it; but want of memory, where epochs are
 /// read ahead, may come before these are put on the disk. What was written stays written. `Memory` also where a thread could not be
@@ -65,6 +67,7 @@ pub fn stream<
     workers: u8,
     cut_every: Option<u32>,
     most: Option<u64>,
+    refuse: bool,
     reader: I,
     writer: &mut W,
     watch: Option<Writer>,
@@ -80,11 +83,10 @@ pub fn stream<
         (result.1 ≡ Err (lack_fault lack)) × (result.0 ≡ disk) × (writer.new ≡ writer.old)) }
     ensures fits { OnOk result.1 (first_lack (C.has_map calls.now) (C.has_group calls.now) (C.has_fold calls.now) (vertices plan.now) ≡ None) }
 
-    // Ok is answered only to an input without a fault; and what it asks for is fed, by one worker until all outputs went out.
-    ensures sound { OnOk result.1 (IfSome (I.remaining reader) (λ input. (script_of plan.now input).is_sound ≡ true)) }
+    // What the input asks for is fed, by one worker until all outputs went out.
     ensures fed { first_lack (C.has_map calls.now) (C.has_group calls.now) (C.has_fold calls.now) (vertices plan.now) ≡ None
-        → IfSome (I.remaining reader) (λ input. FeedsDisk D.is_lawful D.state D.failures L.answers W.marks result.1 plan.now (workers == 1) disk result.0
-        (W.contents writer.old) (W.contents writer.new) (submissions (script_of plan.now input).orders)) }
+        → IfSome (I.remaining reader) (λ input. StreamsDisk D.is_lawful D.state D.failures L.answers W.marks refuse result.1 plan.now (workers == 1) disk result.0
+        (W.contents writer.old) (W.contents writer.new) input) }
 {
     laws::told_in_parts();
     if let Err(lack) = calls.fits(plan) {
@@ -97,7 +99,7 @@ pub fn stream<
     let keeper = watched(keeper, watch);
     each_is_kept(&keeper);
     let (keeper, ended) = obey(
-        rt, alloc, keeper, plan, workers, cut_every, most, reader, writer, calls,
+        rt, alloc, keeper, plan, workers, cut_every, most, refuse, reader, writer, calls,
     );
     (keeper.into_disk(), ended)
 }
@@ -119,6 +121,17 @@ fn watched<D: Disk, L: Law>(keeper: Keeper<D, L>, watch: Option<Writer>) -> Keep
     keeper
 }
 
+/// How many records an epoch may have, where epochs are refused.
+fn limit_of<D: Disk, L: Law>(refuse: bool, keeper: &Keeper<D, L>) -> Option<usize>
+    ensures { result ≡ limit_of refuse keeper.now.head.shape.m }
+{
+    if refuse {
+        Some(keeper.records() as usize)
+    } else {
+        None
+    }
+}
+
 /// Does what an input asks for, by a keeper of a plan, which comes back. Refusals: those of the hall, of the reader and of its lines,
 /// of the keeper, of the workers and of the writer.
 fn obey<
@@ -136,6 +149,7 @@ fn obey<
     workers: u8,
     cut_every: Option<u32>,
     most: Option<u64>,
+    refuse: bool,
     reader: I,
     writer: &mut W,
     calls: &C,
@@ -146,7 +160,8 @@ fn obey<
     requires fits { first_lack (C.has_map calls.now) (C.has_group calls.now) (C.has_fold calls.now) (vertices keeper.plan) ≡ None }
     requires collected { keeper.collected ≡ keeper.base }
     ensures disk { KeepsDisk D.capacity D.is_lawful D.failures result.1 keeper.device result.0.device }
-    ensures fed { IfSome (I.remaining reader) (λ input. FeedsScript D.is_lawful D.state D.failures L.answers W.marks result.1 (W.contents writer.old) (W.contents writer.new) keeper result.0 (script_of plan.now input)) }
+    ensures fed { IfSome (I.remaining reader) (λ input. FeedsScript D.is_lawful D.state D.failures L.answers W.marks result.1 (W.contents writer.old) (W.contents writer.new) keeper result.0
+        (script_of (limit_of refuse keeper.head.shape.m) plan.now input)) }
     ensures all_out { workers ≡ 1 → OnOk result.1 (IsAllOut result.0) }
 {
     let feeding = Feeding::new(
@@ -156,7 +171,8 @@ fn obey<
             most,
         },
     );
-    let orders = Streamed::new(alloc, plan, reader);
+    let limit = limit_of(refuse, &keeper);
+    let orders = Streamed::new(alloc, plan, limit, reader);
     if workers == 1 {
         return obey_alone(rt, alloc, keeper, feeding, orders, writer, calls);
     }

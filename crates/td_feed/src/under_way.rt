@@ -9,14 +9,15 @@ ghost use Rattle.td_keeper.specs.declared.command.Command.TheVariants.{NextOut};
 ghost use Rattle.td_keeper.specs.declared.command.Reply.TheVariants.{Out};
 ghost use Rattle.td_keeper.specs.Driven.{Driven};
 ghost use Rattle.td_standing.specs.Standing.{last_request};
-ghost use Rattle.td_feed.specs.Asked.{asked_for, MayFollow};
+ghost use Rattle.td_feed.specs.Asked.{asked_for, notes_for, MayFollow};
 ghost use Rattle.td_feed.specs.Fed.{hall_fault};
 ghost use Rattle.td_feed.specs.Carried.{batch_in, new_to, IsRising, Carries};
 ghost use Rattle.td_feed.specs.Said.{IsAllOut};
-ghost use Rattle.td_feed.specs.Session.{KeepsDisk, Feeds};
+ghost use Rattle.td_feed.specs.Session.{KeepsDisk, FeedsNoting, Feeds};
 ghost use Rattle.td_keeper.specs.Keeping.{since_base};
 
 use crate::at_once::Asked;
+use crate::note::write_note;
 use crate::order::Order;
 use crate::saying::print_out;
 use crate::telling::{tell, tell_aloud};
@@ -137,7 +138,7 @@ impl Feeding {
         requires whole { (E.keeping engine.old).broken ≡ false }
         requires rising { MayFollow (last_request (E.keeping engine.old).standing) (Some asked) }
         ensures disk { KeepsDisk D.capacity D.is_lawful D.failures result (E.keeping engine.old).device (E.keeping engine.new).device }
-        ensures fed { Feeds D.is_lawful D.state D.failures L.answers W.marks result (W.contents writer.old) (W.contents writer.new) (E.keeping engine.old) (E.keeping engine.new) (new_to (E.keeping engine.old) (asked_for asked)) }
+        ensures fed { FeedsNoting D.is_lawful D.state D.failures L.answers W.marks result (W.contents writer.old) (W.contents writer.new) (E.keeping engine.old) (E.keeping engine.new) (new_to (E.keeping engine.old) (asked_for asked)) (notes_for asked) }
     {
         match asked {
             Asked::Epochs(group) => {
@@ -157,6 +158,7 @@ impl Feeding {
                     self.submit(rt, alloc, engine, command, weight, writer)
                 }
                 Order::Cut => self.cut(rt, alloc, engine, writer),
+                Order::Say(note) => write_note(alloc, &note, writer),
             },
         }
     }
@@ -272,7 +274,7 @@ impl Feeding {
         requires whole { (E.keeping engine.old).broken ≡ false }
         requires rising { MayFollow (last_request (E.keeping engine.old).standing) (Some asked) }
         ensures disk { KeepsDisk D.capacity D.is_lawful D.failures result (E.keeping engine.old).device (E.keeping engine.new).device }
-        ensures fed { Feeds D.is_lawful D.state D.failures L.answers W.marks result (W.contents writer.old) (W.contents writer.new) (E.keeping engine.old) (E.keeping engine.new) (new_to (E.keeping engine.old) (asked_for asked)) }
+        ensures fed { FeedsNoting D.is_lawful D.state D.failures L.answers W.marks result (W.contents writer.old) (W.contents writer.new) (E.keeping engine.old) (E.keeping engine.new) (new_to (E.keeping engine.old) (asked_for asked)) (notes_for asked) }
     {
         self.obey(rt, alloc, engine, asked, writer)?;
         self.keep_pace(rt, alloc, engine, writer)

@@ -42,14 +42,14 @@ same_flag false true e = let other = ap (bytes_eq (codes "true")) e in cc
 
 -- the job of the name, and its values
 pub only_stream : (rows : List Row) (job : Job) → IsOf (codes "stream") rows job
-    → (disk : Bor Text) × (plan : Bor Text) × (w : ℕ) × (every : Option ℕ) × (most : Option ℕ) × (told : Bool) × (marks : Bool)
-    × (job ≡ Stream disk plan w every most told marks) × HasValues rows (Stream disk plan w every most told marks)
-only_stream rows (Stream disk plan w every most told marks) h = (disk, plan, w, every, most, told, marks, refl, h.1)
+    → (disk : Bor Text) × (plan : Bor Text) × (w : ℕ) × (every : Option ℕ) × (most : Option ℕ) × (told : Bool) × (marks : Bool) × (refuse : Bool)
+    × (job ≡ Stream disk plan w every most told marks refuse) × HasValues rows (Stream disk plan w every most told marks refuse)
+only_stream rows (Stream disk plan w every most told marks refuse) h = (disk, plan, w, every, most, told, marks, refuse, refl, h.1)
 only_stream rows _ h = let other = ap (bytes_eq (codes "stream")) h.0 in cc
 
 -- the values at given words
 abbrev pub StreamValues : Type 0
-StreamValues = Option Text × Option Text × Option Text × Option Text × Option Text × Option Text × Option Text
+StreamValues = Option Text × Option Text × Option Text × Option Text × Option Text × Option Text × Option Text × Option Text
 
 abbrev pub stream_values : List Row → StreamValues
 stream_values rows = (
@@ -60,17 +60,18 @@ stream_values rows = (
   one_of (codes "most") rows,
   one_of (codes "progress") rows,
   one_of (codes "marks") rows,
+  one_of (codes "refuse") rows,
 )
 
-abbrev pub given_stream : Option Text → Option Text → Bool → Bool → StreamValues
-given_stream every most told marks = (Some (codes "d"), Some (codes "p"), Some (codes "1"), every, most, Some (flag_text told), Some (flag_text marks))
+abbrev pub given_stream : Option Text → Option Text → Bool → Bool → Bool → StreamValues
+given_stream every most told marks refuse = (Some (codes "d"), Some (codes "p"), Some (codes "1"), every, most, Some (flag_text told), Some (flag_text marks), Some (flag_text refuse))
 
-module _ (every_text most_text : Option Text) (every most : Option ℕ) (told marks : Bool) (gives_every : Gives 1 65536 every_text every) (gives_most : Gives 1 9223372036854775807 most_text most)
-    (met : Option (Text × List Row)) (name : option_map (λ p. p.0) met ≡ Some (codes "stream")) (values : option_map (λ p. stream_values p.1) met ≡ Some (given_stream every_text most_text told marks)) where
-  stream_met : IsNamed met (Stream (to (codes "d")) (to (codes "p")) 1 every most told marks)
+module _ (every_text most_text : Option Text) (every most : Option ℕ) (told marks refuse : Bool) (gives_every : Gives 1 65536 every_text every) (gives_most : Gives 1 9223372036854775807 most_text most)
+    (met : Option (Text × List Row)) (name : option_map (λ p. p.0) met ≡ Some (codes "stream")) (values : option_map (λ p. stream_values p.1) met ≡ Some (given_stream every_text most_text told marks refuse)) where
+  stream_met : IsNamed met (Stream (to (codes "d")) (to (codes "p")) 1 every most told marks refuse)
   stream_met =
       let m = met_some met (codes "stream") name in
-      let v = value_met stream_values (given_stream every_text most_text told marks) met (codes "stream") m.0 m.1 values in (
+      let v = value_met stream_values (given_stream every_text most_text told marks refuse) met (codes "stream") m.0 m.1 values in (
         m.0,
         m.1,
         (
@@ -81,16 +82,17 @@ module _ (every_text most_text : Option Text) (every most : Option ℕ) (told ma
           option_there (codes "most") 1 9223372036854775807 m.0 most_text most gives_most (ap (λ (x : StreamValues). x.4) v),
           ap (λ (x : StreamValues). x.5) v,
           ap (λ (x : StreamValues). x.6) v,
+          ap (λ (x : StreamValues). x.7) v,
         ),
       )
 
-  named_stream : (job : Job) → IsNamed met job → IsStream (codes "d") (codes "p") 1 every most told marks job
+  named_stream : (job : Job) → IsNamed met job → IsStream (codes "d") (codes "p") 1 every most told marks refuse job
   named_stream job n =
       let m = met_of met (codes "stream") job n name in
       let only = only_stream m.0 job m.2 in
-      let v = value_met stream_values (given_stream every_text most_text told marks) met (codes "stream") m.0 m.1 values in
-      let has = only.8 in
-      subst (IsStream (codes "d") (codes "p") 1 every most told marks) (sym only.7) (
+      let v = value_met stream_values (given_stream every_text most_text told marks refuse) met (codes "stream") m.0 m.1 values in
+      let has = only.9 in
+      subst (IsStream (codes "d") (codes "p") 1 every most told marks refuse) (sym only.8) (
         some_is only.0.now (codes "d") (first_of (codes "disk") m.0) has.0 (ap (λ (x : StreamValues). x.0) v),
         some_is only.1.now (codes "p") (first_of (codes "plan") m.0) has.1 (ap (λ (x : StreamValues). x.1) v),
         written (codes "workers") 1 16 m.0 (codes "1") only.2 has.2 (ap (λ (x : StreamValues). x.2) v),
@@ -98,17 +100,18 @@ module _ (every_text most_text : Option Text) (every most : Option ℕ) (told ma
         option_is (codes "most") 1 9223372036854775807 m.0 most_text most gives_most (ap (λ (x : StreamValues). x.4) v) only.4 has.4,
         same_flag only.5 told (some_is (flag_text only.5) (flag_text told) (one_of (codes "progress") m.0) has.5 (ap (λ (x : StreamValues). x.5) v)),
         same_flag only.6 marks (some_is (flag_text only.6) (flag_text marks) (one_of (codes "marks") m.0) has.6 (ap (λ (x : StreamValues). x.6) v)),
+        same_flag only.7 refuse (some_is (flag_text only.7) (flag_text refuse) (one_of (codes "refuse") m.0) has.7 (ap (λ (x : StreamValues). x.7) v)),
       )
 
 module _ (met : Option (Text × List Row)) (name : option_map (λ p. p.0) met ≡ Some (codes "stream")) where
-  pub uncut_met : (told marks : Bool) → option_map (λ p. stream_values p.1) met ≡ Some (given_stream None None told marks) → IsNamed met (Stream (to (codes "d")) (to (codes "p")) 1 None None told marks)
-  uncut_met told marks values = stream_met None None None None told marks tt tt met name values
+  pub uncut_met : (told marks refuse : Bool) → option_map (λ p. stream_values p.1) met ≡ Some (given_stream None None told marks refuse) → IsNamed met (Stream (to (codes "d")) (to (codes "p")) 1 None None told marks refuse)
+  uncut_met told marks refuse values = stream_met None None None None told marks refuse tt tt met name values
 
-  pub named_uncut : (told marks : Bool) (job : Job) → IsNamed met job → option_map (λ p. stream_values p.1) met ≡ Some (given_stream None None told marks) → IsStream (codes "d") (codes "p") 1 None None told marks job
-  named_uncut told marks job n values = named_stream None None None None told marks tt tt met name values job n
+  pub named_uncut : (told marks refuse : Bool) (job : Job) → IsNamed met job → option_map (λ p. stream_values p.1) met ≡ Some (given_stream None None told marks refuse) → IsStream (codes "d") (codes "p") 1 None None told marks refuse job
+  named_uncut told marks refuse job n values = named_stream None None None None told marks refuse tt tt met name values job n
 
-  pub cutting_met : option_map (λ p. stream_values p.1) met ≡ Some (given_stream (Some (codes "4")) (Some (codes "5")) false false) → IsNamed met (Stream (to (codes "d")) (to (codes "p")) 1 (Some 4) (Some 5) false false)
-  cutting_met values = stream_met (Some (codes "4")) (Some (codes "5")) (Some 4) (Some 5) false false (four, omega arith, omega arith) (five, omega arith, omega arith) met name values
+  pub cutting_met : option_map (λ p. stream_values p.1) met ≡ Some (given_stream (Some (codes "4")) (Some (codes "5")) false false false) → IsNamed met (Stream (to (codes "d")) (to (codes "p")) 1 (Some 4) (Some 5) false false false)
+  cutting_met values = stream_met (Some (codes "4")) (Some (codes "5")) (Some 4) (Some 5) false false false (four, omega arith, omega arith) (five, omega arith, omega arith) met name values
 
-  pub named_cutting : (job : Job) → IsNamed met job → option_map (λ p. stream_values p.1) met ≡ Some (given_stream (Some (codes "4")) (Some (codes "5")) false false) → IsStream (codes "d") (codes "p") 1 (Some 4) (Some 5) false false job
-  named_cutting job n values = named_stream (Some (codes "4")) (Some (codes "5")) (Some 4) (Some 5) false false (four, omega arith, omega arith) (five, omega arith, omega arith) met name values job n
+  pub named_cutting : (job : Job) → IsNamed met job → option_map (λ p. stream_values p.1) met ≡ Some (given_stream (Some (codes "4")) (Some (codes "5")) false false false) → IsStream (codes "d") (codes "p") 1 (Some 4) (Some 5) false false false job
+  named_cutting job n values = named_stream (Some (codes "4")) (Some (codes "5")) (Some 4) (Some 5) false false false (four, omega arith, omega arith) (five, omega arith, omega arith) met name values job n

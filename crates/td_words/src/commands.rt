@@ -91,6 +91,8 @@ const PROGRESS: &str = "Write how far it has come to standard error, each second
 
 const MARKS: &str = "Write 'done EPOCH' after the output lines of each epoch";
 
+const REFUSE: &str = "Refuse an epoch with a fault, and go on: write 'no REQUEST LINE: WHAT' at its '.'";
+
 /// The greatest epoch, and the greatest count of deliveries.
 pub(crate) const GREATEST: u64 = 9_223_372_036_854_775_807;
 
@@ -221,6 +223,7 @@ Writes: DISK, and, of all epochs that are closed and before it waits for more li
         then output lines 'EPOCH VERTEX KEY VALUE'; 'cut EPOCH' where a line 'cut' asks for a cut, after each E epochs with
         --cut-every E, and in any case before the room for epochs on DISK is full;
         with --marks, 'done EPOCH' after the output lines of an epoch, also where it has none;
+        with --refuse, 'no REQUEST LINE: WHAT' for an epoch with a fault, and '-' where it has no request number;
         with --progress, to standard error, 'acked EPOCH done EPOCH kept EPOCH': the last epoch on DISK, computed, and cut
 A cut keeps the states on DISK, and frees the room of the epochs up to it
 Common faults:
@@ -418,7 +421,8 @@ fn stream_leaf<'a>(alloc: Global) -> Result<Command<'a>, AllocError>
     )?;
     let leaf = with_arg(leaf, option_arg(alloc, "most", "R", 1, GREATEST, MOST))?;
     let leaf = with_arg(leaf, flag_arg(alloc, "progress", PROGRESS))?;
-    with_arg(leaf, flag_arg(alloc, "marks", MARKS))
+    let leaf = with_arg(leaf, flag_arg(alloc, "marks", MARKS))?;
+    with_arg(leaf, flag_arg(alloc, "refuse", REFUSE))
 }
 
 /// `plan`.

@@ -1,5 +1,5 @@
 -- What a feed and a stream of a disk promise, by closures of a store.
-use Rattle.std.specs.Prelude.{◌≡◌, ℕ, Bool, true, false, List, Option, None, IfSome, IfErr, IsErr, OnOk, Result, Err}
+use Rattle.std.specs.Prelude.{◌≡◌, ℕ, Bool, false, List, Option, None, IfSome, IfErr, IsErr, OnOk, Result, Err}
 use Rattle.td_plan.specs.Lines.{Line as PlanLine}
 use Rattle.td_plan.specs.Blocks.{vertices}
 use Rattle.td_calls.specs.declared.error.CallsError.{CallsError}
@@ -7,9 +7,9 @@ use Rattle.td_calls.specs.Fits.{first_lack}
 use Rattle.td_disk.specs.Disk.{DiskState}
 use Rattle.td_console.specs.declared.faults.Fault.{Fault}
 use Rattle.td_console.specs.Answer.{Stored, lack_fault}
-use Rattle.td_feed.specs.Orders.{orders_of, submitted_by, submissions}
-use Rattle.td_feed.specs.Asked.{script_of}
-use Rattle.td_feed.specs.Session.{KeepsDisk, FeedsDisk}
+use Rattle.td_feed.specs.Orders.{orders_of, submitted_by}
+use Rattle.td_feed.specs.Said.{epochs_alone}
+use Rattle.td_feed.specs.Session.{KeepsDisk, FeedsDisk, StreamsDisk}
 
 -- the first vertex of a plan whose closure a store lacks
 abbrev pub lack_in : Stored → List PlanLine → Option CallsError
@@ -27,16 +27,15 @@ module _ (stored : Stored) {D S T : Type 0} (capacity : D → ℕ) (is_lawful : 
     pub fault : IfSome (remaining reader) (λ input. IfErr (orders_of plan input) (λ _. IsErr result × (written ≡ writer)))
     pub fed : lack_in stored plan ≡ None
         → IfSome (remaining reader) (λ input. FeedsDisk is_lawful state failures stored.answers marks result plan false disk left
-        (contents writer) (contents written) (submitted_by (orders_of plan input)))
+        (contents writer) (contents written) (epochs_alone (submitted_by (orders_of plan input))))
 
-  -- A STREAM, by one worker or by several, of a disk before and after, of its reader, of a writer before and after, and of its answer
-  pub record StreamsBy (alone : Bool) (disk left : D) (reader : S) (writer written : T) (result : Result (Unit {0}) Fault) : Type 0 where
+  -- A STREAM, that refuses epochs or not, by one worker or by several, of a disk before and after, of its reader, of a writer before and after, and of its answer
+  pub record StreamsBy (refuse alone : Bool) (disk left : D) (reader : S) (writer written : T) (result : Result (Unit {0}) Fault) : Type 0 where
     pub disk_is_kept : KeepsDisk capacity is_lawful failures result disk left
     -- a closure that the store lacks comes first: nothing is written
     pub lack : IfSome (lack_in stored plan) (λ lack. (result ≡ Err (lack_fault lack)) × (left ≡ disk) × (written ≡ writer))
     pub fits : OnOk result (lack_in stored plan ≡ None)
-    -- Ok is answered only to an input without a fault; and what it asks for is fed, by one worker until all outputs went out
-    pub sound : OnOk result (IfSome (remaining reader) (λ input. (script_of plan input).is_sound ≡ true))
+    -- what the input asks for is fed, by one worker until all outputs went out
     pub fed : lack_in stored plan ≡ None
-        → IfSome (remaining reader) (λ input. FeedsDisk is_lawful state failures stored.answers marks result plan alone disk left
-        (contents writer) (contents written) (submissions (script_of plan input).orders))
+        → IfSome (remaining reader) (λ input. StreamsDisk is_lawful state failures stored.answers marks refuse result plan alone disk left
+        (contents writer) (contents written) input)

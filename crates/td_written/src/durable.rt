@@ -61,6 +61,7 @@ pub fn stream<
     workers: u8,
     cut_every: Option<u32>,
     most: Option<u64>,
+    refuse: bool,
     reader: I,
     writer: &mut W,
     watch: Option<Writer>,
@@ -71,10 +72,11 @@ pub fn stream<
     requires most { workers ≤ 16 }
     requires unpublished { IfSome watch (λ w. w.words ≡ 0 ∷ 0 ∷ 0 ∷ []) }
     ensures { StreamsBy (stored_beside L.answers C.has_map C.has_group C.has_fold below closures.items) D.capacity D.is_lawful D.state D.failures I.remaining
-        W.contents W.marks plan.now (workers == 1) disk result.0 reader writer.old writer.new result.1 }
+        W.contents W.marks plan.now refuse (workers == 1) disk result.0 reader writer.old writer.new result.1 }
 {
     stream_by::<Brand, D, I, W, L, C, R>(
-        rt, alloc, disk, plan, workers, cut_every, most, reader, writer, watch, below, closures,
+        rt, alloc, disk, plan, workers, cut_every, most, refuse, reader, writer, watch, below,
+        closures,
     )
 }
 
@@ -128,6 +130,7 @@ fn stream_by<
     workers: u8,
     cut_every: Option<u32>,
     most: Option<u64>,
+    refuse: bool,
     reader: I,
     writer: &mut W,
     watch: Option<Writer>,
@@ -139,11 +142,11 @@ fn stream_by<
     requires most { workers ≤ 16 }
     requires unpublished { IfSome watch (λ w. w.words ≡ 0 ∷ 0 ∷ 0 ∷ []) }
     ensures { StreamsBy (stored_beside L.answers C.has_map C.has_group C.has_fold below F.closures) D.capacity D.is_lawful D.state D.failures I.remaining
-        W.contents W.marks plan.now (workers == 1) disk result.0 reader writer.old writer.new result.1 }
+        W.contents W.marks plan.now refuse (workers == 1) disk result.0 reader writer.old writer.new result.1 }
 {
     let above = WrittenCalls::<F>::new(closures);
     let calls = BesideCalls { below, above };
     disk_engine::stream::<D, I, W, Beside<L, F>, BesideCalls<C, F>, R>(
-        rt, alloc, disk, plan, workers, cut_every, most, reader, writer, watch, &calls,
+        rt, alloc, disk, plan, workers, cut_every, most, refuse, reader, writer, watch, &calls,
     )
 }

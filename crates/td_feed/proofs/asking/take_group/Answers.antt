@@ -7,7 +7,7 @@ use Rattle.td_group.specs.Groups.{may_follow}
 use Rattle.td_feed.specs.declared.order.Order.{Order}
 use Rattle.td_feed.specs.Orders.{submissions}
 use Rattle.td_feed.proofs.Newness.{greatest-append, one_follows}
-use Rattle.td_feed.proofs.Released.{submissions-append}
+use Rattle.td_feed.proofs.Released.{submissions-append, notes-append}
 use Rattle.td_feed.proofs.asking.take_group.Goals as goal
 
 some_more : (xs : List Submitted) (x : Submitted) → xs ++ x ∷ [] ≡ [] → ⊥
@@ -36,13 +36,14 @@ loop-epoch-preserved c =
     let next = c.in-Some.ensures.some in
     let done = so_far.taken.0 in
     let pushed : c.push_reserved.new.self.items ≡ group ++ s ∷ [] = c.push_reserved.ensures.items ∙ ap (λ (l : List Submitted). l ++ s ∷ []) c.reserve.ensures.items in
-    let comes = ap (λ n. may_come (Some n) s.request) (sym so_far.last) ∙ next.3 in
+    let comes = ap (λ n. may_come (Some n) s.request) (sym so_far.last) ∙ next.4 in
     record {
       taken = (
         done ++ next.0 ∷ [],
         so_far.taken.1 ∙ (ap (λ (l : List Order). done ++ l) next.1 ∙ sym (append_assoc done (next.0 ∷ []) c.take_fitting.new.orders.items)),
         submissions-append done (next.0 ∷ []) ∙ (ap (λ (l : List Submitted). l ++ submissions (next.0 ∷ [])) so_far.taken.2
             ∙ (ap (λ (l : List Submitted). group ++ l) next.2 ∙ sym pushed)),
+        notes-append done (next.0 ∷ []) ∙ (λ i. so_far.taken.3 i ++ next.3 i),
       );
       none = λ none. absurd (some_more group s (sym pushed ∙ none));
       rising = ap (may_follow (Some first)) pushed ∙ one_follows first group s so_far.rising comes;

@@ -15,6 +15,7 @@ use Rattle.td_keeper.specs.Keeping.{Keeping}
 use Rattle.td_feed.specs.Orders.{orders_of, submitted_by, new_after}
 use Rattle.td_feed.specs.Fed.{EachTellsHistory, EachTellsSome}
 use Rattle.td_feed.specs.Carried.{StandsFor, new_to, Carries, Leaves}
+use Rattle.td_feed.specs.Said.{epochs_alone}
 use Rattle.td_feed.specs.Session.{KeepsDisk, Feeds}
 use Rattle.td_feed.proofs.Newness.{last_of_history}
 use Rattle.td_feed.proofs.Carrying.{in_some, ended_some, ended_all, none_more, still_each, found}
@@ -121,7 +122,7 @@ returns-clause-fed g c = λ fits.
           (subst (λ (d : g.row.D.Denot). EachTellsSome answers plan history more (state d)) (sym c.into_disk.ensures.disk)
           (subst (λ (p : List Line). EachTellsSome answers p history more (state new.device)) c.in-Ok.ensures.plan
           (ended_some is_lawful state answers c.told_in_parts.ensures.together keeper new history more (by_keeper history is) (left_of r feeds) held (left_lawful lawful))));
-      said = fed_says is_lawful state failures answers marks r plan false old c.into_disk.result u v (submitted_by (orders_of plan input))
+      said = fed_says is_lawful state failures answers marks r plan false old c.into_disk.result u v (epochs_alone (submitted_by (orders_of plan input)))
           (record {
             keeper = c.in-Ok.keeper;
             fresh = c.in-Ok.ensures.fresh;
@@ -136,6 +137,7 @@ returns-clause-fed g c = λ fits.
             left_is = c.into_disk.ensures.disk;
             lawful_left = λ lawful. subst is_lawful (sym c.into_disk.ensures.disk) (left_lawful lawful);
             holds = subst (λ (d : g.row.D.Denot). is_lawful d → HeldWhere new.broken answers new.plan new.head new.side new.standing (state d)) (sym c.into_disk.ensures.disk) held;
+            limit = tt;
             said = feeds.said;
             all_out = λ never. absurd (let no = never in cc);
           });

@@ -1,18 +1,19 @@
-use Rattle.std.proofs.Common.{◌≡◌, [], true, refl, sym, ap, ◌∙◌, subst, inr, None}
+use Rattle.std.proofs.Common.{◌≡◌, ◌++◌, List, [], true, refl, sym, ap, ◌∙◌, subst, inr, None}
 use Rattle.std.specs.Prelude.{Err}
 use Rattle.td_console.specs.declared.faults.Fault.{Fault}
 use Rattle.td_console.specs.declared.faults.Fault.TheVariants.{Keeper}
 use Rattle.td_standing.specs.declared.error.KeeperError.TheVariants.{Device}
-use Rattle.td_feed.specs.Orders.{submissions}
-use Rattle.td_feed.specs.Asked.{Asks, asked_for, is_of_reader}
+use Rattle.td_feed.specs.declared.note.Note.{Note}
+use Rattle.td_feed.specs.Orders.{submissions, notes_in}
+use Rattle.td_feed.specs.Asked.{Asks, asked_for, notes_for, is_of_reader}
 use Rattle.td_keeper.specs.Keeping.{Keeping}
 use Rattle.td_feed.specs.Carried.{new_to, Carries, Leaves}
 use Rattle.td_feed.specs.Said.{Says, SaysBy}
 use Rattle.td_feed.specs.Session.{KeepsDisk}
 use Rattle.td_feed.proofs.Carrying.{at_ok, at_err}
 use Rattle.td_feed.proofs.Counting.{as_err, other_fault, memory_no_device}
-use Rattle.td_feed.proofs.Lines.{says_nothing, some_of_all, by_refusal, handed_on}
-use Rattle.td_feed.proofs.Obeyed.{none_obeyed, some_obeyed, some_refused, left_there, is_sound, at_end_carried, at_end_left, at_end_said, none_left, none_of}
+use Rattle.td_feed.proofs.Lines.{says_nothing, some_of_all, some_of_more, by_refusal, handed_on}
+use Rattle.td_feed.proofs.Obeyed.{none_obeyed, some_obeyed, some_refused, notes_left, notes_there, left_there, is_sound, at_end_carried, at_end_left, at_end_said, none_left, none_of}
 use Rattle.td_feed.proofs.Session.{done, known, in_some_is, disk_same, disk_then, disk_handed, none_fed, err_fed}
 use Rattle.td_feed.proofs.in_turn.obey_each.Goals as goal
 
@@ -45,8 +46,8 @@ returns-in_err-begin-clause-fed g c =
     in_some_is (g.S.Asking.script c.args.orders.now)
     (λ s is. err_fed _ c.from_residual.result c.from_residual.ensures.1
     (none_left is_lawful state failures answers marks old new (new_to old (submissions s.orders)) c.requires.whole (subst (λ (k : Keeping g.row.D.Denot). Leaves is_lawful state answers k new []) c.allow.ensures fed.left))
-    (handed_on is_lawful state failures answers marks c.from_residual.result c.in_err-begin.field-0.0 u u w old old new [] [] (new_to old (submissions s.orders)) c.from_residual.ensures.1 (says_nothing is_lawful state failures answers marks u old)
-    (subst (λ (k : Keeping g.row.D.Denot). SaysBy is_lawful state failures answers marks (Err c.in_err-begin.field-0.0) u w k new []) c.allow.ensures fed.said)))
+    (handed_on is_lawful state failures answers marks c.from_residual.result c.in_err-begin.field-0.0 u u w old old new [] [] (new_to old (submissions s.orders)) [] [] (notes_in s.orders) (notes_in s.orders) refl c.from_residual.ensures.1 (says_nothing is_lawful state failures answers marks u old)
+    (subst (λ (k : Keeping g.row.D.Denot). SaysBy is_lawful state failures answers marks (Err c.in_err-begin.field-0.0) u w k new [] []) c.allow.ensures fed.said)))
 
 pub loop-asked-init : goal.loop-asked-init
 loop-asked-init g c =
@@ -63,7 +64,7 @@ loop-asked-init g c =
     record {
       obeyed =
           none_obeyed is_lawful state failures answers marks (g.S.Asking.script c.args.orders.now) v w (g.E.Obey.keeping c.args.engine.now) new
-          (subst (λ (k : Keeping g.row.D.Denot). Says is_lawful state failures answers marks v w k new []) same fed.said)
+          (subst (λ (k : Keeping g.row.D.Denot). Says is_lawful state failures answers marks v w k new [] []) same fed.said)
           (subst (λ (k : Keeping g.row.D.Denot). Carries answers k new []) same fed.carried);
       disk = subst (λ (k : Keeping g.row.D.Denot). KeepsDisk g.D.Disk.capacity is_lawful failures done k.device new.device) same c.in_ok-begin.ensures.disk;
     }
@@ -92,8 +93,8 @@ returns-in_err-asked-clause-fed g c =
     in_some_is script
     (λ s is. err_fed _ r c.from_residual-in_err-asked.ensures.1
     (known _ script s is (left_there is_lawful state failures answers marks script left left u v old there so))
-    (by_refusal is_lawful state failures answers marks r (λ (f : Fault). f ≡ c.in_err-asked.field-0.0) u v old there (new_to old (submissions s.orders)) c.from_residual-in_err-asked.ensures.1
-    (λ f is. inr (some_of_all is_lawful state failures answers marks u v old there (new_to old (submissions so.done)) so.said))))
+    (by_refusal is_lawful state failures answers marks r (λ (f : Fault). f ≡ c.in_err-asked.field-0.0) u v old there (new_to old (submissions s.orders)) (notes_in s.orders) c.from_residual-in_err-asked.ensures.1
+    (λ f holds. let later : (m : List Note) × (notes_in so.done ++ m ≡ notes_in s.orders) = known _ script s is (notes_there is_lawful state failures answers marks script left left u v old there so) in inr (some_of_more is_lawful state failures answers marks u v old there (notes_in so.done) later.0 (notes_in s.orders) later.1 (some_of_all is_lawful state failures answers marks u v old there (new_to old (submissions so.done)) (notes_in so.done) so.said)))))
 
 pub returns-in_default-clause-disk : goal.returns-in_default-clause-disk
 returns-in_default-clause-disk g c = disk_then c.loop-asked.invariant.disk c.settle.ensures.disk
@@ -150,7 +151,7 @@ loop-asked-preserved g c =
     record {
       obeyed =
           some_obeyed is_lawful state failures answers marks script left next u v w old there new asked so (subst (Asks left next) c.in-Some-2.is c.in_ok-asked.ensures.asked)
-          (subst (λ (k : Keeping g.row.D.Denot). Says is_lawful state failures answers marks v w k new (new_to k (asked_for asked))) same fed.said)
+          (subst (λ (k : Keeping g.row.D.Denot). Says is_lawful state failures answers marks v w k new (new_to k (asked_for asked)) (notes_for asked)) same fed.said)
           (subst (λ (k : Keeping g.row.D.Denot). Carries answers k new (new_to k (asked_for asked))) same fed.carried);
       disk = disk_then c.loop-asked.invariant.disk (subst (λ (k : Keeping g.row.D.Denot). KeepsDisk g.D.Disk.capacity is_lawful failures done k.device new.device) same c.in_ok-obey_at_pace.ensures.disk);
     }
@@ -187,5 +188,6 @@ returns-in_err-obey_at_pace-clause-fed g c =
     (λ s is. err_fed _ r c.from_residual-in_err-obey_at_pace.ensures.1
     (known _ script s is (some_refused is_lawful state failures answers marks script left next u v w old there new asked so (subst (Asks left next) c.in-Some-2.is c.in_ok-asked.ensures.asked)
     (subst (λ (k : Keeping g.row.D.Denot). Leaves is_lawful state answers k new (new_to k (asked_for asked))) same fed.left)))
-    (handed_on is_lawful state failures answers marks r e u v w old there new (new_to old (submissions so.done)) (new_to there (asked_for asked)) (new_to old (submissions s.orders)) c.from_residual-in_err-obey_at_pace.ensures.1 so.said
-    (subst (λ (k : Keeping g.row.D.Denot). SaysBy is_lawful state failures answers marks (Err e) v w k new (new_to k (asked_for asked))) same fed.said)))
+    (let later : (m : List Note) × ((notes_in so.done ++ notes_for asked) ++ m ≡ notes_in s.orders) = known _ script s is (notes_left is_lawful state failures answers marks script left next u v w old there new asked so (subst (Asks left next) c.in-Some-2.is c.in_ok-asked.ensures.asked)) in
+    handed_on is_lawful state failures answers marks r e u v w old there new (new_to old (submissions so.done)) (new_to there (asked_for asked)) (new_to old (submissions s.orders)) (notes_in so.done) (notes_for asked) later.0 (notes_in s.orders) later.1 c.from_residual-in_err-obey_at_pace.ensures.1 so.said
+    (subst (λ (k : Keeping g.row.D.Denot). SaysBy is_lawful state failures answers marks (Err e) v w k new (new_to k (asked_for asked)) (notes_for asked)) same fed.said)))

@@ -11,7 +11,7 @@ use Rattle.td_feed.proofs.Moments.{advanced_onward}
 use Rattle.td_feed.proofs.laws.moments_are_told.Goals as goal
 
 pub returns : goal.returns
-returns g c marks result plan alone disk left before after x from lawful commands replies driven history told image was =
+returns g c marks result plan alone disk left before after wanted from lawful commands replies driven history told image was =
     let answers = g.L.Law.answers in
     let state = g.D.Disk.state in
     let keeper : Keeping g.row.D.Denot = record from.keeper { watch = from.watch } in

@@ -1,6 +1,7 @@
-use Rattle.std.proofs.Common.{refl}
+use Rattle.std.proofs.Common.{ℕ, refl, ap, ◌∙◌}
+use Rattle.std.specs.Prelude.{Option, option_map}
 use Rattle.td_feed.specs.Asked.{Script, script_of}
-use Rattle.td_feed.specs.Session.{FeedsScript}
+use Rattle.td_feed.specs.Session.{limit_of, FeedsScript}
 use Rattle.td_feed.proofs.Carrying.{of_made}
 use Rattle.td_feed.proofs.Session.{in_some_is, disk_same, none_fed}
 use Rattle.td_feed.proofs.streaming.obey.Goals as goal
@@ -11,13 +12,13 @@ returns-in-Err-clause-fed g c = in_some_is (g.I.Source.remaining c.args.reader) 
 pub returns-in-Ok-clause-fed : goal.returns-in-Ok-clause-fed
 returns-in-Ok-clause-fed g c =
     let ended = c.obey_by_workers.result in
-    of_made (script_of c.args.plan.now)
+    of_made (script_of (limit_of c.args.refuse c.args.keeper.head.shape.m) c.args.plan.now)
     (λ (asked : Script). FeedsScript g.D.Disk.is_lawful g.D.Disk.state g.D.Disk.failures g.L.Law.answers g.W.Voice.marks ended.1 (g.W.Sink.contents c.args.writer.now) (g.W.Sink.contents c.obey_by_workers.new.writer) c.args.keeper ended.0 asked)
-    (g.I.Source.remaining c.args.reader) _ c.new-orders.ensures c.obey_by_workers.ensures.fed
+    (g.I.Source.remaining c.args.reader) _ (c.new-orders.ensures ∙ ap (λ (l : Option ℕ). option_map (script_of l c.args.plan.now) (g.I.Source.remaining c.args.reader)) c.limit_of-limit.ensures) c.obey_by_workers.ensures.fed
 
 pub returns-then-workers-eq1-clause-fed : goal.returns-then-workers-eq1-clause-fed
 returns-then-workers-eq1-clause-fed g c =
     let ended = c.obey_alone.result in
-    of_made (script_of c.args.plan.now)
+    of_made (script_of (limit_of c.args.refuse c.args.keeper.head.shape.m) c.args.plan.now)
     (λ (asked : Script). FeedsScript g.D.Disk.is_lawful g.D.Disk.state g.D.Disk.failures g.L.Law.answers g.W.Voice.marks ended.1 (g.W.Sink.contents c.args.writer.now) (g.W.Sink.contents c.obey_alone.new.writer) c.args.keeper ended.0 asked)
-    (g.I.Source.remaining c.args.reader) _ c.new-orders.ensures c.obey_alone.ensures.fed
+    (g.I.Source.remaining c.args.reader) _ (c.new-orders.ensures ∙ ap (λ (l : Option ℕ). option_map (script_of l c.args.plan.now) (g.I.Source.remaining c.args.reader)) c.limit_of-limit.ensures) c.obey_alone.ensures.fed

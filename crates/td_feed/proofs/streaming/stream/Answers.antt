@@ -1,5 +1,5 @@
-use Rattle.std.proofs.Common.{◌≡◌, ◌==◌, eqb-true, true, ℕ, List, ◌++◌, refl, sym, ap, ◌∙◌, subst, inl, inr, ⊎_elim}
-use Rattle.std.specs.Prelude.{Option, IfSome, Result, Ok, Err, OnOk}
+use Rattle.std.proofs.Common.{◌≡◌, ◌==◌, eqb-true, Bool, true, false, ℕ, List, ◌++◌, refl, sym, ap, ◌∙◌, subst, inl, inr, ⊎_elim}
+use Rattle.std.specs.Prelude.{Option, Some, None, IfSome, Result, Ok, Err, OnOk}
 use Rattle.td_console.specs.Refusals.{keeper_fault}
 use Rattle.std.proofs.lemmas.Option.{IfSome_then}
 use Rattle.td_plan.specs.Lines.{Line}
@@ -14,10 +14,10 @@ use Rattle.td_standing.specs.Advanced.{states_by, HeldWhere}
 use Rattle.td_journal.specs.Numbers.{greatest}
 use Rattle.td_keeper.specs.Keeping.{Keeping, IsKeeping}
 use Rattle.td_feed.specs.Orders.{submissions, new_after}
-use Rattle.td_feed.specs.Asked.{script_of}
+use Rattle.td_feed.specs.Asked.{Script, script_of}
 use Rattle.td_feed.specs.Fed.{EachTellsHistory, EachTellsSome}
 use Rattle.td_feed.specs.Carried.{StandsFor, new_to, Carries, Leaves}
-use Rattle.td_feed.specs.Session.{KeepsDisk, Feeds}
+use Rattle.td_feed.specs.Session.{limit_of, wanted_by, KeepsDisk, FeedsScript}
 use Rattle.td_feed.proofs.Newness.{last_of_history}
 use Rattle.td_feed.proofs.Carrying.{in_some, ended_some, ended_all, none_more, still_each, found}
 use Rattle.td_feed.proofs.Counting.{as_err, fault_of, keeper_device, lack_no_device}
@@ -27,15 +27,10 @@ use Rattle.std.proofs.lemmas.Result.{on_ok_weaker}
 use Rattle.td_feed.proofs.Session.{left_of, disk_same, disk_then, disk_recovered}
 use Rattle.td_feed.proofs.streaming.stream.Goals as goal
 
--- what holds at an Ok of each thing that may be known
-ok_known : {T E A : Type 0} (P : A → Type 0) (r : Result T E) (o : Option A) → IfSome o (λ a. OnOk r (P a)) → OnOk r (IfSome o P)
-ok_known P (Ok x) o is = is
-ok_known P (Err e) o is = tt
-
-pub returns-clause-sound : goal.returns-clause-sound
-returns-clause-sound g c =
-    let known = g.I.Source.remaining c.args.reader in
-    ok_known (λ (input : List ℕ). (script_of c.args.plan.now input).is_sound ≡ true) c.obey-keeper.result.1 known (IfSome_then known c.obey-keeper.ensures.fed (λ input fed. fed.sound))
+-- the limit is that of the disk, where there is one
+within : (refuse : Bool) (records : ℕ) → IfSome (limit_of refuse records) (λ most. most ≡ records)
+within true records = refl
+within false records = tt
 
 pub returns-in-Err-clause-disk : goal.returns-in-Err-clause-disk
 returns-in-Err-clause-disk g c = disk_same _ refl (λ is. lack_no_device c.in-Err.lack (ap (as_err (Unit {0})) (sym c.lack_fault.ensures.fault ∙ fault_of _ _ is)))
@@ -63,7 +58,11 @@ returns-in-Err-recover-clause-fed g c = λ fits.
     let rose = Rises (g.D.Disk.failures c.args.disk) (g.D.Disk.failures new) in
     let tells = λ (e : KeeperError). g.D.Disk.is_lawful c.args.disk → IsDurable (state new) × Told c.args.plan.now (state new).bytes (Refused e) in
     in_some (g.I.Source.remaining c.args.reader)
-    (λ input. record {
+    (λ input.
+    record {
+      records = 0;
+      sound = tt;
+      fed = record {
       fed = tt;
       safe = λ lawful history told.
           let state = g.D.Disk.state in
@@ -72,7 +71,7 @@ returns-in-Err-recover-clause-fed g c = λ fits.
           let new = c.in-Err-recover.disk in
           let plan = c.args.plan.now in
           let safe : CrashSafe Unchanged (state old) (state new) = c.in-Err-recover.ensures.crash_safe_back lawful in
-          none_more answers plan history (new_after (greatest 0 history) (submissions (script_of plan input).orders)) (state new)
+          none_more answers plan history (new_after (greatest 0 history) (submissions (script_of (limit_of c.args.refuse 0) plan input).orders)) (state new)
           (still_each answers plan history (state old) (state new) safe
           (λ i image. g.met.D.Disk.counts_now new (state old).moment i (c.in-Err-recover.ensures.lawful_back.0 lawful) safe.later image) told);
       said = inl (record {
@@ -80,6 +79,7 @@ returns-in-Err-recover-clause-fed g c = λ fits.
         unwritten = recover.crash_safe_back;
         said = refl;
       });
+      };
     })
 
 pub returns-clause-disk : goal.returns-clause-disk
@@ -109,8 +109,13 @@ returns-clause-fed g c = λ fits.
     let held = c.into_disk.ensures.held in
     IfSome_then (g.I.Source.remaining c.args.reader) c.obey-keeper.ensures.fed
     (λ input fed.
-    let more : List Submitted = new_to keeper (submissions (script_of plan input).orders) in
-    let feeds : Feeds is_lawful state failures answers marks r u v keeper new more = (subst (λ (k : Keeping g.row.D.Denot). Feeds is_lawful state failures answers marks r u v k new (new_to k (submissions (script_of plan input).orders))) c.watched-keeper.ensures.aside.1 fed.fed) in
+    let limit : Option ℕ = limit_of c.args.refuse keeper.head.shape.m in
+    let asked : Script = script_of limit plan input in
+    let wanted : List Submitted = submissions asked.orders in
+    let more : List Submitted = new_to keeper wanted in
+    let whole : FeedsScript is_lawful state failures answers marks r u v keeper new asked =
+    subst (λ (k : Keeping g.row.D.Denot). FeedsScript is_lawful state failures answers marks r u v k new (script_of (limit_of c.args.refuse k.head.shape.m) plan input)) c.watched-keeper.ensures.aside.1 fed in
+    let feeds = whole.fed in
     let stands = λ (lawful : is_lawful old) (history : List Submitted) (told : EachTellsHistory answers plan history (state old)).
     let safe : CrashSafe Unchanged (state old) (state keeper.device) = c.in-Ok.ensures.crash_safe lawful in
     found answers plan history (state old) (state keeper.device) safe
@@ -118,10 +123,13 @@ returns-clause-fed g c = λ fits.
     c.told_in_parts.ensures.one_answer (g.met.D.Disk.reads_image keeper.device (c.in-Ok.ensures.lawful.0 lawful)) keeper.standing (c.in-Ok.ensures.told lawful) in
     let by_keeper = λ (history : List Submitted) (is : Stands (states_by answers plan) keeper.standing history).
     subst (λ (p : List Line). Stands (states_by answers p) keeper.standing history) (sym c.in-Ok.ensures.plan) is in
-    let also : (history : List Submitted) → Stands (states_by answers plan) keeper.standing history → more ≡ new_after (greatest 0 history) (submissions (script_of plan input).orders) =
-    λ history is. ap (λ (q : ℕ). new_after q (submissions (script_of plan input).orders)) (last_of_history answers plan keeper.standing history is) in
+    let also : (history : List Submitted) → Stands (states_by answers plan) keeper.standing history → more ≡ new_after (greatest 0 history) wanted =
+    λ history is. ap (λ (q : ℕ). new_after q wanted) (last_of_history answers plan keeper.standing history is) in
     let left_lawful : is_lawful old → is_lawful new.device = λ lawful. c.obey-keeper.ensures.disk.lawful.0 (subst is_lawful (sym c.watched-keeper.ensures.device) (c.in-Ok.ensures.lawful.0 lawful)) in
     record {
+      records = keeper.head.shape.m;
+      sound = whole.sound;
+      fed = record {
       fed = on_ok_weaker r (λ (carries : Carries answers keeper new more) lawful history told.
           let is = stands lawful history told in
           subst (λ (l : List Submitted). EachTellsHistory answers plan (history ++ l) (state c.into_disk.result)) (also history is)
@@ -134,7 +142,7 @@ returns-clause-fed g c = λ fits.
           (subst (λ (d : g.row.D.Denot). EachTellsSome answers plan history more (state d)) (sym c.into_disk.ensures.disk)
           (subst (λ (p : List Line). EachTellsSome answers p history more (state new.device)) c.in-Ok.ensures.plan
           (ended_some is_lawful state answers c.told_in_parts.ensures.together keeper new history more (by_keeper history is) (left_of r feeds) held (left_lawful lawful))));
-      said = fed_says is_lawful state failures answers marks r plan (c.args.workers == 1) old c.into_disk.result u v (submissions (script_of plan input).orders)
+      said = fed_says is_lawful state failures answers marks r plan (c.args.workers == 1) old c.into_disk.result u v (wanted_by limit asked)
           (record {
             keeper = c.in-Ok.keeper;
             fresh = c.in-Ok.ensures.fresh;
@@ -149,7 +157,9 @@ returns-clause-fed g c = λ fits.
             left_is = c.into_disk.ensures.disk;
             lawful_left = λ lawful. subst is_lawful (sym c.into_disk.ensures.disk) (left_lawful lawful);
             holds = subst (λ (d : g.row.D.Denot). is_lawful d → HeldWhere new.broken answers new.plan new.head new.side new.standing (state d)) (sym c.into_disk.ensures.disk) held;
+            limit = within c.args.refuse keeper.head.shape.m;
             said = feeds.said;
             all_out = λ is. c.obey-keeper.ensures.all_out (eqb-true c.args.workers 1 is);
           });
+      };
     })

@@ -71,7 +71,7 @@ returns-in_err-print_out-clause-fed g c =
     let o : Option EpochOut = c.next_out.result in
     let more = holding_more is_lawful state failures answers marks u v old there new o held (held ++ line_of marks 0 (Out o)) so_far.said c.next_out.ensures.driven refl in
     fed_quiet c.from_residual.result (carries_after g.D.Disk.is_lawful g.D.Disk.state g.L.Law.answers (g.E.Obey.keeping c.args.engine.now) (g.E.Obey.keeping c.loop-out.engine) (g.E.Obey.keeping c.next_out.new.engine) [] c.loop-out.invariant.carried c.next_out.ensures.carried)
-    (by_refusal is_lawful state failures answers marks c.from_residual.result (λ (f : Fault). f ≡ c.in_err-print_out.field-0.0) u v old new [] c.from_residual.ensures.1
+    (by_refusal is_lawful state failures answers marks c.from_residual.result (λ (f : Fault). f ≡ c.in_err-print_out.field-0.0) u v old new [] [] c.from_residual.ensures.1
     (λ f is. inr more.some))
 
 pub returns-in_err-print_out-clause-disk : goal.returns-in_err-print_out-clause-disk
@@ -96,8 +96,8 @@ returns-in_err-write_piece-clause-fed g c =
     let o : Option EpochOut = c.next_out.result in
     let more = holding_more is_lawful state failures answers marks u v old there new o held (held ++ line_of marks 0 (Out o)) so_far.said c.next_out.ensures.driven refl in
     fed_quiet c.from_residual-in_err-write_piece.result (carries_after g.D.Disk.is_lawful g.D.Disk.state g.L.Law.answers (g.E.Obey.keeping c.args.engine.now) (g.E.Obey.keeping c.loop-out.engine) (g.E.Obey.keeping c.next_out.new.engine) [] c.loop-out.invariant.carried c.next_out.ensures.carried)
-    (by_refusal is_lawful state failures answers marks c.from_residual-in_err-write_piece.result (λ (f : Fault). f ≡ c.in_err-write_piece.field-0.0) u (g.W.Sink.contents c.write_piece.new.writer) old new []
-    c.from_residual-in_err-write_piece.ensures.1 (λ f is. inl (is ∙ c.in_err-write_piece.ensures.err, unheard is_lawful state failures answers marks u v old new more.some)))
+    (by_refusal is_lawful state failures answers marks c.from_residual-in_err-write_piece.result (λ (f : Fault). f ≡ c.in_err-write_piece.field-0.0) u (g.W.Sink.contents c.write_piece.new.writer) old new [] []
+    c.from_residual-in_err-write_piece.ensures.1 (λ f is. inl (is ∙ c.in_err-write_piece.ensures.err, unheard is_lawful state failures answers marks u v old new [] more.some)))
 
 pub returns-in_err-write_piece-clause-disk : goal.returns-in_err-write_piece-clause-disk
 returns-in_err-write_piece-clause-disk g c =

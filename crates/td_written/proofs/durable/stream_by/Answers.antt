@@ -6,6 +6,5 @@ returns g c =
       disk_is_kept = fed.disk;
       lack = fed.lack;
       fits = fed.fits;
-      sound = fed.sound;
       fed = fed.fed;
     }

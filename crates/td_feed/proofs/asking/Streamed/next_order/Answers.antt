@@ -1,12 +1,11 @@
 use Rattle.std.proofs.Common.{refl}
-use Rattle.td_feed.specs.Asked.{unread, script_left}
+use Rattle.td_feed.specs.Asked.{unread, place, script_left}
 use Rattle.td_feed.proofs.Asked.{same_itself}
 use Rattle.td_feed.proofs.asking.Streamed.next_order.Goals as goal
 
 pub loop-line-init : goal.loop-line-init
 loop-line-init g c = record {
-  script = same_itself (script_left (unread (g.I.Source.remaining c.args.self.now.lines.reader) c.args.self.now.lines.unread) c.args.self.now.plan.now c.args.self.now.number c.args.self.now.read);
-  plan = refl;
+  script = same_itself (script_left (unread (g.I.Source.remaining c.args.self.now.lines.reader) c.args.self.now.lines.unread) (place c.args.self.now.reading));
   ahead = refl;
   stopped = refl;
 }

@@ -1,14 +1,13 @@
 use Rattle.std.proofs.Common.{◌≡◌}
-use Rattle.td_feed.specs.Asked.{unread, script_left, SameScript}
+use Rattle.td_feed.specs.Asked.{unread, place, script_left, SameScript}
 use Rattle.td_feed.proofs.asking.Streamed.next_order.Given as goal
 
 -- the lines so far completed no order
 abbrev pub invariant-loop-line : goal.invariant-loop-line
 invariant-loop-line g l = record {
   script :
-      SameScript (script_left (unread (g.I.Source.remaining l.fn.self.lines.reader) l.fn.self.lines.unread) l.fn.self.plan.now l.fn.self.number l.fn.self.read)
-      (script_left (unread (g.I.Source.remaining l.self.lines.reader) l.self.lines.unread) l.self.plan.now l.self.number l.self.read);
-  plan : l.self.plan.now ≡ l.fn.self.plan.now;
+      SameScript (script_left (unread (g.I.Source.remaining l.fn.self.lines.reader) l.fn.self.lines.unread) (place l.fn.self.reading))
+      (script_left (unread (g.I.Source.remaining l.self.lines.reader) l.self.lines.unread) (place l.self.reading));
   ahead : l.self.ahead ≡ l.fn.self.ahead;
   stopped : l.self.stopped ≡ l.fn.self.stopped;
 }

@@ -1,0 +1,20 @@
+use Rattle.std.proofs.Common.{◌≡◌, ◌∙◌, refl, sym, ap, subst}
+use Rattle.td_feed.specs.declared.at_once.Asked.{Asked}
+use Rattle.td_feed.specs.declared.at_once.Asked.TheVariants.{One}
+use Rattle.td_feed.specs.declared.order.Order.{Order}
+use Rattle.td_feed.specs.Asked.{asked_for, notes_for}
+use Rattle.td_feed.specs.Carried.{new_to}
+use Rattle.td_feed.specs.Session.{FeedsNoting}
+use Rattle.td_feed.proofs.Lines.{no_device_if}
+use Rattle.td_feed.proofs.Session.{disk_same, fed_note}
+use Rattle.td_feed.proofs.under_way.Feeding.obey.Goals as goal
+
+pub returns-in-Say-clause-disk : goal.returns-in-Say-clause-disk
+returns-in-Say-clause-disk g c = disk_same c.write_note.result refl (no_device_if c.write_note.result (c.write_note.new.writer ≡ c.args.writer.now) c.write_note.ensures.unsaid)
+
+pub returns-in-Say-clause-fed : goal.returns-in-Say-clause-fed
+returns-in-Say-clause-fed g c =
+    let k = g.E.Obey.keeping c.args.engine.now in
+    subst (λ (a : Asked). FeedsNoting g.D.Disk.is_lawful g.D.Disk.state g.D.Disk.failures g.L.Law.answers g.W.Voice.marks c.write_note.result (g.W.Sink.contents c.args.writer.now) (g.W.Sink.contents c.write_note.new.writer) k k (new_to k (asked_for a)) (notes_for a))
+    (sym (c.in-One.is ∙ ap (λ (o : Order). One o) c.in-Say.is))
+    (fed_note c.write_note.result c.in-Say.note c.requires.whole c.write_note.ensures.said c.write_note.ensures.unsaid (λ same. ap g.W.Sink.contents same))

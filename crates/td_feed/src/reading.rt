@@ -1,0 +1,219 @@
+//! The lines of a stream, one after another, and the epochs that it refuses.
+//!
+//! An epoch is refused for its first flaw, and answered at its `.`, as each other one is. So each `.` has one answer, and the
+//! request number may stand below the flaw. What was read of the epoch is let go at the flaw.
+ghost use Rattle.std.specs.Prelude.{◌≡◌, [], true, Ok, Err, IfOk, IfErr, length};
+ghost use Rattle.td_feed.specs.Orders.{with_line, feed_line_of, is_between, is_of_input, no_orders, numbered, Gives};
+ghost use Rattle.td_feed.specs.Asked.{place, at_start, with_said, judged, passed_over, first_number, refused, unless_refused, is_over, may_end, Completes, HasFault, IsOfLine, is_of_reader};
+
+use crate::at_once::Room;
+use crate::note::{Flaw, Note};
+use crate::order::{
+    FeedLine, Order, Orders, has_too_many, is_between, no_orders, numbered, read_feed_line,
+    records_in, request_in, taken_out, with_line, with_note,
+};
+use std::alloc::Global;
+use std::mem;
+use td_console::{DataLine, Fault};
+use td_plan::Plan;
+
+/// Where a stream is in its input: the number of the next line, what was read, and why the epoch that is open is refused, if it is. Where
+/// epochs are refused, one may have so many records.
+#[derive(Drop)]
+pub(crate) struct Reading<'a> {
+    plan: &'a Plan,
+    limit: Option<usize>,
+    number: u64,
+    flaw: Option<(u64, Flaw)>,
+    read: Orders,
+}
+
+impl<'a> Reading<'a> {
+    /// Before the first line.
+    pub(crate) fn new(alloc: Global, plan: &'a Plan, limit: Option<usize>) -> Reading<'a>
+        ensures { place result ≡ at_start limit plan.now }
+    {
+        Reading {
+            plan,
+            limit,
+            number: 1,
+            flaw: None,
+            read: no_orders(alloc),
+        }
+    }
+
+    /// The number of the next line.
+    pub(crate) fn number(&self) -> u64 {
+        self.number
+    }
+
+    /// Whether the epoch that is open has more records than fit, where it would be put on the disk if it were closed.
+    pub(crate) fn has_too_many(&self, room: &Room) -> bool {
+        has_too_many(&self.read, room)
+    }
+
+    /// Whether no epoch has begun.
+    pub(crate) fn is_between(&self) -> bool
+        ensures { result ≡ may_end self.now.flaw (is_between self.now.read) }
+    {
+        match self.flaw {
+            Some(_) => false,
+            None => is_between(&self.read),
+        }
+    }
+
+    /// The order that one line more completes, if it does. Refusals: the line's fault; `Memory`; `Input` after more lines than can be
+    /// numbered.
+    pub(crate) fn with_line(&mut self, alloc: Global, line: &[u8]) -> Result<Option<Order>, Fault>
+        requires ready { self.old.read.orders ≡ [] }
+        ensures order { IfOk result (Completes (place self.old) (place self.new) line.now) }
+        ensures fault { IfErr result (λ f. IsOfLine f → HasFault (place self.old) line.now) }
+        ensures none_left { self.new.read.orders ≡ [] }
+        ensures err { IfErr result (λ f. is_of_reader f ≡ true) }
+    {
+        let Some(next) = self.number.checked_add(1) else {
+            return Err(Fault::Input);
+        };
+        let read = mem::replace(&mut self.read, no_orders(alloc));
+        let said = with_said(
+            alloc,
+            self.plan,
+            self.limit,
+            self.number,
+            self.flaw,
+            read,
+            line,
+        )?;
+        let (order, read) = taken_out(said.1);
+        self.flaw = said.0;
+        self.read = read;
+        self.number = next;
+        Ok(order)
+    }
+}
+
+/// What was read, and what one line more adds, which has this number; or why the epoch is refused. Refusals: the line's fault, where
+/// epochs are not refused; `Memory`.
+fn with_said(
+    alloc: Global,
+    plan: &Plan,
+    limit: Option<usize>,
+    number: u64,
+    flaw: Option<(u64, Flaw)>,
+    read: Orders,
+    line: &[u8],
+) -> Result<(Option<(u64, Flaw)>, Orders), Fault>
+    requires ready { read.orders ≡ [] }
+    ensures gives { Gives result (with_said plan.now limit number flaw read (feed_line_of line.now)) }
+    ensures of_input { IfErr result (λ f. is_of_input f ≡ true) }
+{
+    match flaw {
+        Some(flaw) => passed_over(alloc, read, flaw, read_feed_line(line)),
+        None => judged(alloc, plan, limit, number, read, line),
+    }
+}
+
+/// The same, where the epoch was not refused before.
+fn judged(
+    alloc: Global,
+    plan: &Plan,
+    limit: Option<usize>,
+    number: u64,
+    read: Orders,
+    line: &[u8],
+) -> Result<(Option<(u64, Flaw)>, Orders), Fault>
+    requires ready { read.orders ≡ [] }
+    ensures gives { Gives result (judged limit number read (with_line plan.now number read (feed_line_of line.now))) }
+    ensures of_input { IfErr result (λ f. is_of_input f ≡ true) }
+{
+    let request = request_in(&read);
+    match with_line(alloc, plan, read, number, line) {
+        Ok(next) => {
+            if is_over(limit, &next) {
+                return Ok(refused(alloc, number, request, Flaw::TooManyRecords));
+            }
+            Ok((None, next))
+        }
+        Err(fault) => refused_for(alloc, limit, number, request, fault),
+    }
+}
+
+/// What was read, where the epoch with this request number is refused for a fault of the line with this number. Refusal: the fault, where
+/// epochs are not refused, and want of memory.
+fn refused_for(
+    alloc: Global,
+    limit: Option<usize>,
+    number: u64,
+    request: u64,
+    fault: Fault,
+) -> Result<(Option<(u64, Flaw)>, Orders), Fault>
+    requires of_input { is_of_input fault ≡ true }
+    ensures gives { Gives result (unless_refused number (numbered request no_orders) fault limit) }
+    ensures memory { fault ≡ Fault.Memory → result ≡ Err Fault.Memory }
+    ensures of_input { IfErr result (λ f. is_of_input f ≡ true) }
+{
+    let Some(_most) = limit else {
+        return Err(fault);
+    };
+    match fault {
+        Fault::Line(_, fault) => Ok(refused(alloc, number, request, Flaw::Line(fault))),
+        Fault::Memory => Err(Fault::Memory),
+        _ => unreachable!(),
+    }
+}
+
+/// Whether the epoch that is open has more records than it may have.
+fn is_over(limit: Option<usize>, read: &Orders) -> bool
+    ensures { result ≡ is_over limit (length read.now.current) }
+{
+    match limit {
+        Some(limit) => limit < records_in(read),
+        None => false,
+    }
+}
+
+/// What was read, where the epoch with this request number is refused for the line with this number.
+fn refused(alloc: Global, number: u64, request: u64, flaw: Flaw) -> (Option<(u64, Flaw)>, Orders)
+    ensures { result ≡ refused number (numbered request no_orders) flaw }
+{
+    (
+        Some((number, flaw)),
+        numbered(alloc, no_orders(alloc), request),
+    )
+}
+
+/// What was read, with one line more of an epoch that is refused. Refusal: `Memory`.
+fn passed_over(
+    alloc: Global,
+    read: Orders,
+    flaw: (u64, Flaw),
+    said: Option<FeedLine>,
+) -> Result<(Option<(u64, Flaw)>, Orders), Fault>
+    ensures gives { Gives result (Ok (passed_over flaw read said)) }
+    ensures of_input { IfErr result (λ f. is_of_input f ≡ true) }
+{
+    let request = request_in(&read);
+    match said {
+        Some(FeedLine::Data(DataLine::Close)) => {
+            let note = Note {
+                request,
+                line: flaw.0,
+                flaw: flaw.1,
+            };
+            Ok((None, with_note(alloc, read, note)?))
+        }
+        Some(FeedLine::Request(number)) => {
+            let request = first_number(request, number);
+            Ok((Some(flaw), numbered(alloc, read, request)))
+        }
+        Some(FeedLine::Data(DataLine::PassedOver | DataLine::Record(..)) | FeedLine::Cut)
+        | None => Ok((Some(flaw), numbered(alloc, read, request))),
+    }
+}
+
+/// A request number, or this one where there is none yet.
+fn first_number(request: u64, number: u64) -> u64
+    ensures { result ≡ first_number request number }
+{
+    if request == 0 { number } else { request }
+}
