@@ -1,25 +1,22 @@
 -- The lines of closures that can be spelled add these closures, one after another.
-use Rattle.std.specs.Prelude.{◌≡◌, ◌≤◌, ◌<◌, ◌^◌, ℕ, zero, suc, ◌+◌, ◌-◌, pos, Bool, true, false, ◌&&◌, ◌||◌, nat_lt, nat_le, if◌then◌else◌, List, [], ◌∷◌, ◌++◌, map, length, Option, Some, None, option_to_list, Result, Ok, Err, ⊤}
+use Rattle.std.specs.Prelude.{◌≡◌, ◌≤◌, ◌<◌, ◌^◌, ℕ, suc, ◌+◌, ◌-◌, pos, Bool, true, false, ◌&&◌, ◌||◌, nat_lt, nat_le, if◌then◌else◌, List, [], ◌∷◌, ◌++◌, map, length, Some, Result, Ok, ⊤}
 use Rattle.std.proofs.Common.{refl, ap, sym, ◌∙◌, arith, subst, append_assoc, length-append}
 use Rattle.std.specs.List.{AllByRecursion}
 use Rattle.std.proofs.lemmas.List.{append-nil, map-append}
-use Rattle.std.proofs.lemmas.Bool.{lt-ltb, le-leb, le-ltb, lt-leb, leb-true, ltb-true}
-use Rattle.td_formula.specs.declared.expression.Name.{Name}
+use Rattle.std.proofs.lemmas.Bool.{lt-ltb, le-ltb, lt-leb, leb-true}
 use Rattle.td_formula.specs.declared.expression.Name.TheVariants as names
 use Rattle.td_formula.specs.declared.closure.ClosureKind.{ClosureKind}
 use Rattle.td_closures.specs.declared.token.Token.{Token}
-use Rattle.td_closures.specs.declared.token.Token.TheVariants as tokens
 use Rattle.td_closures.specs.declared.token.Verb.TheVariants as verbs
 use Rattle.td_closures.specs.declared.fault.Wrong.{Wrong}
-use Rattle.td_closures.specs.declared.fault.Wrong.TheVariants as wrongs
-use Rattle.td_closures.specs.Phrase.{Phrase, number, name, parens, prefix, infix', call, choice}
+use Rattle.td_closures.specs.Phrase.{Phrase, number, name}
 use Rattle.td_closures.specs.Words.{is_fold, has_items, verb_scope}
 use Rattle.td_closures.specs.Lines.{Assigned, Paired, Line, is_code, IsLine}
 use Rattle.td_closures.specs.Lines.Line.{head, lets, item, each, send, keep}
-use Rattle.td_closures.specs.Drafts.{Said, unchanged, new_closure, Draft, closures_of, has_closure, begun_with, with_head, with_last, with_part, with_line, tokens_in, registers_in, kind_of, is_long, after_words, nodes_in, after_nodes}
-use Rattle.td_closures.specs.Texts.{says_nothing, IsSaid, AreSaidBy, AreSaid, Adds, Add}
+use Rattle.td_closures.specs.Drafts.{Said, unchanged, new_closure, Draft, closures_of, has_closure, begun_with, with_head, with_last, with_part, with_line, tokens_in, nodes_in, after_nodes}
+use Rattle.td_closures.specs.Texts.{says_nothing, AreSaidBy, AreSaid, Adds, Add}
 use Rattle.td_closures.specs.Canonical.{is_one, is_a, is_b, is_unchanged, line_text, let_line, item_line, keep_lines, lines_of}
-use Rattle.td_closures.specs.Spelled.{registers, IsLet, AreLets, IsItem, IsPairAt, IsEach, IsKeep, IsClosure, AreApart, line_tokens, all_lines}
+use Rattle.td_closures.specs.Spelled.{registers, AreLets, IsItem, IsPairAt, IsEach, IsKeep, IsClosure, AreApart, line_tokens, all_lines}
 use Rattle.td_closures.proofs.Complete.{and_left, and_right}
 use Rattle.td_closures.proofs.SpokenLines.{one_is, IsSaidAt, said_each, said_send, said_keep, said_item, said_let, said_head}
 
@@ -99,10 +96,11 @@ add_lets done c n bytes nodes [] all k h e count small room =
     λ i. middle done (record c { lets = same i }) false (there i) bytes nodes
 add_lets done c n bytes nodes (x ∷ xs) all k h e count small room =
     let d : Draft = middle done c false n bytes nodes in
-    let next : Said = record c { lets = c.lets ++ x ∷ [] } in
-    (middle done next false (suc n) (bytes_after bytes (let_line x)) (nodes_after nodes (let_line x)),
-    adds_line d (let_line x) (registers (suc n)) (middle done next false (suc n) (bytes_after bytes (let_line x)) (nodes_after nodes (let_line x))) (said_let d n c.kind x (omega (arith, count, small)) refl refl h.0) room.0 refl,
-    add_lets done next (suc n) (bytes_after bytes (let_line x)) (nodes_after nodes (let_line x)) xs all k h.1 (e ∙ sym (append_assoc c.lets (x ∷ []) xs)) (omega (arith, count)) small room.1)
+    let next : Said = record c { lets = c.lets ++ x ∷ [] } in (
+      middle done next false (suc n) (bytes_after bytes (let_line x)) (nodes_after nodes (let_line x)),
+      adds_line d (let_line x) (registers (suc n)) (middle done next false (suc n) (bytes_after bytes (let_line x)) (nodes_after nodes (let_line x))) (said_let d n c.kind x (omega (arith, count, small)) refl refl h.0) room.0 refl,
+      add_lets done next (suc n) (bytes_after bytes (let_line x)) (nodes_after nodes (let_line x)) xs all k h.1 (e ∙ sym (append_assoc c.lets (x ∷ []) xs)) (omega (arith, count)) small room.1,
+    )
 
 -- the lines `item`
 item_stands : (c : Said) (x : Assigned) → has_items (Some c.kind) ≡ true → with_part c false (item_line x) ≡ Ok (record c { changes = c.changes ++ x ∷ [] })
@@ -119,11 +117,12 @@ add_items done c n bytes nodes [] all small h e room =
 add_items done c n bytes nodes (x ∷ xs) all small h e room =
     let d : Draft = middle done c false n bytes nodes in
     let next : Said = record c { changes = c.changes ++ x ∷ [] } in
-    let f : Draft = middle done next false n (bytes_after bytes (item_line x)) (nodes_after nodes (item_line x)) in
-    (f,
-    adds_line d (item_line x) (registers n) f (said_item d n c.kind x small refl refl h.0) room.0
-    (last_stands (middle done c false n (bytes_after bytes (item_line x)) (nodes_after nodes (item_line x))) false (with_part c false (item_line x)) next (item_stands c x h.0.has_some)),
-    add_items done next n (bytes_after bytes (item_line x)) (nodes_after nodes (item_line x)) xs all small h.1 (e ∙ sym (append_assoc c.changes (x ∷ []) xs)) room.1)
+    let f : Draft = middle done next false n (bytes_after bytes (item_line x)) (nodes_after nodes (item_line x)) in (
+      f,
+      adds_line d (item_line x) (registers n) f (said_item d n c.kind x small refl refl h.0) room.0
+          (last_stands (middle done c false n (bytes_after bytes (item_line x)) (nodes_after nodes (item_line x))) false (with_part c false (item_line x)) next (item_stands c x h.0.has_some)),
+      add_items done next n (bytes_after bytes (item_line x)) (nodes_after nodes (item_line x)) xs all small h.1 (e ∙ sym (append_assoc c.changes (x ∷ []) xs)) room.1,
+    )
 
 -- the lines `each`
 each_stands : (c : Said) (p : Paired) → has_items (Some c.kind) ≡ true → with_part c false (each p) ≡ Ok (record c { each = c.each ++ p ∷ [] })
@@ -137,11 +136,12 @@ add_each done c n bytes nodes [] all small h e room =
 add_each done c n bytes nodes (p ∷ ps) all small h e room =
     let d : Draft = middle done c false n bytes nodes in
     let next : Said = record c { each = c.each ++ p ∷ [] } in
-    let f : Draft = middle done next false n (bytes_after bytes (each p)) (nodes_after nodes (each p)) in
-    (f,
-    adds_line d (each p) (registers n) f (said_each d n c.kind p small refl refl h.0.pair) room.0
-    (last_stands (middle done c false n (bytes_after bytes (each p)) (nodes_after nodes (each p))) false (with_part c false (each p)) next (each_stands c p h.0.has_some)),
-    add_each done next n (bytes_after bytes (each p)) (nodes_after nodes (each p)) ps all small h.1 (e ∙ sym (append_assoc c.each (p ∷ []) ps)) room.1)
+    let f : Draft = middle done next false n (bytes_after bytes (each p)) (nodes_after nodes (each p)) in (
+      f,
+      adds_line d (each p) (registers n) f (said_each d n c.kind p small refl refl h.0.pair) room.0
+          (last_stands (middle done c false n (bytes_after bytes (each p)) (nodes_after nodes (each p))) false (with_part c false (each p)) next (each_stands c p h.0.has_some)),
+      add_each done next n (bytes_after bytes (each p)) (nodes_after nodes (each p)) ps all small h.1 (e ∙ sym (append_assoc c.each (p ∷ []) ps)) room.1,
+    )
 
 -- the lines `send`: eight at most
 send_stands : (c : Said) (p : Paired) → length c.sends < 8 → with_part c false (send p) ≡ Ok (record c { sends = c.sends ++ p ∷ [] })
@@ -156,11 +156,12 @@ add_sends done c n bytes nodes (p ∷ ps) all small h few e room =
     let d : Draft = middle done c false n bytes nodes in
     let next : Said = record c { sends = c.sends ++ p ∷ [] } in
     let f : Draft = middle done next false n (bytes_after bytes (send p)) (nodes_after nodes (send p)) in
-    let long : length (c.sends ++ p ∷ []) ≡ length c.sends + 1 = length-append c.sends (p ∷ []) in
-    (f,
-    adds_line d (send p) (registers n) f (said_send d n c.kind p small refl refl h.0) room.0
-    (last_stands (middle done c false n (bytes_after bytes (send p)) (nodes_after nodes (send p))) false (with_part c false (send p)) next (send_stands c p (omega (arith, few)))),
-    add_sends done next n (bytes_after bytes (send p)) (nodes_after nodes (send p)) ps all small h.1 (omega (arith, few, long)) (e ∙ sym (append_assoc c.sends (p ∷ []) ps)) room.1)
+    let long : length (c.sends ++ p ∷ []) ≡ length c.sends + 1 = length-append c.sends (p ∷ []) in (
+      f,
+      adds_line d (send p) (registers n) f (said_send d n c.kind p small refl refl h.0) room.0
+          (last_stands (middle done c false n (bytes_after bytes (send p)) (nodes_after nodes (send p))) false (with_part c false (send p)) next (send_stands c p (omega (arith, few)))),
+      add_sends done next n (bytes_after bytes (send p)) (nodes_after nodes (send p)) ps all small h.1 (omega (arith, few, long)) (e ∙ sym (append_assoc c.sends (p ∷ []) ps)) room.1,
+    )
 
 -- the line `keep`, where the state does not stay as it is
 a_is : (e : Phrase) → is_a e ≡ true → e ≡ name names.A
@@ -199,10 +200,12 @@ add_keep_by done c n bytes nodes p false e small fresh h room =
     let k : IsKeep c.kind n p = h e in
     record {
       kept = true;
-      adds = (f,
-          adds_line d (keep p) (registers n) f (said_keep d n c.kind p small refl refl k.pair) room.0
-          (last_stands (middle done c false n (bytes_after bytes (keep p)) (nodes_after nodes (keep p))) true (with_part c false (keep p)) next (keep_stands c p k.has_state)),
-          refl);
+      adds = (
+        f,
+        adds_line d (keep p) (registers n) f (said_keep d n c.kind p small refl refl k.pair) room.0
+            (last_stands (middle done c false n (bytes_after bytes (keep p)) (nodes_after nodes (keep p))) true (with_part c false (keep p)) next (keep_stands c p k.has_state)),
+        refl,
+      );
     }
 
 add_keep : (done : List Said) (c : Said) (n bytes nodes : ℕ) (p : Paired) → n ≤ 8 → c.keep ≡ unchanged → (is_unchanged p ≡ false → IsKeep c.kind n p) → HaveRoom bytes nodes (keep_lines p) → Ended done c n bytes nodes p (keep_lines p)
@@ -292,10 +295,12 @@ adds_closure d n c regs h apart few room =
     let body : AddsBody (closures_of d) c (bytes_after d.bytes top) (nodes_after d.nodes top) = add_body (closures_of d) c (bytes_after d.bytes top) (nodes_after d.nodes top) h room.1 in
     record {
       kept = body.kept;
-      adds = (f,
-          adds_line d top (registers n) f (said_head d n c.kind c.code (small_code c.code h.code) regs h.code) room.0
-          (head_stands (record d { registers = registers n; bytes = bytes_after d.bytes top; nodes = nodes_after d.nodes top }) c.kind c.code apart few),
-          body.adds);
+      adds = (
+        f,
+        adds_line d top (registers n) f (said_head d n c.kind c.code (small_code c.code h.code) regs h.code) room.0
+            (head_stands (record d { registers = registers n; bytes = bytes_after d.bytes top; nodes = nodes_after d.nodes top }) c.kind c.code apart few),
+        body.adds,
+      );
     }
 
 -- ALL CLOSURES

@@ -1,9 +1,8 @@
 -- The canonical text of closures spells them.
-use Rattle.std.specs.Prelude.{◌≡◌, ◌≤◌, ◌<◌, ◌^◌, ℕ, suc, ◌+◌, ◌==◌, pos, negsuc, Bool, true, false, ◌&&◌, nat_lt, nat_le, if◌then◌else◌, List, [], ◌∷◌, ◌++◌, map, length, codes, Some, ⊤}
+use Rattle.std.specs.Prelude.{◌≡◌, ◌≤◌, ◌<◌, ◌^◌, ℕ, suc, ◌+◌, ◌==◌, pos, negsuc, Bool, true, false, ◌&&◌, nat_lt, nat_le, if◌then◌else◌, List, [], ◌∷◌, ◌++◌, map, length, codes, Some}
 use Rattle.std.proofs.Common.{refl, ap, sym, ◌∙◌, arith, subst, append_assoc, length-append, cond}
 use Rattle.std.specs.List.{AllByRecursion, list_all, slice_split, onto_first}
 use Rattle.std.specs.Fmt.{decimal}
-use Rattle.std.proofs.lemmas.List.{append-nil}
 use Rattle.std.proofs.lemmas.List.Folds.{list_all-append}
 use Rattle.std.proofs.lemmas.Bool.{ltb-true, lt-ltb, leb-true}
 use Rattle.std.proofs.lemmas.Bool.Decides.{nat_tests}
@@ -20,16 +19,16 @@ use Rattle.td_closures.specs.declared.words.Scope.{Scope}
 use Rattle.td_closures.specs.declared.token.Verb.TheVariants as verbs
 use Rattle.td_closures.specs.Phrase.{Phrase, number, name, parens, prefix, infix', call, choice}
 use Rattle.td_closures.specs.Words.{is_of_word, verb_scope}
-use Rattle.td_closures.specs.Lines.{Assigned, Paired, Line, is_code}
-use Rattle.td_closures.specs.Lines.Line.{head, lets, item, each, send, keep}
-use Rattle.td_closures.specs.Drafts.{Said, no_draft, closures_of, nodes_in}
+use Rattle.td_closures.specs.Lines.{Assigned, Paired, Line}
+use Rattle.td_closures.specs.Lines.Line.{each, send, keep}
+use Rattle.td_closures.specs.Drafts.{Said, no_draft}
 use Rattle.td_closures.specs.Texts.{Add, ClosuresText}
 use Rattle.td_closures.specs.Canonical.{canonical, name_text, sign_text, operator_text, phrase_text, expression_text, is_one, when_text, change_text, pair_text, kind_text, line_text, lines_text, let_line, item_line, is_unchanged, keep_lines, lines_of, closure_text, closures_text, FitsLimits}
-use Rattle.td_closures.specs.Spelled.{register, is_named, IsExpression, IsLet, AreLets, IsItem, IsPairAt, IsEach, IsKeep, IsClosure, line_tokens, all_lines, nodes_of, AreSpellable}
+use Rattle.td_closures.specs.Spelled.{register, is_named, IsExpression, AreLets, IsItem, IsPairAt, IsEach, IsKeep, IsClosure, all_lines, nodes_of, AreSpellable}
 use Rattle.td_closures.proofs.Complete.{and_left, and_right}
 use Rattle.td_closures.proofs.Numerals.{decimal_digits}
 use Rattle.td_closures.proofs.Spoken.{IsOfWord, of_word, named_canonical}
-use Rattle.td_closures.proofs.CanonicalDrafts.{HasRoom, HaveRoom, bytes_after, nodes_after, AddsAll, add_all}
+use Rattle.td_closures.proofs.CanonicalDrafts.{HaveRoom, bytes_after, nodes_after, AddsAll, add_all}
 
 -- NO LINE FEED STANDS IN A LINE
 abbrev is_above : ℕ → Bool
@@ -158,12 +157,13 @@ in_line_keep kind n p false e small h = (in_line_append {xs = codes "  keep "} {
 in_line_closure : (c : Said) → IsClosure c → AreInLines (lines_of c)
 in_line_closure c h =
     let n : ℕ = length c.lets in
-    let most : c.code ≤ 65535 = leb-true c.code 65535 (and_right (nat_le 10000 c.code) (nat_le c.code 65535) h.code) in
-    (in_line_append {xs = kind_text c.kind} {ys = decimal c.code} (in_line_kind c.kind) (in_line_decimal c.code (omega arith)),
-    in_lines_append (map let_line c.lets) (map item_line c.changes ++ (map each c.each ++ (map send c.sends ++ keep_lines c.keep))) (in_line_lets c.kind 0 c.lets h.lets (omega (arith, h.few)))
-    (in_lines_append (map item_line c.changes) (map each c.each ++ (map send c.sends ++ keep_lines c.keep)) (in_line_items c.kind n c.changes h.few h.changes)
-    (in_lines_append (map each c.each) (map send c.sends ++ keep_lines c.keep) (in_line_each c.kind n c.each h.few h.each)
-    (in_lines_append (map send c.sends) (keep_lines c.keep) (in_line_sends c.kind n c.sends h.few h.sends) (in_line_keep c.kind n c.keep (is_unchanged c.keep) refl h.few h.keep)))))
+    let most : c.code ≤ 65535 = leb-true c.code 65535 (and_right (nat_le 10000 c.code) (nat_le c.code 65535) h.code) in (
+      in_line_append {xs = kind_text c.kind} {ys = decimal c.code} (in_line_kind c.kind) (in_line_decimal c.code (omega arith)),
+      in_lines_append (map let_line c.lets) (map item_line c.changes ++ (map each c.each ++ (map send c.sends ++ keep_lines c.keep))) (in_line_lets c.kind 0 c.lets h.lets (omega (arith, h.few)))
+          (in_lines_append (map item_line c.changes) (map each c.each ++ (map send c.sends ++ keep_lines c.keep)) (in_line_items c.kind n c.changes h.few h.changes)
+          (in_lines_append (map each c.each) (map send c.sends ++ keep_lines c.keep) (in_line_each c.kind n c.each h.few h.each)
+          (in_lines_append (map send c.sends) (keep_lines c.keep) (in_line_sends c.kind n c.sends h.few h.sends) (in_line_keep c.kind n c.keep (is_unchanged c.keep) refl h.few h.keep)))),
+    )
 
 in_line_all : (cs : List Said) → AllByRecursion IsClosure cs → AreInLines (all_lines cs)
 in_line_all [] h = tt
@@ -213,9 +213,10 @@ closures_are_lines (c ∷ cs) = ap (λ (x : List ℕ). closure_text c ++ x) (clo
 room : (ls : List Line) (bytes nodes : ℕ) → AllByRecursion (λ (line : List ℕ). length line ≤ 4096) (map line_text ls) → length (lines_text ls) ≤ bytes → nodes_of ls ≤ nodes → HaveRoom bytes nodes ls
 room [] bytes nodes h k l = tt
 room (x ∷ ls) bytes nodes h k l =
-    let long : length (line_text x ++ 10 ∷ lines_text ls) ≡ length (line_text x) + suc (length (lines_text ls)) = length-append (line_text x) (10 ∷ lines_text ls) in
-    (record { short = h.0; bytes_left = omega (arith, k, long); nodes_left = omega (arith, l) },
-    room ls (bytes_after bytes x) (nodes_after nodes x) h.1 (omega (arith, k, long)) (omega (arith, l)))
+    let long : length (line_text x ++ 10 ∷ lines_text ls) ≡ length (line_text x) + suc (length (lines_text ls)) = length-append (line_text x) (10 ∷ lines_text ls) in (
+      record { short = h.0; bytes_left = omega (arith, k, long); nodes_left = omega (arith, l) },
+      room ls (bytes_after bytes x) (nodes_after nodes x) h.1 (omega (arith, k, long)) (omega (arith, l)),
+    )
 
 -- THE TEXT SPELLS THEM
 pub canonical_again : (cs : List Said) → AreSpellable cs → FitsLimits (closures_text cs) → ClosuresText (closures_text cs) cs

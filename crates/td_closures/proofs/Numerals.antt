@@ -1,17 +1,15 @@
 -- A number as a word: its digits, what it is not, and that it is read again.
-use Rattle.std.specs.Prelude.{◌≡◌, ◌≤◌, ◌<◌, ◌^◌, ℕ, ◌==◌, Bool, true, false, not, ◌&&◌, ◌||◌, nat_lt, nat_le, List, [], ◌∷◌, length, get_or, Option, Some, None, pos}
-use Rattle.std.proofs.Common.{refl, ap, sym, ◌∙◌, arith, rules, subst, lit≤}
+use Rattle.std.specs.Prelude.{◌≡◌, ◌≤◌, ◌<◌, ◌^◌, ℕ, ◌==◌, Bool, true, false, not, ◌&&◌, ◌||◌, nat_le, List, [], ◌∷◌, length, get_or, Some, None}
+use Rattle.std.proofs.Common.{refl, arith, rules, lit≤}
 use Rattle.std.specs.Char.{is_ascii_digit}
 use Rattle.std.specs.List.{list_all}
 use Rattle.std.specs.Fmt.{decimal}
 use Rattle.std.specs.Str.Parse.{digits_value}
 use Rattle.std.proofs.lemmas.Str.Parse.{IsNumeralModel, IsDigitsTest, numerals_by_value}
-use Rattle.std.proofs.lemmas.Bool.{lt-ltb, le-leb, leb-true}
+use Rattle.std.proofs.lemmas.Bool.{lt-ltb, leb-true}
 use Rattle.std.proofs.lemmas.Bool.Decides.{nat_tests}
 use Rattle.std.proofs.lemmas.Fmt.{digits_decimal, digits_value-decimal, decimal_nonempty, first_decimal, decimal_digit}
-use Rattle.td_formula.specs.declared.expression.Name.{Name}
 use Rattle.td_plan.specs.Text.{natural_of}
-use Rattle.td_closures.specs.declared.token.Token.{Token}
 use Rattle.td_closures.specs.Words.{is_letter, is_of_word, head_word, plain_word, test_word, sum_word, name_word}
 use Rattle.td_closures.proofs.Complete.{and_left, and_right}
 
@@ -43,6 +41,7 @@ digits_of_word (d ∷ ds) h =
     either : (a b : Bool) → b ≡ true → (a || b) ≡ true
     either true b h = refl
     either false b h = h
+
     digit : (d : ℕ) → is_ascii_digit d ≡ true → is_of_word d ≡ true
     digit d h = either (is_letter d) (nat_le 48 d && nat_le d 57) h
 

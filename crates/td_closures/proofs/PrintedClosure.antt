@@ -17,8 +17,8 @@ printed_lines b0 b1 b2 b3 b4 b5 h ls is es ss ks e1 e2 e3 e4 e5 =
     let s : List ℕ = lines_text ss in
     let k : List ℕ = lines_text ks in
     let all : b5 ++ k ≡ (((((b0 ++ (h ++ 10 ∷ [])) ++ l) ++ i) ++ e) ++ s) ++ k =
-        ap (λ (r : List ℕ). r ++ k) (e5 ∙ ap (λ (r : List ℕ). r ++ s) (e4 ∙ ap (λ (r : List ℕ). r ++ e) (e3 ∙ ap (λ (r : List ℕ). r ++ i) (e2 ∙ ap (λ (r : List ℕ). r ++ l) e1)))) in
+    ap (λ (r : List ℕ). r ++ k) (e5 ∙ ap (λ (r : List ℕ). r ++ s) (e4 ∙ ap (λ (r : List ℕ). r ++ e) (e3 ∙ ap (λ (r : List ℕ). r ++ i) (e2 ∙ ap (λ (r : List ℕ). r ++ l) e1)))) in
     let lines : lines_text (ls ++ (is ++ (es ++ (ss ++ ks)))) ≡ l ++ (i ++ (e ++ (s ++ k))) =
-        lines_text_append ls (is ++ (es ++ (ss ++ ks))) ∙ ap (λ (r : List ℕ). l ++ r) (lines_text_append is (es ++ (ss ++ ks))
-        ∙ ap (λ (r : List ℕ). i ++ r) (lines_text_append es (ss ++ ks) ∙ ap (λ (r : List ℕ). e ++ r) (lines_text_append ss ks))) in
+    lines_text_append ls (is ++ (es ++ (ss ++ ks))) ∙ ap (λ (r : List ℕ). l ++ r) (lines_text_append is (es ++ (ss ++ ks))
+    ∙ ap (λ (r : List ℕ). i ++ r) (lines_text_append es (ss ++ ks) ∙ ap (λ (r : List ℕ). e ++ r) (lines_text_append ss ks))) in
     all ∙ (six b0 h l i e s k ∙ ap (λ (r : List ℕ). b0 ++ (h ++ 10 ∷ r)) (sym lines))

@@ -9,7 +9,7 @@ use Rattle.td_formula.specs.declared.expression.Name.{Name}
 use Rattle.td_formula.specs.declared.expression.Sign.{Sign}
 use Rattle.td_formula.specs.declared.expression.Operator.{Operator}
 use Rattle.td_closures.specs.Phrase.{Phrase, number, name, parens, prefix, infix', call, choice, operator_level, sign_level, level}
-use Rattle.td_closures.specs.Canonical.{placed, joined, canonical, name_text, sign_text, operator_text, phrase_text, parenthesis, placed_text, expression_text}
+use Rattle.td_closures.specs.Canonical.{placed, canonical, name_text, sign_text, operator_text, phrase_text, parenthesis, placed_text, expression_text}
 
 parts_by : (p : Phrase) (b : Bool) → phrase_text (if b then parens p else p) ≡ (if b then 40 ∷ [] else []) ++ (phrase_text p ++ (if b then 41 ∷ [] else []))
 parts_by p true = refl

@@ -1,24 +1,22 @@
 -- A line that is spelled is one that can be spelled canonically, with no more numbers, names and operators.
-use Rattle.std.specs.Prelude.{◌≡◌, ◌≤◌, ◌<◌, ℕ, suc, ◌+◌, pos, Bool, true, false, nat_lt, if◌then◌else◌, List, [], ◌∷◌, ◌++◌, map, length, Some, Result, Ok, Err, ⊤}
+use Rattle.std.specs.Prelude.{◌≡◌, ◌≤◌, ◌<◌, ℕ, suc, ◌+◌, pos, Bool, true, false, nat_lt, if◌then◌else◌, List, [], ◌∷◌, ◌++◌, map, length, Result, Ok, Err, ⊤}
 use Rattle.std.proofs.Common.{refl, ap, sym, ◌∙◌, arith, subst}
 use Rattle.std.specs.List.{AllByRecursion}
 use Rattle.std.proofs.lemmas.Bool.{lt-ltb, ltb-true}
 use Rattle.td_formula.specs.declared.expression.Name.{Name}
 use Rattle.td_formula.specs.declared.expression.Name.TheVariants as names
 use Rattle.td_formula.specs.declared.expression.Operator.TheVariants as operators
-use Rattle.td_formula.specs.declared.closure.ClosureKind.{ClosureKind}
 use Rattle.td_closures.specs.declared.token.Token.{Token}
 use Rattle.td_closures.specs.declared.token.Token.TheVariants as tokens
 use Rattle.td_closures.specs.declared.token.Verb.TheVariants as verbs
 use Rattle.td_closures.specs.declared.words.Scope.{Scope}
 use Rattle.td_closures.specs.declared.fault.Wrong.{Wrong}
 use Rattle.td_closures.specs.declared.fault.Wrong.TheVariants as wrongs
-use Rattle.td_closures.specs.Phrase.{Phrase, number, name, written, IsRead}
-use Rattle.td_closures.specs.Words.{is_there}
+use Rattle.td_closures.specs.Phrase.{Phrase, number, name, written}
 use Rattle.td_closures.specs.Lines.{Assigned, Paired, may_change, IsWhen, IsPair, target_of, IsChange, AreChanges}
 use Rattle.td_closures.specs.Drafts.{nodes_in}
 use Rattle.td_closures.specs.Canonical.{canonical, is_one, let_line, item_line}
-use Rattle.td_closures.specs.Spelled.{is_named, IsExpression, IsPairAt, when_tokens, target_token, change_tokens, pair_tokens, line_tokens, nodes_of}
+use Rattle.td_closures.specs.Spelled.{is_named, IsExpression, IsPairAt, when_tokens, change_tokens, pair_tokens, line_tokens, nodes_of}
 use Rattle.td_closures.proofs.SpelledTokens.{AreTokens, IsToken, IsReadAt, read_at, nodes_append}
 
 -- CONDITIONS

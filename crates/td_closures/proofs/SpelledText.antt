@@ -1,13 +1,12 @@
 -- A text spells only closures that can be spelled canonically.
-use Rattle.std.specs.Prelude.{◌≡◌, ◌≤◌, ◌<◌, ◌^◌, ℕ, zero, suc, ◌+◌, ◌-◌, pos, negsuc, Bool, true, false, ◌&&◌, ◌||◌, nat_lt, if◌then◌else◌, List, [], ◌∷◌, ◌++◌, map, length, Option, Some, None, option_to_list, Result, Ok, Err, ⊤}
+use Rattle.std.specs.Prelude.{◌≡◌, ◌≤◌, ◌<◌, ℕ, suc, ◌+◌, ◌-◌, pos, negsuc, Bool, true, false, ◌&&◌, ◌||◌, nat_lt, if◌then◌else◌, List, [], ◌∷◌, ◌++◌, map, length, Option, Some, None, option_to_list, Result, Ok, Err, ⊤}
 use Rattle.std.proofs.Common.{refl, ap, sym, ◌∙◌, arith, subst, append_assoc, length-append}
 use Rattle.std.specs.List.{AllByRecursion}
 use Rattle.std.proofs.lemmas.List.{append-nil, map-append}
 use Rattle.std.proofs.lemmas.Bool.{lt-ltb, ltb-true}
-use Rattle.td_formula.specs.declared.expression.Name.{Name}
 use Rattle.td_formula.specs.declared.expression.Name.TheVariants as names
 use Rattle.td_formula.specs.declared.closure.ClosureKind.{ClosureKind}
-use Rattle.td_plan.specs.Text.{words, text_lines}
+use Rattle.td_plan.specs.Text.{text_lines}
 use Rattle.td_closures.specs.declared.token.Token.{Token}
 use Rattle.td_closures.specs.declared.token.Token.TheVariants as tokens
 use Rattle.td_closures.specs.declared.token.Verb.{Verb}
@@ -16,13 +15,13 @@ use Rattle.td_closures.specs.declared.words.Scope.{Scope}
 use Rattle.td_closures.specs.declared.fault.Wrong.{Wrong}
 use Rattle.td_closures.specs.declared.fault.Wrong.TheVariants as wrongs
 use Rattle.td_closures.specs.Phrase.{Phrase, number, name, parens, prefix, infix', call, choice}
-use Rattle.td_closures.specs.Words.{spaced, is_fold, has_items, is_there, verb_scope, token_scope, scope_of, tokens_of, registers_after}
+use Rattle.td_closures.specs.Words.{is_fold, has_items, verb_scope}
 use Rattle.td_closures.specs.Lines.{Assigned, Paired, Line, is_code, may_change, IsLine}
 use Rattle.td_closures.specs.Lines.Line.{head, lets, item, each, send, keep}
 use Rattle.td_closures.specs.Drafts.{Said, new_closure, Draft, no_draft, closures_of, has_closure, begun_with, with_head, with_part, with_last, in_last, is_keep, with_line, kind_of, tokens_in, registers_in, after_words, nodes_in, after_nodes}
-use Rattle.td_closures.specs.Texts.{says_nothing, IsSaid, AreSaidBy, AreSaid, Adds, Add, ClosuresText}
+use Rattle.td_closures.specs.Texts.{says_nothing, AreSaidBy, Adds, Add, ClosuresText}
 use Rattle.td_closures.specs.Canonical.{is_unchanged, let_line, item_line, keep_lines, lines_of}
-use Rattle.td_closures.specs.Spelled.{is_named, IsExpression, IsLet, AreLets, IsItem, IsPairAt, IsEach, IsKeep, IsClosure, AreApart, line_tokens, all_lines, nodes_of, AreSpellable}
+use Rattle.td_closures.specs.Spelled.{is_named, IsExpression, AreLets, IsItem, IsPairAt, IsEach, IsKeep, IsClosure, AreApart, line_tokens, all_lines, nodes_of, AreSpellable}
 use Rattle.td_closures.proofs.Complete.{and_left, and_right}
 use Rattle.td_closures.proofs.SpelledTokens.{AreTokens, in_line, IsInLine}
 use Rattle.td_closures.proofs.SpelledLines.{IsPairedAt, pair_at, AreItemsAt, items_at, AreLetsAt, AreAllLetsAt, lets_at}
@@ -57,14 +56,16 @@ more_pair scope n m p l h = record { first = more_expression scope n m p.first l
 more_items : (kind : ClosureKind) (n m : ℕ) (cs : List Assigned) → n ≤ m → AllByRecursion (IsItem kind n) cs → AllByRecursion (IsItem kind m) cs
 more_items kind n m [] l h = tt
 more_items kind n m (c ∷ cs) l h =
-    let scope = verb_scope (Some kind) verbs.Item in
-    (record {
-      has_some = h.0.has_some;
-      changes = h.0.changes;
-      there = more_named scope n m (name c.name) l h.0.there;
-      value = more_expression scope n m c.value l h.0.value;
-      when = more_expression scope n m c.when l h.0.when;
-    }, more_items kind n m cs l h.1)
+    let scope = verb_scope (Some kind) verbs.Item in (
+      record {
+        has_some = h.0.has_some;
+        changes = h.0.changes;
+        there = more_named scope n m (name c.name) l h.0.there;
+        value = more_expression scope n m c.value l h.0.value;
+        when = more_expression scope n m c.when l h.0.when;
+      },
+      more_items kind n m cs l h.1,
+    )
 
 more_each : (kind : ClosureKind) (n m : ℕ) (ps : List Paired) → n ≤ m → AllByRecursion (IsEach kind n) ps → AllByRecursion (IsEach kind m) ps
 more_each kind n m [] l h = tt
@@ -241,9 +242,10 @@ lets_append : (kind : ClosureKind) (k n : ℕ) (xs cs : List Assigned) → n ≡
 lets_append kind k n [] [] e h g = tt
 lets_append kind k n [] (c ∷ cs) e h g =
     let same : n ≡ k = omega (arith, e) in
-    let scope = verb_scope (Some kind) verbs.Let in
-    (record { name_is = g.0.0 ∙ ap names.Register same; value = subst (λ (i : ℕ). IsExpression scope (suc i) c.value) same g.0.1; when_is = g.0.2 },
-    lets_append kind (suc k) (suc n) [] cs (omega (arith, same)) tt g.1)
+    let scope = verb_scope (Some kind) verbs.Let in (
+      record { name_is = g.0.0 ∙ ap names.Register same; value = subst (λ (i : ℕ). IsExpression scope (suc i) c.value) same g.0.1; when_is = g.0.2 },
+      lets_append kind (suc k) (suc n) [] cs (omega (arith, same)) tt g.1,
+    )
 lets_append kind k n (x ∷ xs) cs e h g = (h.0, lets_append kind (suc k) n xs cs (omega (arith, e)) h.1 g)
 
 changes_lets : (c : Said) (m used : ℕ) (cs : List Assigned) → IsClosure c → AreLetsAt (verb_scope (Some c.kind) verbs.Let) (length c.lets) cs → length c.lets + length cs ≡ m → length c.lets + length cs ≤ 8 → nodes_of (map let_line cs) ≤ used
@@ -285,9 +287,14 @@ changes_items c used cs h given nodes =
       kind_is = refl;
       code_is = refl;
       closure = record {
-        code = h.code; lets = h.lets; few = h.few;
+        code = h.code;
+        lets = h.lets;
+        few = h.few;
         changes = all_append (IsItem c.kind (length c.lets)) c.changes cs h.changes given;
-        each = h.each; sends = h.sends; few_sends = h.few_sends; keep = h.keep;
+        each = h.each;
+        sends = h.sends;
+        few_sends = h.few_sends;
+        keep = h.keep;
       };
       counted = refl;
       nodes = omega (arith, (has_nodes c).all, (has_nodes f).all, nodes_more item_line c.changes cs, nodes);
@@ -301,9 +308,14 @@ changes_each c used p h k nodes =
       kind_is = refl;
       code_is = refl;
       closure = record {
-        code = h.code; lets = h.lets; few = h.few; changes = h.changes;
+        code = h.code;
+        lets = h.lets;
+        few = h.few;
+        changes = h.changes;
         each = all_append (IsEach c.kind (length c.lets)) c.each (p ∷ []) h.each (k, tt);
-        sends = h.sends; few_sends = h.few_sends; keep = h.keep;
+        sends = h.sends;
+        few_sends = h.few_sends;
+        keep = h.keep;
       };
       counted = refl;
       nodes = omega (arith, (has_nodes c).all, (has_nodes f).all, nodes_more each c.each (p ∷ []), nodes);
@@ -316,7 +328,11 @@ changes_sends c used p h k few nodes =
       kind_is = refl;
       code_is = refl;
       closure = record {
-        code = h.code; lets = h.lets; few = h.few; changes = h.changes; each = h.each;
+        code = h.code;
+        lets = h.lets;
+        few = h.few;
+        changes = h.changes;
+        each = h.each;
         sends = all_append (IsPairAt (verb_scope (Some c.kind) verbs.Send) (length c.lets)) c.sends (p ∷ []) h.sends (k, tt);
         few_sends = omega (arith, few, length-append c.sends (p ∷ []));
         keep = h.keep;

@@ -20,12 +20,12 @@ use Rattle.td_closures.specs.declared.token.Token.TheVariants as tokens
 use Rattle.td_closures.specs.declared.token.Verb.{Verb}
 use Rattle.td_closures.specs.declared.token.Verb.TheVariants as verbs
 use Rattle.td_closures.specs.declared.words.Scope.{Scope}
-use Rattle.td_closures.specs.Phrase.{Phrase, number, name, parens, prefix, infix', call, choice, sign_token, written, operator_level, sign_level, level, nested, bare, Spells, IsRead}
-use Rattle.td_closures.specs.Words.{is_letter, spaced, is_there, verb_scope, token_scope, first_scope, scope_of, head_word, plain_word, test_word, sum_word, name_word, name_token, register_from, new_word, number_word, register_word, or_else, named_word, token_of, with_register, tokens_of, registers_after}
+use Rattle.td_closures.specs.Phrase.{Phrase, number, name, parens, prefix, infix', call, choice, sign_token, written, operator_level, sign_level, level, nested, bare, IsRead}
+use Rattle.td_closures.specs.Words.{is_letter, spaced, is_there, verb_scope, token_scope, first_scope, scope_of, head_word, plain_word, test_word, sum_word, name_word, register_from, number_word, register_word, or_else, named_word, token_of, with_register, tokens_of, registers_after}
 use Rattle.td_closures.specs.Drafts.{Draft, kind_of, tokens_in, registers_in, is_node, nodes_in}
 use Rattle.td_closures.specs.Canonical.{placed, canonical}
 use Rattle.td_closures.specs.Spelled.{is_named, IsExpression}
-use Rattle.td_closures.proofs.Complete.{and_left, and_right}
+use Rattle.td_closures.proofs.Complete.{and_right}
 use Rattle.td_closures.proofs.Fewest.{has_words, no_deeper, canonical_of_bare}
 
 -- WHAT A TOKEN MAY BE, where there are so many registers
@@ -247,10 +247,11 @@ length_behind registers word _ = refl
 pub of_words : (scope : Scope) (registers ws : List (List ℕ)) → AreTokens scope (length registers) (length (registers_after scope registers ws)) (tokens_of scope registers ws)
 of_words scope registers [] = (refl, refl)
 of_words scope registers (word ∷ ws) =
-    let t : Token = token_of scope registers word in
-    (of_word scope registers word,
-    subst (λ (n : ℕ). AreTokens scope n (length (registers_after scope (with_register registers word t) ws)) (tokens_of scope (with_register registers word t) ws)) (length_behind registers word t)
-    (of_words scope (with_register registers word t) ws))
+    let t : Token = token_of scope registers word in (
+      of_word scope registers word,
+      subst (λ (n : ℕ). AreTokens scope n (length (registers_after scope (with_register registers word t) ws)) (tokens_of scope (with_register registers word t) ws)) (length_behind registers word t)
+          (of_words scope (with_register registers word t) ws),
+    )
 
 -- THE TOKENS OF A LINE
 pub record IsInLine (d : Draft) (line : List ℕ) : Type 0 where

@@ -18,7 +18,7 @@ use Rattle.td_closures.specs.declared.token.Token.{Token}
 use Rattle.td_closures.specs.declared.token.Token.TheVariants as tokens
 use Rattle.td_closures.specs.declared.words.Scope.{Scope}
 use Rattle.td_closures.specs.Phrase.{Phrase, number, name, parens, prefix, infix', call, choice, sign_token, written, operator_level, sign_level, level}
-use Rattle.td_closures.specs.Words.{is_letter, is_of_word, is_of_test, are_joined, is_at_front, shown, spaced, is_there, token_of, with_register, tokens_of, registers_after}
+use Rattle.td_closures.specs.Words.{is_letter, is_of_word, is_of_test, are_joined, is_at_front, shown, spaced, token_of, with_register, tokens_of, registers_after}
 use Rattle.td_closures.specs.Canonical.{placed, canonical, name_text, sign_text, operator_text, phrase_text, expression_text}
 use Rattle.td_closures.specs.Spelled.{registers, is_named}
 use Rattle.td_closures.proofs.Blank.{space}

@@ -1,7 +1,6 @@
 -- The tokens of a canonical line, and that they spell it.
-use Rattle.std.specs.Prelude.{◌≡◌, ◌≤◌, ◌<◌, ◌^◌, ℕ, suc, pos, Bool, true, false, ◌&&◌, nat_lt, if◌then◌else◌, List, [], ◌∷◌, ◌++◌, length, codes, Some, Option, Result, Ok, Err}
+use Rattle.std.specs.Prelude.{◌≡◌, ◌≤◌, ◌<◌, ◌^◌, ℕ, suc, pos, Bool, true, false, if◌then◌else◌, List, [], ◌∷◌, ◌++◌, codes, Some, Ok}
 use Rattle.std.proofs.Common.{refl, ap, sym, ◌∙◌, arith, subst, append_assoc, lit≤}
-use Rattle.std.specs.Ordering.{int_eq}
 use Rattle.std.specs.Fmt.{decimal}
 use Rattle.std.proofs.lemmas.List.{append-nil}
 use Rattle.std.proofs.lemmas.Bool.{lt-ltb}
@@ -17,15 +16,13 @@ use Rattle.td_closures.specs.declared.token.Token.TheVariants as tokens
 use Rattle.td_closures.specs.declared.token.Verb.{Verb}
 use Rattle.td_closures.specs.declared.token.Verb.TheVariants as verbs
 use Rattle.td_closures.specs.declared.words.Scope.{Scope}
-use Rattle.td_closures.specs.declared.fault.Wrong.{Wrong}
-use Rattle.td_closures.specs.declared.fault.Wrong.TheVariants as wrongs
-use Rattle.td_closures.specs.Phrase.{Phrase, number, name, parens, prefix, infix', call, choice, written, bare, begins_with_end, Spells, IsRead}
-use Rattle.td_closures.specs.Words.{spaced, scope_of, verb_scope, token_of, with_register, tokens_of, registers_after}
-use Rattle.td_closures.specs.Lines.{Assigned, Paired, Line, IsWhen, IsPair, may_change, target_of, IsCondition, IsChange, AreChanges, AreChangesOf, IsPairOf, IsHead, is_code, IsLine}
-use Rattle.td_closures.specs.Lines.Line.{head, lets, item, each, send, keep}
+use Rattle.td_closures.specs.Phrase.{Phrase, number, name, parens, prefix, infix', call, choice, written, begins_with_end, IsRead}
+use Rattle.td_closures.specs.Words.{spaced, verb_scope, with_register, tokens_of, registers_after}
+use Rattle.td_closures.specs.Lines.{Assigned, Paired, Line, IsWhen, IsPair, may_change, target_of, IsChange, is_code, IsLine}
+use Rattle.td_closures.specs.Lines.Line.{head, each, send, keep}
 use Rattle.td_closures.specs.Drafts.{Draft, kind_of, tokens_in, registers_in}
 use Rattle.td_closures.specs.Canonical.{canonical, name_text, expression_text, is_one, when_text, change_text, pair_text, kind_text, line_text, let_line, item_line}
-use Rattle.td_closures.specs.Spelled.{register, registers, is_named, IsExpression, IsLet, IsItem, IsPairAt, when_tokens, change_tokens, pair_tokens, line_tokens}
+use Rattle.td_closures.specs.Spelled.{register, registers, IsExpression, IsLet, IsItem, IsPairAt, when_tokens, change_tokens, pair_tokens, line_tokens}
 use Rattle.td_closures.proofs.Blank.{space}
 use Rattle.td_closures.proofs.Fewest.{spells_again}
 use Rattle.td_closures.proofs.RegisterWords.{new_token, with_new, register_of_word}
@@ -150,9 +147,10 @@ pub record IsSaidAt (d : Draft) (l : Line) (regs : List (List ℕ)) : Type 0 whe
 
 said_verb : (d : Draft) (n : ℕ) (kind : ClosureKind) (verb : Verb) (rest : List ℕ) (ts : List Token) → kind_of d ≡ Some kind → d.registers ≡ registers n → Says (verb_scope (Some kind) verb) (registers n) rest ts []
     → (tokens_in d (verb_text verb ++ rest) ≡ tokens.Verb verb ∷ (ts ++ tokens.End ∷ [])) × (registers_in d (verb_text verb ++ rest) ≡ registers n)
-said_verb d n kind verb rest ts k r s =
-    (verb_tokens d verb rest ∙ ((λ i. tokens.Verb verb ∷ tokens_of (verb_scope (k i) verb) (r i) (words (spaced rest))) ∙ ap (λ (x : List Token). tokens.Verb verb ∷ x) s.tokens_are),
-    verb_registers d verb rest ∙ ((λ i. registers_after (verb_scope (k i) verb) (r i) (words (spaced rest))) ∙ s.registers_are))
+said_verb d n kind verb rest ts k r s = (
+  verb_tokens d verb rest ∙ ((λ i. tokens.Verb verb ∷ tokens_of (verb_scope (k i) verb) (r i) (words (spaced rest))) ∙ ap (λ (x : List Token). tokens.Verb verb ∷ x) s.tokens_are),
+  verb_registers d verb rest ∙ ((λ i. registers_after (verb_scope (k i) verb) (r i) (words (spaced rest))) ∙ s.registers_are),
+)
 
 -- expressions among the tokens
 is_read : (scope : Scope) (n : ℕ) (e : Phrase) (ts rest : List Token) → IsExpression scope n e → ts ≡ written (canonical e) ++ rest → begins_with_end rest ≡ true → IsRead ts e rest

@@ -1,5 +1,5 @@
 -- THE CANONICAL TEXT OF CLOSURES: a line for each thing that a closure does, the fewest parentheses, and registers named r0 to r7.
-use Rattle.std.specs.Prelude.{◌≤◌, ℕ, suc, pos, ℤ, Bool, true, false, ◌&&◌, nat_lt, nat_le, if◌then◌else◌, List, [], ◌∷◌, ◌++◌, map, length, codes}
+use Rattle.std.specs.Prelude.{◌≤◌, ℕ, suc, pos, Bool, true, false, ◌&&◌, nat_lt, nat_le, if◌then◌else◌, List, [], ◌∷◌, ◌++◌, map, length, codes}
 use Rattle.std.specs.Ordering.{int_eq}
 use Rattle.std.specs.Fmt.{decimal, signed_decimal}
 use Rattle.std.specs.List.{AllByRecursion}

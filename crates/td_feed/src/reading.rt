@@ -206,8 +206,8 @@ fn passed_over(
             let request = first_number(request, number);
             Ok((Some(flaw), numbered(alloc, read, request)))
         }
-        Some(FeedLine::Data(DataLine::PassedOver | DataLine::Record(..)) | FeedLine::Cut)
-        | None => Ok((Some(flaw), numbered(alloc, read, request))),
+        Some(FeedLine::Data(DataLine::PassedOver | DataLine::Record(..)) | FeedLine::Cut) | None =>
+            Ok((Some(flaw), numbered(alloc, read, request))),
     }
 }
 

@@ -1,9 +1,7 @@
 //! Expressions and texts whose values and refusals were worked out by hand.
 use std::alloc::Global;
 use std::test::Fail;
-use td_closures::{
-    Fault, Registers, Scope, Wrong, line_tokens, read_closures, read_expression,
-};
+use td_closures::{Fault, Registers, Scope, Wrong, line_tokens, read_closures, read_expression};
 use td_formula::{ClosureKind, Environment};
 
 /// The value of an expression where each name stands for 0.

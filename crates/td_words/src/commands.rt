@@ -91,7 +91,8 @@ const PROGRESS: &str = "Write how far it has come to standard error, each second
 
 const MARKS: &str = "Write 'done EPOCH' after the output lines of each epoch";
 
-const REFUSE: &str = "Refuse an epoch with a fault, and go on: write 'no REQUEST LINE: WHAT' at its '.'";
+const REFUSE: &str =
+    "Refuse an epoch with a fault, and go on: write 'no REQUEST LINE: WHAT' at its '.'";
 
 /// The greatest epoch, and the greatest count of deliveries.
 pub(crate) const GREATEST: u64 = 9_223_372_036_854_775_807;

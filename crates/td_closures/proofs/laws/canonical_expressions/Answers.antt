@@ -1,11 +1,11 @@
-use Rattle.std.specs.Prelude.{[], ◌++◌}
+use Rattle.std.specs.Prelude.{[]}
 use Rattle.std.proofs.Common.{refl, ap, sym, ◌∙◌}
 use Rattle.std.proofs.lemmas.List.{append-nil}
 use Rattle.td_plan.specs.Text.{words}
 use Rattle.td_closures.specs.Words.{spaced, tokens_of}
 use Rattle.td_closures.specs.Canonical.{expression_text}
 use Rattle.td_closures.specs.Spelled.{registers}
-use Rattle.td_closures.proofs.Fewest.{spells_again, no_deeper}
+use Rattle.td_closures.proofs.Fewest.{spells_again}
 use Rattle.td_closures.proofs.Spoken.{says_expression}
 use Rattle.td_closures.proofs.laws.canonical_expressions.Goals as goal
 

@@ -63,22 +63,22 @@ returns-in-Err-recover-clause-fed g c = λ fits.
       records = 0;
       sound = tt;
       fed = record {
-      fed = tt;
-      safe = λ lawful history told.
-          let state = g.D.Disk.state in
-          let answers = g.L.Law.answers in
-          let old = c.args.disk in
-          let new = c.in-Err-recover.disk in
-          let plan = c.args.plan.now in
-          let safe : CrashSafe Unchanged (state old) (state new) = c.in-Err-recover.ensures.crash_safe_back lawful in
-          none_more answers plan history (new_after (greatest 0 history) (submissions (script_of (limit_of c.args.refuse 0) plan input).orders)) (state new)
-          (still_each answers plan history (state old) (state new) safe
-          (λ i image. g.met.D.Disk.counts_now new (state old).moment i (c.in-Err-recover.ensures.lawful_back.0 lawful) safe.later image) told);
-      said = inl (record {
-        refused = refused rose tells c.in-Err-recover.refusal c.from.result c.from.ensures recover.device recover.refused;
-        unwritten = recover.crash_safe_back;
-        said = refl;
-      });
+        fed = tt;
+        safe = λ lawful history told.
+            let state = g.D.Disk.state in
+            let answers = g.L.Law.answers in
+            let old = c.args.disk in
+            let new = c.in-Err-recover.disk in
+            let plan = c.args.plan.now in
+            let safe : CrashSafe Unchanged (state old) (state new) = c.in-Err-recover.ensures.crash_safe_back lawful in
+            none_more answers plan history (new_after (greatest 0 history) (submissions (script_of (limit_of c.args.refuse 0) plan input).orders)) (state new)
+            (still_each answers plan history (state old) (state new) safe
+            (λ i image. g.met.D.Disk.counts_now new (state old).moment i (c.in-Err-recover.ensures.lawful_back.0 lawful) safe.later image) told);
+        said = inl (record {
+          refused = refused rose tells c.in-Err-recover.refusal c.from.result c.from.ensures recover.device recover.refused;
+          unwritten = recover.crash_safe_back;
+          said = refl;
+        });
       };
     })
 
@@ -130,36 +130,36 @@ returns-clause-fed g c = λ fits.
       records = keeper.head.shape.m;
       sound = whole.sound;
       fed = record {
-      fed = on_ok_weaker r (λ (carries : Carries answers keeper new more) lawful history told.
-          let is = stands lawful history told in
-          subst (λ (l : List Submitted). EachTellsHistory answers plan (history ++ l) (state c.into_disk.result)) (also history is)
-          (subst (λ (d : g.row.D.Denot). EachTellsHistory answers plan (history ++ more) (state d)) (sym c.into_disk.ensures.disk)
-          (subst (λ (p : List Line). EachTellsHistory answers p (history ++ more) (state new.device)) c.in-Ok.ensures.plan
-          (ended_all is_lawful state answers c.told_in_parts.ensures.together keeper new history more (by_keeper history is) carries held (left_lawful lawful))))) feeds.carried;
-      safe = λ lawful history told.
-          let is = stands lawful history told in
-          subst (λ (l : List Submitted). EachTellsSome answers plan history l (state c.into_disk.result)) (also history is)
-          (subst (λ (d : g.row.D.Denot). EachTellsSome answers plan history more (state d)) (sym c.into_disk.ensures.disk)
-          (subst (λ (p : List Line). EachTellsSome answers p history more (state new.device)) c.in-Ok.ensures.plan
-          (ended_some is_lawful state answers c.told_in_parts.ensures.together keeper new history more (by_keeper history is) (left_of r feeds) held (left_lawful lawful))));
-      said = fed_says is_lawful state failures answers marks r plan (c.args.workers == 1) old c.into_disk.result u v (wanted_by limit asked)
-          (record {
-            keeper = c.in-Ok.keeper;
-            fresh = c.in-Ok.ensures.fresh;
-            plan_is = c.in-Ok.ensures.plan;
-            told = c.in-Ok.ensures.told;
-            watch = c.watched-keeper.ensures.aside.0;
-            kept = subst (λ (k : Keeping g.row.D.Denot). IsKeeping k answers) c.watched-keeper.ensures.aside.1 c.each_is_kept.ensures;
-            lawful = c.in-Ok.ensures.lawful.0;
-            unwritten = c.in-Ok.ensures.crash_safe;
-            found = c.in-Ok.ensures.kept;
-            ended = new;
-            left_is = c.into_disk.ensures.disk;
-            lawful_left = λ lawful. subst is_lawful (sym c.into_disk.ensures.disk) (left_lawful lawful);
-            holds = subst (λ (d : g.row.D.Denot). is_lawful d → HeldWhere new.broken answers new.plan new.head new.side new.standing (state d)) (sym c.into_disk.ensures.disk) held;
-            limit = within c.args.refuse keeper.head.shape.m;
-            said = feeds.said;
-            all_out = λ is. c.obey-keeper.ensures.all_out (eqb-true c.args.workers 1 is);
-          });
+        fed = on_ok_weaker r (λ (carries : Carries answers keeper new more) lawful history told.
+            let is = stands lawful history told in
+            subst (λ (l : List Submitted). EachTellsHistory answers plan (history ++ l) (state c.into_disk.result)) (also history is)
+            (subst (λ (d : g.row.D.Denot). EachTellsHistory answers plan (history ++ more) (state d)) (sym c.into_disk.ensures.disk)
+            (subst (λ (p : List Line). EachTellsHistory answers p (history ++ more) (state new.device)) c.in-Ok.ensures.plan
+            (ended_all is_lawful state answers c.told_in_parts.ensures.together keeper new history more (by_keeper history is) carries held (left_lawful lawful))))) feeds.carried;
+        safe = λ lawful history told.
+            let is = stands lawful history told in
+            subst (λ (l : List Submitted). EachTellsSome answers plan history l (state c.into_disk.result)) (also history is)
+            (subst (λ (d : g.row.D.Denot). EachTellsSome answers plan history more (state d)) (sym c.into_disk.ensures.disk)
+            (subst (λ (p : List Line). EachTellsSome answers p history more (state new.device)) c.in-Ok.ensures.plan
+            (ended_some is_lawful state answers c.told_in_parts.ensures.together keeper new history more (by_keeper history is) (left_of r feeds) held (left_lawful lawful))));
+        said = fed_says is_lawful state failures answers marks r plan (c.args.workers == 1) old c.into_disk.result u v (wanted_by limit asked)
+            (record {
+              keeper = c.in-Ok.keeper;
+              fresh = c.in-Ok.ensures.fresh;
+              plan_is = c.in-Ok.ensures.plan;
+              told = c.in-Ok.ensures.told;
+              watch = c.watched-keeper.ensures.aside.0;
+              kept = subst (λ (k : Keeping g.row.D.Denot). IsKeeping k answers) c.watched-keeper.ensures.aside.1 c.each_is_kept.ensures;
+              lawful = c.in-Ok.ensures.lawful.0;
+              unwritten = c.in-Ok.ensures.crash_safe;
+              found = c.in-Ok.ensures.kept;
+              ended = new;
+              left_is = c.into_disk.ensures.disk;
+              lawful_left = λ lawful. subst is_lawful (sym c.into_disk.ensures.disk) (left_lawful lawful);
+              holds = subst (λ (d : g.row.D.Denot). is_lawful d → HeldWhere new.broken answers new.plan new.head new.side new.standing (state d)) (sym c.into_disk.ensures.disk) held;
+              limit = within c.args.refuse keeper.head.shape.m;
+              said = feeds.said;
+              all_out = λ is. c.obey-keeper.ensures.all_out (eqb-true c.args.workers 1 is);
+            });
       };
     })
