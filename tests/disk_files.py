@@ -4,7 +4,8 @@
     tests/disk_files.py [TD]        needs crates/td/out/td (see the README), or the program that is named, and strace; without it says so
 
 - Each write and each sync of NEW of a copy or a load fails in turn, alone, and with all that follow, as on a full device. It is then refused with NEW's path,
-  and with the cause where a second look meets it too; NEW is not there any more, and DISK is as it was, byte for byte. So it is of NEW.closures.
+  and with the cause where a second look meets it too; NEW is not there any more, nor NEW.closures, and DISK is as it was, byte for byte. So it is where a
+  call of NEW.closures fails.
 - One that succeeds takes as much room of its file system as a formatted disk of the same shape, so that none of it is lacking later.
 - A copy of three epochs makes as many syncs as one of two: the cells of all but the last are on the device by one.
 - A pipe is no disk: each command refuses it at once, by the words for files, and it stays."""
@@ -80,7 +81,8 @@ def fail_each(command, folder, image, counts):
 
 
 def fail_closures(command, folder):
-    """Has each call of NEW.closures fail, alone: its last write and sync say what failed, and its first sync is of its making."""
+    """Has each call of NEW.closures fail, alone: its last write and sync say what failed, and its first sync is of its making. A write of NEW that
+    fails takes NEW.closures away as well."""
     (folder / "new").unlink(missing_ok=True)
     (folder / "disk.closures").write_text("map 10000\n  send key, val\n")
     status, _, counts = make(command, folder, file="new.closures")
@@ -95,6 +97,10 @@ def fail_closures(command, folder):
         named, _, cause = CALLS[call]
         if tuple(found) != (wanted_end or (3, f"td: device: {closures}: {named}: {cause}\n")) or new.exists() or closures.exists():
             lib.fail(f"{call} {number} of NEW.closures of a {command} failed: {found}, and of NEW and NEW.closures are there {[it.name for it in (new, closures) if it.exists()]}")
+    closures.unlink(missing_ok=True)
+    *found, _ = make(command, folder, "-e", "inject=pwrite64:error=ENOSPC:when=1")
+    if tuple(found) != wanted(folder, "pwrite64", 1, True) or new.exists() or closures.exists():
+        lib.fail(f"a write of NEW of a {command} with closures failed: {found}, and of NEW and NEW.closures are there {[it.name for it in (new, closures) if it.exists()]}")
     (folder / "disk.closures").unlink()
 
 
