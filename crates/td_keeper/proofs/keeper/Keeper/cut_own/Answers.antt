@@ -9,6 +9,7 @@ use Rattle.td_keeper.specs.Keeping.{Keeping, IsKeeping, keeping_of}
 use Rattle.td_keeper.specs.Refused.{cut_refusal}
 use Rattle.td_keeper.specs.Halls.{IsOwn, StaysOwn, with_collected, with_cut, collected_hall, cut_hall_up_to, last_passed, cut_place}
 use Rattle.td_keeper.proofs.Collecting.{own_after, cut_is, is_last, place_after, place_before, place_has_passed, cut_right, cut_meaning}
+use Rattle.td_keeper.proofs.Since.{keeps_further}
 use Rattle.td_keeper.proofs.Owning.{stays_at, stays_itself, stays_collected, stays_cut, stays_then}
 use Rattle.td_keeper.proofs.keeper.Keeper.cut_own.Goals as goal
 
@@ -60,6 +61,7 @@ invariant_of-self g c =
           c.in-Ok-cut_at_epoch.field-0.states c.in-Ok-cut_at_epoch.ensures.meaning,
       c.self.invariant.2,
       c.self.invariant.3,
+      λ lawful. keeps_further c.self.inside.broken c.self.inside.plan q.base c.in-Ok-cut_at_epoch.field-0.epoch (g.D.Disk.state c.self.inside.device) (omega (arith, is.0, c.in-Ok.ensures.epoch, after, own.base)) (c.self.invariant.4 lawful),
     )
 
 pub returns-clause-accepted : goal.returns-clause-accepted
