@@ -117,7 +117,6 @@ pub fn stream<
     let (keeper, ended) = obey(
         rt, alloc, keeper, plan, workers, options, reader, writer, calls,
     );
-    each_is_kept(&keeper);
     each_keeps_to_its_base(&keeper);
     (keeper.into_disk(), ended)
 }

@@ -129,7 +129,9 @@ pub(crate) fn is_at_last_number<D: Disk, L: Law>(keeper: &Keeper<D, L>) -> bool
 
 impl Feeding {
     /// Before anything was released into a hall at a keeper's checkpoint.
-    pub(crate) fn new<D: Disk, L: Law>(keeper: &Keeper<D, L>, pace: Pace) -> Feeding {
+    pub(crate) fn new<D: Disk, L: Law>(keeper: &Keeper<D, L>, pace: Pace) -> Feeding
+        ensures { result.pace ≡ pace }
+    {
         Feeding {
             pace,
             held: 0,
