@@ -227,12 +227,9 @@ module _ {D : Type 0} (answers : Answers) (states_join : StatesJoin answers) (ou
   pub place_has_passed : (most : Option ℕ) → has_passed S S.base ≡ true → has_passed S (cut_place most S) ≡ true
   place_has_passed most base = by (cut_place most S - S.base) refl
     where
-      after = place_after most base
-      before = place_before most base
-
       by : (m : ℕ) → cut_place most S - S.base ≡ m → has_passed S (cut_place most S) ≡ true
-      by zero e = let is : cut_place most S ≡ S.base = omega (arith, e, after) in ap (has_passed S) is ∙ base
-      by (suc m) e = let last = is_last base in last.passed (cut_place most S) (omega (arith, e)) (omega (arith, before))
+      by zero e = let after = place_after most base in let is : cut_place most S ≡ S.base = omega (arith, e, after) in ap (has_passed S) is ∙ base
+      by (suc m) e = let last = is_last base in let before = place_before most base in last.passed (cut_place most S) (omega (arith, e)) (omega (arith, before))
 
 -- a hall of a keeper's is still its own when what it collects was brought in
 pub own_after : {D : Type 0} (k : Keeping D) (S : HallState) → IsOwn k S → IsOwn (with_collected k S) (collected_hall S)

@@ -115,9 +115,9 @@ module _ (plan : List Line) (one : OneAnswer) (last : ℕ) where
   -- at any time
   pub all_keep_to : (b : Bool) (answers : Answers) → Together → (head : Head) (side : ℕ) (s : Standing) (state : DiskState) → HeldWhere b answers plan head side s state → KeepsToWhere b plan last state
       → s.epoch ≤ last → EachKeepsTo plan last state
-  all_keep_to true answers together head side s state held kept low = kept
-  all_keep_to false answers together head side s state held kept low c image u told =
-      told_at_most c s u (together plan head side s c (subst (Tells plan head side s) (sym (held.durable c image)) held.tells)) low told
+  all_keep_to true answers together head side s state holds kept low = kept
+  all_keep_to false answers together head side s state holds kept low =
+      λ c image u told. told_at_most c s u (together plan head side s c (subst (Tells plan head side s) (sym (holds.durable c image)) holds.tells)) low told
 
 -- where it did not
 pub none_beyond : (b : Bool) (plan : List Line) (last : ℕ) (state : DiskState) → b ≡ false → KeepsToWhere b plan last state
@@ -125,7 +125,7 @@ none_beyond b plan last state whole = subst (λ (t : Bool). KeepsToWhere t plan 
 
 -- and of a later epoch
 pub keeps_further : (b : Bool) (plan : List Line) (last next : ℕ) (state : DiskState) → last ≤ next → KeepsToWhere b plan last state → KeepsToWhere b plan next state
-keeps_further true plan last next state on kept c image s told = let low = kept c image s told in omega (arith, low, on)
+keeps_further true plan last next state on kept = λ c image s told. let low = kept c image s told in omega (arith, low, on)
 keeps_further false plan last next state on kept = tt
 
 -- nothing was written
