@@ -46,10 +46,12 @@ class Stopped(Exception):
 
 class Client:
     """Has the batches of `source` put on a disk, and their outputs stored by `store`. At most `window` epochs are under way, sent or on the disk and not
-    stored. A stream that ends is started again, at most `tries` times while nothing new comes on the disk. `options` are more words of `td stream`."""
+    stored. A stream that ends is started again, at most `tries` times while nothing new comes on the disk. `options` are more words of `td stream`.
+    With `--hold` among them the stream itself takes no cut of what is not stored, and `--cut-every` may stand beside."""
 
     def __init__(self, disk, plan, source, store, td="td", window=64, tries=10, options=()):
-        if any(word.startswith("--cut-every") for word in options):
+        self.holds = "--hold" in options
+        if not self.holds and any(word.startswith("--cut-every") for word in options):
             raise ValueError("--cut-every takes cuts before outputs are stored")
         self.disk, self.plan, self.source, self.store = disk, plan, source, store
         self.td, self.window, self.tries, self.options = td, window, tries, options
@@ -90,7 +92,7 @@ class Stream:
         self.client, self.last, self.most = client, last, cells - 1
         # Epochs: the last that was sent, is on the disk, is stored, and was cut. All up to the last cut are stored.
         self.sent = self.acknowledged = told
-        self.stored = self.cut = kept
+        self.stored = self.seen = self.cut = kept
         if not told - kept <= self.most >= 1:
             raise Stopped(f"{told - kept} epochs stand since the last cut, and N is {cells}")
         self.outputs, self.error, self.is_all, self.is_over = [], None, False, False
@@ -129,7 +131,7 @@ class Stream:
             with self.changed:
                 self.stored = number
                 self.changed.notify()
-        elif word != "cut":
+        elif word not in ("cut", "full"):
             self.outputs.append((number, *numbers))
 
     def send_all(self):
@@ -155,13 +157,21 @@ class Stream:
             self.send_cut()
         self.wait_until(lambda: self.sent - self.stored < self.client.window)
         self.last, self.sent = number, self.sent + 1
+        self.send_seen()
         self.send(f"req {number}", *("%d %d %d" % record for record in records), ".")
 
     def send_cut(self):
         """Sends `cut`, once all that was sent is stored."""
         self.wait_until(lambda: self.sent == self.stored)
         self.cut = self.sent
+        self.send_seen()
         self.send("cut")
+
+    def send_seen(self):
+        """Says which epochs are stored, where the stream holds the others."""
+        if self.client.holds and self.seen < self.stored:
+            self.seen = self.stored
+            self.send(f"seen {self.seen}")
 
     def wait_until(self, is_so):
         """Waits until this is so; where the stream has ended, that is told as a write would."""

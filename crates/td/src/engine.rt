@@ -17,12 +17,13 @@ pub(crate) enum Engine<'a> {
     Stream(ReadAhead<FileDisk>, &'a str, Plan, u8, StreamOptions, Option<Stderr>, Vec<Closure>),
 }
 
-/// After how many epochs a stream cuts, how many tasks each of its epochs may take, whether it marks them, and whether it refuses those with
-/// a fault and goes on.
+/// After how many epochs a stream cuts, how many tasks each of its epochs may take, whether it marks them, whether it refuses those with
+/// a fault and goes on, and whether it holds their outputs until they were seen.
 #[derive(Clone, Copy, Debug, Drop)]
 pub(crate) struct StreamOptions {
     pub cut_every: Option<u32>,
     pub most: Option<u64>,
     pub marks: bool,
     pub refuse: bool,
+    pub hold: bool,
 }

@@ -14,12 +14,12 @@ operator, 5 is a line or a closure, 6 a standard stream, 7 `file`, 8 `too much w
 SIGTERM, SIGHUP and Ctrl-C end `td` as a kill does, without a text, and what was acknowledged stands. So does SIGXFSZ,
 which comes where `ulimit -f` is below the size of the disk.
 
-Only the first fault is written: mend it and run again. Each text stands here with common mistakes.
+Only the first fault is written. Each text stands here with common mistakes.
 `docs/REFUSALS.md` has the rules whole, `docs/FORMATS.md` the plan text and the limits.
 
-`./check` runs each command below, with the program's folder in the `PATH`. Under it stands what it prints.
+`./check` runs each command below. Under it stands what it prints.
 
-Lines are counted from the first line of the input, from 1. Comments, empty lines and the `--` line count too.
+Lines are counted from 1: comments, empty lines and the `--` line too.
 
 ## The program's words
 
@@ -335,6 +335,11 @@ An epoch that begins so ends with a `.` too, and no `cut` stands in it:
     td: line 2: epoch not closed
     $ printf 'req 5\ncut\n.\n' | td feed total.disk total.plan
     td: line 2: syntax
+
+**`line L: outputs not written yet`**, `line L: a later epoch was seen`: of `seen E`, as `docs/DELIVERY.md` has it:
+
+    $ printf 'seen 1\n' | td stream total.disk total.plan --marks --hold
+    td: line 1: outputs not written yet
 
 **`old version`**: an epoch has a request number, and the disk is of version 1 of its format, which has none. What
 stands before it in the input was fed. `td upgrade` raises the disk to version 2 and leaves all on it as it is. Then

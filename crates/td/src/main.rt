@@ -139,6 +139,7 @@ fn done<
             progress,
             marks,
             refuse,
+            hold,
         } => {
             let (disk, plan) = open_disk_or_tell(rt, path, plan)?;
             let closures = closures_of_disk(rt, path)?;
@@ -148,6 +149,7 @@ fn done<
                 most,
                 marks,
                 refuse,
+                hold,
             };
             run_engine(
                 rt,

@@ -23,7 +23,7 @@ use td_formula::Closure;
 use td_plan::Plan;
 use td_standing::KeeperError;
 use td_watch::{Reader, Watch, Writer};
-use td_written::stream;
+use td_written::{StreamOptions as HowToStream, stream};
 
 /// Something that comes once, and that another thread waits for.
 #[derive(Drop)]
@@ -97,9 +97,12 @@ pub(crate) fn stream_told<
         disk,
         plan,
         workers,
-        options.cut_every,
-        options.most,
-        options.refuse,
+        HowToStream {
+            cut_every: options.cut_every,
+            most: options.most,
+            refuse: options.refuse,
+            hold: options.hold,
+        },
         reader,
         writer,
         watch,

@@ -24,6 +24,10 @@ pub enum LineFault {
     NoSuchInput,
     /// Records stand after the last line that closes an epoch.
     NotClosed,
+    /// An epoch is said to have been seen whose output lines are not written yet.
+    NotOut,
+    /// An epoch is said to have been seen that comes before the last one of which this was said.
+    SeenBefore,
 }
 
 impl fmt::Display for LineFault {
@@ -34,6 +38,8 @@ impl fmt::Display for LineFault {
             LineFault::Syntax => write!(f, "syntax"),
             LineFault::NoSuchInput => write!(f, "no such input"),
             LineFault::NotClosed => write!(f, "epoch not closed"),
+            LineFault::NotOut => write!(f, "outputs not written yet"),
+            LineFault::SeenBefore => write!(f, "a later epoch was seen"),
         }
     }
 }

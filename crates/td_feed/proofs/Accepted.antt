@@ -16,10 +16,10 @@ use Rattle.td_console.specs.declared.faults.LineFault.TheVariants.{NoSuchInput}
 use Rattle.td_console.specs.declared.faults.Fault.{Fault}
 use Rattle.td_console.specs.declared.faults.Fault.TheVariants.{Line}
 use Rattle.td_feed.specs.declared.order.FeedLine.{FeedLine}
-use Rattle.td_feed.specs.declared.order.FeedLine.TheVariants.{Data, Request, Cut}
+use Rattle.td_feed.specs.declared.order.FeedLine.TheVariants.{Data, Request, Cut, Seen}
 use Rattle.td_feed.specs.declared.order.Order.{Order}
 use Rattle.td_feed.specs.declared.order.Order.TheVariants as order
-use Rattle.td_feed.specs.Orders.{Orders, IsAccepted, is_between, order_for, with_cut, with_request, with_line, and_then, ended, orders_from, orders_of, feed_line_of, notes_in}
+use Rattle.td_feed.specs.Orders.{Orders, IsAccepted, is_between, order_for, with_cut, with_request, with_seen, with_line, and_then, ended, orders_from, orders_of, feed_line_of, notes_in}
 
 -- entries that all name inputs
 abbrev AreInputs : List PlanLine → List Entry → Type 0
@@ -68,6 +68,11 @@ step plan n orders request current os next more (Some Cut) h k e = by (is_betwee
     by : (between : Bool) → and_then next (with_cut n (record { orders = orders; request = request; current = current }) between) ≡ Ok os → All (IsAccepted plan) os
     by true f = more (orders ++ order.Cut ∷ []) request current (pushed plan orders order.Cut h tt) k f
     by false f = cc
+step plan n orders request current os next more (Some (Seen epoch)) h k e = by (is_between (record { orders = orders; request = request; current = current })) e
+  where
+    by : (between : Bool) → and_then next (with_seen n epoch (record { orders = orders; request = request; current = current }) between) ≡ Ok os → All (IsAccepted plan) os
+    by true f = more (orders ++ order.Seen n epoch ∷ []) request current (pushed plan orders (order.Seen n epoch) h tt) k f
+    by false f = cc
 step plan n orders request current os next more (Some (Request q)) h k e = by (is_between (record { orders = orders; request = request; current = current })) e
   where
     by : (between : Bool) → and_then next (with_request n q (record { orders = orders; request = request; current = current }) between) ≡ Ok os → All (IsAccepted plan) os
@@ -104,6 +109,7 @@ unnoted plan [] is = refl
 unnoted plan (order.Submit batch ∷ os) is = unnoted plan os (All-tail (IsAccepted plan) (order.Submit batch) os is)
 unnoted plan (order.SubmitAs request batch ∷ os) is = unnoted plan os (All-tail (IsAccepted plan) (order.SubmitAs request batch) os is)
 unnoted plan (order.Cut ∷ os) is = unnoted plan os (All-tail (IsAccepted plan) order.Cut os is)
+unnoted plan (order.Seen line epoch ∷ os) is = unnoted plan os (All-tail (IsAccepted plan) (order.Seen line epoch) os is)
 unnoted plan (order.Say note ∷ os) is = absurd (All-head (IsAccepted plan) (order.Say note) os is)
 
 pub none_noted : (plan : List PlanLine) (input : List ℕ) (os : List Order) → orders_of plan input ≡ Ok os → notes_in os ≡ []

@@ -6,6 +6,7 @@ pub mod Accepted
 pub mod Printable
 pub mod Narrowed
 pub mod Refused
+pub mod Held
 pub mod Lines
 pub mod PlainLines
 pub mod Wording

@@ -12,7 +12,7 @@ use Rattle.td_disk.specs.Disk.{DiskState}
 use Rattle.td_journal.specs.declared.submitted.Submitted.{Submitted as AnySubmitted}
 use Rattle.td_standing.specs.declared.error.KeeperError.TheVariants as error
 use Rattle.td_keeper.specs.declared.command.Command.{Command}
-use Rattle.td_keeper.specs.declared.command.Command.TheVariants.{Submit, SubmitAs, SubmitAll, Release, Settle, Collect, NextOut, Cut, WriteCut, CloseFree}
+use Rattle.td_keeper.specs.declared.command.Command.TheVariants.{Submit, SubmitAs, SubmitAll, Release, Settle, Collect, NextOut, Cut, CutUpTo, WriteCut, CloseFree}
 use Rattle.td_keeper.specs.declared.command.Reply.{Reply}
 use Rattle.td_keeper.specs.declared.command.Reply.TheVariants.{Submitted, SubmittedAs, SubmittedAll, Released, Settled, Collected, Out, CutTaken, Written, Closed, Refused, RefusedAll}
 use Rattle.td_keeper.specs.Keeping.{Keeping}
@@ -24,8 +24,8 @@ use Rattle.td_feed.specs.declared.note.Note.{Note}
 use Rattle.td_feed.specs.Noted.{note_line}
 use Rattle.td_feed.specs.Carried.{is_refused}
 use Rattle.td_feed.specs.Fed.{pool_fault}
-use Rattle.td_feed.specs.Said.{request_in, line_of, Saying, commands_in, replies_in, notes_among, lines_of, Wanted, Says, SaysSome, SaysUnheard, SaysBy, SaysFrom, SaysFed, Refuses}
-use Rattle.td_feed.specs.Said.Saying.{replied, aside}
+use Rattle.td_feed.specs.Said.{request_in, line_of, full_line, Saying, commands_in, replies_in, notes_among, lines_of, Wanted, Says, SaysSome, SaysUnheard, SaysBy, SaysFrom, SaysFed, Refuses}
+use Rattle.td_feed.specs.Said.Saying.{replied, aside, full}
 
 -- whether a command's reply has no line
 abbrev pub is_quiet : Command → Bool
@@ -33,6 +33,7 @@ is_quiet Release = true
 is_quiet Settle = true
 is_quiet Collect = true
 is_quiet Cut = true
+is_quiet (CutUpTo epoch) = true
 is_quiet (CloseFree most) = true
 is_quiet _ = false
 
@@ -41,6 +42,7 @@ pub notes-append : (ss ts : List Saying) → notes_among (ss ++ ts) ≡ notes_am
 notes-append [] ts = refl
 notes-append (replied x r ∷ ss) ts = notes-append ss ts
 notes-append (aside n ∷ ss) ts = ap (λ (l : List Note). n ∷ l) (notes-append ss ts)
+notes-append (full e ∷ ss) ts = notes-append ss ts
 
 module _ {D : Type 0} (is_lawful : D → Type 0) (state : D → DiskState) (failures : D → ℕ) (answers : Answers) (marks : Bool) where
   -- what is said, as commands and their replies
@@ -51,6 +53,7 @@ module _ {D : Type 0} (is_lawful : D → Type 0) (state : D → DiskState) (fail
   told-append [] ts a b c is rest = subst (λ (k : Keeping D). Told ts k c) is rest
   told-append (replied x r ∷ ss) ts a b c first rest = (first.0, first.1, first.2, told-append ss ts first.0 b c first.3 rest)
   told-append (aside n ∷ ss) ts a b c first rest = told-append ss ts a b c first rest
+  told-append (full e ∷ ss) ts a b c first rest = told-append ss ts a b c first rest
 
   submitted-append : (ss ts : List Saying) → submitted_by (commands_in (ss ++ ts)) (replies_in (ss ++ ts)) ≡ submitted_by (commands_in ss) (replies_in ss) ++ submitted_by (commands_in ts) (replies_in ts)
   submitted-append [] ts = refl
@@ -58,6 +61,7 @@ module _ {D : Type 0} (is_lawful : D → Type 0) (state : D → DiskState) (fail
       ap (λ (l : List AnySubmitted). submitted_in x r ++ l) (submitted-append ss ts)
       ∙ sym (append_assoc (submitted_in x r) (submitted_by (commands_in ss) (replies_in ss)) (submitted_by (commands_in ts) (replies_in ts)))
   submitted-append (aside n ∷ ss) ts = submitted-append ss ts
+  submitted-append (full e ∷ ss) ts = submitted-append ss ts
 
   -- lines of what is said, one after another
   lines-append : (ss ts : List Saying) → lines_of marks (ss ++ ts) ≡ lines_of marks ss ++ lines_of marks ts
@@ -65,6 +69,7 @@ module _ {D : Type 0} (is_lawful : D → Type 0) (state : D → DiskState) (fail
   lines-append (replied x r ∷ ss) ts =
       ap (λ (l : List ℕ). line_of marks (request_in x) r ++ l) (lines-append ss ts) ∙ sym (append_assoc (line_of marks (request_in x) r) (lines_of marks ss) (lines_of marks ts))
   lines-append (aside n ∷ ss) ts = ap (λ (l : List ℕ). note_line n ++ l) (lines-append ss ts) ∙ sym (append_assoc (note_line n) (lines_of marks ss) (lines_of marks ts))
+  lines-append (full e ∷ ss) ts = ap (λ (l : List ℕ). full_line e ++ l) (lines-append ss ts) ∙ sym (append_assoc (full_line e) (lines_of marks ss) (lines_of marks ts))
 
   -- the notes of two, where the second has only the first of them
   some_noted : (ss ts : List Saying) (later ns ms : List Note) → notes_among ss ≡ ns → notes_among ts ++ later ≡ ms → notes_among (ss ++ ts) ++ later ≡ ns ++ ms
@@ -94,6 +99,16 @@ module _ {D : Type 0} (is_lawful : D → Type 0) (state : D → DiskState) (fail
     submitted = refl;
     noted = refl;
     said = subst (λ (l : List ℕ). Appends before after l) (sym (append-nil (note_line n))) said;
+  }
+
+  -- that the journal is full was written
+  pub says_full : (before after : Option (List ℕ)) (e : ℕ) (k : Keeping D) → Appends before after (full_line e) → Says is_lawful state failures answers marks before after k k [] []
+  says_full before after e k said = record {
+    sayings = full e ∷ [];
+    driven = refl;
+    submitted = refl;
+    noted = refl;
+    said = subst (λ (l : List ℕ). Appends before after l) (sym (append-nil (full_line e))) said;
   }
 
   -- one after the other
@@ -267,6 +282,20 @@ module _ {D : Type 0} (is_lawful : D → Type 0) (state : D → DiskState) (fail
   quiet_cut (Written w) old new not_so = absurd not_so
   quiet_cut (Refused e b) old new is = refl
 
+  quiet_cut_up_to : (e : ℕ) (r : Reply) (old new : Keeping D) → Obeys is_lawful state failures answers (CutUpTo e) r old new → line_of marks 0 r ≡ []
+  quiet_cut_up_to e (Submitted n) old new not_so = absurd not_so
+  quiet_cut_up_to e (SubmittedAs n) old new not_so = absurd not_so
+  quiet_cut_up_to e (SubmittedAll n m) old new not_so = absurd not_so
+  quiet_cut_up_to e (RefusedAll e xs) old new not_so = absurd not_so
+  quiet_cut_up_to e (Released n) old new is = refl
+  quiet_cut_up_to e Settled old new is = refl
+  quiet_cut_up_to e (Collected n) old new is = refl
+  quiet_cut_up_to e (Out o) old new not_so = absurd not_so
+  quiet_cut_up_to e (CutTaken n) old new is = refl
+  quiet_cut_up_to e Closed old new is = refl
+  quiet_cut_up_to e (Written w) old new not_so = absurd not_so
+  quiet_cut_up_to e (Refused e b) old new is = refl
+
   quiet_close : (most : ℕ) (r : Reply) (old new : Keeping D) → Obeys is_lawful state failures answers (CloseFree most) r old new → line_of marks 0 r ≡ []
   quiet_close most (Submitted n) old new not_so = absurd not_so.0
   quiet_close most (SubmittedAs n) old new not_so = absurd not_so.0
@@ -288,6 +317,7 @@ module _ {D : Type 0} (is_lawful : D → Type 0) (state : D → DiskState) (fail
   quietly w Settle r old new quiet is driven = says_silent w Settle r old new driven (quiet_settle r old new is)
   quietly w Collect r old new quiet is driven = says_silent w Collect r old new driven (quiet_collect r old new is)
   quietly w Cut r old new quiet is driven = says_silent w Cut r old new driven (quiet_cut r old new is)
+  quietly w (CutUpTo e) r old new quiet is driven = says_silent w (CutUpTo e) r old new driven (quiet_cut_up_to e r old new is)
   quietly w (Submit batch) r old new not_so is driven = absurd (let is = not_so in cc)
   quietly w (SubmitAs request batch) r old new not_so is driven = absurd (let is = not_so in cc)
   quietly w (SubmitAll group) r old new not_so is driven = absurd (let is = not_so in cc)
@@ -311,6 +341,14 @@ module _ {D : Type 0} (is_lawful : D → Type 0) (state : D → DiskState) (fail
   noted_by (Err f) w v n k P said why same =
       ⊎_elim (λ output. inl (output, unheard w w k k (n ∷ []) (unsaid_none w k (n ∷ []))))
       (λ memory. inr (subst (λ (u : Option (List ℕ)). SaysSome is_lawful state failures answers marks w u k k (n ∷ [])) (sym (same memory.1)) (unsaid_none w k (n ∷ [])))) why
+
+  -- the line that the journal is full, where it was to be written
+  pub full_by : (result : Result (Unit {0}) Fault) (w v : Option (List ℕ)) (e : ℕ) (k : Keeping D) (P : Type 0) → OnOk result (Appends w v (full_line e))
+      → IfErr result (λ f. (f ≡ Output) ⊎ ((f ≡ Memory) × P)) → (P → v ≡ w) → SaysBy is_lawful state failures answers marks result w v k k [] []
+  full_by (Ok done) w v e k P said none same = says_full w v e k said
+  full_by (Err f) w v e k P said why same =
+      ⊎_elim (λ output. inl (output, unheard w w k k [] (unsaid_none w k [])))
+      (λ memory. inr (subst (λ (u : Option (List ℕ)). SaysSome is_lawful state failures answers marks w u k k []) (sym (same memory.1)) (unsaid_none w k []))) why
 
   -- after what was said
   pub then_quiet : (result : Result (Unit {0}) Fault) (u v w : Option (List ℕ)) (a b c : Keeping D) (x : List AnySubmitted) (ns : List Note) → Says is_lawful state failures answers marks u v a b x ns

@@ -22,14 +22,14 @@ use Rattle.std.specs.Io.KnownBytes.{Appends}
 use Rattle.td_console.specs.declared.faults.Fault.TheVariants.{Keeper, Output, Memory}
 use Rattle.td_feed.specs.Noted.{note_line}
 use Rattle.td_feed.specs.Carried.{batch_in, new_to, is_refused, Carries, Leaves}
-use Rattle.td_feed.specs.Said.{Says, SaysBy}
+use Rattle.td_feed.specs.Said.{full_line, Says, SaysBy}
 use Rattle.td_feed.specs.declared.note.Note.{Note}
 use Rattle.td_feed.specs.Orders.{submissions, notes_in}
 use Rattle.td_feed.specs.Asked.{Script}
 use Rattle.td_feed.specs.Session.{KeepsDisk, FeedsNoting, Feeds, FeedsScript, IsObeyed, IsNotObeyed}
 use Rattle.td_feed.proofs.Carrying.{at_err, at_ok, ok_only, ended_ok, ended_err, unmoved, then_carries, carries_then, carries_after, leaves_none, leaves_all, leaves_then, leaves_after}
 use Rattle.td_feed.proofs.Counting.{counts_same, counts_handed, counts_after, same_count, ended_counts}
-use Rattle.td_feed.proofs.Lines.{EndedAs, is_quiet, says_nothing, then_quiet, then_by, quietly, noted_by, unsaid_none, refused_some, ended_says}
+use Rattle.td_feed.proofs.Lines.{EndedAs, is_quiet, says_nothing, then_quiet, then_by, quietly, noted_by, full_by, unsaid_none, refused_some, ended_says}
 
 -- what holds of the value, where it is known
 pub known : {A : Type 0} (P : A → Type 0) (o : Option A) (a : A) → o ≡ Some a → IfSome o P → P a
@@ -149,6 +149,15 @@ module _ {D : Type 0} {is_lawful : D → Type 0} {state : D → DiskState} {fail
     carried = at_ok r (unmoved answers k k refl refl whole);
     left = at_err r (leaves_none is_lawful state answers k k [] (unmoved answers k k refl refl whole));
     said = noted_by is_lawful state failures answers marks r u v note k P said unsaid same;
+  }
+
+  -- it was to be written that the journal is full
+  pub fed_full : {u v : Option (List ℕ)} {k : Keeping D} {P : Type 0} (r : Result (Unit {0}) Fault) (e : ℕ) → k.broken ≡ false → OnOk r (Appends u v (full_line e))
+      → IfErr r (λ f. (f ≡ Output) ⊎ ((f ≡ Memory) × P)) → (P → v ≡ u) → Feeds is_lawful state failures answers marks r u v k k []
+  fed_full {u = u} {v = v} {k = k} {P = P} r e whole said unsaid same = record {
+    carried = at_ok r (unmoved answers k k refl refl whole);
+    left = at_err r (leaves_none is_lawful state answers k k [] (unmoved answers k k refl refl whole));
+    said = full_by is_lawful state failures answers marks r u v e k P said unsaid same;
   }
 
   -- nothing was done

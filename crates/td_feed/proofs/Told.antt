@@ -13,7 +13,7 @@ use Rattle.td_standing.specs.declared.error.KeeperError.TheVariants as error
 use Rattle.td_keeper.specs.declared.group.GroupError.{GroupError}
 use Rattle.td_keeper.specs.declared.group.GroupError.TheVariants.{Repeated, Keeper}
 use Rattle.td_keeper.specs.declared.command.Command.{Command}
-use Rattle.td_keeper.specs.declared.command.Command.TheVariants.{Submit, SubmitAs, SubmitAll, Release, Settle, Collect, NextOut, Cut, WriteCut, CloseFree}
+use Rattle.td_keeper.specs.declared.command.Command.TheVariants.{Submit, SubmitAs, SubmitAll, Release, Settle, Collect, NextOut, Cut, CutUpTo, WriteCut, CloseFree}
 use Rattle.td_keeper.specs.declared.command.Reply.{Reply}
 use Rattle.td_keeper.specs.declared.command.Reply.TheVariants.{Submitted, SubmittedAs, SubmittedAll, Released, Settled, Collected, Out, CutTaken, Written, Closed, Refused, RefusedAll}
 use Rattle.td_keeper.specs.declared.receipt.Receipt.{Receipt}
@@ -125,6 +125,7 @@ module _ {D : Type 0} (is_lawful : D → Type 0) (state : D → DiskState) (fail
   submitted_is Collect r old new obeys done rises = refl
   submitted_is NextOut r old new obeys done rises = refl
   submitted_is Cut r old new obeys done rises = refl
+  submitted_is (CutUpTo m) r old new obeys done rises = refl
   submitted_is WriteCut r old new obeys done rises = refl
   submitted_is (CloseFree most) r old new obeys done rises = refl
 
@@ -141,6 +142,7 @@ module _ {D : Type 0} (is_lawful : D → Type 0) (state : D → DiskState) (fail
   rest others Collect r old new obeys whole is = rests_carry old new (others Collect r old new refl obeys) whole
   rest others NextOut r old new obeys whole is = rests_carry old new (others NextOut r old new refl obeys) whole
   rest others Cut r old new obeys whole is = rests_carry old new (others Cut r old new refl obeys) whole
+  rest others (CutUpTo m) r old new obeys whole is = rests_carry old new (others (CutUpTo m) r old new refl obeys) whole
   rest others WriteCut r old new obeys whole is = absurd (let no : false ≡ true = is in cc)
   rest others (CloseFree most) r old new obeys whole is = absurd (let no : false ≡ true = is in cc)
 
@@ -192,6 +194,7 @@ module _ {D : Type 0} (is_lawful : D → Type 0) (state : D → DiskState) (fail
   carry others stands_on cuts_on Collect r old new kept obeys whole done = rests_carry old new (others Collect r old new refl obeys) whole
   carry others stands_on cuts_on NextOut r old new kept obeys whole done = rests_carry old new (others NextOut r old new refl obeys) whole
   carry others stands_on cuts_on Cut r old new kept obeys whole done = rests_carry old new (others Cut r old new refl obeys) whole
+  carry others stands_on cuts_on (CutUpTo m) r old new kept obeys whole done = rests_carry old new (others (CutUpTo m) r old new refl obeys) whole
   carry others stands_on cuts_on WriteCut (Written w) old new kept obeys whole done =
       ⊎_elim
       (λ none. unmoved answers old new (ap (λ (k : Keeping D). k.plan) none.2) (ap (λ (k : Keeping D). k.standing) none.2) (ap (λ (k : Keeping D). k.broken) none.2 ∙ whole))
@@ -285,6 +288,7 @@ module _ {D : Type 0} (is_lawful : D → Type 0) (state : D → DiskState) (fail
   refused others Collect e b obeys since = rests_left [] (others Collect (Refused e b) old new refl obeys)
   refused others NextOut e b obeys since = rests_left [] (others NextOut (Refused e b) old new refl obeys)
   refused others Cut e b obeys since = rests_left [] (others Cut (Refused e b) old new refl obeys)
+  refused others (CutUpTo m) e b obeys since = rests_left [] (others (CutUpTo m) (Refused e b) old new refl obeys)
   refused others WriteCut e b obeys since =
       ⊎_elim
       (λ many. none_left [] (record old { waiting = false }) many.1 refl refl whole)
@@ -336,6 +340,7 @@ module _ {D : Type 0} (is_lawful : D → Type 0) (state : D → DiskState) (fail
   none_of_group Collect e b obeys rises = absurd obeys
   none_of_group NextOut e b obeys rises = absurd obeys
   none_of_group Cut e b obeys rises = absurd obeys
+  none_of_group (CutUpTo m) e b obeys rises = absurd obeys
   none_of_group WriteCut e b obeys rises = absurd obeys.0
   none_of_group (CloseFree most) e b obeys rises = absurd obeys.0
 
@@ -371,6 +376,7 @@ module _ {D : Type 0} (is_lawful : D → Type 0) (state : D → DiskState) (fail
   repeats Collect b old new obeys rises = obeys
   repeats NextOut b old new obeys rises = obeys
   repeats Cut b old new obeys rises = obeys
+  repeats (CutUpTo m) b old new obeys rises = obeys
   repeats WriteCut b old new obeys rises = obeys.0
   repeats (CloseFree most) b old new obeys rises = obeys.0
 

@@ -22,7 +22,7 @@ use Rattle.td_feed.specs.declared.order.Order.TheVariants as order
 use Rattle.td_feed.specs.declared.reading.Reading.{Reading as AnyReading}
 use Rattle.td_feed.specs.declared.at_once.Asked.{Asked}
 use Rattle.td_feed.specs.declared.at_once.Asked.TheVariants.{One, Epochs}
-use Rattle.td_feed.specs.Orders.{Orders, no_orders, numbered, is_between, feed_line_of, with_line, with_order, submissions, notes_in}
+use Rattle.td_feed.specs.Orders.{Orders, no_orders, numbered, is_between, stream_line_of, with_line, with_order, submissions, notes_in}
 
 -- what is left of an input, of which some bytes were read and are in no line yet
 abbrev pub unread : Option (List ℕ) → List ℕ → Option (List ℕ)
@@ -91,10 +91,11 @@ abbrev pub with_said : List PlanLine → Option ℕ → ℕ → Option (ℕ × F
 with_said plan limit n (Some why) read said = Ok (passed_over why read said)
 with_said plan limit n None read said = judged limit n read (with_line plan n read said)
 
--- WHERE A STREAM IS in its input: its plan; where it refuses epochs, how many records one may have; the number of the next line; why the
--- epoch that is open is refused, if it is; and what was read
+-- WHERE A STREAM IS in its input: its plan; whether outputs are held; where it refuses epochs, how many records one may have; the number of
+-- the next line; why the epoch that is open is refused, if it is; and what was read
 pub record Reading : Type 0 where
   pub plan : List PlanLine
+  pub hold : Bool
   pub limit : Option ℕ
   pub number : ℕ
   pub flaw : Option (ℕ × Flaw)
@@ -102,22 +103,22 @@ pub record Reading : Type 0 where
 
 -- of a reader of lines
 abbrev pub place : AnyReading → Reading
-place r = record { plan = r.plan.now; limit = r.limit; number = r.number; flaw = r.flaw; read = r.read }
+place r = record { plan = r.plan.now; hold = r.hold; limit = r.limit; number = r.number; flaw = r.flaw; read = r.read }
 
 -- before the first line
-abbrev pub at_start : Option ℕ → List PlanLine → Reading
-at_start limit plan = record { plan = plan; limit = limit; number = 1; flaw = None; read = no_orders }
+abbrev pub at_start : Bool → Option ℕ → List PlanLine → Reading
+at_start hold limit plan = record { plan = plan; hold = hold; limit = limit; number = 1; flaw = None; read = no_orders }
 
 -- after one line more, or its fault
 abbrev pub after_line : Reading → ReadSoFar → Reading
-after_line r next = record { plan = r.plan; limit = r.limit; number = r.number + 1; flaw = next.0; read = next.1 }
+after_line r next = record { plan = r.plan; hold = r.hold; limit = r.limit; number = r.number + 1; flaw = next.0; read = next.1 }
 
 abbrev pub onward : Reading → Result ReadSoFar Fault → Result Reading Fault
 onward r (Ok next) = Ok (after_line r next)
 onward r (Err fault) = Err fault
 
 abbrev pub with_next : Reading → List ℕ → Result Reading Fault
-with_next r line = onward r (with_said r.plan r.limit r.number r.flaw r.read (feed_line_of line))
+with_next r line = onward r (with_said r.plan r.limit r.number r.flaw r.read (stream_line_of r.hold line))
 
 -- at the end, no epoch may have begun
 abbrev pub may_end : Option (ℕ × Flaw) → Bool → Bool
@@ -134,9 +135,9 @@ abbrev pub script_from : Reading → List (List ℕ) → Script
 script_from r [] = record { orders = r.read.orders; is_sound = may_end r.flaw (is_between r.read) }
 script_from r (line ∷ lines) = script_after r.read (λ more. script_from more lines) (with_next r line)
 
--- THE SCRIPT OF AN INPUT, of a stream that refuses epochs, with so many records at most, or of another one
-abbrev pub script_of : Option ℕ → List PlanLine → List ℕ → Script
-script_of limit plan input = script_from (at_start limit plan) (text_lines input)
+-- THE SCRIPT OF AN INPUT, of a stream that holds outputs or not, and that refuses epochs, with so many records at most, or not
+abbrev pub script_of : Bool → Option ℕ → List PlanLine → List ℕ → Script
+script_of hold limit plan input = script_from (at_start hold limit plan) (text_lines input)
 
 -- what is left of a script, where the rest of the input is known
 abbrev pub script_left : Option (List ℕ) → Reading → Option Script
@@ -182,6 +183,7 @@ abbrev pub IsNext : ℕ → Order → Type 0
 IsNext last (order.Submit batch) = Unit {0}
 IsNext last (order.SubmitAs request batch) = may_come (Some last) request ≡ true
 IsNext last order.Cut = ⊥
+IsNext last (order.Seen line epoch) = ⊥
 IsNext last (order.Say note) = ⊥
 
 -- what is asked for at once submits these

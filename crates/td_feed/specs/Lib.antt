@@ -4,6 +4,7 @@ pub mod Narrowed
 pub mod Shown
 pub mod Dumped
 pub mod Fed
+pub mod Held
 pub mod Carried
 pub mod Said
 pub mod Upgraded

@@ -18,7 +18,7 @@ use Rattle.td_console.specs.declared.faults.Fault.{Fault}
 use Rattle.td_console.specs.declared.faults.Fault.TheVariants.{Line, Memory}
 use Rattle.td_console.specs.Data.{data_line_of}
 use Rattle.td_feed.specs.declared.order.FeedLine.{FeedLine}
-use Rattle.td_feed.specs.declared.order.FeedLine.TheVariants.{Data, Request, Cut}
+use Rattle.td_feed.specs.declared.order.FeedLine.TheVariants.{Data, Request, Cut, Seen}
 use Rattle.td_feed.specs.declared.order.Order.{Order}
 use Rattle.td_feed.specs.declared.order.Order.TheVariants as order
 use Rattle.td_feed.specs.declared.note.Note.{Note}
@@ -48,6 +48,21 @@ or_data line None = option_map Data (data_line_of line)
 abbrev pub feed_line_of : List ℕ → Option FeedLine
 feed_line_of line =
     if list_all is_ascii line then (if is_cut (words line) then Some Cut else or_data line (request_of (words line))) else None
+
+-- the epoch of the words `seen E`
+abbrev pub seen_of : List (List ℕ) → Option ℕ
+seen_of (word ∷ number ∷ []) = if bytes_eq word (codes "seen") then natural_of number else None
+seen_of _ = None
+
+-- an epoch that was seen, or what a line of a feed says
+abbrev pub or_feed_line : List ℕ → Option ℕ → Option FeedLine
+or_feed_line line (Some epoch) = Some (Seen epoch)
+or_feed_line line None = feed_line_of line
+
+-- what a line of a stream says, if it has a form: where outputs are held, also which epoch was seen
+abbrev pub stream_line_of : Bool → List ℕ → Option FeedLine
+stream_line_of false line = feed_line_of line
+stream_line_of true line = if list_all is_ascii line then or_feed_line line (seen_of (words line)) else None
 
 -- Orders that were read so far; and of the epoch that is not closed its request number, 0 for none, and its entries as they were
 -- read
@@ -82,7 +97,12 @@ abbrev pub with_cut : ℕ → Orders → Bool → Result Orders Fault
 with_cut n read true = Ok (record { orders = read.orders ++ order.Cut ∷ []; request = read.request; current = read.current })
 with_cut n read false = Err (Line n Syntax)
 
--- and so does a request number, which is of the epoch after it
+-- and so does an epoch that was seen
+abbrev pub with_seen : ℕ → ℕ → Orders → Bool → Result Orders Fault
+with_seen n epoch read true = Ok (record { orders = read.orders ++ order.Seen n epoch ∷ []; request = read.request; current = read.current })
+with_seen n epoch read false = Err (Line n Syntax)
+
+-- and a request number, which is of the epoch after it
 abbrev pub with_request : ℕ → ℕ → Orders → Bool → Result Orders Fault
 with_request n q read true = Ok (record { orders = read.orders; request = q; current = read.current })
 with_request n q read false = Err (Line n Syntax)
@@ -97,6 +117,7 @@ abbrev pub with_line : List PlanLine → ℕ → Orders → Option FeedLine → 
 with_line plan n read None = Err (Line n Syntax)
 with_line plan n read (Some Cut) = with_cut n read (is_between read)
 with_line plan n read (Some (Request q)) = with_request n q read (is_between read)
+with_line plan n read (Some (Seen epoch)) = with_seen n epoch read (is_between read)
 with_line plan n read (Some (Data PassedOver)) = Ok read
 with_line plan n read (Some (Data Close)) = Ok (with_order (order_for read.request (bag_of entry_cmp read.current)) read)
 with_line plan n read (Some (Data (Record input rec))) =
@@ -128,6 +149,7 @@ submissions [] = []
 submissions (order.Submit batch ∷ orders) = submission 0 batch ∷ submissions orders
 submissions (order.SubmitAs request batch ∷ orders) = submission request batch ∷ submissions orders
 submissions (order.Cut ∷ orders) = submissions orders
+submissions (order.Seen line epoch ∷ orders) = submissions orders
 submissions (order.Say note ∷ orders) = submissions orders
 
 -- what orders would have written beside
@@ -136,6 +158,7 @@ notes_in [] = []
 notes_in (order.Submit batch ∷ orders) = notes_in orders
 notes_in (order.SubmitAs request batch ∷ orders) = notes_in orders
 notes_in (order.Cut ∷ orders) = notes_in orders
+notes_in (order.Seen line epoch ∷ orders) = notes_in orders
 notes_in (order.Say note ∷ orders) = note ∷ notes_in orders
 
 -- WHICH OF THESE ARE NEW after a greatest request number: each that has no number, and each whose number is above all before
@@ -153,6 +176,7 @@ abbrev pub IsAccepted : List PlanLine → Order → Type 0
 IsAccepted plan (order.Submit batch) = IsTrue (list_all (λ e. is_input_of plan e.input) batch)
 IsAccepted plan (order.SubmitAs request batch) = IsTrue (list_all (λ e. is_input_of plan e.input) batch)
 IsAccepted plan order.Cut = Unit {0}
+IsAccepted plan (order.Seen line epoch) = Unit {0}
 IsAccepted plan (order.Say note) = ⊥
 
 -- a fault of an input: of a line, or for want of memory

@@ -51,6 +51,10 @@ cut_line epoch = codes "cut " ++ decimal epoch ++ 10 ∷ []
 abbrev pub done_line : ℕ → List ℕ
 done_line epoch = codes "done " ++ decimal epoch ++ 10 ∷ []
 
+-- `full E`, where the journal is full up to this epoch and nothing more was seen
+abbrev pub full_line : ℕ → List ℕ
+full_line epoch = codes "full " ++ decimal epoch ++ 10 ∷ []
+
 -- THE LINES OF AN EPOCH that is handed out: its outputs, and its mark after them, where epochs are marked
 abbrev pub out_lines : Bool → EpochOut → List ℕ
 out_lines true out = output_text (out ∷ []) ++ done_line out.epoch
@@ -72,32 +76,37 @@ line_of marks request (Out (Some out)) = out_lines marks out
 line_of marks request (Written (Some epoch)) = cut_line epoch
 line_of marks request _ = []
 
--- WHAT IS SAID: the lines of a reply to a command, or a note
+-- WHAT IS SAID: the lines of a reply to a command, a note, or that the journal is full up to an epoch
 pub data Saying : Type 0 where
   replied : Command → Reply → Saying
   aside : Note → Saying
+  full : ℕ → Saying
 
 -- the commands of what is said, the replies, and the notes
 abbrev pub commands_in : List Saying → List Command
 commands_in [] = []
 commands_in (replied command reply ∷ more) = command ∷ commands_in more
 commands_in (aside note ∷ more) = commands_in more
+commands_in (full epoch ∷ more) = commands_in more
 
 abbrev pub replies_in : List Saying → List Reply
 replies_in [] = []
 replies_in (replied command reply ∷ more) = reply ∷ replies_in more
 replies_in (aside note ∷ more) = replies_in more
+replies_in (full epoch ∷ more) = replies_in more
 
 abbrev pub notes_among : List Saying → List Note
 notes_among [] = []
 notes_among (replied command reply ∷ more) = notes_among more
 notes_among (aside note ∷ more) = note ∷ notes_among more
+notes_among (full epoch ∷ more) = notes_among more
 
 -- the lines of it, one after another
 abbrev pub lines_of : Bool → List Saying → List ℕ
 lines_of marks [] = []
 lines_of marks (replied command reply ∷ more) = line_of marks (request_in command) reply ++ lines_of marks more
 lines_of marks (aside note ∷ more) = note_line note ++ lines_of marks more
+lines_of marks (full epoch ∷ more) = full_line epoch ++ lines_of marks more
 
 -- ALL OUTPUTS of a keeper's epochs were handed out
 pub record IsAllOut {D : Type 0} (k : Keeping D) : Type 0 where

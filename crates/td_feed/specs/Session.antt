@@ -8,7 +8,7 @@ use Rattle.td_journal.specs.Numbers.{greatest}
 use Rattle.td_standing.specs.declared.error.KeeperError.TheVariants.{Device}
 use Rattle.td_keeper.specs.declared.command.Command.{Command}
 use Rattle.td_keeper.specs.declared.command.Reply.{Reply}
-use Rattle.td_keeper.specs.Keeping.{Keeping}
+use Rattle.td_keeper.specs.Keeping.{Keeping, EachKeepsTo}
 use Rattle.td_keeper.specs.Driven.{submitted_in, Obeys, Driven}
 use Rattle.td_console.specs.declared.faults.Fault.{Fault}
 use Rattle.td_console.specs.declared.faults.Fault.TheVariants.{Keeper}
@@ -16,6 +16,7 @@ use Rattle.td_feed.specs.declared.note.Note.{Note}
 use Rattle.td_feed.specs.Orders.{submissions, notes_in, new_after}
 use Rattle.td_feed.specs.Asked.{Script, script_of}
 use Rattle.td_feed.specs.Fed.{EachTellsHistory, EachTellsSome}
+use Rattle.td_feed.specs.Held.{seen_after}
 use Rattle.td_feed.specs.Carried.{batch_in, new_to, is_refused, Carries, Leaves}
 use Rattle.td_feed.specs.Said.{Wanted, SaysBy, SaysFed, Refuses}
 
@@ -80,7 +81,11 @@ module _ {D : Type 0} (is_lawful : D → Type 0) (state : D → DiskState) (fail
 
   -- A DISK IS FED AS THE INPUT COMES: what its script asks for; Ok is answered only to one without a fault. Of a stream that refuses epochs,
   -- one may have so many records
-  pub record StreamsDisk (refuse : Bool) (result : Result (Unit {0}) Fault) (plan : List PlanLine) (alone : Bool) (disk left : D) (before after : Option (List ℕ)) (input : List ℕ) : Type 0 where
+  pub record StreamsDisk (refuse hold : Bool) (result : Result (Unit {0}) Fault) (plan : List PlanLine) (alone : Bool) (disk left : D) (before after : Option (List ℕ)) (input : List ℕ) : Type 0 where
     pub records : ℕ
-    pub sound : OnOk result ((script_of (limit_of refuse records) plan input).is_sound ≡ true)
-    pub fed : FeedsDisk result plan alone disk left before after (wanted_by (limit_of refuse records) (script_of (limit_of refuse records) plan input))
+    pub sound : OnOk result ((script_of hold (limit_of refuse records) plan input).is_sound ≡ true)
+    pub fed : FeedsDisk result plan alone disk left before after (wanted_by (limit_of refuse records) (script_of hold (limit_of refuse records) plan input))
+    -- where outputs are held, nothing is kept beyond the last epoch that the input says was seen, whatever a crash leaves: so each later
+    -- stream writes again the outputs of every epoch after it
+    pub held : hold ≡ true → is_lawful disk → (kept : ℕ) → EachKeepsTo plan kept (state disk)
+        → EachKeepsTo plan (seen_after kept (script_of hold (limit_of refuse records) plan input).orders) (state left)

@@ -99,18 +99,20 @@ pub(crate) struct Streamed<'a, I: Source> {
 }
 
 impl<'a, I: Source> Streamed<'a, I> {
-    /// The orders of a reader's lines. Where a limit is given, an epoch with more records than that, or with a faulty line, is refused.
+    /// The orders of a reader's lines. Where outputs are held, lines may say which were seen. Where a limit is given, an epoch with more
+    /// records than that, or with a faulty line, is refused.
     pub(crate) fn new(
         alloc: Global,
         plan: &'a Plan,
+        hold: bool,
         limit: Option<usize>,
         reader: I,
     ) -> Streamed<'a, I>
-        ensures { script_ahead (unread (I.remaining result.lines.reader) result.lines.unread) (place result.reading) result.ahead.items result.stopped ≡ option_map (script_of limit plan.now) (I.remaining reader) }
+        ensures { script_ahead (unread (I.remaining result.lines.reader) result.lines.unread) (place result.reading) result.ahead.items result.stopped ≡ option_map (script_of hold limit plan.now) (I.remaining reader) }
     {
         Streamed {
             lines: Lines::new(alloc, reader),
-            reading: Reading::new(alloc, plan, limit),
+            reading: Reading::new(alloc, plan, hold, limit),
             ahead: VecDeque::new(alloc),
             stopped: None,
         }

@@ -96,7 +96,7 @@ impl Room {
             Order::SubmitAs(request, batch) => {
                 self.is_numbered && last < *request && batch.len() <= self.records
             }
-            Order::Cut | Order::Say(_) => false,
+            Order::Cut | Order::Say(_) | Order::Seen { .. } => false,
         }
     }
 }
@@ -117,6 +117,6 @@ pub(crate) fn take_fitting(
     match orders.pop_front() {
         Some(Order::Submit(batch)) => Some(Submitted { request: 0, batch }),
         Some(Order::SubmitAs(request, batch)) => Some(Submitted { request, batch }),
-        Some(Order::Cut | Order::Say(_)) | None => unreachable!(),
+        Some(Order::Cut | Order::Say(_) | Order::Seen { .. }) | None => unreachable!(),
     }
 }

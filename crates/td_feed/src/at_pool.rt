@@ -49,6 +49,10 @@ impl<'a, 'p, D: Disk, K: Crew, L: Law, R: Wait> Obey<D, L, R> for AtPool<'a, 'p,
         self.keeper.cut_in(rt, self.allowance.pool)
     }
 
+    fn cut_up_to(&mut self, rt: &R, epoch: u64) -> Result<u64, KeeperError> {
+        self.keeper.cut_up_to_in(rt, self.allowance.pool, epoch)
+    }
+
     fn next_out(&mut self) -> Option<EpochOut> {
         self.keeper.next_out()
     }

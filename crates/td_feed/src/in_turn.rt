@@ -1,22 +1,25 @@
 //! What is asked for, in turn.
-ghost use Rattle.std.specs.Prelude.{◌≡◌, ℕ, true, false, Ok, Err, IfErr, IfSome, OnOk, ◌⊎◌};
+ghost use Rattle.std.specs.Prelude.{◌≡◌, ℕ, true, false, Ok, Err, IfOk, IfErr, IfSome, OnOk, ◌⊎◌};
 ghost use Rattle.td_pool.specs.declared.error.PoolError.{PoolError as AnyPoolError};
 ghost use Rattle.td_standing.specs.declared.error.KeeperError.TheVariants.{NotPassed};
+ghost use Rattle.td_feed.specs.Asked.{is_of_reader};
 ghost use Rattle.td_feed.specs.Fed.{pool_fault};
+ghost use Rattle.td_feed.specs.Held.{KeepsTo, seen_at, then_seen, seen_with};
 ghost use Rattle.td_feed.specs.Said.{IsAllOut};
 ghost use Rattle.td_feed.specs.Session.{KeepsDisk, FeedsScript};
 
 use crate::asking::Asking;
-use crate::at_once::Room;
+use crate::at_once::{Asked, Room};
+use crate::order::Order;
 use crate::under_way::{Feeding, open_epochs};
 use crate::voice::Voice;
 use std::alloc::Global;
 use std::sync::Wait;
 use td_calls::Law;
-use td_console::Fault;
+use td_console::{Fault, LineFault};
 use td_core::HallError;
 use td_disk::Disk;
-use td_keeper::Obey;
+use td_keeper::{Keeper, Obey};
 use td_pool::PoolError;
 use td_standing::KeeperError;
 
@@ -35,22 +38,56 @@ pub(crate) fn obey_each<D: Disk, S: Asking, W: Voice, L: Law, R: Wait, E: Obey<D
     ensures disk { KeepsDisk D.capacity D.is_lawful D.failures result (E.keeping engine.old).device (E.keeping engine.new).device }
     ensures fed { IfSome (S.script orders.old) (λ script. FeedsScript D.is_lawful D.state D.failures L.answers W.marks result (W.contents writer.old) (W.contents writer.new) (E.keeping engine.old) (E.keeping engine.new) script) }
     ensures all_out { E.alone ≡ true → OnOk result (IsAllOut (E.keeping engine.new)) }
+
+    // Where outputs are held, nothing is kept beyond what the script says was seen.
+    ensures held { IfSome (S.script orders.old) (λ script. KeepsTo (then_seen (seen_at feeding.pace (E.keeping engine.old).standing.epoch) script.orders) (E.keeping engine.old) (E.keeping engine.new)) }
 {
     if is_refused {
         return Err(Fault::Memory);
     }
+    let mut seen = feeding.pace.first_seen(engine.keeper());
     engine.allow(open_epochs(engine.keeper()));
-    feeding.begin(rt, alloc, engine, writer)?;
+    feeding.begin(rt, alloc, engine, seen, writer)?;
     for _asked in rt.forever() {
         let most = feeding.pace.epochs_at_once(engine.keeper());
         let room = Room::of(engine.keeper(), most);
         let Some(asked) = orders.next_asked(alloc, &room)? else {
             return feeding.settle(rt, alloc, engine, writer);
         };
+        let next = seen_with(seen, &asked, engine.keeper())?;
+        seen = next;
         engine.allow(asked.epochs());
-        feeding.obey_at_pace(rt, alloc, engine, asked, writer)?;
+        feeding.obey_at_pace(rt, alloc, engine, asked, seen, writer)?;
     }
     unreachable!()
+}
+
+/// The last epoch that was seen, with what is asked for, where outputs are held. Refusals, of a line that says what was seen:
+/// `SeenBefore`, where a later epoch was seen; `NotOut`, where the outputs of all epochs up to it have not been written.
+fn seen_with<D: Disk, L: Law>(
+    seen: Option<u64>,
+    asked: &Asked,
+    keeper: &Keeper<D, L>,
+) -> Result<Option<u64>, Fault>
+    ensures ok { IfOk result (λ next. next ≡ seen_with seen asked.now) }
+    ensures err { IfErr result (λ f. is_of_reader f ≡ true) }
+{
+    let Some(last) = seen else {
+        return Ok(None);
+    };
+    match asked {
+        Asked::One(Order::Seen { line, epoch }) => {
+            if *epoch < last {
+                return Err(Fault::Line(*line, LineFault::SeenBefore));
+            }
+            if keeper.collected() < *epoch {
+                return Err(Fault::Line(*line, LineFault::NotOut));
+            }
+            Ok(Some(last.max(*epoch)))
+        }
+        Asked::One(Order::Submit(_) | Order::SubmitAs(..) | Order::Cut | Order::Say(_))
+        | Asked::Epochs(_) => Ok(Some(last)),
+    }
 }
 
 /// How a feed ended: as what hindered the tasks says, in place of epochs that did not pass for it.

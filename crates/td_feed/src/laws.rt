@@ -46,7 +46,7 @@ pub fn dumps_are_fed()
 
 /// What a stream reads of an input without a fault is what a feed reads of it.
 pub fn scripts()
-    ensures { (plan : List Line) (input : List ℕ) (orders : List AnyOrder) → orders_of plan input ≡ Ok orders → script_of None plan input ≡ record { orders = orders; is_sound = true } }
+    ensures { (plan : List Line) (input : List ℕ) (orders : List AnyOrder) → orders_of plan input ≡ Ok orders → script_of false None plan input ≡ record { orders = orders; is_sound = true } }
 {}
 
 /// EACH EPOCH THAT IS ACKNOWLEDGED IS TOLD. Whatever a feed or a stream came to, and whatever a crash leaves of its disk then, that tells

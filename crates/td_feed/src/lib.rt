@@ -41,6 +41,6 @@ pub use note::{Flaw, Note};
 pub use order::{FeedLine, Order, read_orders};
 pub use plan_text::read_plan;
 pub use showing::show;
-pub use streaming::stream;
+pub use streaming::{StreamOptions, stream};
 pub use upgrading::upgrade;
 pub use voice::{Marked, Voice};

@@ -5,7 +5,7 @@ ghost use Rattle.std.specs.Prelude.{◌≡◌, ◌⊎◌, ◌↔◌, ◌<◌, �
 ghost use Rattle.std.specs.Bool.{OnTrue};
 ghost use Rattle.std.specs.Option.{IsSome, option_to_list};
 ghost use Rattle.td_plan.specs.Text.{text_lines, words};
-ghost use Rattle.td_feed.specs.Orders.{is_cut, request_of, positive, feed_line_of, is_between, numbered, order_for, with_order, with_cut, with_request, with_line};
+ghost use Rattle.td_feed.specs.Orders.{is_cut, request_of, positive, seen_of, feed_line_of, stream_line_of, is_between, numbered, order_for, with_order, with_cut, with_request, with_seen, with_line};
 ghost use Rattle.td_feed.specs.Orders.{no_orders, orders_of, is_of_input, IsAccepted, IsFirstLine, Gives};
 
 use crate::at_once::Room;
@@ -28,6 +28,8 @@ pub enum FeedLine {
     Request(u64),
     /// `cut`.
     Cut,
+    /// `seen E`: the consumer has stored the output lines of all epochs up to this one.
+    Seen(u64),
 }
 
 /// What the input asks for.
@@ -41,6 +43,8 @@ pub enum Order {
     Cut,
     /// To write a note.
     Say(Note),
+    /// To keep epochs up to this one from now on, where outputs are held: the line with this number says that they were seen.
+    Seen { line: u64, epoch: u64 },
 }
 
 /// Orders that were read, and of the epoch that is not closed its request number, 0 for none, and its entries in the order of
@@ -73,7 +77,7 @@ pub fn read_orders(alloc: Global, plan: &Plan, input: &[u8]) -> Result<Vec<Order
     let mut number: u64 = 1;
     let mut rest = input;
     while let Some((said, others)) = first_feed_line(rest) {
-        read = with_said(alloc, plan, read, number, said)?;
+        read = with_line(alloc, plan, read, number, said)?;
         number += 1;
         rest = others;
     }
@@ -95,22 +99,8 @@ pub(crate) fn no_orders(alloc: Global) -> Orders
     }
 }
 
-/// What was read, and what one line more adds, which has this number. Refusals: its fault; `Memory`.
+/// What was read, and what one line more adds, which has this number and says this, if it has a form. Refusals: its fault; `Memory`.
 pub(crate) fn with_line(
-    alloc: Global,
-    plan: &Plan,
-    read: Orders,
-    number: u64,
-    line: &[u8],
-) -> Result<Orders, Fault>
-    ensures gives { Gives result (with_line plan.now number read (feed_line_of line.now)) }
-    ensures of_input { IfErr result (λ f. is_of_input f ≡ true) }
-{
-    with_said(alloc, plan, read, number, read_feed_line(line))
-}
-
-/// The same for what a line says, if it has a form.
-fn with_said(
     alloc: Global,
     plan: &Plan,
     read: Orders,
@@ -124,6 +114,7 @@ fn with_said(
         Some(FeedLine::Data(said)) => said,
         Some(FeedLine::Request(request)) => return with_request(read, number, request),
         Some(FeedLine::Cut) => return with_cut(read, number),
+        Some(FeedLine::Seen(epoch)) => return with_seen(read, number, epoch),
         None => return Err(Fault::Line(number, LineFault::Syntax)),
     };
     match said {
@@ -240,6 +231,30 @@ fn with_cut(read: Orders, number: u64) -> Result<Orders, Fault>
     })
 }
 
+/// With an epoch that was seen. Refusals: `Syntax` where an epoch has begun; `Memory`.
+fn with_seen(read: Orders, number: u64, epoch: u64) -> Result<Orders, Fault>
+    ensures gives { Gives result (with_seen number epoch read (is_between read)) }
+    ensures of_input { IfErr result (λ f. is_of_input f ≡ true) }
+{
+    if !is_between(&read) {
+        return Err(Fault::Line(number, LineFault::Syntax));
+    }
+    let Orders {
+        mut orders,
+        request,
+        current,
+    } = read;
+    orders.push(Order::Seen {
+        line: number,
+        epoch,
+    })?;
+    Ok(Orders {
+        orders,
+        request,
+        current,
+    })
+}
+
 /// With the current epoch closed. Refusal: `Memory`.
 fn close(alloc: Global, read: Orders) -> Result<Orders, Fault>
     ensures ok { IfOk result (λ closed. Ok closed ≡ with_line [] 0 read (Some (FeedLine.Data DataLine.Close))) }
@@ -314,8 +329,21 @@ fn first_feed_line(bytes: &[u8]) -> Option<(Option<FeedLine>, &[u8])>
     }
 }
 
-/// What a line says, if it has a form. A line that begins with a digit is a data line, or has no form.
-pub(crate) fn read_feed_line(line: &[u8]) -> Option<FeedLine>
+/// What a line of a stream says, if it has a form: where outputs are held, also which epoch was seen.
+pub(crate) fn read_stream_line(hold: bool, line: &[u8]) -> Option<FeedLine>
+    ensures { result ≡ stream_line_of hold line.now }
+{
+    if !hold {
+        return read_feed_line(line);
+    }
+    match read_seen(ascii_text(line)?) {
+        Some(epoch) => Some(FeedLine::Seen(epoch)),
+        None => read_feed_line(line),
+    }
+}
+
+/// What a line of a feed says, if it has a form. A line that begins with a digit is a data line, or has no form.
+fn read_feed_line(line: &[u8]) -> Option<FeedLine>
     ensures { result ≡ feed_line_of line.now }
 {
     let text = ascii_text(line)?;
@@ -352,6 +380,18 @@ fn read_request(line: &str) -> Option<u64>
         return None;
     }
     positive(natural(number))
+}
+
+/// The epoch that a line `seen E` gives, where it is one.
+fn read_seen(line: &str) -> Option<u64>
+    ensures { result ≡ seen_of (words line.now) }
+{
+    let (word, rest) = next_word(line)?;
+    let (number, rest) = next_word(rest)?;
+    if word != "seen" || next_word(rest).is_some() {
+        return None;
+    }
+    natural(number)
 }
 
 /// A number, where it is not 0.

@@ -3,13 +3,13 @@
 //! An epoch is refused for its first flaw, and answered at its `.`, as each other one is. So each `.` has one answer, and the
 //! request number may stand below the flaw. What was read of the epoch is let go at the flaw.
 ghost use Rattle.std.specs.Prelude.{◌≡◌, [], true, Ok, Err, IfOk, IfErr, length};
-ghost use Rattle.td_feed.specs.Orders.{with_line, feed_line_of, is_between, is_of_input, no_orders, numbered, Gives};
+ghost use Rattle.td_feed.specs.Orders.{with_line, is_between, is_of_input, no_orders, numbered, Gives};
 ghost use Rattle.td_feed.specs.Asked.{place, at_start, with_said, judged, passed_over, first_number, refused, unless_refused, is_over, may_end, Completes, HasFault, IsOfLine, is_of_reader};
 
 use crate::at_once::Room;
 use crate::note::{Flaw, Note};
 use crate::order::{
-    FeedLine, Order, Orders, has_too_many, is_between, no_orders, numbered, read_feed_line,
+    FeedLine, Order, Orders, has_too_many, is_between, no_orders, numbered, read_stream_line,
     records_in, request_in, taken_out, with_line, with_note,
 };
 use std::alloc::Global;
@@ -18,10 +18,11 @@ use td_console::{DataLine, Fault};
 use td_plan::Plan;
 
 /// Where a stream is in its input: the number of the next line, what was read, and why the epoch that is open is refused, if it is. Where
-/// epochs are refused, one may have so many records.
+/// epochs are refused, one may have so many records. Where outputs are held, lines may say which were seen.
 #[derive(Drop)]
 pub(crate) struct Reading<'a> {
     plan: &'a Plan,
+    hold: bool,
     limit: Option<usize>,
     number: u64,
     flaw: Option<(u64, Flaw)>,
@@ -30,11 +31,17 @@ pub(crate) struct Reading<'a> {
 
 impl<'a> Reading<'a> {
     /// Before the first line.
-    pub(crate) fn new(alloc: Global, plan: &'a Plan, limit: Option<usize>) -> Reading<'a>
-        ensures { place result ≡ at_start limit plan.now }
+    pub(crate) fn new(
+        alloc: Global,
+        plan: &'a Plan,
+        hold: bool,
+        limit: Option<usize>,
+    ) -> Reading<'a>
+        ensures { place result ≡ at_start hold limit plan.now }
     {
         Reading {
             plan,
+            hold,
             limit,
             number: 1,
             flaw: None,
@@ -75,6 +82,7 @@ impl<'a> Reading<'a> {
             return Err(Fault::Input);
         };
         let read = mem::replace(&mut self.read, no_orders(alloc));
+        let words = read_stream_line(self.hold, line);
         let said = with_said(
             alloc,
             self.plan,
@@ -82,7 +90,7 @@ impl<'a> Reading<'a> {
             self.number,
             self.flaw,
             read,
-            line,
+            words,
         )?;
         let (order, read) = taken_out(said.1);
         self.flaw = said.0;
@@ -92,7 +100,7 @@ impl<'a> Reading<'a> {
     }
 }
 
-/// What was read, and what one line more adds, which has this number; or why the epoch is refused. Refusals: the line's fault, where
+/// What was read, and what one line more adds, which has this number and says this, if it has a form; or why the epoch is refused. Refusals: the line's fault, where
 /// epochs are not refused; `Memory`.
 fn with_said(
     alloc: Global,
@@ -101,15 +109,15 @@ fn with_said(
     number: u64,
     flaw: Option<(u64, Flaw)>,
     read: Orders,
-    line: &[u8],
+    said: Option<FeedLine>,
 ) -> Result<(Option<(u64, Flaw)>, Orders), Fault>
     requires ready { read.orders ≡ [] }
-    ensures gives { Gives result (with_said plan.now limit number flaw read (feed_line_of line.now)) }
+    ensures gives { Gives result (with_said plan.now limit number flaw read said) }
     ensures of_input { IfErr result (λ f. is_of_input f ≡ true) }
 {
     match flaw {
-        Some(flaw) => passed_over(alloc, read, flaw, read_feed_line(line)),
-        None => judged(alloc, plan, limit, number, read, line),
+        Some(flaw) => passed_over(alloc, read, flaw, said),
+        None => judged(alloc, plan, limit, number, read, said),
     }
 }
 
@@ -120,14 +128,14 @@ fn judged(
     limit: Option<usize>,
     number: u64,
     read: Orders,
-    line: &[u8],
+    said: Option<FeedLine>,
 ) -> Result<(Option<(u64, Flaw)>, Orders), Fault>
     requires ready { read.orders ≡ [] }
-    ensures gives { Gives result (judged limit number read (with_line plan.now number read (feed_line_of line.now))) }
+    ensures gives { Gives result (judged limit number read (with_line plan.now number read said)) }
     ensures of_input { IfErr result (λ f. is_of_input f ≡ true) }
 {
     let request = request_in(&read);
-    match with_line(alloc, plan, read, number, line) {
+    match with_line(alloc, plan, read, number, said) {
         Ok(next) => {
             if is_over(limit, &next) {
                 return Ok(refused(alloc, number, request, Flaw::TooManyRecords));
@@ -206,8 +214,12 @@ fn passed_over(
             let request = first_number(request, number);
             Ok((Some(flaw), numbered(alloc, read, request)))
         }
-        Some(FeedLine::Data(DataLine::PassedOver | DataLine::Record(..)) | FeedLine::Cut) | None =>
-            Ok((Some(flaw), numbered(alloc, read, request))),
+        Some(
+            FeedLine::Data(DataLine::PassedOver | DataLine::Record(..))
+            | FeedLine::Cut
+            | FeedLine::Seen(_),
+        )
+        | None => Ok((Some(flaw), numbered(alloc, read, request))),
     }
 }
 

@@ -5,7 +5,7 @@
 //! it sent.
 ghost use Rattle.std.specs.Prelude.{◌≡◌, ◌⊎◌, ◌-◌, ◌++◌, string_bytes, IfOk, IfErr, OnOk};
 ghost use Rattle.std.specs.Io.KnownBytes.{Appends};
-ghost use Rattle.td_feed.specs.Said.{line_of as line_in, ack_line, ack_lines, out_lines, request_in};
+ghost use Rattle.td_feed.specs.Said.{line_of as line_in, ack_line, ack_lines, full_line, out_lines, request_in};
 
 use crate::voice::Voice;
 use std::alloc::Global;
@@ -26,6 +26,15 @@ pub(crate) fn say<W: Voice>(
     ensures unsaid { IfErr result (λ f. (f ≡ Fault.Output) ⊎ ((f ≡ Fault.Memory) × (writer.new ≡ writer.old))) }
 {
     let line = line_of(alloc, request, reply, writer.is_marking())?;
+    write_answer(writer, line.as_str())
+}
+
+/// Writes `full E`. Refusals: `Memory`, with nothing written, and `Output`.
+pub(crate) fn say_full<W: Voice>(alloc: Global, epoch: u64, writer: &mut W) -> Result<(), Fault>
+    ensures said { OnOk result (Appends (W.contents writer.old) (W.contents writer.new) (full_line epoch)) }
+    ensures unsaid { IfErr result (λ f. (f ≡ Fault.Output) ⊎ ((f ≡ Fault.Memory) × (writer.new ≡ writer.old))) }
+{
+    let line = format!(in alloc; "full {epoch}\n")?;
     write_answer(writer, line.as_str())
 }
 

@@ -9,6 +9,7 @@ ghost use Rattle.td_calls.specs.Fits.{first_lack};
 ghost use Rattle.td_watch.specs.View.{View};
 ghost use Rattle.td_console.specs.Answer.{lack_fault};
 ghost use Rattle.td_feed.specs.Asked.{script_of};
+ghost use Rattle.td_feed.specs.Held.{KeepsTo, first_seen, then_seen};
 ghost use Rattle.td_feed.specs.Said.{IsAllOut};
 ghost use Rattle.td_feed.specs.Session.{limit_of, KeepsDisk, FeedsScript, StreamsDisk};
 
@@ -26,10 +27,23 @@ use td_calls::{Closures, Law};
 use td_console::{Fault, Source, lack_fault};
 use td_disk::Disk;
 use td_keeper::Keeper;
-use td_keeper::laws::each_is_kept;
+use td_keeper::laws::{each_is_kept, each_keeps_to_its_base};
 use td_plan::Plan;
 use td_standing::laws;
 use td_watch::Writer;
+
+/// How a stream goes about its input.
+#[derive(Clone, Copy, Debug, PartialEq, Eq)]
+pub struct StreamOptions {
+    /// A cut is taken where so many epochs stand after the last one, if that is given.
+    pub cut_every: Option<u32>,
+    /// How many tasks an epoch may take, if that is given.
+    pub most: Option<u64>,
+    /// Whether an epoch with a faulty line, or with too many records, is refused, and the stream goes on.
+    pub refuse: bool,
+    /// Whether outputs are held: no cut is taken beyond the last epoch of which a line `seen E` says that its outputs were stored.
+    pub hold: bool,
+}
 
 /// Does what `feed` does, order by order as the input comes. The output lines of the epochs that the disk tells are written first.
 /// When an epoch is closed it is put on the disk, and with it, as one group, those behind it that the input has given already: all or
@@ -48,6 +62,10 @@ use td_watch::Writer;
 /// Where epochs are refused, one with a faulty line, or with more records than a cell of the disk holds, is not put on the disk: at its
 /// `.` a line `no Q L: WHAT` is written, with its request number Q, or `-`, and the number L of the line, and the stream goes on.
 ///
+/// Where outputs are held, a line `seen E` between two epochs says that the outputs of all epochs up to E were stored. No cut is taken
+/// beyond the last epoch that was seen, at first the one that the disk keeps; so a later stream of the disk writes again the outputs of
+/// each epoch that was not seen. Where the journal is full and nothing more was seen, `full E` is written, with its last epoch E.
+///
 /// Refusals: a missing closure, before anything else; what the disk refuses as it is recovered; and then the first of what a line,
 /// the reader, the keeper, a worker or the writer refuse, after all that was asked for before it; but want of memory, where epochs are
 /// read ahead, may come before these are put on the disk. What was written stays written. `Memory` also where a thread could not be
@@ -65,9 +83,7 @@ pub fn stream<
     disk: D,
     plan: &Plan,
     workers: u8,
-    cut_every: Option<u32>,
-    most: Option<u64>,
-    refuse: bool,
+    options: StreamOptions,
     reader: I,
     writer: &mut W,
     watch: Option<Writer>,
@@ -85,7 +101,7 @@ pub fn stream<
 
     // What the input asks for is fed, by one worker until all outputs went out.
     ensures fed { first_lack (C.has_map calls.now) (C.has_group calls.now) (C.has_fold calls.now) (vertices plan.now) ≡ None
-        → IfSome (I.remaining reader) (λ input. StreamsDisk D.is_lawful D.state D.failures L.answers W.marks refuse result.1 plan.now (workers == 1) disk result.0
+        → IfSome (I.remaining reader) (λ input. StreamsDisk D.is_lawful D.state D.failures L.answers W.marks options.refuse options.hold result.1 plan.now (workers == 1) disk result.0
         (W.contents writer.old) (W.contents writer.new) input) }
 {
     laws::told_in_parts();
@@ -99,8 +115,9 @@ pub fn stream<
     let keeper = watched(keeper, watch);
     each_is_kept(&keeper);
     let (keeper, ended) = obey(
-        rt, alloc, keeper, plan, workers, cut_every, most, refuse, reader, writer, calls,
+        rt, alloc, keeper, plan, workers, options, reader, writer, calls,
     );
+    each_keeps_to_its_base(&keeper);
     (keeper.into_disk(), ended)
 }
 
@@ -147,9 +164,7 @@ fn obey<
     keeper: Keeper<D, L>,
     plan: &Plan,
     workers: u8,
-    cut_every: Option<u32>,
-    most: Option<u64>,
-    refuse: bool,
+    options: StreamOptions,
     reader: I,
     writer: &mut W,
     calls: &C,
@@ -161,18 +176,20 @@ fn obey<
     requires collected { keeper.collected ≡ keeper.base }
     ensures disk { KeepsDisk D.capacity D.is_lawful D.failures result.1 keeper.device result.0.device }
     ensures fed { IfSome (I.remaining reader) (λ input. FeedsScript D.is_lawful D.state D.failures L.answers W.marks result.1 (W.contents writer.old) (W.contents writer.new) keeper result.0
-        (script_of (limit_of refuse keeper.head.shape.m) plan.now input)) }
+        (script_of options.hold (limit_of options.refuse keeper.head.shape.m) plan.now input)) }
     ensures all_out { workers ≡ 1 → OnOk result.1 (IsAllOut result.0) }
+    ensures held { IfSome (I.remaining reader) (λ input. KeepsTo (then_seen (first_seen options.hold keeper.standing.epoch) (script_of options.hold (limit_of options.refuse keeper.head.shape.m) plan.now input).orders) keeper result.0) }
 {
     let feeding = Feeding::new(
         &keeper,
         Pace::Live {
-            every: cut_every,
-            most,
+            every: options.cut_every,
+            most: options.most,
+            hold: options.hold,
         },
     );
-    let limit = limit_of(refuse, &keeper);
-    let orders = Streamed::new(alloc, plan, limit, reader);
+    let limit = limit_of(options.refuse, &keeper);
+    let orders = Streamed::new(alloc, plan, options.hold, limit, reader);
     if workers == 1 {
         return obey_alone(rt, alloc, keeper, feeding, orders, writer, calls);
     }

@@ -5,6 +5,7 @@ ghost use Rattle.std.specs.Prelude.{◌≡◌, ◌⊎◌, [], true, false, IfOk,
 ghost use Rattle.td_keeper.specs.declared.command.Reply.{Reply as AnyReply};
 ghost use Rattle.td_keeper.specs.Driven.{Obeys, ComesOf};
 ghost use Rattle.td_feed.specs.Carried.{batch_in, new_to, is_refused, is_repeated, is_resting, IsRising, Carries};
+ghost use Rattle.td_feed.specs.Held.{MovesBase};
 ghost use Rattle.td_feed.specs.Said.{fault_in};
 ghost use Rattle.td_feed.specs.Session.{KeepsDisk, Feeds, IsObeyed, IsNotObeyed};
 
@@ -31,6 +32,7 @@ pub(crate) fn tell<D: Disk, L: Law, R, E: Obey<D, L, R>>(
     ensures own { E.alone ≡ true → IfOk result (λ reply. ComesOf command reply (E.keeping engine.old) (E.hall engine.old) (E.keeping engine.new) (E.hall engine.new)) }
     ensures refused { OnErr result (IsNotObeyed D.is_lawful D.state D.failures L.answers command (E.keeping engine.old) (E.keeping engine.new)) }
     ensures rests { is_resting command ≡ true → Carries L.answers (E.keeping engine.old) (E.keeping engine.new) [] }
+    ensures base { MovesBase command (E.keeping engine.old) (E.keeping engine.new) }
 {
     laws::advance_stands::<L>();
     laws::standings_advance::<L>();
@@ -52,6 +54,8 @@ pub(crate) fn tell_aloud<D: Disk, L: Law, R, E: Obey<D, L, R>, W: Voice>(
     ensures disk { KeepsDisk D.capacity D.is_lawful D.failures result (E.keeping engine.old).device (E.keeping engine.new).device }
     ensures fed { Feeds D.is_lawful D.state D.failures L.answers W.marks result (W.contents writer.old) (W.contents writer.new) (E.keeping engine.old) (E.keeping engine.new) (new_to (E.keeping engine.old) (batch_in command)) }
     ensures obeyed { OnOk result ((reply : AnyReply) × Obeys D.is_lawful D.state D.failures L.answers command reply (E.keeping engine.old) (E.keeping engine.new) × (is_refused reply ≡ false)) }
+
+    ensures base { MovesBase command (E.keeping engine.old) (E.keeping engine.new) }
 
     // Nothing is written but for a command that was obeyed.
     ensures acknowledged { (writer.new ≡ writer.old) ⊎ Carries L.answers (E.keeping engine.old) (E.keeping engine.new) (new_to (E.keeping engine.old) (batch_in command)) }

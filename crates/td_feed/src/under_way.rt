@@ -11,6 +11,7 @@ ghost use Rattle.td_keeper.specs.Driven.{Driven};
 ghost use Rattle.td_standing.specs.Standing.{last_request};
 ghost use Rattle.td_feed.specs.Asked.{asked_for, notes_for, MayFollow};
 ghost use Rattle.td_feed.specs.Fed.{hall_fault};
+ghost use Rattle.td_feed.specs.Held.{SameBase, KeepsTo, MovesBase, seen_at, cut_for};
 ghost use Rattle.td_feed.specs.Carried.{batch_in, new_to, IsRising, Carries};
 ghost use Rattle.td_feed.specs.Said.{IsAllOut};
 ghost use Rattle.td_feed.specs.Session.{KeepsDisk, FeedsNoting, Feeds};
@@ -19,7 +20,7 @@ ghost use Rattle.td_keeper.specs.Keeping.{since_base};
 use crate::at_once::Asked;
 use crate::note::write_note;
 use crate::order::Order;
-use crate::saying::print_out;
+use crate::saying::{print_out, say_full};
 use crate::telling::{tell, tell_aloud};
 use crate::voice::Voice;
 use std::alloc::Global;
@@ -43,10 +44,11 @@ pub(crate) enum Pace {
     /// Outputs at a cut and at the end.
     AtEnd,
     /// Outputs after each order; and a cut where `every` epochs stand on the journal, if a number is given, and where it is full. An
-    /// epoch may take `most` tasks, if a number is given.
+    /// epoch may take `most` tasks, if a number is given. Where outputs are held, no cut is taken beyond the last epoch that was seen.
     Live {
         every: Option<u32>,
         most: Option<u64>,
+        hold: bool,
     },
 }
 
@@ -71,6 +73,16 @@ impl Pace {
                 ..
             } => most,
             Pace::AtEnd | Pace::Live { most: None, .. } => u64::MAX,
+        }
+    }
+
+    /// The last epoch that was seen before the first order, where outputs are held: what the disk keeps.
+    pub(crate) fn first_seen<D: Disk, L: Law>(self, keeper: &Keeper<D, L>) -> Option<u64>
+        ensures { result ≡ seen_at self keeper.now.standing.epoch }
+    {
+        match self {
+            Pace::Live { hold: true, .. } => Some(keeper.kept()),
+            Pace::AtEnd | Pace::Live { hold: false, .. } => None,
         }
     }
 }
@@ -117,7 +129,9 @@ pub(crate) fn is_at_last_number<D: Disk, L: Law>(keeper: &Keeper<D, L>) -> bool
 
 impl Feeding {
     /// Before anything was released into a hall at a keeper's checkpoint.
-    pub(crate) fn new<D: Disk, L: Law>(keeper: &Keeper<D, L>, pace: Pace) -> Feeding {
+    pub(crate) fn new<D: Disk, L: Law>(keeper: &Keeper<D, L>, pace: Pace) -> Feeding
+        ensures { result.pace ≡ pace }
+    {
         Feeding {
             pace,
             held: 0,
@@ -133,12 +147,14 @@ impl Feeding {
         alloc: Global,
         engine: &mut E,
         asked: Asked,
+        seen: Option<u64>,
         writer: &mut W,
     ) -> Result<(), Fault>
         requires whole { (E.keeping engine.old).broken ≡ false }
         requires rising { MayFollow (last_request (E.keeping engine.old).standing) (Some asked) }
         ensures disk { KeepsDisk D.capacity D.is_lawful D.failures result (E.keeping engine.old).device (E.keeping engine.new).device }
         ensures fed { FeedsNoting D.is_lawful D.state D.failures L.answers W.marks result (W.contents writer.old) (W.contents writer.new) (E.keeping engine.old) (E.keeping engine.new) (new_to (E.keeping engine.old) (asked_for asked)) (notes_for asked) }
+        ensures held { KeepsTo seen (E.keeping engine.old) (E.keeping engine.new) }
     {
         match asked {
             Asked::Epochs(group) => {
@@ -157,8 +173,9 @@ impl Feeding {
                     let command = Command::SubmitAs(request, batch);
                     self.submit(rt, alloc, engine, command, weight, writer)
                 }
-                Order::Cut => self.cut(rt, alloc, engine, writer),
+                Order::Cut => self.cut(rt, alloc, engine, seen, writer),
                 Order::Say(note) => write_note(alloc, &note, writer),
+                Order::Seen { .. } => Ok(()),
             },
         }
     }
@@ -181,6 +198,7 @@ impl Feeding {
 
         // Nothing is written but for a batch that is on the disk.
         ensures acknowledged { (writer.new ≡ writer.old) ⊎ Carries L.answers (E.keeping engine.old) (E.keeping engine.new) (new_to (E.keeping engine.old) (batch_in command)) }
+        ensures base { MovesBase command (E.keeping engine.old) (E.keeping engine.new) }
     {
         let before = engine.keeper().last_epoch();
         tell_aloud(rt, alloc, engine, command, writer)?;
@@ -216,6 +234,7 @@ impl Feeding {
         ensures fed { (marks : Bool) (held : Option (List ℕ)) → Feeds D.is_lawful D.state D.failures L.answers marks result held held (E.keeping engine.old) (E.keeping engine.new) [] }
         ensures rests { Carries L.answers (E.keeping engine.old) (E.keeping engine.new) [] }
         ensures own { E.alone ≡ true → OnOk result ((E.hall engine.new).batches ≡ since_base (E.keeping engine.new)) }
+        ensures base { SameBase (E.keeping engine.old) (E.keeping engine.new) }
     {
         tell(rt, engine, Command::Release)?;
         self.held = self.held.saturating_add(self.waiting);
@@ -237,6 +256,7 @@ impl Feeding {
         ensures rests { Carries L.answers (E.keeping engine.old) (E.keeping engine.new) [] }
         ensures none_left { OnOk result ((E.keeping engine.new).queue ≡ []) }
         ensures all_out { E.alone ≡ true → OnOk result (IsAllOut (E.keeping engine.new)) }
+        ensures base { SameBase (E.keeping engine.old) (E.keeping engine.new) }
     {
         self.release(rt, engine)?;
         tell(rt, engine, Command::Settle)?;
@@ -250,15 +270,17 @@ impl Feeding {
         rt: &R,
         alloc: Global,
         engine: &mut E,
+        seen: Option<u64>,
         writer: &mut W,
     ) -> Result<(), Fault>
         requires whole { (E.keeping engine.old).broken ≡ false }
         ensures disk { KeepsDisk D.capacity D.is_lawful D.failures result (E.keeping engine.old).device (E.keeping engine.new).device }
         ensures fed { Feeds D.is_lawful D.state D.failures L.answers W.marks result (W.contents writer.old) (W.contents writer.new) (E.keeping engine.old) (E.keeping engine.new) [] }
+        ensures held { KeepsTo seen (E.keeping engine.old) (E.keeping engine.new) }
     {
         match self.pace {
             Pace::AtEnd => self.release(rt, engine),
-            Pace::Live { .. } => self.keep_pace(rt, alloc, engine, writer),
+            Pace::Live { .. } => self.keep_pace(rt, alloc, engine, seen, writer),
         }
     }
 
@@ -269,34 +291,40 @@ impl Feeding {
         alloc: Global,
         engine: &mut E,
         asked: Asked,
+        seen: Option<u64>,
         writer: &mut W,
     ) -> Result<(), Fault>
         requires whole { (E.keeping engine.old).broken ≡ false }
         requires rising { MayFollow (last_request (E.keeping engine.old).standing) (Some asked) }
         ensures disk { KeepsDisk D.capacity D.is_lawful D.failures result (E.keeping engine.old).device (E.keeping engine.new).device }
         ensures fed { FeedsNoting D.is_lawful D.state D.failures L.answers W.marks result (W.contents writer.old) (W.contents writer.new) (E.keeping engine.old) (E.keeping engine.new) (new_to (E.keeping engine.old) (asked_for asked)) (notes_for asked) }
+        ensures held { KeepsTo seen (E.keeping engine.old) (E.keeping engine.new) }
     {
-        self.obey(rt, alloc, engine, asked, writer)?;
-        self.keep_pace(rt, alloc, engine, writer)
+        self.obey(rt, alloc, engine, asked, seen, writer)?;
+        self.keep_pace(rt, alloc, engine, seen, writer)
     }
 
-    /// Does what is due after an order, at this pace: nothing; or settles, and cuts where it is time, and closes the cells that come next.
+    /// Does what is due after an order, at this pace: nothing; or settles, and cuts where it is time, closes the cells that come next, and
+    /// says where the journal is full all the same.
     fn keep_pace<D: Disk, L: Law, R, E: Obey<D, L, R>, W: Voice>(
         &mut self,
         rt: &R,
         alloc: Global,
         engine: &mut E,
+        seen: Option<u64>,
         writer: &mut W,
     ) -> Result<(), Fault>
         requires whole { (E.keeping engine.old).broken ≡ false }
         ensures disk { KeepsDisk D.capacity D.is_lawful D.failures result (E.keeping engine.old).device (E.keeping engine.new).device }
         ensures fed { Feeds D.is_lawful D.state D.failures L.answers W.marks result (W.contents writer.old) (W.contents writer.new) (E.keeping engine.old) (E.keeping engine.new) [] }
+        ensures held { KeepsTo seen (E.keeping engine.old) (E.keeping engine.new) }
     {
         match self.pace {
             Pace::AtEnd => Ok(()),
             Pace::Live { every, .. } => {
-                self.cut_or_settle(rt, alloc, engine, every, writer)?;
-                self.close_freed(rt, engine)
+                self.cut_or_settle(rt, alloc, engine, every, seen, writer)?;
+                self.close_freed(rt, engine)?;
+                tell_full(alloc, &*engine, seen, writer)
             }
         }
     }
@@ -308,14 +336,16 @@ impl Feeding {
         alloc: Global,
         engine: &mut E,
         every: Option<u32>,
+        seen: Option<u64>,
         writer: &mut W,
     ) -> Result<(), Fault>
         requires whole { (E.keeping engine.old).broken ≡ false }
         ensures disk { KeepsDisk D.capacity D.is_lawful D.failures result (E.keeping engine.old).device (E.keeping engine.new).device }
         ensures fed { Feeds D.is_lawful D.state D.failures L.answers W.marks result (W.contents writer.old) (W.contents writer.new) (E.keeping engine.old) (E.keeping engine.new) [] }
+        ensures held { KeepsTo seen (E.keeping engine.old) (E.keeping engine.new) }
     {
-        if is_cut_due(engine.keeper(), every) {
-            self.cut(rt, alloc, engine, writer)
+        if is_cut_due(engine.keeper(), every, seen) {
+            self.cut(rt, alloc, engine, seen, writer)
         } else {
             self.settle(rt, alloc, engine, writer)
         }
@@ -332,6 +362,7 @@ impl Feeding {
 
         // Nothing is written, whatever the writer is.
         ensures fed { (marks : Bool) (held : Option (List ℕ)) → Feeds D.is_lawful D.state D.failures L.answers marks result held held (E.keeping engine.old) (E.keeping engine.new) [] }
+        ensures base { SameBase (E.keeping engine.old) (E.keeping engine.new) }
     {
         if self.freed == 0 {
             return Ok(());
@@ -341,30 +372,77 @@ impl Feeding {
         Ok(())
     }
 
-    /// Settles, cuts, writes the cut to the disk, and writes `cut E`. The cells of the epochs up to it are free from then on.
-    /// With no epochs since the last cut it writes that one again.
+    /// Settles, cuts, no further than what was seen where outputs are held, writes the cut to the disk, and writes `cut E`. The cells of the
+    /// epochs up to it are free from then on. With no epochs since the last cut it writes that one again.
     fn cut<D: Disk, L: Law, R, E: Obey<D, L, R>, W: Voice>(
         &mut self,
         rt: &R,
         alloc: Global,
         engine: &mut E,
+        seen: Option<u64>,
         writer: &mut W,
     ) -> Result<(), Fault>
         requires whole { (E.keeping engine.old).broken ≡ false }
         ensures disk { KeepsDisk D.capacity D.is_lawful D.failures result (E.keeping engine.old).device (E.keeping engine.new).device }
         ensures fed { Feeds D.is_lawful D.state D.failures L.answers W.marks result (W.contents writer.old) (W.contents writer.new) (E.keeping engine.old) (E.keeping engine.new) [] }
         ensures written { OnOk result ((E.keeping engine.new).waiting ≡ false) }
+        ensures held { KeepsTo seen (E.keeping engine.old) (E.keeping engine.new) }
     {
         self.settle(rt, alloc, engine, writer)?;
-        tell(rt, engine, Command::Cut)?;
+        tell(rt, engine, cut_command(seen))?;
         self.held = 0;
-        self.freed = open_epochs(engine.keeper());
+        self.freed = freed_by(engine.keeper(), seen);
         tell_aloud(rt, alloc, engine, Command::WriteCut, writer)
     }
 }
 
-/// Whether it is time for a cut: so many epochs stand on the journal, or it is full.
-fn is_cut_due<D: Disk, L: Law>(keeper: &Keeper<D, L>, every: Option<u32>) -> bool {
+/// The command to cut: no further than what was seen, where outputs are held.
+fn cut_command(seen: Option<u64>) -> Command
+    ensures { result ≡ cut_for seen }
+{
+    match seen {
+        Some(epoch) => Command::CutUpTo(epoch),
+        None => Command::Cut,
+    }
+}
+
+/// How many cells the cut frees that was taken last.
+fn freed_by<D: Disk, L: Law>(keeper: &Keeper<D, L>, seen: Option<u64>) -> u64 {
+    match seen {
+        Some(epoch) => epoch.saturating_sub(keeper.kept()),
+        None => open_epochs(keeper),
+    }
+}
+
+/// Writes `full E`, where outputs are held and the journal is full up to its epoch E: then nothing more was seen than the disk keeps.
+fn tell_full<D: Disk, L: Law, R, E: Obey<D, L, R>, W: Voice>(
+    alloc: Global,
+    engine: &E,
+    seen: Option<u64>,
+    writer: &mut W,
+) -> Result<(), Fault>
+    requires whole { (E.keeping engine.now).broken ≡ false }
+    ensures disk { KeepsDisk D.capacity D.is_lawful D.failures result (E.keeping engine.now).device (E.keeping engine.now).device }
+    ensures fed { Feeds D.is_lawful D.state D.failures L.answers W.marks result (W.contents writer.old) (W.contents writer.new) (E.keeping engine.now) (E.keeping engine.now) [] }
+{
+    let keeper = engine.keeper();
+    if seen.is_none() || !keeper.is_full() {
+        return Ok(());
+    }
+    say_full(alloc, keeper.last_epoch(), writer)
+}
+
+/// Whether it is time for a cut: so many epochs stand on the journal, or it is full; and where outputs are held, more was seen than the
+/// disk keeps.
+fn is_cut_due<D: Disk, L: Law>(
+    keeper: &Keeper<D, L>,
+    every: Option<u32>,
+    seen: Option<u64>,
+) -> bool {
+    match seen {
+        Some(epoch) if epoch <= keeper.kept() => return false,
+        Some(_) | None => {}
+    }
     if keeper.is_full() {
         return true;
     }
@@ -391,6 +469,7 @@ fn write_outs<D: Disk, L: Law, R, E: Obey<D, L, R>, W: Voice>(
     ensures rests { Carries L.answers (E.keeping engine.old) (E.keeping engine.new) [] }
     ensures none_left { OnOk result ((E.keeping engine.new).queue ≡ []) }
     ensures stands { ((E.keeping engine.new).standing ≡ (E.keeping engine.old).standing) × ((E.keeping engine.new).collected ≡ (E.keeping engine.old).collected) }
+    ensures base { SameBase (E.keeping engine.old) (E.keeping engine.new) }
 {
     let marks = writer.is_marking();
     let mut text = String::new(alloc);
@@ -427,6 +506,7 @@ fn next_out<D: Disk, L: Law, R, E: Obey<D, L, R>>(engine: &mut E) -> Option<Epoc
     ensures some { IfSome result (λ out. (E.keeping engine.old).queue ≡ out ∷ (E.keeping engine.new).queue) }
     ensures none { IfNone result ((E.keeping engine.new).queue ≡ []) }
     ensures driven { Driven D.is_lawful D.state D.failures L.answers (NextOut ∷ []) (Out result ∷ []) (E.keeping engine.old) (E.keeping engine.new) }
+    ensures base { SameBase (E.keeping engine.old) (E.keeping engine.new) }
 {
     let out = engine.next_out();
     each_at_work_is_kept(engine);

@@ -22,7 +22,7 @@ use Rattle.td_standing.specs.declared.error.KeeperError.TheVariants as error
 use Rattle.td_keeper.specs.declared.group.GroupError.{GroupError}
 use Rattle.td_keeper.specs.declared.group.GroupError.TheVariants.{Keeper}
 use Rattle.td_keeper.specs.declared.command.Command.{Command}
-use Rattle.td_keeper.specs.declared.command.Command.TheVariants.{Submit, SubmitAs, SubmitAll, Release, Settle, Collect, NextOut, Cut, WriteCut, CloseFree}
+use Rattle.td_keeper.specs.declared.command.Command.TheVariants.{Submit, SubmitAs, SubmitAll, Release, Settle, Collect, NextOut, Cut, CutUpTo, WriteCut, CloseFree}
 use Rattle.td_keeper.specs.declared.command.Reply.{Reply}
 use Rattle.td_keeper.specs.declared.command.Reply.TheVariants.{Submitted, SubmittedAs, SubmittedAll, Released, Settled, Collected, Out, CutTaken, Written, Closed, Refused, RefusedAll}
 use Rattle.td_keeper.specs.declared.receipt.Receipt.{Receipt}
@@ -306,6 +306,7 @@ module _ {D : Type 0} (is_lawful : D → Type 0) (state : D → DiskState) (fail
   one Collect r old new kept obeys = rested Collect r old new (refl, refl) (rests is_lawful state failures answers Collect r old new refl obeys)
   one NextOut r old new kept obeys = rested NextOut r old new (refl, refl) (rests is_lawful state failures answers NextOut r old new refl obeys)
   one Cut r old new kept obeys = rested Cut r old new (refl, refl) (rests is_lawful state failures answers Cut r old new refl obeys)
+  one (CutUpTo e) r old new kept obeys = rested (CutUpTo e) r old new (refl, refl) (rests is_lawful state failures answers (CutUpTo e) r old new refl obeys)
 
   -- a reply, and then others
   joined : (c : Command) (r : Reply) (cs : List Command) (rs : List Reply) (old mid new : Keeping D) → Comes answers c r old mid → (mid.broken ≡ true → submitted_by cs rs ≡ [])

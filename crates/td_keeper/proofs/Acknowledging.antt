@@ -5,7 +5,7 @@ use Rattle.td_calls.specs.Answers.{Answers}
 use Rattle.td_disk.specs.Disk.{DiskState}
 use Rattle.td_standing.specs.Standing.{last_epoch}
 use Rattle.td_keeper.specs.declared.command.Command.{Command}
-use Rattle.td_keeper.specs.declared.command.Command.TheVariants.{Submit, SubmitAs, SubmitAll, Release, Settle, Collect, NextOut, Cut, WriteCut, CloseFree}
+use Rattle.td_keeper.specs.declared.command.Command.TheVariants.{Submit, SubmitAs, SubmitAll, Release, Settle, Collect, NextOut, Cut, CutUpTo, WriteCut, CloseFree}
 use Rattle.td_keeper.specs.declared.command.Reply.{Reply}
 use Rattle.td_keeper.specs.declared.command.Reply.TheVariants.{Submitted, SubmittedAs, SubmittedAll, Released, Settled, Collected, Out, CutTaken, Written, Closed, Refused, RefusedAll}
 use Rattle.td_keeper.specs.declared.receipt.Receipt.TheVariants.{New, Already}
@@ -66,6 +66,9 @@ module _ {D : Type 0} (is_lawful : D → Type 0) (state : D → DiskState) (fail
   one_up Cut (Submitted n) old new obeys = absurd obeys
   one_up Cut (SubmittedAs (New n)) old new obeys = absurd obeys
   one_up Cut (SubmittedAll n m) old new obeys = absurd obeys
+  one_up (CutUpTo e) (Submitted n) old new obeys = absurd obeys
+  one_up (CutUpTo e) (SubmittedAs (New n)) old new obeys = absurd obeys
+  one_up (CutUpTo e) (SubmittedAll n m) old new obeys = absurd obeys
   one_up WriteCut (Submitted n) old new obeys = absurd obeys.0
   one_up WriteCut (SubmittedAs (New n)) old new obeys = absurd obeys.0
   one_up WriteCut (SubmittedAll n m) old new obeys = absurd obeys.0

@@ -1,5 +1,8 @@
 -- What a keeper collects of a hall of its own is the batch meaning's, and what it keeps right then.
-use Rattle.std.proofs.Common.{◌≡◌, ℕ, zero, suc, ◌^◌, ◌+◌, ◌-◌, ◌≤◌, ◌<◌, nat_lt, Bool, true, false, ◌&&◌, List, [], ◌∷◌, ◌++◌, map, take, drop, length, get_or, refl, sym, ap, ◌∙◌, true≢false, arith}
+use Rattle.std.proofs.Common.{◌≡◌, ℕ, zero, suc, ◌^◌, ◌+◌, ◌-◌, ◌≤◌, ◌<◌, nat_lt, subst, Bool, true, false, ◌&&◌, List, [], ◌∷◌, ◌++◌, map, take, drop, length, get_or, refl, sym, ap, ◌∙◌, true≢false, arith}
+use Rattle.std.specs.Prelude.{Option, Some, None, max, min}
+use Rattle.std.proofs.Math.Nat.{le-max_left, max-eq_left, max-eq_right, min-le_right}
+use Rattle.std.proofs.lemmas.Bool.{ltb-true, ltb-false}
 use Rattle.std.proofs.lemmas.List.{length-map, length-drop, length-append}
 use Rattle.td_stamp.specs.declared.values.Entry.{Entry}
 use Rattle.td_stamp.specs.declared.epoch_out.EpochOut.{EpochOut}
@@ -18,7 +21,7 @@ use Rattle.td_machine.specs.Steps.Answer.{has_collected, has_cut}
 use Rattle.td_machine.specs.Sound.{Sound, run_states, outs_by}
 use Rattle.td_standing.specs.Standing.{batches_of, last_epoch}
 use Rattle.td_keeper.specs.Keeping.{Keeping, IsKeeping, words_at}
-use Rattle.td_keeper.specs.Halls.{IsOwn, IsDone, meant_outs, with_collected, collected_hall, last_passed, before_unpassed}
+use Rattle.td_keeper.specs.Halls.{IsOwn, IsDone, meant_outs, with_collected, collected_hall, last_passed, before_unpassed, cut_place}
 use Rattle.td_keeper.proofs.Kept.{now_published}
 use Rattle.td_keeper.proofs.Rows.{Falls, IsLast, row, passes, at_most, at_least, last_is}
 use Rattle.td_keeper.proofs.Runs.{out_at, in_a_row, length_outs, outs_at, states_on}
@@ -50,6 +53,14 @@ earlier (p ∷ stamps) d e l h =
     let two = both (nat_lt e p.time.epoch) (frontier.has_passed stamps e) h in
     let later = of_lt e p.time.epoch two.0 in
     and_of (nat_lt d p.time.epoch) (frontier.has_passed stamps d) (lt_of d p.time.epoch (omega (arith, l, later))) (earlier stamps d e l two.1)
+
+-- the greater of two is at most what both are
+max_at_most : (a b c : ℕ) → a ≤ c → b ≤ c → max a b ≤ c
+max_at_most a b c first second = by (nat_lt a b) refl
+  where
+    by : (t : Bool) → nat_lt a b ≡ t → max a b ≤ c
+    by true is = let less : a < b = ltb-true a b is in subst (λ (n : ℕ). n ≤ c) (sym (max-eq_right (omega (arith, less)))) second
+    by false is = let least : b ≤ a = ltb-false a b is in subst (λ (n : ℕ). n ≤ c) (sym (max-eq_left least)) first
 
 module _ {D : Type 0} (answers : Answers) (states_join : StatesJoin answers) (outs_join : OutsJoin answers)
     (k : Keeping D) (keeping : IsKeeping k answers) (S : HallState) (own : IsOwn k S) (sound : Sound answers S) where
@@ -203,6 +214,22 @@ module _ {D : Type 0} (answers : Answers) (states_join : StatesJoin answers) (ou
       by : (m : ℕ) → last_passed S - S.base ≡ m → has_passed S (last_passed S) ≡ true
       by zero e = let last = is_last base in let is : last_passed S ≡ S.base = omega (arith, e, last.after) in ap (has_passed S) is ∙ base
       by (suc m) e = let last = is_last base in last.passed (last_passed S) (omega (arith, e)) (omega arith)
+
+  -- where it is cut lies between the base and that epoch, so all up to it have passed
+  pub place_after : (most : Option ℕ) → has_passed S S.base ≡ true → S.base ≤ cut_place most S
+  place_after None base = let last = is_last base in omega (arith, last.after)
+  place_after (Some most) base = le-max_left S.base (min most (last_passed S))
+
+  pub place_before : (most : Option ℕ) → has_passed S S.base ≡ true → cut_place most S ≤ last_passed S
+  place_before None base = omega arith
+  place_before (Some most) base = let last = is_last base in max_at_most S.base (min most (last_passed S)) (last_passed S) (omega (arith, last.after)) (min-le_right most (last_passed S))
+
+  pub place_has_passed : (most : Option ℕ) → has_passed S S.base ≡ true → has_passed S (cut_place most S) ≡ true
+  place_has_passed most base = by (cut_place most S - S.base) refl
+    where
+      by : (m : ℕ) → cut_place most S - S.base ≡ m → has_passed S (cut_place most S) ≡ true
+      by zero e = let after = place_after most base in let is : cut_place most S ≡ S.base = omega (arith, e, after) in ap (has_passed S) is ∙ base
+      by (suc m) e = let last = is_last base in let before = place_before most base in last.passed (cut_place most S) (omega (arith, e)) (omega (arith, before))
 
 -- a hall of a keeper's is still its own when what it collects was brought in
 pub own_after : {D : Type 0} (k : Keeping D) (S : HallState) → IsOwn k S → IsOwn (with_collected k S) (collected_hall S)

@@ -17,7 +17,7 @@ use Rattle.td_standing.specs.declared.error.KeeperError.TheVariants as error
 use Rattle.td_keeper.specs.declared.group.GroupError.{GroupError}
 use Rattle.td_keeper.specs.declared.group.GroupError.TheVariants.{Repeated, Keeper}
 use Rattle.td_keeper.specs.declared.command.Command.{Command}
-use Rattle.td_keeper.specs.declared.command.Command.TheVariants.{Submit, SubmitAs, SubmitAll, Release, Settle, Collect, NextOut, Cut, WriteCut, CloseFree}
+use Rattle.td_keeper.specs.declared.command.Command.TheVariants.{Submit, SubmitAs, SubmitAll, Release, Settle, Collect, NextOut, Cut, CutUpTo, WriteCut, CloseFree}
 use Rattle.td_keeper.specs.declared.command.Reply.{Reply}
 use Rattle.td_keeper.specs.declared.command.Reply.TheVariants.{Submitted, SubmittedAs, SubmittedAll, Released, Settled, Collected, Out, CutTaken, Written, Closed, Refused, RefusedAll}
 use Rattle.td_keeper.specs.Keeping.{Keeping, IsKeeping, with_batch, with_epochs, with_group, with_checkpoint}
@@ -25,7 +25,7 @@ use Rattle.td_keeper.specs.Refused.{submit_refusal, submit_as_refusal, group_ref
 use Rattle.td_keeper.specs.declared.receipt.Receipt.{Receipt}
 use Rattle.td_keeper.specs.declared.receipt.Receipt.TheVariants.{New, Already}
 use Rattle.td_keeper.specs.Received.{IsReceived, received_in}
-use Rattle.td_keeper.specs.Halls.{with_collected, with_cut, collected_hall, cut_hall}
+use Rattle.td_keeper.specs.Halls.{with_collected, with_cut, collected_hall, cut_hall_up_to}
 use Rattle.td_keeper.specs.Driven.{is_device, is_of_device, may_write, submitted_in, submitted_by, Advances, IsNotSubmitted, IsNoneSubmitted, Submits, SubmitsAs, SubmitsAll, Releases, Settles, Collects, HandsOut, Cuts, Writes, ClosesFree, Obeys, Driven, Rests}
 
 -- whether the device failed, both ways
@@ -200,9 +200,9 @@ module _ {D : Type 0} (is_lawful : D → Type 0) (state : D → DiskState) (fail
   hands_out (Written n) old new r = absurd r
   hands_out Closed old new r = absurd r
 
-  cuts : (reply : Reply) (old new : Keeping D) → Cuts is_lawful state failures answers reply old new → Rests old new
-  cuts (CutTaken n) old new r = by old (with_cut (with_collected old r.hall) (cut_hall (collected_hall r.hall))) new r.cut (record { device = refl; plan = refl; standing = refl; broken = refl })
-  cuts (Refused e b) old new r =
+  cuts : (most : Option ℕ) (reply : Reply) (old new : Keeping D) → Cuts is_lawful state failures answers most reply old new → Rests old new
+  cuts most (CutTaken n) old new r = by old (with_cut (with_collected old r.hall) (cut_hall_up_to most (collected_hall r.hall))) new r.cut (record { device = refl; plan = refl; standing = refl; broken = refl })
+  cuts most (Refused e b) old new r =
       ⊎_elim
       (λ foreign. by old old new foreign.1.same (same old))
       (λ other. ⊎_elim
@@ -210,16 +210,16 @@ module _ {D : Type 0} (is_lawful : D → Type 0) (state : D → DiskState) (fail
       (λ some. by old (with_collected old some.hall) new some.collected (record { device = refl; plan = refl; standing = refl; broken = refl }))
       other)
       r.1
-  cuts (Submitted n) old new r = absurd r
-  cuts (SubmittedAs n) old new r = absurd r
-  cuts (SubmittedAll n m) old new r = absurd r
-  cuts (RefusedAll e xs) old new r = absurd r
-  cuts (Released n) old new r = absurd r
-  cuts Settled old new r = absurd r
-  cuts (Collected n) old new r = absurd r
-  cuts (Out o) old new r = absurd r
-  cuts (Written n) old new r = absurd r
-  cuts Closed old new r = absurd r
+  cuts most (Submitted n) old new r = absurd r
+  cuts most (SubmittedAs n) old new r = absurd r
+  cuts most (SubmittedAll n m) old new r = absurd r
+  cuts most (RefusedAll e xs) old new r = absurd r
+  cuts most (Released n) old new r = absurd r
+  cuts most Settled old new r = absurd r
+  cuts most (Collected n) old new r = absurd r
+  cuts most (Out o) old new r = absurd r
+  cuts most (Written n) old new r = absurd r
+  cuts most Closed old new r = absurd r
 
   -- WHAT A COMMAND THAT DOES NOT WRITE leaves
   pub rests : (command : Command) (reply : Reply) (old new : Keeping D) → may_write command ≡ false → Obeys is_lawful state failures answers command reply old new → Rests old new
@@ -230,7 +230,8 @@ module _ {D : Type 0} (is_lawful : D → Type 0) (state : D → DiskState) (fail
   rests Settle reply old new quiet obeys = settles reply old new obeys
   rests Collect reply old new quiet obeys = collects reply old new obeys
   rests NextOut reply old new quiet obeys = hands_out reply old new obeys
-  rests Cut reply old new quiet obeys = cuts reply old new obeys
+  rests Cut reply old new quiet obeys = cuts None reply old new obeys
+  rests (CutUpTo e) reply old new quiet obeys = cuts (Some e) reply old new obeys
   rests WriteCut reply old new quiet obeys = absurd (cc)
   rests (CloseFree most) reply old new quiet obeys = absurd (cc)
 
@@ -433,6 +434,7 @@ module _ {D : Type 0} (is_lawful : D → Type 0) (state : D → DiskState) (fail
   one Collect reply old new kept obeys lawful = goes_rests old new (rests is_lawful state failures answers Collect reply old new refl obeys) lawful
   one NextOut reply old new kept obeys lawful = goes_rests old new (rests is_lawful state failures answers NextOut reply old new refl obeys) lawful
   one Cut reply old new kept obeys lawful = goes_rests old new (rests is_lawful state failures answers Cut reply old new refl obeys) lawful
+  one (CutUpTo e) reply old new kept obeys lawful = goes_rests old new (rests is_lawful state failures answers (CutUpTo e) reply old new refl obeys) lawful
   one WriteCut reply old new kept obeys lawful = writes reply old new kept obeys.0 (obeys.1.advances lawful)
   one (CloseFree most) reply old new kept obeys lawful = closes most reply old new obeys.0 (obeys.1.advances lawful)
 
@@ -551,6 +553,7 @@ module _ {D : Type 0} (is_lawful : D → Type 0) (state : D → DiskState) (fail
   broken_one Collect reply old new obeys is = (rests_broken old new (rests is_lawful state failures answers Collect reply old new refl obeys) is, refl)
   broken_one NextOut reply old new obeys is = (rests_broken old new (rests is_lawful state failures answers NextOut reply old new refl obeys) is, refl)
   broken_one Cut reply old new obeys is = (rests_broken old new (rests is_lawful state failures answers Cut reply old new refl obeys) is, refl)
+  broken_one (CutUpTo e) reply old new obeys is = (rests_broken old new (rests is_lawful state failures answers (CutUpTo e) reply old new refl obeys) is, refl)
   broken_one WriteCut reply old new obeys is = (broken_writes reply old new obeys.0 is, refl)
   broken_one (CloseFree most) reply old new obeys is = (broken_closes most reply old new obeys.0 is, refl)
 

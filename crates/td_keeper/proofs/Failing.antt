@@ -11,7 +11,7 @@ use Rattle.td_standing.specs.declared.error.KeeperError.TheVariants as error
 use Rattle.td_journal.specs.declared.submitted.Submitted.{Submitted as AnySubmitted}
 use Rattle.td_keeper.specs.declared.group.GroupError.{GroupError}
 use Rattle.td_keeper.specs.declared.command.Command.{Command}
-use Rattle.td_keeper.specs.declared.command.Command.TheVariants.{Submit, SubmitAs, SubmitAll, Release, Settle, Collect, NextOut, Cut, WriteCut, CloseFree}
+use Rattle.td_keeper.specs.declared.command.Command.TheVariants.{Submit, SubmitAs, SubmitAll, Release, Settle, Collect, NextOut, Cut, CutUpTo, WriteCut, CloseFree}
 use Rattle.td_keeper.specs.declared.command.Reply.{Reply}
 use Rattle.td_keeper.specs.declared.command.Reply.TheVariants.{Submitted, SubmittedAs, SubmittedAll, Released, Settled, Collected, Out, CutTaken, Written, Closed, Refused, RefusedAll}
 use Rattle.td_keeper.specs.Keeping.{Keeping, with_group}
@@ -56,6 +56,7 @@ module _ {D : Type 0} (is_lawful : D → Type 0) (state : D → DiskState) (fail
   counted Collect r old new obeys = at_rest old new (rests is_lawful state failures answers Collect r old new refl obeys)
   counted NextOut r old new obeys = at_rest old new (rests is_lawful state failures answers NextOut r old new refl obeys)
   counted Cut r old new obeys = at_rest old new (rests is_lawful state failures answers Cut r old new refl obeys)
+  counted (CutUpTo m) r old new obeys = at_rest old new (rests is_lawful state failures answers (CutUpTo m) r old new refl obeys)
 
   pub driven_counted : (commands : List Command) (replies : List Reply) (old new : Keeping D) → Driven is_lawful state failures answers commands replies old new
       → failures old.device ≤ failures new.device
@@ -83,6 +84,10 @@ module _ {D : Type 0} (is_lawful : D → Type 0) (state : D → DiskState) (fail
       absurd (⊎_elim (λ foreign. other_error e error.Foreign foreign.0 refl is)
       (λ other. ⊎_elim (λ memory. other_error e error.Memory memory.0 refl is)
       (λ some. ⊎_elim (λ refused. cut_never_device old some.hall e refused is) (λ memory. other_error e error.Memory memory refl is) some.cause) other) obeys.1)
+  failed (CutUpTo m) e b old new obeys is =
+      absurd (⊎_elim (λ foreign. other_error e error.Foreign foreign.0 refl is)
+      (λ other. ⊎_elim (λ memory. other_error e error.Memory memory.0 refl is)
+      (λ some. ⊎_elim (λ refused. cut_never_device old some.hall e refused is) (λ memory. other_error e error.Memory memory refl is) some.cause) other) obeys.1)
 
   failed_all : (c : Command) (e : GroupError) (b : List AnySubmitted) (old new : Keeping D) → Obeys is_lawful state failures answers c (RefusedAll e b) old new → is_of_device e ≡ true
       → Fails is_lawful state failures answers old new
@@ -96,6 +101,7 @@ module _ {D : Type 0} (is_lawful : D → Type 0) (state : D → DiskState) (fail
   failed_all Collect e b old new obeys is = absurd obeys
   failed_all NextOut e b old new obeys is = absurd obeys
   failed_all Cut e b old new obeys is = absurd obeys
+  failed_all (CutUpTo m) e b old new obeys is = absurd obeys
 
   one_failed : (c : Command) (r : Reply) (old new : Keeping D) → Obeys is_lawful state failures answers c r old new → is_failed r ≡ true → Fails is_lawful state failures answers old new
   one_failed c (Refused e b) old new obeys is = failed c e b old new obeys is
@@ -242,6 +248,7 @@ module _ {D : Type 0} (is_lawful : D → Type 0) (state : D → DiskState) (fail
   one_whole Collect r old new obeys quiet = as_whole old new (rests is_lawful state failures answers Collect r old new refl obeys)
   one_whole NextOut r old new obeys quiet = as_whole old new (rests is_lawful state failures answers NextOut r old new refl obeys)
   one_whole Cut r old new obeys quiet = as_whole old new (rests is_lawful state failures answers Cut r old new refl obeys)
+  one_whole (CutUpTo m) r old new obeys quiet = as_whole old new (rests is_lawful state failures answers (CutUpTo m) r old new refl obeys)
 
   pub driven_whole : (commands : List Command) (replies : List Reply) (old new : Keeping D) → Driven is_lawful state failures answers commands replies old new
       → some_failed replies ≡ false → (new.broken ≡ old.broken) × (failures new.device ≡ failures old.device)

@@ -19,7 +19,7 @@ use Rattle.td_standing.specs.Standing.{Standing, last_epoch, submission, batches
 use Rattle.td_keeper.specs.declared.group.GroupError.{GroupError}
 use Rattle.td_keeper.specs.declared.group.GroupError.TheVariants.{Keeper}
 use Rattle.td_keeper.specs.declared.command.Command.{Command}
-use Rattle.td_keeper.specs.declared.command.Command.TheVariants.{Submit, SubmitAs, SubmitAll, Release, Settle, Collect, NextOut, Cut, WriteCut, CloseFree}
+use Rattle.td_keeper.specs.declared.command.Command.TheVariants.{Submit, SubmitAs, SubmitAll, Release, Settle, Collect, NextOut, Cut, CutUpTo, WriteCut, CloseFree}
 use Rattle.td_keeper.specs.declared.command.Reply.{Reply}
 use Rattle.td_keeper.specs.declared.command.Reply.TheVariants.{Submitted, SubmittedAs, SubmittedAll, Released, Settled, Collected, Out, CutTaken, Written, Closed, Refused, RefusedAll}
 use Rattle.td_keeper.specs.Keeping.{Keeping, IsKeeping, with_batch, with_group}
@@ -435,6 +435,31 @@ module _ {D : Type 0} (is_lawful : D → Type 0) (state : D → DiskState) (fail
   hands Cut (Out o) old mid new y hs kept kept_mid obeys none rest = absurd obeys
   hands Cut (Written w) old mid new y hs kept kept_mid obeys none rest = absurd obeys
   hands Cut Closed old mid new y hs kept kept_mid obeys none rest = absurd obeys
+  hands (CutUpTo most) (CutTaken n) old mid new y hs kept kept_mid obeys none rest =
+      let is = obeys.cut in
+      let S = obeys.hall in
+      let so_many : mid.collected ≡ (collect_step S).1.collected = ap (λ k. k.collected) is in
+      let count = collected_count S in
+      brought answers outs_join old mid new y hs (outs_by (collect_step S).0) kept kept_mid (ap (λ k. k.plan) is) (ap (λ k. k.standing) is) (ap (λ k. k.queue) is)
+      (obeys.brings.outs ∙ ap (λ m. meant_outs old answers old.collected m) (sym so_many)) (omega (arith, so_many, count, obeys.brings.own.collected)) rest
+  hands (CutUpTo most) (Refused e b) old mid new y hs kept kept_mid obeys none rest =
+      ⊎_elim
+      (λ foreign. as_it_was answers outs_join old mid new y hs foreign.1.same rest)
+      (λ other. ⊎_elim
+      (λ memory. as_it_was answers outs_join old mid new y hs memory.1.same rest)
+      (λ some. collected_from answers outs_join old mid new y hs kept kept_mid some.hall some.brings.own some.brings.outs some.collected rest)
+      other)
+      obeys.1
+  hands (CutUpTo most) (Submitted n) old mid new y hs kept kept_mid obeys none rest = absurd obeys
+  hands (CutUpTo most) (SubmittedAs n) old mid new y hs kept kept_mid obeys none rest = absurd obeys
+  hands (CutUpTo most) (SubmittedAll n m) old mid new y hs kept kept_mid obeys none rest = absurd obeys
+  hands (CutUpTo most) (RefusedAll e xs) old mid new y hs kept kept_mid obeys none rest = absurd obeys
+  hands (CutUpTo most) (Released n) old mid new y hs kept kept_mid obeys none rest = absurd obeys
+  hands (CutUpTo most) Settled old mid new y hs kept kept_mid obeys none rest = absurd obeys
+  hands (CutUpTo most) (Collected n) old mid new y hs kept kept_mid obeys none rest = absurd obeys
+  hands (CutUpTo most) (Out o) old mid new y hs kept kept_mid obeys none rest = absurd obeys
+  hands (CutUpTo most) (Written w) old mid new y hs kept kept_mid obeys none rest = absurd obeys
+  hands (CutUpTo most) Closed old mid new y hs kept kept_mid obeys none rest = absurd obeys
   hands WriteCut (Written w) old mid new y hs kept kept_mid obeys none rest =
       ⊎_elim
       (λ no. same_all answers outs_join old mid new y hs (ap (λ k. k.plan) no.2) (ap (λ k. k.standing) no.2) (ap (λ k. k.collected) no.2) (ap (λ k. k.queue) no.2) rest)

@@ -1,5 +1,6 @@
 -- A hall that is a keeper's stays the keeper's own, whatever the keeper does.
-use Rattle.std.proofs.Common.{◌≡◌, ◌⊎◌, ⊎_elim, ℕ, ◌+◌, ◌-◌, ◌≤◌, Bool, true, false, List, [], ◌∷◌, ◌++◌, drop, length, refl, sym, ap, ◌∙◌, subst, arith}
+use Rattle.std.proofs.Common.{◌≡◌, ◌⊎◌, ⊎_elim, ℕ, ◌+◌, ◌-◌, ◌≤◌, ◌<◌, Bool, true, false, List, [], ◌∷◌, ◌++◌, drop, length, refl, sym, ap, ◌∙◌, subst, arith}
+use Rattle.std.specs.Prelude.{Option}
 use Rattle.std.proofs.lemmas.List.{append_assoc, length-map, length-append, map-append, drop-append-le, drop-drop, drop-map}
 use Rattle.td_stamp.specs.declared.values.Entry.{Entry}
 use Rattle.td_calls.specs.Answers.{Answers}
@@ -14,10 +15,9 @@ use Rattle.td_keeper.specs.declared.receipt.Receipt.{Receipt}
 use Rattle.td_keeper.specs.declared.receipt.Receipt.TheVariants.{New, Already}
 use Rattle.td_keeper.specs.Received.{IsReceived}
 use Rattle.td_keeper.specs.Keeping.{Keeping, IsKeeping, since_base, with_epochs, with_group, with_checkpoint}
-use Rattle.td_keeper.specs.Halls.{IsOwn, StaysOwn, IsAtHome, lacking, with_released, with_collected, with_cut, collected_hall, cut_hall, last_passed}
+use Rattle.td_keeper.specs.Halls.{IsOwn, StaysOwn, IsAtHome, lacking, with_released, with_collected, with_cut, collected_hall, cut_hall_up_to, cut_place}
 use Rattle.td_keeper.proofs.Releasing.{has_released}
 use Rattle.td_keeper.proofs.Batches.{lacks, left, has_numbers}
-use Rattle.td_keeper.proofs.Rows.{IsLast}
 
 -- a keeper and a hall that are these
 pub stays_at : {D : Type 0} (k l : Keeping D) (S T U : HallState) → l ≡ k → U ≡ T → StaysOwn k S T → StaysOwn l S U
@@ -135,11 +135,11 @@ module _ {D : Type 0} (k : Keeping D) (S : HallState) (own : IsOwn k S) where
     stays_cut_by true is = record { own = own_cut_to; closed = refl; workers = refl; out = refl }
     stays_cut_by false is = absurd cc
 
--- the last epoch up to which all have passed is a place to cut
-pub stays_cut : {D : Type 0} (k : Keeping D) (S : HallState) (own : IsOwn k S) (answers : Answers) → IsKeeping k answers → Sound answers S → IsLast (has_passed S) S.base S.next (last_passed S)
-    → has_passed S (last_passed S) ≡ true → StaysOwn (with_cut k (cut_hall S)) S (cut_hall S)
-stays_cut k S own answers keeping sound last passed =
-    stays_cut_by k S own (last_passed S) last.after (omega (arith, last.after, last.before, sound.released)) keeping.from_checkpoint (has_passed S (last_passed S)) passed
+-- it is cut at an epoch that has passed
+pub stays_cut : {D : Type 0} (k : Keeping D) (S : HallState) (own : IsOwn k S) (answers : Answers) (most : Option ℕ) → IsKeeping k answers → Sound answers S → S.base ≤ cut_place most S → cut_place most S < S.next
+    → has_passed S (cut_place most S) ≡ true → StaysOwn (with_cut k (cut_hall_up_to most S)) S (cut_hall_up_to most S)
+stays_cut k S own answers most keeping sound after before passed =
+    stays_cut_by k S own (cut_place most S) after (omega (arith, after, before, sound.released)) keeping.from_checkpoint (has_passed S (cut_place most S)) passed
 
 -- one after another
 pub stays_then : {D : Type 0} (k l : Keeping D) (S T U : HallState) → StaysOwn k S T → StaysOwn l T U → StaysOwn l S U

@@ -19,7 +19,7 @@ use Rattle.td_standing.specs.Advanced.{HeldWhere}
 use Rattle.td_standing.specs.declared.error.KeeperError.TheVariants as error
 use Rattle.td_keeper.specs.declared.group.GroupError.TheVariants.{Keeper}
 use Rattle.td_keeper.specs.declared.command.Command.{Command}
-use Rattle.td_keeper.specs.declared.command.Command.TheVariants.{Submit, SubmitAs, SubmitAll, Release, Settle, Collect, NextOut, Cut, WriteCut, CloseFree}
+use Rattle.td_keeper.specs.declared.command.Command.TheVariants.{Submit, SubmitAs, SubmitAll, Release, Settle, Collect, NextOut, Cut, CutUpTo, WriteCut, CloseFree}
 use Rattle.td_keeper.specs.declared.command.Reply.{Reply}
 use Rattle.td_keeper.specs.declared.command.Reply.TheVariants.{Submitted, SubmittedAs, SubmittedAll, Released, Settled, Collected, Out, CutTaken, Written, Closed, Refused, RefusedAll}
 use Rattle.td_keeper.specs.declared.receipt.Receipt.{Receipt}
@@ -160,6 +160,7 @@ module _ {D : Type 0} (is_lawful : D → Type 0) (state : D → DiskState) (fail
   one Collect r old new obeys = rested old new (rests is_lawful state failures answers Collect r old new refl obeys)
   one NextOut r old new obeys = rested old new (rests is_lawful state failures answers NextOut r old new refl obeys)
   one Cut r old new obeys = rested old new (rests is_lawful state failures answers Cut r old new refl obeys)
+  one (CutUpTo e) r old new obeys = rested old new (rests is_lawful state failures answers (CutUpTo e) r old new refl obeys)
 
   -- WHATEVER A KEEPER IS TOLD
   pub driven_rises : (commands : List Command) (replies : List Reply) (old new : Keeping D) → Driven is_lawful state failures answers commands replies old new

@@ -1,6 +1,6 @@
 -- What the images since the start of a call tell, and those since an earlier moment, as advances of the standing.
-use Rattle.std.proofs.Common.{◌≡◌, ◌⊎◌, inl, inr, ⊎_elim, ℕ, true, false, List, [], sym, ◌∙◌, subst, arith}
-use Rattle.std.specs.Prelude.{Ok}
+use Rattle.std.proofs.Common.{◌≡◌, ◌⊎◌, inl, inr, ⊎_elim, ℕ, ◌≤◌, Bool, true, false, List, [], sym, ap, ◌∙◌, subst, arith}
+use Rattle.std.specs.Prelude.{Result, Ok, Err}
 use Rattle.td_plan.specs.Lines.{Line}
 use Rattle.td_plan.specs.Tree.{Nodes, tree_of}
 use Rattle.td_calls.specs.Answers.{Answers}
@@ -9,12 +9,13 @@ use Rattle.td_disk.specs.Disk.{DiskState}
 use Rattle.td_gate.specs.CrashSafe.{CrashSafe, Unchanged}
 use Rattle.td_head.specs.declared.head.Head.{Head}
 use Rattle.td_journal.specs.declared.submitted.Submitted.{Submitted}
+use Rattle.td_standing.specs.declared.error.KeeperError.{KeeperError}
 use Rattle.td_standing.specs.Standing.{Standing, last_epoch, with_more}
 use Rattle.td_standing.specs.Stops.{Advance, Holds}
 use Rattle.td_standing.specs.Told.{Told}
 use Rattle.td_standing.specs.Tells.{Tells, Keeps, TellsSince}
 use Rattle.td_standing.specs.Advanced.{TellsAdvance, SinceAdvance, AdvancesSince, HeldWhere, states_by}
-use Rattle.td_keeper.specs.Keeping.{Keeping}
+use Rattle.td_keeper.specs.Keeping.{Keeping, EachKeepsTo, KeepsToWhere}
 use Rattle.td_keeper.proofs.Submitting.{keeps_of}
 
 -- what is told in parts is told, as it is handed in
@@ -80,13 +81,52 @@ by_further {D = D} is_lawful state only answers together not_yet {k = k} {z = z}
     let keeps = keeps_of k.broken answers k.plan k.head k.side k.standing (state k.device) whole (held old) in
     from_start answers k.plan together k.head k.side k.standing x (state k.device) new (λ c. only k.device c old) (not_yet (tree_of k.plan) k.standing x) keeps further)
 
--- the standing, or another under the same head
+-- the standing, or another, perhaps under another head and in another slot
+pub either_told : (plan : List Line) → Together → (head next : Head) (side other : ℕ) (s t : Standing) (old new : DiskState) → ((c : List ℕ) → old.since old.moment c → old.images c)
+    → Keeps plan head side s old → TellsSince (Tells plan head side s) (Tells plan next other t) old new → (c : List ℕ) → new.since old.moment c → Told plan c (Ok s) ⊎ Told plan c (Ok t)
+either_told plan together head next side other s t old new only keeps begun c left =
+    ⊎_elim (λ was. inl (together plan head side s c (subst (Tells plan head side s) (sym (keeps.durable c (only c was))) keeps.tells)))
+    (λ now. ⊎_elim (λ told. inl (together plan head side s c told)) (λ told. inr (together plan next other t c told)) now)
+    (begun old.moment c (omega arith) left)
+
+-- under the same head
 pub one_or_other : (plan : List Line) → Together → (head : Head) (side : ℕ) (s t : Standing) (old new : DiskState) → ((c : List ℕ) → old.since old.moment c → old.images c)
     → Keeps plan head side s old → TellsSince (Tells plan head side s) (Tells plan head side t) old new → (c : List ℕ) → new.since old.moment c → Told plan c (Ok s) ⊎ Told plan c (Ok t)
-one_or_other plan together head side s t old new only keeps begun c left =
-    ⊎_elim (λ was. inl (together plan head side s c (subst (Tells plan head side s) (sym (keeps.durable c (only c was))) keeps.tells)))
-    (λ now. ⊎_elim (λ told. inl (together plan head side s c told)) (λ told. inr (together plan head side t c told)) now)
-    (begun old.moment c (omega arith) left)
+one_or_other plan together head side s t old new only keeps begun c left = either_told plan together head head side side s t old new only keeps begun c left
+
+-- that an image tells one answer, as it is handed in
+abbrev pub OneAnswer : Type 0
+OneAnswer = (plan : List Line) (image : List ℕ) (a b : Result Standing KeeperError) → Told plan image a → Told plan image b → a ≡ b
+
+abbrev epoch_or : Result Standing KeeperError → ℕ
+epoch_or (Ok s) = s.epoch
+epoch_or (Err e) = 0
+
+module _ (plan : List Line) (one : OneAnswer) (last : ℕ) where
+  told_at_most : (c : List ℕ) (s t : Standing) → Told plan c (Ok s) → s.epoch ≤ last → Told plan c (Ok t) → t.epoch ≤ last
+  told_at_most c s t told low other = let same : s.epoch ≡ t.epoch = ap epoch_or (one plan c (Ok s) (Ok t) told other) in omega (arith, same, low)
+
+  -- WHERE THE DEVICE FAILED nothing is kept beyond an epoch, where the standing and the other one keep nothing beyond it
+  pub keeps_to : (s t : Standing) (moment : ℕ) (state : DiskState) → ((c : List ℕ) → state.images c → state.since moment c)
+      → ((c : List ℕ) → state.since moment c → Told plan c (Ok s) ⊎ Told plan c (Ok t)) → s.epoch ≤ last → t.epoch ≤ last → EachKeepsTo plan last state
+  keeps_to s t moment state counts each low also c image u told =
+      ⊎_elim (λ is. told_at_most c s u is low told) (λ is. told_at_most c t u is also told) (each c (counts c image))
+
+  -- at any time
+  pub all_keep_to : (b : Bool) (answers : Answers) → Together → (head : Head) (side : ℕ) (s : Standing) (state : DiskState) → HeldWhere b answers plan head side s state → KeepsToWhere b plan last state
+      → s.epoch ≤ last → EachKeepsTo plan last state
+  all_keep_to true answers together head side s state holds kept low = kept
+  all_keep_to false answers together head side s state holds kept low =
+      λ c image u told. told_at_most c s u (together plan head side s c (subst (Tells plan head side s) (sym (holds.durable c image)) holds.tells)) low told
+
+-- where it did not
+pub none_beyond : (b : Bool) (plan : List Line) (last : ℕ) (state : DiskState) → b ≡ false → KeepsToWhere b plan last state
+none_beyond b plan last state whole = subst (λ (t : Bool). KeepsToWhere t plan last state) (sym whole) tt
+
+-- and of a later epoch
+pub keeps_further : (b : Bool) (plan : List Line) (last next : ℕ) (state : DiskState) → last ≤ next → KeepsToWhere b plan last state → KeepsToWhere b plan next state
+keeps_further true plan last next state on kept = λ c image s told. let low = kept c image s told in omega (arith, low, on)
+keeps_further false plan last next state on kept = tt
 
 -- nothing was written
 pub none_since : (plan : List Line) → Together → (head : Head) (side : ℕ) (s : Standing) (state : DiskState) → ((c : List ℕ) → state.since state.moment c → state.images c)

@@ -21,7 +21,7 @@ use Rattle.td_standing.specs.Advanced.{AdvancesSince, SinceAdvance}
 use Rattle.td_keeper.specs.declared.receipt.Receipt.{Receipt}
 use Rattle.td_keeper.specs.declared.receipt.Receipt.TheVariants.{New}
 use Rattle.td_keeper.specs.declared.command.Command.{Command}
-use Rattle.td_keeper.specs.declared.command.Command.TheVariants.{Submit, SubmitAs, SubmitAll, Release, Settle, Collect, NextOut, Cut, WriteCut, CloseFree}
+use Rattle.td_keeper.specs.declared.command.Command.TheVariants.{Submit, SubmitAs, SubmitAll, Release, Settle, Collect, NextOut, Cut, CutUpTo, WriteCut, CloseFree}
 use Rattle.td_keeper.specs.declared.command.Reply.{Reply}
 use Rattle.td_keeper.specs.declared.command.Reply.TheVariants.{Submitted, SubmittedAs, SubmittedAll, Released, Settled, Collected, Out, CutTaken, Written, Closed, Refused, RefusedAll}
 use Rattle.td_keeper.specs.declared.group.GroupError.{GroupError}
@@ -30,7 +30,7 @@ use Rattle.td_keeper.specs.Keeping.{Keeping, IsKeeping, since_base, with_batch, 
 use Rattle.td_keeper.specs.Refused.{is_new, submit_refusal, submit_as_refusal, group_refusal, write_refusal, close_refusal, cut_refusal}
 use Rattle.td_keeper.specs.Received.{IsReceived, received_in}
 use Rattle.td_keeper.specs.Grouped.{AllOrNone}
-use Rattle.td_keeper.specs.Halls.{IsOwn, IsDone, lacking, with_released, with_collected, with_cut, collected_hall, cut_hall, last_passed, meant_outs}
+use Rattle.td_keeper.specs.Halls.{IsOwn, IsDone, lacking, with_released, with_collected, with_cut, collected_hall, cut_hall_up_to, cut_place, meant_outs}
 
 -- the replies of the calls that work on a pool's hall
 abbrev pub released : Result ℕ KeeperError → Reply
@@ -84,6 +84,7 @@ needs_hall Release = true
 needs_hall Settle = true
 needs_hall Collect = true
 needs_hall Cut = true
+needs_hall (CutUpTo epoch) = true
 needs_hall _ = false
 
 -- WHAT A COMMAND SUBMITTED, by its reply: its batch or its group, where it was acknowledged, or where the device failed in it; not
@@ -250,14 +251,14 @@ module _ {D : Type 0} (is_lawful : D → Type 0) (state : D → DiskState) (fail
   HandsOut (Out (Some out)) old new = (old.queue ≡ out ∷ new.queue) × (new ≡ record old { queue = new.queue })
   HandsOut _ old new = ⊥
 
-  -- TO CUT: the cut of a hall of this keeper's, with the batch meaning's states, is the base and waits
-  pub record IsCut (e : ℕ) (old new : Keeping D) : Type 0 where
+  -- TO CUT, up to an epoch if one is given: the cut of a hall of this keeper's, with the batch meaning's states, is the base and waits
+  pub record IsCut (most : Option ℕ) (e : ℕ) (old new : Keeping D) : Type 0 where
     pub hall : HallState
     pub brings : BringsIn old hall
     pub accepted : cut_refusal old hall ≡ None
-    pub last : e ≡ last_passed hall
+    pub place : e ≡ cut_place most hall
     pub base : new.base ≡ e
-    pub cut : new ≡ with_cut (with_collected old hall) (cut_hall (collected_hall hall))
+    pub cut : new ≡ with_cut (with_collected old hall) (cut_hall_up_to most (collected_hall hall))
     pub states : new.base_states ≡ states_after answers (tree_of old.plan) old.standing.states (batches_of old.standing.submitted) (e - old.standing.epoch)
 
   -- or what it had was collected, and it is not cut
@@ -267,11 +268,11 @@ module _ {D : Type 0} (is_lawful : D → Type 0) (state : D → DiskState) (fail
     pub cause : (cut_refusal old hall ≡ Some error) ⊎ (error ≡ Memory)
     pub collected : new ≡ with_collected old hall
 
-  abbrev pub Cuts : Reply → Keeping D → Keeping D → Type 0
-  Cuts (CutTaken e) old new = IsCut e old new
-  Cuts (Refused error back) old new = (back ≡ None)
+  abbrev pub Cuts : Option ℕ → Reply → Keeping D → Keeping D → Type 0
+  Cuts most (CutTaken e) old new = IsCut most e old new
+  Cuts most (Refused error back) old new = (back ≡ None)
       × (((error ≡ Foreign) × Finds (λ S. IsOwn old S → ⊥) old new) ⊎ ((error ≡ Memory) × Finds (IsOwn old) old new) ⊎ IsNotCut error old new)
-  Cuts _ old new = ⊥
+  Cuts most _ old new = ⊥
 
   -- TO WRITE THE CUT that waits: it is the checkpoint
   pub record IsWritten (written : Option ℕ) (old new : Keeping D) : Type 0 where
@@ -317,7 +318,8 @@ module _ {D : Type 0} (is_lawful : D → Type 0) (state : D → DiskState) (fail
   Obeys Settle reply old new = Settles reply old new
   Obeys Collect reply old new = Collects reply old new
   Obeys NextOut reply old new = HandsOut reply old new
-  Obeys Cut reply old new = Cuts reply old new
+  Obeys Cut reply old new = Cuts None reply old new
+  Obeys (CutUpTo epoch) reply old new = Cuts (Some epoch) reply old new
   Obeys WriteCut reply old new = Writes reply old new × MayWrite reply old new []
   Obeys (CloseFree most) reply old new = ClosesFree most reply old new × MayWrite reply old new []
 

@@ -1,5 +1,5 @@
 -- A keeper and a hall.
-use Rattle.std.specs.Prelude.{◌≡◌, ℕ, ◌+◌, ◌-◌, true, false, List, [], ◌∷◌, ◌++◌, length, take, drop, Option, Some, None}
+use Rattle.std.specs.Prelude.{◌≡◌, ℕ, ◌+◌, ◌-◌, max, min, true, false, List, [], ◌∷◌, ◌++◌, length, take, drop, Option, Some, None}
 use Rattle.td_stamp.specs.declared.values.Entry.{Entry}
 use Rattle.td_stamp.specs.declared.epoch_out.EpochOut.{EpochOut}
 use Rattle.td_plan.specs.Tree.{tree_of}
@@ -75,9 +75,20 @@ before_unpassed next (Some e) = e - 1
 abbrev pub last_passed : HallState → ℕ
 last_passed S = before_unpassed S.next (unpassed S)
 
+-- WHERE A HALL IS CUT: there, or up to a given epoch; and never before its base
+abbrev pub place_between : ℕ → ℕ → Option ℕ → ℕ
+place_between base last None = last
+place_between base last (Some most) = max base (min most last)
+
+abbrev pub cut_place : Option ℕ → HallState → ℕ
+cut_place most S = place_between S.base (last_passed S) most
+
 -- a hall after it was cut there
+abbrev pub cut_hall_up_to : Option ℕ → HallState → HallState
+cut_hall_up_to most S = (cut_at_by S (has_passed S (cut_place most S)) (cut_place most S)).1
+
 abbrev pub cut_hall : HallState → HallState
-cut_hall S = (cut_at_by S (has_passed S (last_passed S)) (last_passed S)).1
+cut_hall S = cut_hall_up_to None S
 
 -- A KEEPER WITH A HALL OF ITS OWN
 pub record KeeperAndHall (D : Type 0) : Type 0 where

@@ -1,5 +1,5 @@
 -- What contracts see of a keeper, and what each keeper keeps right.
-use Rattle.std.specs.Prelude.{◌≡◌, ℕ, ◌+◌, ◌-◌, min, ◌^◌, ◌<◌, ◌≤◌, Bool, true, false, List, [], ◌∷◌, length, drop, All, Option, Some, None}
+use Rattle.std.specs.Prelude.{◌≡◌, ℕ, ◌+◌, ◌-◌, min, ◌^◌, ◌<◌, ◌≤◌, Bool, true, false, List, [], ◌∷◌, length, drop, All, Option, Some, None, Ok}
 use Rattle.td_stamp.specs.declared.values.Entry.{Entry}
 use Rattle.td_stamp.specs.declared.epoch_out.EpochOut.{EpochOut}
 use Rattle.td_stamp.specs.States.{StateList}
@@ -7,6 +7,7 @@ use Rattle.td_plan.specs.Lines.{Line}
 use Rattle.td_plan.specs.Tree.{tree_of}
 use Rattle.td_calls.specs.Answers.{Answers}
 use Rattle.td_batch.specs.Meaning.{states_after}
+use Rattle.td_disk.specs.Disk.{DiskState}
 use Rattle.td_head.specs.declared.head.Head.{Head}
 use Rattle.td_slots.specs.Slot.{are_states}
 use Rattle.td_slots.specs.declared.slots.Checkpoint.{Checkpoint}
@@ -16,7 +17,7 @@ use Rattle.td_group.specs.Groups.{AreShut}
 use Rattle.td_watch.specs.View.{View, view_of}
 use Rattle.td_watch.specs.Words.{IsAtMost}
 use Rattle.td_standing.specs.Standing.{Standing, standing_from, last_epoch, batches_of, submission, with_more, cut_at}
-use Rattle.td_standing.specs.Told.{inputs_of, folds_of, ring_of}
+use Rattle.td_standing.specs.Told.{Told, inputs_of, folds_of, ring_of}
 use Rattle.td_standing.specs.Tells.{side_after}
 use Rattle.td_keeper.specs.declared.keeper.Taken.{Taken}
 
@@ -64,6 +65,15 @@ base_states_of c (Some t) = t.states
 abbrev pub is_waiting : Option Taken → Bool
 is_waiting None = false
 is_waiting (Some t) = t.waits
+
+-- NOTHING IS KEPT BEYOND AN EPOCH: whatever a crash leaves of a disk, the checkpoint that it tells is of no later one
+abbrev pub EachKeepsTo : List Line → ℕ → DiskState → Type 0
+EachKeepsTo plan last state = (c : List ℕ) → state.images c → (s : Standing) → Told plan c (Ok s) → s.epoch ≤ last
+
+-- after a fault of the device in a call that writes
+abbrev pub KeepsToWhere : Bool → List Line → ℕ → DiskState → Type 0
+KeepsToWhere false plan last state = Unit {0}
+KeepsToWhere true plan last state = EachKeepsTo plan last state
 
 -- of what it keeps in memory
 abbrev pub keeping_of : {D : Type 0} → D → List Line → Head → Checkpoint → List Submitted → Bool → Option Taken → ℕ → List EpochOut → Option View → Keeping D

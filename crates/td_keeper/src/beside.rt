@@ -1,5 +1,5 @@
 //! The calls of a keeper that work on the hall of a pool, beside its workers.
-ghost use Rattle.std.specs.Prelude.{◌≡◌, ◌⊎◌, true, None};
+ghost use Rattle.std.specs.Prelude.{◌≡◌, ◌⊎◌, true, Some, None};
 ghost use Rattle.td_machine.specs.Active.{unpassed};
 ghost use Rattle.td_machine.specs.Reached.{IsReached};
 ghost use Rattle.td_keeper.specs.Driven.{Releases, Settles, Collects, Cuts, released, settled, collected, cut};
@@ -59,9 +59,21 @@ impl<D: Disk, L: Law> Keeper<D, L> {
         rt: &R,
         pool: &Pool<K, L>,
     ) -> Result<u64, KeeperError>
-        ensures { Cuts D.is_lawful D.state D.failures L.answers (cut result) self.old self.new }
+        ensures { Cuts D.is_lawful D.state D.failures L.answers None (cut result) self.old self.new }
     {
-        self.cut_lent(&mut *pool.hall(rt))
+        self.cut_lent(&mut *pool.hall(rt), None)
+    }
+
+    /// Cuts the pool's hall, as `cut_up_to`, and answers at which epoch: the cut waits to be written. Refusals: those of `cut`.
+    pub fn cut_up_to_in<K: Crew, R: Wait>(
+        &mut self,
+        rt: &R,
+        pool: &Pool<K, L>,
+        epoch: u64,
+    ) -> Result<u64, KeeperError>
+        ensures { Cuts D.is_lawful D.state D.failures L.answers (Some epoch) (cut result) self.old self.new }
+    {
+        self.cut_lent(&mut *pool.hall(rt), Some(epoch))
     }
 }
 

@@ -26,6 +26,8 @@ pub enum Command {
     NextOut,
     /// To cut the pool's hall.
     Cut,
+    /// To cut it at no epoch above this one.
+    CutUpTo(u64),
     /// To write the cut that waits.
     WriteCut,
     /// To close at most so many cells that no epoch uses, those that come next.
@@ -99,7 +101,7 @@ impl Reply {
         }
     }
 
-    /// The reply to `Cut`.
+    /// The reply to `Cut` and to `CutUpTo`.
     pub(crate) fn of_cut(outcome: Result<u64, KeeperError>) -> Reply
         ensures { result ≡ cut outcome }
     {

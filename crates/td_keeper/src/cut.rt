@@ -8,7 +8,7 @@ ghost use Rattle.td_machine.specs.Reached.{IsReached};
 ghost use Rattle.td_machine.specs.Sound.{outs_by};
 ghost use Rattle.td_standing.specs.Standing.{batches_of};
 ghost use Rattle.td_keeper.specs.Refused.{cut_refusal};
-ghost use Rattle.td_keeper.specs.Halls.{IsOwn, StaysOwn, with_collected, with_cut, collected_hall, cut_hall, last_passed, meant_outs};
+ghost use Rattle.td_keeper.specs.Halls.{IsOwn, StaysOwn, with_collected, with_cut, collected_hall, cut_hall, cut_hall_up_to, last_passed, cut_place, place_between, meant_outs};
 ghost use Rattle.td_standing.specs.declared.error.KeeperError.TheVariants.{Foreign, Memory};
 
 use crate::keeper::{Keeper, Taken};
@@ -45,14 +45,38 @@ impl<D: Disk, L: Law> Keeper<D, L> {
         // What is brought into the queue before is the batch meaning's.
         ensures outs { IsOwn self.old hall.old → outs_by (collect_step hall.old).0 ≡ meant_outs self.old L.answers self.old.collected (collect_step hall.old).1.collected }
     {
-        self.cut_lent(hall)
+        self.cut_lent(hall, None)
     }
 
-    /// As `cut`, of a hall that is lent.
-    pub(crate) fn cut_lent<H: AnyHall<L>>(&mut self, hall: &mut H) -> Result<u64, KeeperError>
+    /// As `cut`, at no epoch above this one: at the last of these up to which all have passed, or at the base where that is above it. The
+    /// epochs after it stand, and those up to it are free once the cut is written. Refusals: those of `cut`.
+    pub fn cut_up_to(&mut self, hall: &mut Hall<L>, most: u64) -> Result<u64, KeeperError>
+        ensures own { IfOk result (λ _. IsOwn self.old hall.old × (cut_refusal self.old hall.old ≡ None)) }
+        ensures cut { IfOk result (λ epoch. (epoch ≡ cut_place (Some most) hall.old) × (hall.new ≡ cut_hall_up_to (Some most) (collected_hall hall.old))
+            × (self.new ≡ with_cut (with_collected self.old hall.old) hall.new)) }
+        ensures base { IfOk result (λ epoch. self.new.base ≡ epoch) }
+        ensures meaning { IfOk result (λ epoch. self.new.base_states ≡ states_after L.answers (tree_of self.old.plan) self.old.standing.states (batches_of self.old.standing.submitted) (epoch - self.old.standing.epoch)) }
+        ensures foreign { IfErr result (λ e. e ≡ Foreign → (IsOwn self.old hall.old → ⊥) × (self.new ≡ self.old) × (hall.new ≡ hall.old)) }
+        ensures refused { IfErr result (λ e. (e ≡ Foreign)
+            ⊎ (IsOwn self.old hall.old × ((cut_refusal self.old hall.old ≡ Some e) ⊎ (e ≡ Memory)))) }
+        ensures collected { IfErr result (λ e. ((e ≡ Foreign) ⊎ (e ≡ Memory) × (self.new ≡ self.old) × (hall.new ≡ hall.old))
+            ⊎ ((self.new ≡ with_collected self.old hall.old) × (hall.new ≡ collected_hall hall.old))) }
+
+        // What is brought into the queue before is the batch meaning's.
+        ensures outs { IsOwn self.old hall.old → outs_by (collect_step hall.old).0 ≡ meant_outs self.old L.answers self.old.collected (collect_step hall.old).1.collected }
+    {
+        self.cut_lent(hall, Some(most))
+    }
+
+    /// As `cut`, or as `cut_up_to` where an epoch is given, of a hall that is lent.
+    pub(crate) fn cut_lent<H: AnyHall<L>>(
+        &mut self,
+        hall: &mut H,
+        most: Option<u64>,
+    ) -> Result<u64, KeeperError>
         ensures reached { IsReached L.answers (H.state hall.old) }
         ensures own { IfOk result (λ _. IsOwn self.old (H.state hall.old) × (cut_refusal self.old (H.state hall.old) ≡ None)) }
-        ensures cut { IfOk result (λ epoch. (epoch ≡ last_passed (H.state hall.old)) × (H.state hall.new ≡ cut_hall (collected_hall (H.state hall.old)))
+        ensures cut { IfOk result (λ epoch. (epoch ≡ cut_place most (H.state hall.old)) × (H.state hall.new ≡ cut_hall_up_to most (collected_hall (H.state hall.old)))
             × (self.new ≡ with_cut (with_collected self.old (H.state hall.old)) (H.state hall.new))) }
         ensures base { IfOk result (λ epoch. self.new.base ≡ epoch) }
         ensures meaning { IfOk result (λ epoch. self.new.base_states ≡ states_after L.answers (tree_of self.old.plan) self.old.standing.states (batches_of self.old.standing.submitted) (epoch - self.old.standing.epoch)) }
@@ -69,17 +93,21 @@ impl<D: Disk, L: Law> Keeper<D, L> {
         base_has_passed::<L>();
         each_is_sound(hall);
         if self.owns(hall) {
-            self.cut_own(hall)
+            self.cut_own(hall, most)
         } else {
             Err(KeeperError::Foreign)
         }
     }
 
-    /// As `cut`, of a hall that is known to be this keeper's, and is so after it too. Refusals: `NotPassed`, `CutWaiting` and `Memory`.
-    pub(crate) fn cut_own<H: AnyHall<L>>(&mut self, hall: &mut H) -> Result<u64, KeeperError>
+    /// As `cut_lent`, of a hall that is known to be this keeper's, and is so after it too. Refusals: `NotPassed`, `CutWaiting` and `Memory`.
+    pub(crate) fn cut_own<H: AnyHall<L>>(
+        &mut self,
+        hall: &mut H,
+        most: Option<u64>,
+    ) -> Result<u64, KeeperError>
         requires { IsOwn self.old (H.state hall.old) }
         ensures accepted { IfOk result (λ _. cut_refusal self.old (H.state hall.old) ≡ None) }
-        ensures cut { IfOk result (λ epoch. (epoch ≡ last_passed (H.state hall.old)) × (H.state hall.new ≡ cut_hall (collected_hall (H.state hall.old)))
+        ensures cut { IfOk result (λ epoch. (epoch ≡ cut_place most (H.state hall.old)) × (H.state hall.new ≡ cut_hall_up_to most (collected_hall (H.state hall.old)))
             × (self.new ≡ with_cut (with_collected self.old (H.state hall.old)) (H.state hall.new))) }
         ensures base { IfOk result (λ epoch. self.new.base ≡ epoch) }
         ensures meaning { IfOk result (λ epoch. self.new.base_states ≡ states_after L.answers (tree_of self.old.plan) self.old.standing.states (batches_of self.old.standing.submitted) (epoch - self.old.standing.epoch)) }
@@ -97,7 +125,7 @@ impl<D: Disk, L: Law> Keeper<D, L> {
         self.collects_what_is_meant(hall);
         self.bring_in(hall)?;
         each_is_sound(hall);
-        let last = match self.place_of_cut(hall) {
+        let last = match self.place_of_cut(hall, most) {
             Ok(last) => last,
             Err(refusal) => return Err(refusal),
         };
@@ -125,11 +153,11 @@ impl<D: Disk, L: Law> Keeper<D, L> {
         let _collected = self.collected;
     }
 
-    /// At which epoch a hall of this keeper's is to be cut. Refusals: `NotPassed`, then `CutWaiting`.
-    fn place_of_cut<H: AnyHall<L>>(&self, hall: &H) -> Result<u64, KeeperError>
+    /// At which epoch a hall of this keeper's is to be cut, up to one if it is given. Refusals: `NotPassed`, then `CutWaiting`.
+    fn place_of_cut<H: AnyHall<L>>(&self, hall: &H, most: Option<u64>) -> Result<u64, KeeperError>
         requires { IsOwn self.now (H.state hall.now) }
         ensures accepted { IfOk result (λ _. cut_refusal self.now (H.state hall.now) ≡ None) }
-        ensures epoch { IfOk result (λ epoch. epoch ≡ last_passed (H.state hall.now)) }
+        ensures epoch { IfOk result (λ epoch. epoch ≡ cut_place most (H.state hall.now)) }
         ensures refused { IfErr result (λ e. cut_refusal self.now (H.state hall.now) ≡ Some e) }
     {
         each_is_sound(hall);
@@ -146,7 +174,17 @@ impl<D: Disk, L: Law> Keeper<D, L> {
         if waits {
             Err(KeeperError::CutWaiting)
         } else {
-            Ok(last)
+            Ok(place_between(base, last, most))
         }
+    }
+}
+
+/// Where to cut between a base and the last epoch up to which all have passed, up to an epoch if one is given.
+fn place_between(base: u64, last: u64, most: Option<u64>) -> u64
+    ensures { result ≡ place_between base last most }
+{
+    match most {
+        Some(most) => base.max(most.min(last)),
+        None => last,
     }
 }

@@ -91,6 +91,7 @@ impl<D: Disk, L: Law> Keeper<D, L> {
             Command::Settle => Reply::of_settle(self.settle_in(rt, pool)),
             Command::Collect => Reply::of_collect(self.collect_in(rt, pool)),
             Command::Cut => Reply::of_cut(self.cut_in(rt, pool)),
+            Command::CutUpTo(epoch) => Reply::of_cut(self.cut_up_to_in(rt, pool, epoch)),
             other => self.obey_without_hall(other),
         }
     }
@@ -126,7 +127,11 @@ impl<D: Disk, L: Law> Keeper<D, L> {
                 Ok(()) => Reply::Closed,
                 Err(error) => refused(error, None),
             },
-            Command::Release | Command::Settle | Command::Collect | Command::Cut => unreachable!(),
+            Command::Release
+            | Command::Settle
+            | Command::Collect
+            | Command::Cut
+            | Command::CutUpTo(_) => unreachable!(),
         }
     }
 }

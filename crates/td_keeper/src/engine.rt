@@ -157,7 +157,14 @@ impl<'a, D: Disk, L: Law, C: Closures<L>, R> Obey<D, L, R> for Engine<'a, D, L, 
         run_joins::<L>();
         each_is_kept(&self.keeper);
         td_core::laws::each_is_sound(&self.hall);
-        self.keeper.cut_own(&mut self.hall)
+        self.keeper.cut_own(&mut self.hall, None)
+    }
+
+    fn cut_up_to(&mut self, _rt: &R, epoch: u64) -> Result<u64, KeeperError> {
+        run_joins::<L>();
+        each_is_kept(&self.keeper);
+        td_core::laws::each_is_sound(&self.hall);
+        self.keeper.cut_own(&mut self.hall, Some(epoch))
     }
 
     fn next_out(&mut self) -> Option<EpochOut> {

@@ -60,7 +60,7 @@ impl<D: Disk, L: Law> Model for Keeper<D, L> {
     ghost use Rattle.td_journal.specs.Numbers.{greatest};
     ghost use Rattle.td_standing.specs.Standing.{standing_from};
     ghost use Rattle.td_standing.specs.Advanced.{HeldWhere};
-    ghost use Rattle.td_keeper.specs.Keeping.{Keeping, IsKeeping, keeping_of};
+    ghost use Rattle.td_keeper.specs.Keeping.{Keeping, IsKeeping, KeepsToWhere, base_of, keeping_of};
 
     ghost Value = { Keeping D };
 
@@ -70,7 +70,8 @@ impl<D: Disk, L: Law> Model for Keeper<D, L> {
         × IsKeeping (keeping_of k.device k.plan k.head k.checkpoint k.submitted.items k.broken k.taken k.collected k.queue.items k.watch) L.answers
         × (D.is_lawful k.device
         → HeldWhere k.broken L.answers k.plan k.head k.checkpoint.slot (standing_from k.checkpoint k.submitted.items) (D.state k.device))
-        × (k.last_request ≡ greatest k.checkpoint.last k.submitted.items) };
+        × (k.last_request ≡ greatest k.checkpoint.last k.submitted.items)
+        × (D.is_lawful k.device → KeepsToWhere k.broken k.plan (base_of k.checkpoint k.taken) (D.state k.device)) };
 }
 
 impl<D: Disk, L: Law> Keeper<D, L> {

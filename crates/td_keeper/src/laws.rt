@@ -6,7 +6,7 @@ ghost use Rattle.td_standing.specs.Read.{Stood};
 ghost use Rattle.td_journal.specs.declared.submitted.Submitted.{Submitted as AnySubmitted};
 ghost use Rattle.td_standing.specs.Stops.{Stands};
 ghost use Rattle.td_standing.specs.Advanced.{HeldWhere, states_by};
-ghost use Rattle.td_keeper.specs.Keeping.{Keeping, IsKeeping};
+ghost use Rattle.td_keeper.specs.Keeping.{Keeping, IsKeeping, EachKeepsTo, KeepsToWhere};
 ghost use Rattle.td_keeper.specs.declared.command.Command.{Command as AnyCommand};
 ghost use Rattle.td_keeper.specs.declared.command.Reply.{Reply as AnyReply};
 ghost use Rattle.td_keeper.specs.Acknowledged.{acknowledged_by, outs_of, HandsOutUpTo, Acknowledges, TellsWork};
@@ -42,6 +42,25 @@ pub fn each_disk_holds<D: Disk, L: Law>(keeper: &Keeper<D, L>)
 {
     // Read for its contract alone.
     let _collected = keeper.collected;
+}
+
+/// After a fault of the device in a call that writes, nothing is kept beyond a keeper's base.
+fn each_stops_short<D: Disk, L: Law>(keeper: &Keeper<D, L>)
+    ensures { D.is_lawful keeper.now.device
+        → KeepsToWhere keeper.now.broken keeper.now.plan keeper.now.base (D.state keeper.now.device) }
+{
+    // Read for its contract alone.
+    let _collected = keeper.collected;
+}
+
+/// Whatever a crash leaves of a keeper's lawful disk, nothing is kept beyond the keeper's base, which is the last cut that it took.
+pub fn each_keeps_to_its_base<D: Disk, L: Law>(keeper: &Keeper<D, L>)
+    ensures { D.is_lawful keeper.now.device → EachKeepsTo keeper.now.plan keeper.now.base (D.state keeper.now.device) }
+{
+    laws::told_in_parts();
+    each_is_kept(keeper);
+    each_disk_holds(keeper);
+    each_stops_short(keeper);
 }
 
 /// Whatever a crash leaves of a keeper's lawful disk tells a request number at least as great as the keeper's last one, also

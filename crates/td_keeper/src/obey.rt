@@ -1,5 +1,5 @@
 //! A keeper at work: with a hall of its own, or beside the workers of a pool.
-ghost use Rattle.std.specs.Prelude.{◌≡◌, ◌↔◌, Bool, true, false};
+ghost use Rattle.std.specs.Prelude.{◌≡◌, ◌↔◌, Bool, true, false, Some, None};
 ghost use Rattle.td_machine.specs.State.{HallState};
 ghost use Rattle.td_keeper.specs.Keeping.{Keeping};
 ghost use Rattle.td_keeper.specs.declared.command.Command.TheVariants.{Release, Settle, Collect, Cut};
@@ -50,8 +50,12 @@ pub trait Obey<D: Disk, L: Law, R> {
 
     /// Cuts the hall, and answers at which epoch: the cut waits to be written.
     fn cut(&mut self, rt: &R) -> Result<u64, KeeperError>
-        ensures cut { Cuts D.is_lawful D.state D.failures L.answers (cut result) (keeping self.old) (keeping self.new) }
+        ensures cut { Cuts D.is_lawful D.state D.failures L.answers None (cut result) (keeping self.old) (keeping self.new) }
         ensures own { alone ≡ true → ComesOf Cut (cut result) (keeping self.old) (hall self.old) (keeping self.new) (hall self.new) };
+
+    /// Cuts the hall at no epoch above this one, and answers at which: the cut waits to be written.
+    fn cut_up_to(&mut self, rt: &R, epoch: u64) -> Result<u64, KeeperError>
+        ensures cut { Cuts D.is_lawful D.state D.failures L.answers (Some epoch) (cut result) (keeping self.old) (keeping self.new) };
 
     /// Hands out the outputs of the first epoch of those that were collected and not yet handed out; None where there is none.
     fn next_out(&mut self) -> Option<EpochOut>
@@ -76,6 +80,7 @@ pub trait Obey<D: Disk, L: Law, R> {
             Command::Settle => Reply::of_settle(self.settle(rt)),
             Command::Collect => Reply::of_collect(self.collect(rt)),
             Command::Cut => Reply::of_cut(self.cut(rt)),
+            Command::CutUpTo(epoch) => Reply::of_cut(self.cut_up_to(rt, epoch)),
             other => self.obey_without_hall(other),
         }
     }

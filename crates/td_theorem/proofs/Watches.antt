@@ -9,7 +9,7 @@ use Rattle.td_journal.specs.declared.submitted.Submitted.{Submitted as AnySubmit
 use Rattle.td_standing.specs.declared.error.KeeperError.{KeeperError}
 use Rattle.td_watch.specs.View.{View}
 use Rattle.td_keeper.specs.declared.command.Command.{Command}
-use Rattle.td_keeper.specs.declared.command.Command.TheVariants.{Submit, SubmitAs, SubmitAll, Release, Settle, Collect, NextOut, Cut, WriteCut, CloseFree}
+use Rattle.td_keeper.specs.declared.command.Command.TheVariants.{Submit, SubmitAs, SubmitAll, Release, Settle, Collect, NextOut, Cut, CutUpTo, WriteCut, CloseFree}
 use Rattle.td_keeper.specs.declared.command.Reply.{Reply}
 use Rattle.td_keeper.specs.declared.command.Reply.TheVariants.{Submitted, SubmittedAs, SubmittedAll, Released, Settled, Collected, Out, CutTaken, Written, Closed, Refused, RefusedAll}
 use Rattle.td_keeper.specs.declared.receipt.Receipt.{Receipt}
@@ -159,22 +159,22 @@ module _ {D : Type 0} (is_lawful : D → Type 0) (state : D → DiskState) (fail
   not_cut : (e : KeeperError) (old new : Keeping D) → IsNotCut is_lawful state failures answers e old new → IsNotCut is_lawful state failures answers e (unwatched old) (unwatched new)
   not_cut e old new r = record { hall = r.hall; brings = brings old r.hall r.brings; cause = r.cause; collected = ap unwatched r.collected }
 
-  cuts : (reply : Reply) (old new : Keeping D) → Cuts is_lawful state failures answers reply old new → Cuts is_lawful state failures answers reply (unwatched old) (unwatched new)
-  cuts (CutTaken n) old new r = record {
+  cuts : (most : Option ℕ) (reply : Reply) (old new : Keeping D) → Cuts is_lawful state failures answers most reply old new → Cuts is_lawful state failures answers most reply (unwatched old) (unwatched new)
+  cuts most (CutTaken n) old new r = record {
     hall = r.hall;
     brings = brings old r.hall r.brings;
     accepted = r.accepted;
-    last = r.last;
+    place = r.place;
     base = r.base;
     cut = ap unwatched r.cut;
     states = r.states;
   }
-  cuts (Refused e back) old new r = (
+  cuts most (Refused e back) old new r = (
     r.0,
     either r.1 (λ foreign. (foreign.0, finds old new foreign.1 (λ S is his. is (was_own old S his))))
         (λ later. either later (λ memory. (memory.0, finds old new memory.1 (λ S is. own old S is))) (λ none. not_cut e old new none)),
   )
-  cuts other old new r = absurd r
+  cuts most other old new r = absurd r
 
   writes : (reply : Reply) (old new : Keeping D) → Writes is_lawful state failures answers reply old new → Writes is_lawful state failures answers reply (unwatched old) (unwatched new)
   writes (Written w) old new r = record {
@@ -210,7 +210,8 @@ module _ {D : Type 0} (is_lawful : D → Type 0) (state : D → DiskState) (fail
   obeys Settle reply old new is = settles reply old new is
   obeys Collect reply old new is = collects reply old new is
   obeys NextOut reply old new is = hands_out reply old new is
-  obeys Cut reply old new is = cuts reply old new is
+  obeys Cut reply old new is = cuts None reply old new is
+  obeys (CutUpTo epoch) reply old new is = cuts (Some epoch) reply old new is
   obeys WriteCut reply old new is = (writes reply old new is.0, may_write reply old new _ is.1)
   obeys (CloseFree most) reply old new is = (closes most reply old new is.0, may_write reply old new _ is.1)
 

@@ -1,5 +1,5 @@
 -- What clap makes of the program's words, of which the first is the program's name.
-use Rattle.std.specs.Prelude.{◌≡◌, ◌≢◌, ℕ, ◌≤◌, pos, List, [], ◌∷◌, Option, Some, None, option_map, Bool, true, false, ◌&&◌, ◌||◌, IsTrue, codes}
+use Rattle.std.specs.Prelude.{◌≡◌, ◌≢◌, ℕ, ◌≤◌, pos, List, [], ◌∷◌, Option, Some, None, option_map, Bool, true, false, ◌&&◌, ◌||◌, not, IsTrue, codes}
 use Rattle.std.specs.Borrow.{Bor}
 use Rattle.std.specs.Str.{bytes_eq}
 use Rattle.std.specs.Str.Parse.{IsNumeral, digits_value, without_leading_plus}
@@ -110,8 +110,8 @@ abbrev pub load_app : App
 load_app = with_rule (with_rule (with_shape (with_rule (with_rule (new_app (codes "load")) (word_rule (codes "new"))) (word_rule (codes "plan")))) map_rule) closures_rule
 
 abbrev pub stream_app : App
-stream_app = with_rule (with_rule (with_rule (with_rule (with_rule (with_rule (with_files (new_app (codes "stream"))) workers_rule) cut_every_rule) most_rule) (flag_rule (codes "progress")))
-    (flag_rule (codes "marks"))) (flag_rule (codes "refuse"))
+stream_app = with_rule (with_rule (with_rule (with_rule (with_rule (with_rule (with_rule (with_files (new_app (codes "stream"))) workers_rule) cut_every_rule) most_rule) (flag_rule (codes "progress")))
+    (flag_rule (codes "marks"))) (flag_rule (codes "refuse"))) (flag_rule (codes "hold"))
 
 abbrev pub plan_app : App
 plan_app = with_rule (with_rule (with_rule (new_app (codes "plan")) (word_rule (codes "plan"))) (flag_rule (codes "dot"))) closures_rule
@@ -162,7 +162,7 @@ abbrev pub cutting_words : List (List ℕ)
 cutting_words = codes "td" ∷ codes "stream" ∷ codes "d" ∷ codes "p" ∷ codes "--cut-every" ∷ codes "4" ∷ codes "--most" ∷ codes "5" ∷ []
 
 abbrev pub telling_words : List (List ℕ)
-telling_words = codes "td" ∷ codes "stream" ∷ codes "d" ∷ codes "p" ∷ codes "--progress" ∷ codes "--marks" ∷ codes "--refuse" ∷ []
+telling_words = codes "td" ∷ codes "stream" ∷ codes "d" ∷ codes "p" ∷ codes "--progress" ∷ codes "--marks" ∷ codes "--refuse" ∷ codes "--hold" ∷ []
 
 -- the number that a subcommand has at a name, where clap says so: in decimal, as Rust reads it, and between these
 abbrev pub IsNumber : Text → ℕ → ℕ → List Row → ℕ → Type 0
@@ -223,12 +223,16 @@ name_of (Upgrade disk plan) = codes "upgrade"
 name_of (Copy disk plan new m n k until) = codes "copy"
 name_of (States disk plan) = codes "states"
 name_of (Load new plan m n k map closures) = codes "load"
-name_of (Stream disk plan workers cut_every most progress marks refuse) = codes "stream"
+name_of (Stream disk plan workers cut_every most progress marks refuse hold) = codes "stream"
 name_of (Plan plan dot closures) = codes "plan"
 name_of (Help text) = codes "help"
 name_of Version = codes "version"
 name_of Faults = codes "faults"
 name_of Language = codes "closures"
+
+-- outputs are held only where epochs are marked
+abbrev pub may_hold : Bool → Bool → Bool
+may_hold marks hold = marks || not hold
 
 abbrev pub HasValues : List Row → Job → Type 0
 HasValues rows (Batch closures) = IsClosures rows closures
@@ -249,8 +253,9 @@ HasValues rows (States disk plan) = (first_of (codes "disk") rows ≡ Some disk.
 HasValues rows (Load new plan m n k map closures) = (first_of (codes "new") rows ≡ Some new.now) × (first_of (codes "plan") rows ≡ Some plan.now)
     × IsNumber (codes "m") 0 4294967295 rows m × IsNumber (codes "n") 0 4294967295 rows n × IsNumber (codes "k") 0 4294967295 rows k
     × IsMap rows map × IsClosures rows closures
-HasValues rows (Stream disk plan workers cut_every most progress marks refuse) = (first_of (codes "disk") rows ≡ Some disk.now) × (first_of (codes "plan") rows ≡ Some plan.now)
+HasValues rows (Stream disk plan workers cut_every most progress marks refuse hold) = (first_of (codes "disk") rows ≡ Some disk.now) × (first_of (codes "plan") rows ≡ Some plan.now)
     × IsWorkers rows workers × IsCutEvery rows cut_every × IsMost rows most × IsFlag (codes "progress") rows progress × IsFlag (codes "marks") rows marks × IsFlag (codes "refuse") rows refuse
+    × IsFlag (codes "hold") rows hold × (may_hold marks hold ≡ true)
 HasValues rows (Plan plan dot closures) = (first_of (codes "plan") rows ≡ Some plan.now) × IsFlag (codes "dot") rows dot × IsClosures rows closures
 HasValues rows (Help text) = ⊥
 HasValues rows Version = ⊥
@@ -274,7 +279,7 @@ abbrev pub HasWorkers : Job → Type 0
 HasWorkers (Run workers closures) = (1 ≤ workers) × (workers ≤ 16)
 HasWorkers (Sim workers picks closures) = (1 ≤ workers) × (workers ≤ 16)
 HasWorkers (Feed disk plan workers) = (1 ≤ workers) × (workers ≤ 16)
-HasWorkers (Stream disk plan workers cut_every most progress marks refuse) = (1 ≤ workers) × (workers ≤ 16)
+HasWorkers (Stream disk plan workers cut_every most progress marks refuse hold) = (1 ≤ workers) × (workers ≤ 16)
 HasWorkers _ = Unit {0}
 
 -- the words ask for no job, nor for help alone
@@ -302,6 +307,6 @@ abbrev pub IsCopy : Text → Text → Text → ℕ → ℕ → ℕ → Option �
 IsCopy a b c x y z e (Copy disk plan new m n k until) = (disk.now ≡ a) × (plan.now ≡ b) × (new.now ≡ c) × (m ≡ x) × (n ≡ y) × (k ≡ z) × (until ≡ e)
 IsCopy a b c x y z e _ = ⊥
 
-abbrev pub IsStream : Text → Text → ℕ → Option ℕ → Option ℕ → Bool → Bool → Bool → Job → Type 0
-IsStream a b w e r t s f (Stream disk plan workers cut_every most progress marks refuse) = (disk.now ≡ a) × (plan.now ≡ b) × (workers ≡ w) × (cut_every ≡ e) × (most ≡ r) × (progress ≡ t) × (marks ≡ s) × (refuse ≡ f)
-IsStream a b w e r t s f _ = ⊥
+abbrev pub IsStream : Text → Text → ℕ → Option ℕ → Option ℕ → Bool → Bool → Bool → Bool → Job → Type 0
+IsStream a b w e r t s f h (Stream disk plan workers cut_every most progress marks refuse hold) = (disk.now ≡ a) × (plan.now ≡ b) × (workers ≡ w) × (cut_every ≡ e) × (most ≡ r) × (progress ≡ t) × (marks ≡ s) × (refuse ≡ f) × (hold ≡ h)
+IsStream a b w e r t s f h _ = ⊥

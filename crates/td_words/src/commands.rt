@@ -94,6 +94,9 @@ const MARKS: &str = "Write 'done EPOCH' after the output lines of each epoch";
 const REFUSE: &str =
     "Refuse an epoch with a fault, and go on: write 'no REQUEST LINE: WHAT' at its '.'";
 
+const HOLD: &str =
+    "With --marks: keep each epoch until a line 'seen EPOCH' says that its outputs are stored";
+
 /// The greatest epoch, and the greatest count of deliveries.
 pub(crate) const GREATEST: u64 = 9_223_372_036_854_775_807;
 
@@ -225,10 +228,12 @@ Writes: DISK, and, of all epochs that are closed and before it waits for more li
         --cut-every E, and in any case before the room for epochs on DISK is full;
         with --marks, 'done EPOCH' after the output lines of an epoch, also where it has none;
         with --refuse, 'no REQUEST LINE: WHAT' for an epoch with a fault, and '-' where it has no request number;
+        with --hold, no cut beyond the last EPOCH of a line 'seen EPOCH', and 'full EPOCH' where DISK is full up to EPOCH;
         with --progress, to standard error, 'acked EPOCH done EPOCH kept EPOCH': the last epoch on DISK, computed, and cut
 A cut keeps the states on DISK, and frees the room of the epochs up to it
 Common faults:
         'line 9: syntax': no record, or a 'cut' inside an epoch; what stands before it was fed
+        'line 9: outputs not written yet', 'line 9: a later epoch was seen': EPOCH of 'seen EPOCH' is too great, or too small
         'too many keys: K is 3': at a cut there are more than K states; copy DISK to one with a larger K
         'file: DISK: locked by another process': another td has DISK open
         'another plan: DISK': DISK was formatted for another plan than PLAN
@@ -423,7 +428,8 @@ fn stream_leaf<'a>(alloc: Global) -> Result<Command<'a>, AllocError>
     let leaf = with_arg(leaf, option_arg(alloc, "most", "R", 1, GREATEST, MOST))?;
     let leaf = with_arg(leaf, flag_arg(alloc, "progress", PROGRESS))?;
     let leaf = with_arg(leaf, flag_arg(alloc, "marks", MARKS))?;
-    with_arg(leaf, flag_arg(alloc, "refuse", REFUSE))
+    let leaf = with_arg(leaf, flag_arg(alloc, "refuse", REFUSE))?;
+    with_arg(leaf, flag_arg(alloc, "hold", HOLD))
 }
 
 /// `plan`.

@@ -11,7 +11,7 @@ use td_calls::{Closures, Law};
 use td_console::{Fault, Source};
 use td_disk::Disk;
 use td_feed as disk_engine;
-use td_feed::Voice;
+use td_feed::{StreamOptions, Voice};
 use td_formula::{Beside, BesideCalls, Closure, Formulas, WrittenCalls};
 use td_plan::Plan;
 use td_watch::Writer;
@@ -59,9 +59,7 @@ pub fn stream<
     disk: D,
     plan: &Plan,
     workers: u8,
-    cut_every: Option<u32>,
-    most: Option<u64>,
-    refuse: bool,
+    options: StreamOptions,
     reader: I,
     writer: &mut W,
     watch: Option<Writer>,
@@ -72,11 +70,10 @@ pub fn stream<
     requires most { workers ≤ 16 }
     requires unpublished { IfSome watch (λ w. w.words ≡ 0 ∷ 0 ∷ 0 ∷ []) }
     ensures { StreamsBy (stored_beside L.answers C.has_map C.has_group C.has_fold below closures.items) D.capacity D.is_lawful D.state D.failures I.remaining
-        W.contents W.marks plan.now refuse (workers == 1) disk result.0 reader writer.old writer.new result.1 }
+        W.contents W.marks plan.now options.refuse options.hold (workers == 1) disk result.0 reader writer.old writer.new result.1 }
 {
     stream_by::<Brand, D, I, W, L, C, R>(
-        rt, alloc, disk, plan, workers, cut_every, most, refuse, reader, writer, watch, below,
-        closures,
+        rt, alloc, disk, plan, workers, options, reader, writer, watch, below, closures,
     )
 }
 
@@ -128,9 +125,7 @@ fn stream_by<
     disk: D,
     plan: &Plan,
     workers: u8,
-    cut_every: Option<u32>,
-    most: Option<u64>,
-    refuse: bool,
+    options: StreamOptions,
     reader: I,
     writer: &mut W,
     watch: Option<Writer>,
@@ -142,11 +137,11 @@ fn stream_by<
     requires most { workers ≤ 16 }
     requires unpublished { IfSome watch (λ w. w.words ≡ 0 ∷ 0 ∷ 0 ∷ []) }
     ensures { StreamsBy (stored_beside L.answers C.has_map C.has_group C.has_fold below F.closures) D.capacity D.is_lawful D.state D.failures I.remaining
-        W.contents W.marks plan.now refuse (workers == 1) disk result.0 reader writer.old writer.new result.1 }
+        W.contents W.marks plan.now options.refuse options.hold (workers == 1) disk result.0 reader writer.old writer.new result.1 }
 {
     let above = WrittenCalls::<F>::new(closures);
     let calls = BesideCalls { below, above };
     disk_engine::stream::<D, I, W, Beside<L, F>, BesideCalls<C, F>, R>(
-        rt, alloc, disk, plan, workers, cut_every, most, refuse, reader, writer, watch, &calls,
+        rt, alloc, disk, plan, workers, options, reader, writer, watch, &calls,
     )
 }

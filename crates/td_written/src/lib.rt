@@ -8,4 +8,5 @@ mod text;
 
 pub use durable::{feed, stream};
 pub use engine::{batch, run, sim};
+pub use td_feed::StreamOptions;
 pub use text::text_in;

@@ -9,6 +9,8 @@ use Rattle.td_feed.specs.Session.{KeepsDisk, FeedsScript}
 use Rattle.td_feed.proofs.Carrying.{ok_only, ended_ok}
 use Rattle.td_feed.proofs.Counting.{memory_no_device, epochs_no_device}
 use Rattle.td_feed.proofs.Session.{in_some_is, disk_same, disk_ended, none_fed, fed_ended}
+use Rattle.td_feed.specs.Held.{KeepsTo, seen_at, then_seen}
+use Rattle.td_feed.proofs.Held.{base_itself, keeps_same}
 use Rattle.td_feed.proofs.alone.obey_alone.Goals as goal
 
 pub returns-then-is_at_last_number-clause-disk : goal.returns-then-is_at_last_number-clause-disk
@@ -57,3 +59,20 @@ returns-clause-all_out g c =
     let r = c.ended_as.result in
     ended_ok (IsAllOut c.into_keeper-keeper.result.0) tt obeyed r (ok_only (obeyed ≡ Ok tt) (c.worked_until.result ≡ Ok tt) r c.ended_as.ensures.ok)
     (subst (λ (k : Keeping g.row.D.Denot). OnOk obeyed (IsAllOut k)) (sym c.into_keeper-keeper.ensures) (c.obey_each-obeyed.ensures.all_out refl))
+
+pub returns-then-is_at_last_number-clause-held : goal.returns-then-is_at_last_number-clause-held
+returns-then-is_at_last_number-clause-held g c = in_some_is (g.S.Asking.script c.args.orders) (λ s is. keeps_same (then_seen (seen_at c.args.feeding.pace c.args.keeper.standing.epoch) s.orders) (base_itself c.args.keeper))
+
+pub returns-in-Err-clause-held : goal.returns-in-Err-clause-held
+returns-in-Err-clause-held g c =
+    in_some_is (g.S.Asking.script c.args.orders)
+    (λ s is. subst (λ (k : Keeping g.row.D.Denot). KeepsTo (then_seen (seen_at c.args.feeding.pace c.args.keeper.standing.epoch) s.orders) c.args.keeper k) (sym c.in-Err.ensures.refused.1)
+    (keeps_same (then_seen (seen_at c.args.feeding.pace c.args.keeper.standing.epoch) s.orders) (base_itself c.args.keeper)))
+
+pub returns-clause-held : goal.returns-clause-held
+returns-clause-held g c =
+    let pace = c.args.feeding.pace in
+    let new = c.into_keeper-keeper.result.0 in
+    IfSome_then (g.S.Asking.script c.args.orders) c.obey_each-obeyed.ensures.held
+    (λ s held. subst (λ (k : Keeping g.row.D.Denot). KeepsTo (then_seen (seen_at pace k.standing.epoch) s.orders) k new) c.in-Ok.ensures.same
+    (subst (λ (k : Keeping g.row.D.Denot). KeepsTo (then_seen (seen_at pace c.in-Ok.engine.keeping.standing.epoch) s.orders) c.in-Ok.engine.keeping k) (sym c.into_keeper-keeper.ensures) held))

@@ -1,4 +1,4 @@
-use Rattle.std.proofs.Common.{◌≡◌, ◌++◌, List, [], true, refl, sym, ap, ◌∙◌, subst, inr, None}
+use Rattle.std.proofs.Common.{◌≡◌, ℕ, Option, ◌++◌, List, [], true, refl, sym, ap, ◌∙◌, subst, inr, None}
 use Rattle.std.specs.Prelude.{Err}
 use Rattle.td_console.specs.declared.faults.Fault.{Fault}
 use Rattle.td_console.specs.declared.faults.Fault.TheVariants.{Keeper}
@@ -10,10 +10,12 @@ use Rattle.td_keeper.specs.Keeping.{Keeping}
 use Rattle.td_feed.specs.Carried.{new_to, Carries, Leaves}
 use Rattle.td_feed.specs.Said.{Says, SaysBy}
 use Rattle.td_feed.specs.Session.{KeepsDisk}
+use Rattle.td_feed.specs.Held.{KeepsTo, seen_at, then_seen}
+use Rattle.td_feed.proofs.Held.{base_itself, keeps_same, keeps_on}
 use Rattle.td_feed.proofs.Carrying.{at_ok, at_err}
 use Rattle.td_feed.proofs.Counting.{as_err, other_fault, memory_no_device}
 use Rattle.td_feed.proofs.Lines.{says_nothing, some_of_all, some_of_more, by_refusal, handed_on}
-use Rattle.td_feed.proofs.Obeyed.{none_obeyed, some_obeyed, some_refused, notes_left, notes_there, left_there, is_sound, at_end_carried, at_end_left, at_end_said, none_left, none_of}
+use Rattle.td_feed.proofs.Obeyed.{HasObeyed, none_obeyed, some_obeyed, some_held, held_there, some_refused, notes_left, notes_there, left_there, is_sound, at_end_carried, at_end_left, at_end_said, none_left, none_of}
 use Rattle.td_feed.proofs.Session.{done, known, in_some_is, disk_same, disk_then, disk_handed, none_fed, err_fed}
 use Rattle.td_feed.proofs.in_turn.obey_each.Goals as goal
 
@@ -61,11 +63,18 @@ loop-asked-init g c =
     let new = g.E.Obey.keeping c.begin.new.engine in
     let same = c.allow.ensures in
     let fed = c.in_ok-begin.ensures.fed in
+    let script = g.S.Asking.script c.args.orders.now in
+    let old = g.E.Obey.keeping c.args.engine.now in
+    let pace = c.args.feeding.pace in
+    let first : Option ℕ = c.first_seen-seen.result in
+    let is : first ≡ seen_at pace old.standing.epoch = c.first_seen-seen.ensures ∙ ap (λ (k : Keeping g.row.D.Denot). seen_at pace k.standing.epoch) c.keeper.ensures in
     record {
       obeyed =
-          none_obeyed is_lawful state failures answers marks (g.S.Asking.script c.args.orders.now) v w (g.E.Obey.keeping c.args.engine.now) new
+          subst (λ (f : Option ℕ). HasObeyed is_lawful state failures answers marks script script v w old new f first) is
+          (none_obeyed is_lawful state failures answers marks script v w old new first
           (subst (λ (k : Keeping g.row.D.Denot). Says is_lawful state failures answers marks v w k new [] []) same fed.said)
-          (subst (λ (k : Keeping g.row.D.Denot). Carries answers k new []) same fed.carried);
+          (subst (λ (k : Keeping g.row.D.Denot). Carries answers k new []) same fed.carried)
+          (subst (λ (k : Keeping g.row.D.Denot). KeepsTo first k new) same c.begin.ensures.held));
       disk = subst (λ (k : Keeping g.row.D.Denot). KeepsDisk g.D.Disk.capacity is_lawful failures done k.device new.device) same c.in_ok-begin.ensures.disk;
     }
 
@@ -88,13 +97,62 @@ returns-in_err-asked-clause-fed g c =
     let v = g.W.Sink.contents c.loop-asked.writer in
     let old = g.E.Obey.keeping c.args.engine.now in
     let there = g.E.Obey.keeping c.loop-asked.engine in
+    let first = seen_at c.args.feeding.pace (g.E.Obey.keeping c.args.engine.now).standing.epoch in
+    let seen = c.loop-asked.seen in
     let so = c.loop-asked.invariant.obeyed in
     let r = c.from_residual-in_err-asked.result in
     in_some_is script
     (λ s is. err_fed _ r c.from_residual-in_err-asked.ensures.1
-    (known _ script s is (left_there is_lawful state failures answers marks script left left u v old there so))
+    (known _ script s is (left_there is_lawful state failures answers marks script left left u v old there first seen so))
     (by_refusal is_lawful state failures answers marks r (λ (f : Fault). f ≡ c.in_err-asked.field-0.0) u v old there (new_to old (submissions s.orders)) (notes_in s.orders) c.from_residual-in_err-asked.ensures.1
-    (λ f holds. let later : (m : List Note) × (notes_in so.done ++ m ≡ notes_in s.orders) = known _ script s is (notes_there is_lawful state failures answers marks script left left u v old there so) in inr (some_of_more is_lawful state failures answers marks u v old there (notes_in so.done) later.0 (notes_in s.orders) later.1 (some_of_all is_lawful state failures answers marks u v old there (new_to old (submissions so.done)) (notes_in so.done) so.said)))))
+    (λ f holds. let later : (m : List Note) × (notes_in so.done ++ m ≡ notes_in s.orders) = known _ script s is (notes_there is_lawful state failures answers marks script left left u v old there first seen so) in inr (some_of_more is_lawful state failures answers marks u v old there (notes_in so.done) later.0 (notes_in s.orders) later.1 (some_of_all is_lawful state failures answers marks u v old there (new_to old (submissions so.done)) (notes_in so.done) so.said)))))
+
+pub returns-in_err-asked-clause-held : goal.returns-in_err-asked-clause-held
+returns-in_err-asked-clause-held g c =
+    let first = seen_at c.args.feeding.pace (g.E.Obey.keeping c.args.engine.now).standing.epoch in
+    let script = g.S.Asking.script c.args.orders.now in
+    let left = g.S.Asking.script c.loop-asked.orders in
+    let old = g.E.Obey.keeping c.args.engine.now in
+    let there = g.E.Obey.keeping c.loop-asked.engine in
+    held_there g.D.Disk.is_lawful g.D.Disk.state g.D.Disk.failures g.L.Law.answers g.W.Voice.marks script left left (g.W.Sink.contents c.args.writer.now) (g.W.Sink.contents c.loop-asked.writer) old there first c.loop-asked.seen c.loop-asked.invariant.obeyed there (base_itself there)
+
+pub returns-in_err-next-clause-disk : goal.returns-in_err-next-clause-disk
+returns-in_err-next-clause-disk g c =
+    disk_then c.loop-asked.invariant.disk
+    (disk_same c.from_residual-in_err-next.result refl
+    (other_fault c.from_residual-in_err-next.result (λ (f : Fault). f ≡ c.in_err-next.field-0.0) c.from_residual-in_err-next.ensures.1 (λ is. not_read c.in_err-next.field-0.0 c.in_err-next.ensures.err (sym is))))
+
+pub returns-in_err-next-clause-fed : goal.returns-in_err-next-clause-fed
+returns-in_err-next-clause-fed g c =
+    let is_lawful = g.D.Disk.is_lawful in
+    let state = g.D.Disk.state in
+    let failures = g.D.Disk.failures in
+    let answers = g.L.Law.answers in
+    let marks = g.W.Voice.marks in
+    let script = g.S.Asking.script c.args.orders.now in
+    let left = g.S.Asking.script c.loop-asked.orders in
+    let u = g.W.Sink.contents c.args.writer.now in
+    let v = g.W.Sink.contents c.loop-asked.writer in
+    let old = g.E.Obey.keeping c.args.engine.now in
+    let there = g.E.Obey.keeping c.loop-asked.engine in
+    let first = seen_at c.args.feeding.pace (g.E.Obey.keeping c.args.engine.now).standing.epoch in
+    let seen = c.loop-asked.seen in
+    let so = c.loop-asked.invariant.obeyed in
+    let r = c.from_residual-in_err-next.result in
+    in_some_is script
+    (λ s is. err_fed _ r c.from_residual-in_err-next.ensures.1
+    (known _ script s is (left_there is_lawful state failures answers marks script left left u v old there first seen so))
+    (by_refusal is_lawful state failures answers marks r (λ (f : Fault). f ≡ c.in_err-next.field-0.0) u v old there (new_to old (submissions s.orders)) (notes_in s.orders) c.from_residual-in_err-next.ensures.1
+    (λ f holds. let later : (m : List Note) × (notes_in so.done ++ m ≡ notes_in s.orders) = known _ script s is (notes_there is_lawful state failures answers marks script left left u v old there first seen so) in inr (some_of_more is_lawful state failures answers marks u v old there (notes_in so.done) later.0 (notes_in s.orders) later.1 (some_of_all is_lawful state failures answers marks u v old there (new_to old (submissions so.done)) (notes_in so.done) so.said)))))
+
+pub returns-in_err-next-clause-held : goal.returns-in_err-next-clause-held
+returns-in_err-next-clause-held g c =
+    let first = seen_at c.args.feeding.pace (g.E.Obey.keeping c.args.engine.now).standing.epoch in
+    let script = g.S.Asking.script c.args.orders.now in
+    let left = g.S.Asking.script c.loop-asked.orders in
+    let old = g.E.Obey.keeping c.args.engine.now in
+    let there = g.E.Obey.keeping c.loop-asked.engine in
+    held_there g.D.Disk.is_lawful g.D.Disk.state g.D.Disk.failures g.L.Law.answers g.W.Voice.marks script left left (g.W.Sink.contents c.args.writer.now) (g.W.Sink.contents c.loop-asked.writer) old there first c.loop-asked.seen c.loop-asked.invariant.obeyed there (base_itself there)
 
 pub returns-in_default-clause-disk : goal.returns-in_default-clause-disk
 returns-in_default-clause-disk g c = disk_then c.loop-asked.invariant.disk c.settle.ensures.disk
@@ -113,6 +171,8 @@ returns-in_default-clause-fed g c =
     let v = g.W.Sink.contents c.loop-asked.writer in
     let old = g.E.Obey.keeping c.args.engine.now in
     let there = g.E.Obey.keeping c.loop-asked.engine in
+    let first = seen_at c.args.feeding.pace (g.E.Obey.keeping c.args.engine.now).standing.epoch in
+    let seen = c.loop-asked.seen in
     let so = c.loop-asked.invariant.obeyed in
     let w = g.W.Sink.contents c.settle.new.writer in
     let new = g.E.Obey.keeping c.settle.new.engine in
@@ -120,11 +180,11 @@ returns-in_default-clause-fed g c =
     let asks : Asks left next None = subst (Asks left next) (none_of c.in_ok-asked.field-0 c.in_default.not-Some) c.in_ok-asked.ensures.asked in
     in_some_is script
     (λ s is. record {
-      sound = at_ok r (known _ script s is (is_sound is_lawful state failures answers marks script left next u v old there so asks));
+      sound = at_ok r (known _ script s is (is_sound is_lawful state failures answers marks script left next u v old there first seen so asks));
       fed = record {
-        carried = at_ok r (known _ script s is (at_end_carried is_lawful state failures answers marks script left next u v old there so new asks c.settle.ensures.rests));
-        left = at_err r (known _ script s is (at_end_left is_lawful state failures answers marks script left next u v old there so new asks c.settle.ensures.rests));
-        said = known _ script s is (at_end_said is_lawful state failures answers marks script left next u v old there so r w new asks c.settle.ensures.fed.said);
+        carried = at_ok r (known _ script s is (at_end_carried is_lawful state failures answers marks script left next u v old there first seen so new asks c.settle.ensures.rests));
+        left = at_err r (known _ script s is (at_end_left is_lawful state failures answers marks script left next u v old there first seen so new asks c.settle.ensures.rests));
+        said = known _ script s is (at_end_said is_lawful state failures answers marks script left next u v old there first seen so r w new asks c.settle.ensures.fed.said);
       };
     })
 
@@ -142,6 +202,8 @@ loop-asked-preserved g c =
     let v = g.W.Sink.contents c.loop-asked.writer in
     let old = g.E.Obey.keeping c.args.engine.now in
     let there = g.E.Obey.keeping c.loop-asked.engine in
+    let first = seen_at c.args.feeding.pace (g.E.Obey.keeping c.args.engine.now).standing.epoch in
+    let seen = c.loop-asked.seen in
     let so = c.loop-asked.invariant.obeyed in
     let w = g.W.Sink.contents c.obey_at_pace.new.writer in
     let new = g.E.Obey.keeping c.obey_at_pace.new.engine in
@@ -150,7 +212,8 @@ loop-asked-preserved g c =
     let fed = c.in_ok-obey_at_pace.ensures.fed in
     record {
       obeyed =
-          some_obeyed is_lawful state failures answers marks script left next u v w old there new asked so (subst (Asks left next) c.in-Some-2.is c.in_ok-asked.ensures.asked)
+          some_obeyed is_lawful state failures answers marks script left next u v w old there new asked first seen so (subst (Asks left next) c.in-Some-2.is c.in_ok-asked.ensures.asked) c.in_ok-next.next c.in_ok-next.ensures.ok
+          (subst (λ (k : Keeping g.row.D.Denot). KeepsTo c.in_ok-next.next k new) same c.obey_at_pace.ensures.held)
           (subst (λ (k : Keeping g.row.D.Denot). Says is_lawful state failures answers marks v w k new (new_to k (asked_for asked)) (notes_for asked)) same fed.said)
           (subst (λ (k : Keeping g.row.D.Denot). Carries answers k new (new_to k (asked_for asked))) same fed.carried);
       disk = disk_then c.loop-asked.invariant.disk (subst (λ (k : Keeping g.row.D.Denot). KeepsDisk g.D.Disk.capacity is_lawful failures done k.device new.device) same c.in_ok-obey_at_pace.ensures.disk);
@@ -176,6 +239,8 @@ returns-in_err-obey_at_pace-clause-fed g c =
     let v = g.W.Sink.contents c.loop-asked.writer in
     let old = g.E.Obey.keeping c.args.engine.now in
     let there = g.E.Obey.keeping c.loop-asked.engine in
+    let first = seen_at c.args.feeding.pace (g.E.Obey.keeping c.args.engine.now).standing.epoch in
+    let seen = c.loop-asked.seen in
     let so = c.loop-asked.invariant.obeyed in
     let w = g.W.Sink.contents c.obey_at_pace.new.writer in
     let new = g.E.Obey.keeping c.obey_at_pace.new.engine in
@@ -186,8 +251,44 @@ returns-in_err-obey_at_pace-clause-fed g c =
     let fed = c.in_err-obey_at_pace.ensures.fed in
     in_some_is script
     (λ s is. err_fed _ r c.from_residual-in_err-obey_at_pace.ensures.1
-    (known _ script s is (some_refused is_lawful state failures answers marks script left next u v w old there new asked so (subst (Asks left next) c.in-Some-2.is c.in_ok-asked.ensures.asked)
+    (known _ script s is (some_refused is_lawful state failures answers marks script left next u v w old there new asked first seen so (subst (Asks left next) c.in-Some-2.is c.in_ok-asked.ensures.asked)
     (subst (λ (k : Keeping g.row.D.Denot). Leaves is_lawful state answers k new (new_to k (asked_for asked))) same fed.left)))
-    (let later : (m : List Note) × ((notes_in so.done ++ notes_for asked) ++ m ≡ notes_in s.orders) = known _ script s is (notes_left is_lawful state failures answers marks script left next u v w old there new asked so (subst (Asks left next) c.in-Some-2.is c.in_ok-asked.ensures.asked)) in
+    (let later : (m : List Note) × ((notes_in so.done ++ notes_for asked) ++ m ≡ notes_in s.orders) = known _ script s is (notes_left is_lawful state failures answers marks script left next u v w old there new asked first seen so (subst (Asks left next) c.in-Some-2.is c.in_ok-asked.ensures.asked)) in
     handed_on is_lawful state failures answers marks r e u v w old there new (new_to old (submissions so.done)) (new_to there (asked_for asked)) (new_to old (submissions s.orders)) (notes_in so.done) (notes_for asked) later.0 (notes_in s.orders) later.1 c.from_residual-in_err-obey_at_pace.ensures.1 so.said
     (subst (λ (k : Keeping g.row.D.Denot). SaysBy is_lawful state failures answers marks (Err e) v w k new (new_to k (asked_for asked)) (notes_for asked)) same fed.said)))
+
+pub returns-then-is_refused-clause-held : goal.returns-then-is_refused-clause-held
+returns-then-is_refused-clause-held g c =
+    let k = g.E.Obey.keeping c.args.engine.now in
+    in_some_is (g.S.Asking.script c.args.orders.now) (λ s is. keeps_same (then_seen (seen_at c.args.feeding.pace k.standing.epoch) s.orders) (base_itself k))
+
+pub returns-in_err-begin-clause-held : goal.returns-in_err-begin-clause-held
+returns-in_err-begin-clause-held g c =
+    let old = g.E.Obey.keeping c.args.engine.now in
+    let new = g.E.Obey.keeping c.begin.new.engine in
+    let pace = c.args.feeding.pace in
+    let first : Option ℕ = c.first_seen-seen.result in
+    let is : first ≡ seen_at pace old.standing.epoch = c.first_seen-seen.ensures ∙ ap (λ (k : Keeping g.row.D.Denot). seen_at pace k.standing.epoch) c.keeper.ensures in
+    let keeps : KeepsTo first old new = subst (λ (k : Keeping g.row.D.Denot). KeepsTo first k new) c.allow.ensures c.begin.ensures.held in
+    in_some_is (g.S.Asking.script c.args.orders.now) (λ s there. subst (λ (f : Option ℕ). KeepsTo (then_seen f s.orders) old new) is (keeps_on first s.orders keeps))
+
+pub returns-in_default-clause-held : goal.returns-in_default-clause-held
+returns-in_default-clause-held g c =
+    let first = seen_at c.args.feeding.pace (g.E.Obey.keeping c.args.engine.now).standing.epoch in
+    let script = g.S.Asking.script c.args.orders.now in
+    let left = g.S.Asking.script c.loop-asked.orders in
+    held_there g.D.Disk.is_lawful g.D.Disk.state g.D.Disk.failures g.L.Law.answers g.W.Voice.marks script left left (g.W.Sink.contents c.args.writer.now) (g.W.Sink.contents c.loop-asked.writer) (g.E.Obey.keeping c.args.engine.now) (g.E.Obey.keeping c.loop-asked.engine) first c.loop-asked.seen c.loop-asked.invariant.obeyed
+    (g.E.Obey.keeping c.settle.new.engine) c.settle.ensures.base
+
+pub returns-in_err-obey_at_pace-clause-held : goal.returns-in_err-obey_at_pace-clause-held
+returns-in_err-obey_at_pace-clause-held g c =
+    let script = g.S.Asking.script c.args.orders.now in
+    let left = g.S.Asking.script c.loop-asked.orders in
+    let next = g.S.Asking.script c.next_asked.new.self in
+    let old = g.E.Obey.keeping c.args.engine.now in
+    let there = g.E.Obey.keeping c.loop-asked.engine in
+    let new = g.E.Obey.keeping c.obey_at_pace.new.engine in
+    let first = seen_at c.args.feeding.pace old.standing.epoch in
+    some_held g.D.Disk.is_lawful g.D.Disk.state g.D.Disk.failures g.L.Law.answers g.W.Voice.marks script left next (g.W.Sink.contents c.args.writer.now) (g.W.Sink.contents c.loop-asked.writer) (g.W.Sink.contents c.obey_at_pace.new.writer) old there new c.in-Some-2.asked first c.loop-asked.seen
+    c.loop-asked.invariant.obeyed (subst (Asks left next) c.in-Some-2.is c.in_ok-asked.ensures.asked) c.in_ok-next.next c.in_ok-next.ensures.ok
+    (subst (λ (k : Keeping g.row.D.Denot). KeepsTo c.in_ok-next.next k new) c.allow-in-loop-asked.ensures c.obey_at_pace.ensures.held)

@@ -1,9 +1,9 @@
-use Rattle.std.proofs.Common.{◌≡◌, ◌==◌, eqb-true, Bool, true, false, ℕ, List, ◌++◌, refl, sym, ap, ◌∙◌, subst, inl, inr, ⊎_elim}
+use Rattle.std.proofs.Common.{◌≡◌, ◌==◌, eqb-true, Bool, true, false, ℕ, ◌≤◌, arith, List, ◌++◌, refl, sym, ap, ◌∙◌, subst, inl, inr, ⊎_elim}
 use Rattle.std.specs.Prelude.{Option, Some, None, IfSome, Result, Ok, Err, OnOk}
 use Rattle.td_console.specs.Refusals.{keeper_fault}
 use Rattle.std.proofs.lemmas.Option.{IfSome_then}
 use Rattle.td_plan.specs.Lines.{Line}
-use Rattle.td_disk.specs.Disk.{Rises, IsDurable}
+use Rattle.td_disk.specs.Disk.{DiskState, Rises, IsDurable}
 use Rattle.td_gate.specs.CrashSafe.{CrashSafe, Unchanged}
 use Rattle.td_journal.specs.declared.submitted.Submitted.{Submitted}
 use Rattle.td_standing.specs.declared.error.KeeperError.{KeeperError}
@@ -12,7 +12,10 @@ use Rattle.td_standing.specs.Read.{Refused}
 use Rattle.td_standing.specs.Stops.{Stands}
 use Rattle.td_standing.specs.Advanced.{states_by, HeldWhere}
 use Rattle.td_journal.specs.Numbers.{greatest}
-use Rattle.td_keeper.specs.Keeping.{Keeping, IsKeeping}
+use Rattle.td_keeper.specs.Keeping.{Keeping, IsKeeping, EachKeepsTo}
+use Rattle.td_feed.specs.declared.order.Order.{Order}
+use Rattle.td_feed.specs.Held.{seen_after, first_seen, then_seen, GoesUpTo, KeepsTo}
+use Rattle.td_feed.proofs.Held.{seen_on, seen_further}
 use Rattle.td_feed.specs.Orders.{submissions, new_after}
 use Rattle.td_feed.specs.Asked.{Script, script_of}
 use Rattle.td_feed.specs.Fed.{EachTellsHistory, EachTellsSome}
@@ -24,13 +27,25 @@ use Rattle.td_feed.proofs.Counting.{as_err, fault_of, keeper_device, lack_no_dev
 use Rattle.td_feed.proofs.Lines.{fed_says}
 use Rattle.td_feed.proofs.Refused.{refused}
 use Rattle.std.proofs.lemmas.Result.{on_ok_weaker}
-use Rattle.td_feed.proofs.Session.{left_of, disk_same, disk_then, disk_recovered}
+use Rattle.td_feed.proofs.Session.{known, in_some_is, left_of, disk_same, disk_then, disk_recovered}
 use Rattle.td_feed.proofs.streaming.stream.Goals as goal
 
 -- the limit is that of the disk, where there is one
 within : (refuse : Bool) (records : ℕ) → IfSome (limit_of refuse records) (λ most. most ≡ records)
 within true records = refl
 within false records = tt
+
+-- what a crash may leave, it might have left before
+beyond : (plan : List Line) (old new : DiskState) (kept last : ℕ) → CrashSafe Unchanged old new → ((c : List ℕ) → new.images c → new.since old.moment c) → kept ≤ last → EachKeepsTo plan kept old → EachKeepsTo plan last new
+beyond plan old new kept last safe counts on each c image s told =
+    let from = safe.each c (counts c image) in
+    let low = each from.0 from.1 s (subst (λ (i : List ℕ). Told plan i (Ok s)) from.2 told) in
+    omega (arith, low, on)
+
+-- where outputs are held
+held_by : {D : Type 0} {old new : Keeping D} (hold : Bool) (kept : ℕ) (orders : List Order) → hold ≡ true → KeepsTo (then_seen (first_seen hold kept) orders) old new → GoesUpTo (seen_after kept orders) old new
+held_by true kept orders is keeps = keeps
+held_by false kept orders is keeps = absurd (let no = is in cc)
 
 pub returns-in-Err-clause-disk : goal.returns-in-Err-clause-disk
 returns-in-Err-clause-disk g c = disk_same _ refl (λ is. lack_no_device c.in-Err.lack (ap (as_err (Unit {0})) (sym c.lack_fault.ensures.fault ∙ fault_of _ _ is)))
@@ -71,7 +86,7 @@ returns-in-Err-recover-clause-fed g c = λ fits.
             let new = c.in-Err-recover.disk in
             let plan = c.args.plan.now in
             let safe : CrashSafe Unchanged (state old) (state new) = c.in-Err-recover.ensures.crash_safe_back lawful in
-            none_more answers plan history (new_after (greatest 0 history) (submissions (script_of (limit_of c.args.refuse 0) plan input).orders)) (state new)
+            none_more answers plan history (new_after (greatest 0 history) (submissions (script_of c.args.options.hold (limit_of c.args.options.refuse 0) plan input).orders)) (state new)
             (still_each answers plan history (state old) (state new) safe
             (λ i image. g.met.D.Disk.counts_now new (state old).moment i (c.in-Err-recover.ensures.lawful_back.0 lawful) safe.later image) told);
         said = inl (record {
@@ -80,6 +95,10 @@ returns-in-Err-recover-clause-fed g c = λ fits.
           said = refl;
         });
       };
+      held = λ hold lawful kept each.
+          let safe : CrashSafe Unchanged (state c.args.disk) (state new) = recover.crash_safe_back lawful in
+          beyond c.args.plan.now (state c.args.disk) (state new) kept (seen_after kept (script_of c.args.options.hold (limit_of c.args.options.refuse 0) c.args.plan.now input).orders) safe
+          (λ i image. g.met.D.Disk.counts_now new (state c.args.disk).moment i (recover.lawful_back.0 lawful) safe.later image) (seen_on kept (script_of c.args.options.hold (limit_of c.args.options.refuse 0) c.args.plan.now input).orders) each;
     })
 
 pub returns-clause-disk : goal.returns-clause-disk
@@ -107,14 +126,19 @@ returns-clause-fed g c = λ fits.
     let u = g.W.Sink.contents c.args.writer.now in
     let v = g.W.Sink.contents c.obey-keeper.new.writer in
     let held = c.into_disk.ensures.held in
-    IfSome_then (g.I.Source.remaining c.args.reader) c.obey-keeper.ensures.fed
-    (λ input fed.
-    let limit : Option ℕ = limit_of c.args.refuse keeper.head.shape.m in
-    let asked : Script = script_of limit plan input in
+    let reads : ℕ → List ℕ → Script = λ m input. script_of c.args.options.hold (limit_of c.args.options.refuse m) plan input in
+    let remaining = g.I.Source.remaining c.args.reader in
+    in_some_is remaining
+    (λ input is.
+    let fed = known _ remaining input is c.obey-keeper.ensures.fed in
+    let keeps : KeepsTo (then_seen (first_seen c.args.options.hold keeper.standing.epoch) (reads keeper.head.shape.m input).orders) keeper new =
+    subst (λ (k : Keeping g.row.D.Denot). KeepsTo (then_seen (first_seen c.args.options.hold k.standing.epoch) (reads k.head.shape.m input).orders) k new) c.watched-keeper.ensures.aside.1 (known _ remaining input is c.obey-keeper.ensures.held) in
+    let limit : Option ℕ = limit_of c.args.options.refuse keeper.head.shape.m in
+    let asked : Script = script_of c.args.options.hold limit plan input in
     let wanted : List Submitted = submissions asked.orders in
     let more : List Submitted = new_to keeper wanted in
     let whole : FeedsScript is_lawful state failures answers marks r u v keeper new asked =
-    subst (λ (k : Keeping g.row.D.Denot). FeedsScript is_lawful state failures answers marks r u v k new (script_of (limit_of c.args.refuse k.head.shape.m) plan input)) c.watched-keeper.ensures.aside.1 fed in
+    subst (λ (k : Keeping g.row.D.Denot). FeedsScript is_lawful state failures answers marks r u v k new (script_of c.args.options.hold (limit_of c.args.options.refuse k.head.shape.m) plan input)) c.watched-keeper.ensures.aside.1 fed in
     let feeds = whole.fed in
     let stands = λ (lawful : is_lawful old) (history : List Submitted) (told : EachTellsHistory answers plan history (state old)).
     let safe : CrashSafe Unchanged (state old) (state keeper.device) = c.in-Ok.ensures.crash_safe lawful in
@@ -157,9 +181,22 @@ returns-clause-fed g c = λ fits.
               left_is = c.into_disk.ensures.disk;
               lawful_left = λ lawful. subst is_lawful (sym c.into_disk.ensures.disk) (left_lawful lawful);
               holds = subst (λ (d : g.row.D.Denot). is_lawful d → HeldWhere new.broken answers new.plan new.head new.side new.standing (state d)) (sym c.into_disk.ensures.disk) held;
-              limit = within c.args.refuse keeper.head.shape.m;
+              limit = within c.args.options.refuse keeper.head.shape.m;
               said = feeds.said;
               all_out = λ is. c.obey-keeper.ensures.all_out (eqb-true c.args.workers 1 is);
             });
       };
+      held = λ hold lawful kept each.
+          let safe : CrashSafe Unchanged (state old) (state keeper.device) = c.in-Ok.ensures.crash_safe lawful in
+          let there : EachKeepsTo plan kept (state keeper.device) = beyond plan (state old) (state keeper.device) kept kept safe
+          (λ i image. g.met.D.Disk.counts_now keeper.device (state old).moment i (c.in-Ok.ensures.lawful.0 lawful) safe.later image) (omega arith) each in
+          let low : keeper.standing.epoch ≤ kept = there (state keeper.device).bytes (g.met.D.Disk.reads_image keeper.device (c.in-Ok.ensures.lawful.0 lawful)) keeper.standing (c.in-Ok.ensures.told lawful) in
+          let base : keeper.base ≡ keeper.standing.epoch = c.in-Ok.ensures.fresh.base in
+          let on = seen_on kept asked.orders in
+          let goes : GoesUpTo (seen_after keeper.standing.epoch asked.orders) keeper new = held_by c.args.options.hold keeper.standing.epoch asked.orders hold keeps in
+          let further = seen_further keeper.standing.epoch kept asked.orders low in
+          let last : new.base ≤ seen_after kept asked.orders = goes.base (seen_after kept asked.orders) further (omega (arith, base, low, on)) in
+          subst (λ (d : g.row.D.Denot). EachKeepsTo plan (seen_after kept asked.orders) (state d)) (sym c.into_disk.ensures.disk)
+          (subst (λ (p : List Line). EachKeepsTo p (seen_after kept asked.orders) (state new.device)) (goes.plan ∙ c.in-Ok.ensures.plan)
+          (λ i image t told. let most = c.each_keeps_to_its_base.ensures (left_lawful lawful) i image t told in omega (arith, most, last)));
     })

@@ -6,6 +6,7 @@ use Rattle.td_feed.specs.Said.{fault_in}
 use Rattle.td_feed.specs.Session.{IsObeyed, IsNotObeyed}
 use Rattle.td_feed.proofs.Told.{carry, refused_any, rest, not_repeated, ok_of, err_of}
 use Rattle.td_feed.proofs.Counting.{counts_told, or_false}
+use Rattle.td_feed.proofs.Held.{moves}
 use Rattle.td_feed.proofs.telling.tell.Goals as goal
 
 pub unless_refused-requires : goal.unless_refused-requires
@@ -73,3 +74,6 @@ returns-clause-refused g c =
 pub returns-clause-rests : goal.returns-clause-rests
 returns-clause-rests g c =
     rest g.D.Disk.is_lawful g.D.Disk.state g.D.Disk.failures g.L.Law.answers c.others_rest.ensures c.args.command c.tell_one.result (g.E.Obey.keeping c.args.engine.now) (g.E.Obey.keeping c.tell_one.new.engine) c.tell_one.ensures.told.obeyed c.requires.whole
+
+pub returns-clause-base : goal.returns-clause-base
+returns-clause-base g c = moves g.D.Disk.is_lawful g.D.Disk.state g.D.Disk.failures g.L.Law.answers c.args.command c.tell_one.result (g.E.Obey.keeping c.args.engine.now) (g.E.Obey.keeping c.tell_one.new.engine) c.tell_one.ensures.told.obeyed

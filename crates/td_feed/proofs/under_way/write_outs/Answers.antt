@@ -10,6 +10,7 @@ use Rattle.td_feed.proofs.Carrying.{unmoved, carries_after}
 use Rattle.td_feed.proofs.Counting.{other_fault}
 use Rattle.td_feed.proofs.Lines.{by_refusal, unheard, output_no_device, holding_nothing, holding_more, holding_piece, none_out, all_written, last_written}
 use Rattle.td_feed.proofs.Session.{ok_no_device, disk_same, fed_quiet}
+use Rattle.td_feed.proofs.Held.{base_itself, base_then}
 use Rattle.td_feed.proofs.under_way.write_outs.Goals as goal
 
 -- a list without members
@@ -24,6 +25,7 @@ loop-out-init g c = record {
   device = refl;
   standing = refl;
   collected = refl;
+  base = base_itself (g.E.Obey.keeping c.args.engine.now);
 }
 
 pub loop-out-preserved : goal.loop-out-preserved
@@ -52,6 +54,7 @@ loop-out-preserved g c =
       device = c.next_out.ensures.device ∙ so_far.device;
       standing = c.next_out.ensures.stands.0 ∙ so_far.standing;
       collected = c.next_out.ensures.stands.1 ∙ so_far.collected;
+      base = base_then so_far.base c.next_out.ensures.base;
     }
 
 pub returns-in_err-print_out-clause-fed : goal.returns-in_err-print_out-clause-fed
@@ -176,3 +179,15 @@ returns-clause-rests g c = carries_after g.D.Disk.is_lawful g.D.Disk.state g.L.L
 
 pub returns-clause-stands : goal.returns-clause-stands
 returns-clause-stands g c = (c.next_out.ensures.stands.0 ∙ c.loop-out.invariant.standing, c.next_out.ensures.stands.1 ∙ c.loop-out.invariant.collected)
+
+pub returns-in_err-print_out-clause-base : goal.returns-in_err-print_out-clause-base
+returns-in_err-print_out-clause-base g c = base_then c.loop-out.invariant.base c.next_out.ensures.base
+
+pub returns-in_err-write_piece-clause-base : goal.returns-in_err-write_piece-clause-base
+returns-in_err-write_piece-clause-base g c = base_then c.loop-out.invariant.base c.next_out.ensures.base
+
+pub returns-then-is_empty-clause-base : goal.returns-then-is_empty-clause-base
+returns-then-is_empty-clause-base g c = base_then c.loop-out.invariant.base c.next_out.ensures.base
+
+pub returns-clause-base : goal.returns-clause-base
+returns-clause-base g c = base_then c.loop-out.invariant.base c.next_out.ensures.base

@@ -1,6 +1,7 @@
 use Rattle.std.proofs.Common.{◌≡◌, [], length}
 use Rattle.std.specs.Prelude.{string_bytes}
 use Rattle.td_feed.specs.Carried.{Carries}
+use Rattle.td_feed.specs.Held.{SameBase}
 use Rattle.td_feed.proofs.Lines.{Holding}
 use Rattle.td_feed.proofs.under_way.write_outs.Given as goal
 
@@ -12,6 +13,7 @@ invariant-loop-out g l = record {
   device : (g.E.Obey.keeping l.engine).device ≡ (g.E.Obey.keeping l.fn.engine).device;
   standing : (g.E.Obey.keeping l.engine).standing ≡ (g.E.Obey.keeping l.fn.engine).standing;
   collected : (g.E.Obey.keeping l.engine).collected ≡ (g.E.Obey.keeping l.fn.engine).collected;
+  base : SameBase (g.E.Obey.keeping l.fn.engine) (g.E.Obey.keeping l.engine);
 }
 
 abbrev pub decreases-loop-out : goal.decreases-loop-out

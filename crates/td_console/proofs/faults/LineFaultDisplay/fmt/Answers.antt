@@ -3,3 +3,9 @@ use Rattle.td_console.proofs.faults.LineFaultDisplay.fmt.Goals as goal
 
 pub returns-in-NotClosed-clause-writes : goal.returns-in-NotClosed-clause-writes
 returns-in-NotClosed-clause-writes g c = search rules
+
+pub returns-in-NotOut-clause-writes : goal.returns-in-NotOut-clause-writes
+returns-in-NotOut-clause-writes g c = search rules
+
+pub returns-in-SeenBefore-clause-writes : goal.returns-in-SeenBefore-clause-writes
+returns-in-SeenBefore-clause-writes g c = search rules

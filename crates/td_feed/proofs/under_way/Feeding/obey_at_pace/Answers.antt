@@ -1,4 +1,5 @@
 use Rattle.td_feed.proofs.Session.{disk_then, disk_handed, fed_then, fed_handed}
+use Rattle.td_feed.proofs.Held.{keeps_then}
 use Rattle.td_feed.proofs.under_way.Feeding.obey_at_pace.Goals as goal
 
 pub returns-in_err-obey-clause-disk : goal.returns-in_err-obey-clause-disk
@@ -12,3 +13,9 @@ returns-clause-disk g c = disk_then c.in_ok-obey.ensures.disk c.keep_pace.ensure
 
 pub returns-clause-fed : goal.returns-clause-fed
 returns-clause-fed g c = fed_then c.in_ok-obey.ensures.fed c.keep_pace.ensures.fed
+
+pub returns-in_err-obey-clause-held : goal.returns-in_err-obey-clause-held
+returns-in_err-obey-clause-held g c = c.obey.ensures.held
+
+pub returns-clause-held : goal.returns-clause-held
+returns-clause-held g c = keeps_then c.args.seen c.obey.ensures.held c.keep_pace.ensures.held

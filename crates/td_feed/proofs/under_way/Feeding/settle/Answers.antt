@@ -3,6 +3,7 @@ use Rattle.td_standing.specs.Standing.{last_epoch}
 use Rattle.td_keeper.specs.declared.command.Command.TheVariants.{Settle, Collect}
 use Rattle.std.proofs.lemmas.Result.{on_ok_weaker}
 use Rattle.td_feed.proofs.Session.{disk_then, disk_handed, fed_after, fed_handed, fed_refused, fed_quietly, went_on, to_the_end}
+use Rattle.td_feed.proofs.Held.{base_then}
 use Rattle.td_feed.proofs.under_way.Feeding.settle.Goals as goal
 
 pub returns-in_err-release-clause-disk : goal.returns-in_err-release-clause-disk
@@ -54,3 +55,15 @@ returns-clause-all_out g c = λ alone.
           ∙ ap last_epoch (sym c.write_outs.ensures.stands.0));
       none_left = none;
     }) c.write_outs.ensures.none_left
+
+pub returns-in_err-release-clause-base : goal.returns-in_err-release-clause-base
+returns-in_err-release-clause-base g c = c.release.ensures.base
+
+pub returns-in_err-tell-clause-base : goal.returns-in_err-tell-clause-base
+returns-in_err-tell-clause-base g c = base_then c.release.ensures.base c.tell.ensures.base
+
+pub returns-in_err-tell-2-clause-base : goal.returns-in_err-tell-2-clause-base
+returns-in_err-tell-2-clause-base g c = base_then c.release.ensures.base (base_then c.tell.ensures.base c.tell-2.ensures.base)
+
+pub returns-clause-base : goal.returns-clause-base
+returns-clause-base g c = base_then c.release.ensures.base (base_then c.tell.ensures.base (base_then c.tell-2.ensures.base c.write_outs.ensures.base))

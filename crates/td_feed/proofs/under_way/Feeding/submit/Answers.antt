@@ -1,4 +1,5 @@
 use Rattle.td_feed.proofs.Session.{disk_then, disk_handed, fed_then, fed_handed}
+use Rattle.td_feed.proofs.Held.{moves_then}
 use Rattle.td_feed.proofs.under_way.Feeding.submit.Goals as goal
 
 pub returns-in_err-tell_aloud-clause-disk : goal.returns-in_err-tell_aloud-clause-disk
@@ -12,3 +13,6 @@ returns-clause-disk g c = disk_then c.in_ok-tell_aloud.ensures.disk c.release.en
 
 pub returns-clause-fed : goal.returns-clause-fed
 returns-clause-fed g c = fed_then c.in_ok-tell_aloud.ensures.fed (c.release.ensures.fed g.W.Voice.marks (g.W.Sink.contents c.tell_aloud.new.writer))
+
+pub returns-clause-base : goal.returns-clause-base
+returns-clause-base g c = moves_then c.args.command c.tell_aloud.ensures.base c.release.ensures.base

@@ -58,4 +58,4 @@ invariant_of-self-2 g c =
     let now : keeping_of inside.device inside.plan inside.head inside.checkpoint inside.submitted.items inside.broken inside.taken (inside.collected + c.len-count.result) c.append.new.queue.items c.publish.new.watch ≡ with_collected k S =
     (λ i. keeping_of inside.device inside.plan inside.head inside.checkpoint inside.submitted.items inside.broken inside.taken (count i) (outs i) (watch i))
     ∙ ap (λ (q : Keeping g.row.D.Denot). with_collected q S) c.self.view_is in
-    (c.self.invariant.0, subst (λ (q : Keeping g.row.D.Denot). IsKeeping q g.L.Law.answers) (sym now) right, c.self.invariant.2, c.self.invariant.3)
+    (c.self.invariant.0, subst (λ (q : Keeping g.row.D.Denot). IsKeeping q g.L.Law.answers) (sym now) right, c.self.invariant.2, c.self.invariant.3, c.self.invariant.4)

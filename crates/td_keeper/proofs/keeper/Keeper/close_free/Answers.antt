@@ -9,7 +9,7 @@ use Rattle.td_standing.specs.Advanced.{AdvancesSince, states_by}
 use Rattle.td_group.specs.Groups.{AreFree}
 use Rattle.td_keeper.specs.Keeping.{Keeping, FreeAreShut, keeping_of}
 use Rattle.td_keeper.proofs.Kept.{elsewhere}
-use Rattle.td_keeper.proofs.Since.{from_start, held, by_further, told_further}
+use Rattle.td_keeper.proofs.Since.{from_start, held, by_further, told_further, either_told, keeps_to, none_beyond}
 use Rattle.td_keeper.proofs.Submitting.{keeps_of, held_of, free_in, shut_in, shut_out}
 use Rattle.td_keeper.proofs.keeper.Keeper.close_free.Goals as goal
 
@@ -87,6 +87,13 @@ invariant_of-self-in-Err-Device g c =
           (from_start answers plan c.told_in_parts.ensures.together head side s [] (state device) (state new) (λ d. g.met.D.Disk.only_now device d old) still keeps
           (told_further answers plan c.told_in_parts.ensures.together head head side s (state device) (state new) still (c.in-Err-Device.ensures.begun old plan head side s ring free keeps))),
       c.self.invariant.3,
+      λ l.
+          let old = c.in-Err-Device.ensures.lawful.1 l in
+          let keeps = keeps_of c.self.inside.broken answers plan head side s (state device) c.if-self.false (c.self.invariant.2 old) in
+          let later : (state device).moment ≤ (state new).moment = c.in-Err-Device.ensures.later old keeps.durable in
+          keeps_to plan c.told_in_parts.ensures.one_answer k.base s s (state device).moment (state new) (λ d now. g.met.D.Disk.counts_now new (state device).moment d l later now)
+          (either_told plan c.told_in_parts.ensures.together head head side side s s (state device) (state new) (λ d. g.met.D.Disk.only_now device d old) keeps (c.in-Err-Device.ensures.begun old plan head side s ring free keeps))
+          c.self.invariant.1.from_checkpoint c.self.invariant.1.from_checkpoint,
     )
 
 pub returns-in-Ok-clause-later : goal.returns-in-Ok-clause-later
@@ -149,4 +156,5 @@ invariant_of-self g c =
           let keeps = keeps_of c.self.inside.broken answers plan head side s (state device) c.if-self.false (c.self.invariant.2 old) in
           held_of c.self.inside.broken answers plan head side s (state new) c.if-self.false (c.in-Ok.ensures.done old plan head side s ring free keeps),
       c.self.invariant.3,
+      λ l. none_beyond c.self.inside.broken plan k.base (state new) c.if-self.false,
     )

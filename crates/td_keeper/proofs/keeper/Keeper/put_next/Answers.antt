@@ -19,7 +19,7 @@ use Rattle.td_standing.specs.Advanced.{AdvancesSince, HeldWhere, states_by}
 use Rattle.td_keeper.specs.Grouped.{AllOrNone}
 use Rattle.td_keeper.specs.Keeping.{Keeping, IsKeeping, keeping_of, words_at, published, IsBelow}
 use Rattle.td_keeper.proofs.Kept.{submitted, elsewhere}
-use Rattle.td_keeper.proofs.Since.{either, from_start, held, by_further, unwritten, one_or_other, none_since}
+use Rattle.td_keeper.proofs.Since.{either, from_start, held, by_further, unwritten, either_told, keeps_to, none_beyond, one_or_other, none_since}
 use Rattle.td_keeper.proofs.Submitting.{MayCome, may_come_in, keeps_of, held_of, greatest_more, has_room, below_more}
 use Rattle.td_keeper.proofs.keeper.Keeper.put_next.Goals as goal
 
@@ -138,6 +138,7 @@ invariant_of-self-in-Ok g c =
           (subst (λ (l : List Submitted). Keeps plan head side (with_more s l) (state new)) same (c.in-Ok.ensures.done old plan head side s ring room taken.fresh taken.lawful keeps))),
       c.greatest_request-self-inside.ensures ∙ (ap (λ (l : List Submitted). greatest c.self.inside.last_request l) c.deref-in-Ok.ensures.value ∙ (ap (λ (n : ℕ). greatest n x) c.self.invariant.3
           ∙ (sym (greatest_more c.self.inside.checkpoint.last c.self.inside.submitted.items x) ∙ ap (greatest c.self.inside.checkpoint.last) (sym items)))),
+      λ l. none_beyond c.self.inside.broken plan k.base (state new) taken.whole,
     )
 
 pub returns-in-Device-clause-further : goal.returns-in-Device-clause-further
@@ -242,6 +243,14 @@ invariant_of-self-in-Device g c =
           (either answers plan c.told_in_parts.ensures.together head side s y (state device) (state new) side (with_more s y) still more holds
           (c.in-Err.ensures.begun old plan head side s ring room taken.fresh taken.lawful keeps)))),
       subst (λ (v : List Submitted). c.self.inside.last_request ≡ greatest c.self.inside.checkpoint.last v) (sym c.reserve.ensures.items) c.self.invariant.3,
+      λ l.
+          let old = c.in-Err.ensures.lawful.1 l in
+          let keeps = keeps_of c.self.inside.broken answers plan head side s (state device) taken.whole (c.self.invariant.2 old) in
+          let later : (state device).moment ≤ (state new).moment = c.in-Err.ensures.later old keeps.durable in
+          keeps_to plan c.told_in_parts.ensures.one_answer k.base s (with_more s y) (state device).moment (state new) (λ d now. g.met.D.Disk.counts_now new (state device).moment d l later now)
+          (either_told plan c.told_in_parts.ensures.together head head side side s (with_more s y) (state device) (state new) (λ d. g.met.D.Disk.only_now device d old) keeps
+          (c.in-Err.ensures.begun old plan head side s ring room taken.fresh taken.lawful keeps))
+          c.self.invariant.1.from_checkpoint c.self.invariant.1.from_checkpoint,
     )
 
 pub invariant_of-self-in-Memory : goal.invariant_of-self-in-Memory
@@ -269,6 +278,7 @@ invariant_of-self-in-Memory g c =
           subst (λ (v : List Submitted). HeldWhere c.self.inside.broken answers plan head side (standing_from c.self.inside.checkpoint v) (state new)) (sym c.reserve.ensures.items)
           (held_of c.self.inside.broken answers plan head side s (state new) taken.whole (c.in-Err.ensures.kept (ap as_err memory) old plan head side s keeps)),
       subst (λ (v : List Submitted). c.self.inside.last_request ≡ greatest c.self.inside.checkpoint.last v) (sym c.reserve.ensures.items) c.self.invariant.3,
+      λ l. none_beyond c.self.inside.broken plan k.base (state new) taken.whole,
     )
 
 pub returns-in-Memory-clause-unwritten : goal.returns-in-Memory-clause-unwritten

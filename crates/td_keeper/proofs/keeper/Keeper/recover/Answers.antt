@@ -19,6 +19,7 @@ invariant_of-result g c = (
   },
   search rules,
   search rules,
+  λ lawful. tt,
 )
 
 pub returns-in-Ok-clause-fresh : goal.returns-in-Ok-clause-fresh

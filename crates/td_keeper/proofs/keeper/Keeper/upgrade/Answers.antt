@@ -9,7 +9,7 @@ use Rattle.td_standing.specs.Read.{Stood}
 use Rattle.td_standing.specs.Advanced.{AdvancesSince, states_by}
 use Rattle.td_keeper.specs.Keeping.{Keeping, keeping_of}
 use Rattle.td_keeper.proofs.Kept.{elsewhere}
-use Rattle.td_keeper.proofs.Since.{from_start, held, told_since, told_further}
+use Rattle.td_keeper.proofs.Since.{from_start, held, told_since, told_further, either_told, keeps_to}
 use Rattle.td_keeper.proofs.Submitting.{keeps_of}
 use Rattle.td_keeper.proofs.keeper.Keeper.upgrade.Goals as goal
 
@@ -111,6 +111,13 @@ invariant_of-self-in-Device g c =
           (from_start answers plan c.told_in_parts.ensures.together head side s [] (state device) (state new) (λ d. g.met.D.Disk.only_now device d old) still keeps
           (told_further answers plan c.told_in_parts.ensures.together head (raised head) side s (state device) (state new) still (c.in-Err.ensures.begun old side s keeps))),
       c.self.invariant.3,
+      λ l.
+          let old = c.in-Err.ensures.lawful.1 l in
+          let keeps = keeps_of c.self.inside.broken answers plan head side s (state device) c.if-self.false (c.self.invariant.2 old) in
+          let later : (state device).moment ≤ (state new).moment = c.in-Err.ensures.later old keeps.durable in
+          keeps_to plan c.told_in_parts.ensures.one_answer k.base s s (state device).moment (state new) (λ d now. g.met.D.Disk.counts_now new (state device).moment d l later now)
+          (either_told plan c.told_in_parts.ensures.together head (raised head) side side s s (state device) (state new) (λ d. g.met.D.Disk.only_now device d old) keeps (c.in-Err.ensures.begun old side s keeps))
+          c.self.invariant.1.from_checkpoint c.self.invariant.1.from_checkpoint,
     )
 
 pub returns-in-LastGeneration-clause-told : goal.returns-in-LastGeneration-clause-told

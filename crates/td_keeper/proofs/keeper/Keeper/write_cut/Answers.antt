@@ -13,11 +13,11 @@ use Rattle.td_standing.specs.Told.{folds_of, slots_of}
 use Rattle.td_standing.specs.Tells.{IsCut, side_after}
 use Rattle.td_standing.specs.Advanced.{AdvancesSince, HeldWhere, states_by}
 use Rattle.td_keeper.specs.declared.keeper.Taken.{Taken}
-use Rattle.td_keeper.specs.Keeping.{Keeping, IsKeeping, keeping_of, with_checkpoint, published}
+use Rattle.td_keeper.specs.Keeping.{Keeping, IsKeeping, keeping_of, base_of, with_checkpoint, published}
 use Rattle.td_keeper.specs.Refused.{write_refusal, waits_after}
 use Rattle.td_keeper.proofs.Cutting.{lawful, cut_last, most, is_cut, advance, as_written, not_above, write_none}
 use Rattle.td_keeper.proofs.Kept.{written, set_down}
-use Rattle.td_keeper.proofs.Since.{either, from_start, held, by_further}
+use Rattle.td_keeper.proofs.Since.{either, from_start, held, by_further, either_told, keeps_to, none_beyond}
 use Rattle.td_keeper.proofs.Submitting.{keeps_of, held_of}
 use Rattle.td_keeper.proofs.keeper.Keeper.write_cut.Goals as goal
 
@@ -237,6 +237,7 @@ invariant_of-self-in-Ok g c =
           subst (λ (z : Keeping g.row.D.Denot). HeldWhere c.self.inside.broken answers plan head z.side z.standing (state new)) (sym now)
           (held_of c.self.inside.broken answers plan head (side_after side n) (cut_at s n cut.states) (state new) c.if-self.false (c.in-Ok.ensures.done old plan head s n slots epoch last is_a_cut keeps)),
       c.self.invariant.3 ∙ sym ((λ i. greatest ((c.checkpoint_of.ensures.last ∙ last) i) (c.drop_first.ensures i)) ∙ cut_last s.last n w),
+      λ l. none_beyond c.self.inside.broken plan (base_of d c.take_waiting.new.taken) (state new) c.if-self.false,
     )
 
 pub invariant_of-self-in-Device : goal.invariant_of-self-in-Device
@@ -278,6 +279,14 @@ invariant_of-self-in-Device g c =
           (either answers plan c.told_in_parts.ensures.together head side s [] (state device) (state new) (side_after side n) (cut_at s n cut.states) still next holds
           (c.in-Err.ensures.begun old plan head s n slots epoch last is_a_cut keeps))),
       c.self.invariant.3,
+      λ l.
+          let old = c.in-Err.ensures.lawful.1 l in
+          let keeps = keeps_of c.self.inside.broken answers plan head side s (state device) c.if-self.false (c.self.invariant.2 old) in
+          let later : (state device).moment ≤ (state new).moment = c.in-Err.ensures.later old keeps.durable in
+          keeps_to plan c.told_in_parts.ensures.one_answer cut.epoch s (cut_at s n cut.states) (state device).moment (state new) (λ d now. g.met.D.Disk.counts_now new (state device).moment d l later now)
+          (either_told plan c.told_in_parts.ensures.together head head side (side_after side n) s (cut_at s n cut.states) (state device) (state new) (λ d. g.met.D.Disk.only_now device d old) keeps
+          (c.in-Err.ensures.begun old plan head s n slots epoch last is_a_cut keeps))
+          is.from_checkpoint (omega (arith, epoch)),
     )
 
 pub returns-in-Ok-clause-last_request : goal.returns-in-Ok-clause-last_request

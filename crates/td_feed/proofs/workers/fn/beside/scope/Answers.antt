@@ -10,4 +10,5 @@ returns g c =
       same_writer = refl;
       disk = disk_ended c.obey_each-obeyed.result c.ended_as.result c.loop-worker.worked ended.ok ended.err obeyed.disk;
       fed = IfSome_then (g.S.Asking.script c.captures.orders) obeyed.fed (λ s fed. fed_ended c.obey_each-obeyed.result c.ended_as.result c.loop-worker.worked ended.ok ended.err fed);
+      held = obeyed.held;
     }

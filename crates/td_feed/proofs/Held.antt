@@ -1,0 +1,222 @@
+-- How far a keeper keeps.
+use Rattle.std.proofs.Common.{◌≡◌, ◌⊎◌, ⊎_elim, ℕ, ◌≤◌, ◌<◌, nat_lt, Bool, true, false, List, [], ◌∷◌, ◌++◌, refl, sym, ap, ◌∙◌, subst, arith}
+use Rattle.std.specs.Prelude.{Option, Some, None, max, min}
+use Rattle.std.specs.Option.{IfSome}
+use Rattle.std.proofs.Math.Nat.{le-max_left, le-max_right, max-eq_left, max-eq_right, min-le_left}
+use Rattle.std.proofs.lemmas.Bool.{ltb-true, ltb-false}
+use Rattle.td_stamp.specs.declared.values.Entry.{Entry}
+use Rattle.td_calls.specs.Answers.{Answers}
+use Rattle.td_disk.specs.Disk.{DiskState}
+use Rattle.td_journal.specs.declared.submitted.Submitted.{Submitted as AnySubmitted}
+use Rattle.td_keeper.specs.declared.command.Command.{Command}
+use Rattle.td_keeper.specs.declared.command.Command.TheVariants.{Submit, SubmitAs, SubmitAll, Release, Settle, Collect, NextOut, Cut, CutUpTo, WriteCut, CloseFree}
+use Rattle.td_keeper.specs.declared.command.Reply.{Reply}
+use Rattle.td_keeper.specs.declared.command.Reply.TheVariants.{Submitted, SubmittedAs, SubmittedAll, Released, Settled, Collected, Out, CutTaken, Written, Closed, Refused, RefusedAll}
+use Rattle.td_keeper.specs.declared.receipt.Receipt.{Receipt}
+use Rattle.td_keeper.specs.declared.receipt.Receipt.TheVariants.{New, Already}
+use Rattle.td_keeper.specs.Received.{IsReceived}
+use Rattle.td_keeper.specs.Keeping.{Keeping, with_batch, with_group, with_checkpoint}
+use Rattle.td_keeper.specs.Halls.{with_collected, with_cut, collected_hall, cut_hall_up_to, last_passed}
+use Rattle.td_keeper.specs.Driven.{Submits, SubmitsAs, SubmitsAll, Releases, Settles, Collects, HandsOut, Cuts, Writes, ClosesFree, Obeys}
+use Rattle.td_feed.specs.declared.order.Order.{Order}
+use Rattle.td_feed.specs.declared.order.Order.TheVariants as order
+use Rattle.td_feed.specs.Asked.{Script}
+use Rattle.td_feed.specs.Carried.{batch_in, is_resting}
+use Rattle.td_feed.specs.Held.{seen_then, seen_after, then_seen, SameBase, GoesUpTo, KeepsTo, MovesBase, cut_for}
+use Rattle.td_feed.proofs.Lines.{is_quiet}
+
+-- the greater of two is at most what both are
+max_at_most : (a b c : ℕ) → a ≤ c → b ≤ c → max a b ≤ c
+max_at_most a b c first second = by (nat_lt a b) refl
+  where
+    by : (t : Bool) → nat_lt a b ≡ t → max a b ≤ c
+    by true is = let less : a < b = ltb-true a b is in subst (λ (n : ℕ). n ≤ c) (sym (max-eq_right (omega (arith, less)))) second
+    by false is = let least : b ≤ a = ltb-false a b is in subst (λ (n : ℕ). n ≤ c) (sym (max-eq_left least)) first
+
+-- WHAT WAS SEEN, after more orders
+seen_more : (a b : ℕ) (o : Order) → a ≤ b → seen_then a o ≤ seen_then b o
+seen_more a b (order.Seen line epoch) less =
+    let left = le-max_left b epoch in
+    let right = le-max_right b epoch in
+    max_at_most a epoch (max b epoch) (omega (arith, left, less)) right
+seen_more a b (order.Submit batch) less = less
+seen_more a b (order.SubmitAs request batch) less = less
+seen_more a b order.Cut less = less
+seen_more a b (order.Say note) less = less
+
+pub seen_further : (a b : ℕ) (orders : List Order) → a ≤ b → seen_after a orders ≤ seen_after b orders
+seen_further a b [] less = less
+seen_further a b (o ∷ orders) less = seen_further (seen_then a o) (seen_then b o) orders (seen_more a b o less)
+
+seen_one : (a : ℕ) (o : Order) → a ≤ seen_then a o
+seen_one a (order.Seen line epoch) = le-max_left a epoch
+seen_one a (order.Submit batch) = omega arith
+seen_one a (order.SubmitAs request batch) = omega arith
+seen_one a order.Cut = omega arith
+seen_one a (order.Say note) = omega arith
+
+pub seen_on : (a : ℕ) (orders : List Order) → a ≤ seen_after a orders
+seen_on a [] = omega arith
+seen_on a (o ∷ orders) =
+    let one = seen_one a o in
+    let more = seen_on (seen_then a o) orders in
+    omega (arith, one, more)
+
+pub seen_append : (a : ℕ) (xs ys : List Order) → seen_after a (xs ++ ys) ≡ seen_after (seen_after a xs) ys
+seen_append a [] ys = refl
+seen_append a (o ∷ xs) ys = seen_append (seen_then a o) xs ys
+
+module _ {D : Type 0} where
+  pub base_itself : (k : Keeping D) → SameBase k k
+  base_itself k = record { plan = refl; base = refl }
+
+  pub base_then : {a b c : Keeping D} → SameBase a b → SameBase b c → SameBase a c
+  base_then first next = record { plan = next.plan ∙ first.plan; base = next.base ∙ first.base }
+
+  pub up_to_then : (seen : ℕ) {a b c : Keeping D} → GoesUpTo seen a b → GoesUpTo seen b c → GoesUpTo seen a c
+  up_to_then seen first next = record { plan = next.plan ∙ first.plan; base = λ last up low. next.base last up (first.base last up low) }
+
+  pub up_to_same : (seen : ℕ) {a b : Keeping D} → SameBase a b → GoesUpTo seen a b
+  up_to_same seen same = record { plan = same.plan; base = λ last up low. omega (arith, same.base, low) }
+
+  pub up_to_further : (seen next : ℕ) {a b : Keeping D} → seen ≤ next → GoesUpTo seen a b → GoesUpTo next a b
+  up_to_further seen next more goes = record { plan = goes.plan; base = λ last up low. goes.base last (omega (arith, more, up)) low }
+
+  pub keeps_same : (seen : Option ℕ) {a b : Keeping D} → SameBase a b → KeepsTo seen a b
+  keeps_same None same = tt
+  keeps_same (Some seen) same = up_to_same seen same
+
+  pub keeps_then : (seen : Option ℕ) {a b c : Keeping D} → KeepsTo seen a b → KeepsTo seen b c → KeepsTo seen a c
+  keeps_then None first next = tt
+  keeps_then (Some seen) first next = up_to_then seen first next
+
+  -- up to what more orders say was seen
+  pub keeps_on : (seen : Option ℕ) (orders : List Order) {a b : Keeping D} → KeepsTo seen a b → KeepsTo (then_seen seen orders) a b
+  keeps_on None orders keeps = tt
+  keeps_on (Some seen) orders keeps = up_to_further seen (seen_after seen orders) (seen_on seen orders) keeps
+
+  -- after a command
+  pub moves_then : (command : Command) {a b c : Keeping D} → MovesBase command a b → SameBase b c → MovesBase command a c
+  moves_then Cut first next = tt
+  moves_then (CutUpTo epoch) first next = up_to_then epoch first (up_to_same epoch next)
+  moves_then (Submit batch) first next = base_then first next
+  moves_then (SubmitAs request batch) first next = base_then first next
+  moves_then (SubmitAll group) first next = base_then first next
+  moves_then Release first next = base_then first next
+  moves_then Settle first next = base_then first next
+  moves_then Collect first next = base_then first next
+  moves_then NextOut first next = base_then first next
+  moves_then WriteCut first next = base_then first next
+  moves_then (CloseFree most) first next = base_then first next
+
+  -- a cut is taken up to what was seen
+  pub cut_keeps : (seen : Option ℕ) {a b : Keeping D} → MovesBase (cut_for seen) a b → KeepsTo seen a b
+  cut_keeps None moves = tt
+  cut_keeps (Some seen) moves = moves
+
+  by : {old other new : Keeping D} → new ≡ other → SameBase old other → SameBase old new
+  by {old = old} is same = subst (λ (k : Keeping D). SameBase old k) (sym is) same
+
+  by_group : (old : Keeping D) (device : D) (group : List AnySubmitted) → SameBase old (with_group old device group)
+  by_group old device [] = record { plan = refl; base = refl }
+  by_group old device (x ∷ xs) = record { plan = refl; base = refl }
+
+  -- what a refusal leaves in memory
+  aside : {old new : Keeping D} (P Q : Type 0) → (new ≡ old) ⊎ (P × (new ≡ record old { device = new.device })) ⊎ (Q × (new ≡ record old { device = new.device; broken = true })) → SameBase old new
+  aside {old = old} P Q is =
+      ⊎_elim (λ same. by same (base_itself old))
+      (λ other. ⊎_elim (λ memory. by memory.1 (record { plan = refl; base = refl })) (λ device. by device.1 (record { plan = refl; base = refl })) other) is
+
+  received : (request : ℕ) (batch : List Entry) (receipt : Receipt) (old new : Keeping D) → IsReceived request batch receipt old new → SameBase old new
+  received request batch (New epoch) old new r = by r.2 (record { plan = refl; base = refl })
+  received request batch (Already last) old new r = by r.2 (base_itself old)
+
+pub cut_is_quiet : (seen : Option ℕ) → is_quiet (cut_for seen) ≡ true
+cut_is_quiet None = refl
+cut_is_quiet (Some epoch) = refl
+
+pub cut_is_resting : (seen : Option ℕ) → is_resting (cut_for seen) ≡ true
+cut_is_resting None = refl
+cut_is_resting (Some epoch) = refl
+
+pub cut_submits_none : (seen : Option ℕ) → batch_in (cut_for seen) ≡ []
+cut_submits_none None = refl
+cut_submits_none (Some epoch) = refl
+
+module _ {D : Type 0} (is_lawful : D → Type 0) (state : D → DiskState) (failures : D → ℕ) (answers : Answers) where
+  submits : (batch : List Entry) (reply : Reply) (old new : Keeping D) → Submits is_lawful state failures answers batch reply old new → SameBase old new
+  submits batch (Submitted n) old new r = by r.submitted (record { plan = refl; base = refl })
+  submits batch (Refused e back) old new r = aside _ _ r.unchanged
+  submits batch other old new r = absurd r
+
+  submits_as : (request : ℕ) (batch : List Entry) (reply : Reply) (old new : Keeping D) → SubmitsAs is_lawful state failures answers request batch reply old new → SameBase old new
+  submits_as request batch (SubmittedAs receipt) old new r = received request batch receipt old new r.received
+  submits_as request batch (Refused e back) old new r = aside _ _ r.refused.unchanged
+  submits_as request batch other old new r = absurd r
+
+  submits_all : (group : List AnySubmitted) (reply : Reply) (old new : Keeping D) → SubmitsAll is_lawful state failures answers group reply old new → SameBase old new
+  submits_all group (SubmittedAll n m) old new r = by r.submitted (by_group old new.device group)
+  submits_all group (RefusedAll e back) old new r = aside _ _ r.unchanged
+  submits_all group other old new r = absurd r
+
+  releases : (reply : Reply) (old new : Keeping D) → Releases is_lawful state failures answers reply old new → SameBase old new
+  releases (Released n) old new r = by r.same (base_itself old)
+  releases (Refused e b) old new r = ⊎_elim (λ foreign. by foreign.1.same (base_itself old)) (λ memory. by memory.1.same (base_itself old)) r.1
+  releases other old new r = absurd r
+
+  settles : (reply : Reply) (old new : Keeping D) → Settles is_lawful state failures answers reply old new → SameBase old new
+  settles Settled old new r = by r.same (base_itself old)
+  settles (Refused e b) old new r = by r.1.2.same (base_itself old)
+  settles other old new r = absurd r
+
+  collects : (reply : Reply) (old new : Keeping D) → Collects is_lawful state failures answers reply old new → SameBase old new
+  collects (Collected n) old new r = by r.collected (record { plan = refl; base = refl })
+  collects (Refused e b) old new r = ⊎_elim (λ foreign. by foreign.1.same (base_itself old)) (λ memory. by memory.1.same (base_itself old)) r.1
+  collects other old new r = absurd r
+
+  pub hands_out : (reply : Reply) (old new : Keeping D) → HandsOut is_lawful state failures answers reply old new → SameBase old new
+  hands_out (Out None) old new r = by r.1 (base_itself old)
+  hands_out (Out (Some out)) old new r = by r.1 (record { plan = refl; base = refl })
+  hands_out other old new r = absurd r
+
+  writes : (reply : Reply) (old new : Keeping D) → Writes is_lawful state failures answers reply old new → SameBase old new
+  writes (Written w) old new r = ⊎_elim (λ none. by none.2 (base_itself old)) (λ some. by some.1 (record { plan = refl; base = refl })) r.cut
+  writes (Refused e b) old new r =
+      ⊎_elim (λ many. by many.1 (record { plan = refl; base = refl }))
+      (λ other. ⊎_elim (λ device. by device.1 (record { plan = refl; base = refl })) (λ same. by same (base_itself old)) other) r.unchanged
+  writes other old new r = absurd r
+
+  closes : (most : ℕ) (reply : Reply) (old new : Keeping D) → ClosesFree is_lawful state failures answers most reply old new → SameBase old new
+  closes most Closed old new r = by r.same (record { plan = refl; base = refl })
+  closes most (Refused e b) old new r = ⊎_elim (λ same. by same (base_itself old)) (λ device. by device.1 (record { plan = refl; base = refl })) r.unchanged
+  closes most other old new r = absurd r
+
+  -- a cut that is taken at no later epoch goes no further
+  cuts : (most : ℕ) (reply : Reply) (old new : Keeping D) → Cuts is_lawful state failures answers (Some most) reply old new → GoesUpTo most old new
+  cuts most (CutTaken n) old new r = record {
+    plan = ap (λ (k : Keeping D). k.plan) r.cut;
+    base = λ last up low.
+        let own = r.brings.own.base in
+        let least = min-le_left most (last_passed r.hall) in
+        let at : max r.hall.base (min most (last_passed r.hall)) ≤ last = max_at_most r.hall.base (min most (last_passed r.hall)) last (omega (arith, own, low)) (omega (arith, least, up)) in
+        omega (arith, r.base, r.place, at);
+  }
+  cuts most (Refused e b) old new r =
+      up_to_same most
+      (⊎_elim (λ foreign. by foreign.1.same (base_itself old))
+      (λ other. ⊎_elim (λ memory. by memory.1.same (base_itself old)) (λ some. by some.collected (record { plan = refl; base = refl })) other) r.1)
+  cuts most other old new r = absurd r
+
+  -- ONE COMMAND
+  pub moves : (command : Command) (reply : Reply) (old new : Keeping D) → Obeys is_lawful state failures answers command reply old new → MovesBase command old new
+  moves (Submit batch) reply old new obeys = submits batch reply old new obeys.0
+  moves (SubmitAs request batch) reply old new obeys = submits_as request batch reply old new obeys.0
+  moves (SubmitAll group) reply old new obeys = submits_all group reply old new obeys.0
+  moves Release reply old new obeys = releases reply old new obeys
+  moves Settle reply old new obeys = settles reply old new obeys
+  moves Collect reply old new obeys = collects reply old new obeys
+  moves NextOut reply old new obeys = hands_out reply old new obeys
+  moves Cut reply old new obeys = tt
+  moves (CutUpTo most) reply old new obeys = cuts most reply old new obeys
+  moves WriteCut reply old new obeys = writes reply old new obeys.0
+  moves (CloseFree most) reply old new obeys = closes most reply old new obeys.0
