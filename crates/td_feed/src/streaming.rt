@@ -46,7 +46,7 @@ use td_watch::Writer;
 /// disk stays there.
 ///
 /// Where epochs are refused, one with a faulty line, or with more records than a cell of the disk holds, is not put on the disk: at its
-/// `.` a line `no Q L: WHAT` is written, with its request number Q, or `-`, and the number L of the line, and the stream goes on.
+/// `.` a line `no Q L: WHAT: TEXT` is written, with its request number Q, or `-`, the number L of the line and its beginning, and the stream goes on.
 ///
 /// Refusals: a missing closure, before anything else; what the disk refuses as it is recovered; and then the first of what a line,
 /// the reader, the keeper, a worker or the writer refuse, after all that was asked for before it; but want of memory, where epochs are
