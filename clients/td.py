@@ -13,6 +13,8 @@ each batch of the source is on the disk once, and all outputs of each epoch are 
   call gives the same batches, also while an earlier one goes on. It may wait for a batch that is to come.
 - `store(epoch, outputs)`: puts all outputs (vertex, key, value) of an epoch in the place of those that it has of that epoch. They are durable when it
   returns. An epoch may come again, with the same outputs. It may have none, or two of one vertex and key.
+- `refused(number, why)`, where a batch with a fault is to be passed over: it is called for each, with what the stream says of it. It may be called again
+  after a stop. Without it such a batch ends the client.
 
 **Why nothing is lost.** A stream begins with the outputs of all epochs since the last cut. So an epoch that is not stored comes again, as long as no cut was
 taken after it. The client sends `cut` only where all that was sent, and all that was on the disk, is stored. A stream cuts by itself only where N epochs
@@ -49,12 +51,13 @@ class Client:
     stored. A stream that ends is started again, at most `tries` times while nothing new comes on the disk. `options` are more words of `td stream`.
     With `--hold` among them the stream itself takes no cut of what is not stored, and `--cut-every` may stand beside."""
 
-    def __init__(self, disk, plan, source, store, td="td", window=64, tries=10, options=()):
+    def __init__(self, disk, plan, source, store, td="td", window=64, tries=10, options=(), refused=None):
         self.holds = "--hold" in options
         if not self.holds and any(word.startswith("--cut-every") for word in options):
             raise ValueError("--cut-every takes cuts before outputs are stored")
         self.disk, self.plan, self.source, self.store = disk, plan, source, store
-        self.td, self.window, self.tries, self.options = td, window, tries, options
+        self.td, self.window, self.tries, self.refused = td, window, tries, refused
+        self.options = (*options, "--refuse") if refused else options
 
     def run(self):
         """Returns when the source has ended, and all is stored and cut. Raises `Stopped`, and what `source` and `store` raise."""
@@ -106,7 +109,9 @@ class Stream:
         try:
             for line in self.child.stdout:
                 # The last line of a stream that was killed may be the beginning of one.
-                if line.endswith("\n"):
+                if line.startswith("no ") and line.endswith("\n"):
+                    self.refuse(*line.split(maxsplit=2)[1:])
+                elif line.endswith("\n"):
                     word, *numbers = line.split()
                     self.obey(word, *map(int, numbers))
         finally:
@@ -134,6 +139,13 @@ class Stream:
         elif word not in ("cut", "full"):
             self.outputs.append((number, *numbers))
 
+    def refuse(self, number, why):
+        """Passes over a batch that the stream refused: it is no epoch."""
+        self.client.refused(int(number), why.rstrip("\n"))
+        with self.changed:
+            self.sent -= 1
+            self.changed.notify()
+
     def send_all(self):
         """Sends the batches of the source, and cuts."""
         try:
@@ -156,7 +168,9 @@ class Stream:
         if self.sent - self.cut == self.most:
             self.send_cut()
         self.wait_until(lambda: self.sent - self.stored < self.client.window)
-        self.last, self.sent = number, self.sent + 1
+        self.last = number
+        with self.changed:
+            self.sent += 1
         self.send_seen()
         self.send(f"req {number}", *("%d %d %d" % record for record in records), ".")
 

@@ -182,27 +182,27 @@ module _ (plan : List PlanLine) (os : List Order) where
       by false = refl
 
   -- and where an epoch may be refused
-  said_prefixed : (limit : Option ℕ) (n : ℕ) (flaw : Option (ℕ × Flaw)) (read : Orders) (said : Option FeedLine)
-      → with_said plan limit n flaw (prefixed os read) said ≡ judged_prefixed_if os (with_said plan limit n flaw read said)
-  said_prefixed limit n (Some why) read None = refl
-  said_prefixed limit n (Some why) read (Some Cut) = refl
-  said_prefixed limit n (Some why) read (Some (Seen epoch)) = refl
-  said_prefixed limit n (Some why) read (Some (Request q)) = refl
-  said_prefixed limit n (Some why) read (Some (Data PassedOver)) = refl
-  said_prefixed limit n (Some why) read (Some (Data (Record input rec))) = refl
-  said_prefixed limit n (Some why) read (Some (Data Close)) =
+  said_prefixed : (limit : Option ℕ) (n : ℕ) (flaw : Option (ℕ × Flaw)) (read : Orders) (line : List ℕ) (said : Option FeedLine)
+      → with_said plan limit n flaw (prefixed os read) line said ≡ judged_prefixed_if os (with_said plan limit n flaw read line said)
+  said_prefixed limit n (Some why) read line None = refl
+  said_prefixed limit n (Some why) read line (Some Cut) = refl
+  said_prefixed limit n (Some why) read line (Some (Seen epoch)) = refl
+  said_prefixed limit n (Some why) read line (Some (Request q)) = refl
+  said_prefixed limit n (Some why) read line (Some (Data PassedOver)) = refl
+  said_prefixed limit n (Some why) read line (Some (Data (Record input rec))) = refl
+  said_prefixed limit n (Some why) read line (Some (Data Close)) =
       λ i. Ok (None, record { orders = append_assoc os read.orders (order.Say (note_of read.request why) ∷ []) i; request = 0; current = [] })
-  said_prefixed limit n None read said = ap (judged limit n (prefixed os read)) (line_prefixed n read said) ∙ by (with_line plan n read said)
+  said_prefixed limit n None read line said = ap (judged limit n line (prefixed os read)) (line_prefixed n read said) ∙ by (with_line plan n read said)
     where
-      over : (next : Orders) (b : Bool) → ◌≡◌ {A = Result ReadSoFar Fault} (Ok (unless_over n (prefixed os read) (prefixed os next) b)) (judged_prefixed_if os (Ok (unless_over n read next b)))
+      over : (next : Orders) (b : Bool) → ◌≡◌ {A = Result ReadSoFar Fault} (Ok (unless_over n line (prefixed os read) (prefixed os next) b)) (judged_prefixed_if os (Ok (unless_over n line read next b)))
       over next true = refl
       over next false = refl
 
-      fault_by : (fault : Fault) (l : Option ℕ) → unless_refused n (prefixed os read) fault l ≡ judged_prefixed_if os (unless_refused n read fault l)
+      fault_by : (fault : Fault) (l : Option ℕ) → unless_refused n line (prefixed os read) fault l ≡ judged_prefixed_if os (unless_refused n line read fault l)
       fault_by fault None = refl
       fault_by fault (Some most) = refl
 
-      by : (w : Result Orders Fault) → judged limit n (prefixed os read) (prefixed_if os w) ≡ judged_prefixed_if os (judged limit n read w)
+      by : (w : Result Orders Fault) → judged limit n line (prefixed os read) (prefixed_if os w) ≡ judged_prefixed_if os (judged limit n line read w)
       by (Ok next) = over next (is_over limit (length next.current))
       by (Err fault) = fault_by fault limit
 
@@ -213,8 +213,8 @@ module _ (os : List Order) where
 
   next_prefixed : (r : Reading) (line : List ℕ) → with_next (reading_prefixed os r) line ≡ reading_prefixed_if os (with_next r line)
   next_prefixed r line =
-      ap (onward (reading_prefixed os r)) (said_prefixed r.plan os r.limit r.number r.flaw r.read (stream_line_of r.hold line))
-      ∙ onward_prefixed r (with_said r.plan r.limit r.number r.flaw r.read (stream_line_of r.hold line))
+      ap (onward (reading_prefixed os r)) (said_prefixed r.plan os r.limit r.number r.flaw r.read line (stream_line_of r.hold line))
+      ∙ onward_prefixed r (with_said r.plan r.limit r.number r.flaw r.read line (stream_line_of r.hold line))
 
   script_prefixed : (r : Reading) (lines : List (List ℕ)) → script_from (reading_prefixed os r) lines ≡ prefixed_script os (script_from r lines)
   script_prefixed r [] = refl
@@ -277,27 +277,27 @@ module _ (plan : List PlanLine) (n : ℕ) where
       by true e = inl (sym (orders_in e) ∙ none)
       by false e = absurd (let no = e in cc)
 
-  judged_one : (limit : Option ℕ) (flaw : Option (ℕ × Flaw)) (read : Orders) (next : ReadSoFar) (said : Option FeedLine) → read.orders ≡ [] → with_said plan limit n flaw read said ≡ Ok next
+  judged_one : (limit : Option ℕ) (flaw : Option (ℕ × Flaw)) (read : Orders) (next : ReadSoFar) (line : List ℕ) (said : Option FeedLine) → read.orders ≡ [] → with_said plan limit n flaw read line said ≡ Ok next
       → AtMostOne next.1.orders
-  judged_one limit (Some why) read next None none is = inl (sym (judged_in is) ∙ none)
-  judged_one limit (Some why) read next (Some Cut) none is = inl (sym (judged_in is) ∙ none)
-  judged_one limit (Some why) read next (Some (Seen epoch)) none is = inl (sym (judged_in is) ∙ none)
-  judged_one limit (Some why) read next (Some (Request q)) none is = inl (sym (judged_in is) ∙ none)
-  judged_one limit (Some why) read next (Some (Data PassedOver)) none is = inl (sym (judged_in is) ∙ none)
-  judged_one limit (Some why) read next (Some (Data (Record input rec))) none is = inl (sym (judged_in is) ∙ none)
-  judged_one limit (Some why) read next (Some (Data Close)) none is =
+  judged_one limit (Some why) read next line None none is = inl (sym (judged_in is) ∙ none)
+  judged_one limit (Some why) read next line (Some Cut) none is = inl (sym (judged_in is) ∙ none)
+  judged_one limit (Some why) read next line (Some (Seen epoch)) none is = inl (sym (judged_in is) ∙ none)
+  judged_one limit (Some why) read next line (Some (Request q)) none is = inl (sym (judged_in is) ∙ none)
+  judged_one limit (Some why) read next line (Some (Data PassedOver)) none is = inl (sym (judged_in is) ∙ none)
+  judged_one limit (Some why) read next line (Some (Data (Record input rec))) none is = inl (sym (judged_in is) ∙ none)
+  judged_one limit (Some why) read next line (Some (Data Close)) none is =
       let note = order.Say (note_of read.request why) in inr (note, sym (judged_in is) ∙ ap (λ l. l ++ note ∷ []) none)
-  judged_one limit None read next said none is = by (with_line plan n read said) refl is
+  judged_one limit None read next line said none is = by (with_line plan n read said) refl is
     where
-      over : (more : Orders) → AtMostOne more.orders → (b : Bool) → ◌≡◌ {A = Result ReadSoFar Fault} (Ok (unless_over n read more b)) (Ok next) → AtMostOne next.1.orders
+      over : (more : Orders) → AtMostOne more.orders → (b : Bool) → ◌≡◌ {A = Result ReadSoFar Fault} (Ok (unless_over n line read more b)) (Ok next) → AtMostOne next.1.orders
       over more one true e = inl (sym (judged_in e) ∙ none)
       over more one false e = subst (λ (l : List Order). AtMostOne l) (judged_in e) one
 
-      fault_by : (fault : Fault) (l : Option ℕ) → unless_refused n read fault l ≡ Ok next → AtMostOne next.1.orders
+      fault_by : (fault : Fault) (l : Option ℕ) → unless_refused n line read fault l ≡ Ok next → AtMostOne next.1.orders
       fault_by fault None e = absurd (let no = e in cc)
       fault_by fault (Some most) e = inl (sym (judged_in e) ∙ none)
 
-      by : (w : Result Orders Fault) → with_line plan n read said ≡ w → judged limit n read w ≡ Ok next → AtMostOne next.1.orders
+      by : (w : Result Orders Fault) → with_line plan n read said ≡ w → judged limit n line read w ≡ Ok next → AtMostOne next.1.orders
       by (Ok more) known e = over more (one_at_most read more said none known) (is_over limit (length more.current)) e
       by (Err fault) known e = fault_by fault limit e
 
@@ -307,9 +307,9 @@ leaving left next = (next.0, record { orders = left; request = next.1.request; c
 
 module _ (r : Reading) where
   -- ONE LINE MORE, after which the last order was taken out, if there is one
-  pub completes : (next : ReadSoFar) (line : List ℕ) (left : List Order) (taken : Option Order) → r.read.orders ≡ [] → with_said r.plan r.limit r.number r.flaw r.read (stream_line_of r.hold line) ≡ Ok next
+  pub completes : (next : ReadSoFar) (line : List ℕ) (left : List Order) (taken : Option Order) → r.read.orders ≡ [] → with_said r.plan r.limit r.number r.flaw r.read line (stream_line_of r.hold line) ≡ Ok next
       → next.1.orders ≡ left ++ option_to_list taken → (IsSome taken ↔ (0 < length next.1.orders)) → (left ≡ []) × Completes r (after_line r (leaving left next)) line taken
-  completes next line left taken none is parts some = by (judged_one r.plan r.number r.limit r.flaw r.read next (stream_line_of r.hold line) none is) taken parts some
+  completes next line left taken none is parts some = by (judged_one r.plan r.number r.limit r.flaw r.read next line (stream_line_of r.hold line) none is) taken parts some
     where
       follows : (more : List (List ℕ)) → script_from r (line ∷ more) ≡ script_from (after_line r next) more
       follows more = ap (λ (w : Result ReadSoFar Fault). script_after r.read (λ q. script_from q more) (onward r w)) is
@@ -341,7 +341,7 @@ module _ (r : Reading) where
                 ∙ script_prefixed (o ∷ []) (after_line r (leaving left next)) more,
           )
 
-  pub at_fault : (line : List ℕ) (fault : Fault) → r.read.orders ≡ [] → with_said r.plan r.limit r.number r.flaw r.read (stream_line_of r.hold line) ≡ Err fault → HasFault r line
+  pub at_fault : (line : List ℕ) (fault : Fault) → r.read.orders ≡ [] → with_said r.plan r.limit r.number r.flaw r.read line (stream_line_of r.hold line) ≡ Err fault → HasFault r line
   at_fault line fault none is more =
       ap (λ (w : Result ReadSoFar Fault). script_after r.read (λ q. script_from q more) (onward r w)) is ∙ (λ i. record { orders = none i; is_sound = false })
 
@@ -352,17 +352,17 @@ as_said next = Ok next
 pub refused_alone : (n : ℕ) (read : Orders) (why : Flaw) → read.orders ≡ [] → refused n read why ≡ refused n (numbered read.request no_orders) why
 refused_alone n read why none = λ i. (Some (n, why), record { orders = none i; request = read.request; current = [] })
 
-pub over_or_not : (limit : Option ℕ) (n : ℕ) (read next : Orders) (w : Result Orders Fault) (b : Bool) → w ≡ Ok next → is_over limit (length next.current) ≡ b
-    → judged limit n read w ≡ Ok (unless_over n read next b)
-over_or_not limit n read next w b is over = ap (judged limit n read) is ∙ ap (λ (c : Bool). as_said (unless_over n read next c)) over
+pub over_or_not : (limit : Option ℕ) (n : ℕ) (line : List ℕ) (read next : Orders) (w : Result Orders Fault) (b : Bool) → w ≡ Ok next → is_over limit (length next.current) ≡ b
+    → judged limit n line read w ≡ Ok (unless_over n line read next b)
+over_or_not limit n line read next w b is over = ap (judged limit n line read) is ∙ ap (λ (c : Bool). as_said (unless_over n line read next c)) over
 
-pub fault_or_not : (limit : Option ℕ) (n : ℕ) (read : Orders) (fault : Fault) (w : Result Orders Fault) → read.orders ≡ [] → w ≡ Err fault
-    → judged limit n read w ≡ unless_refused n (numbered read.request no_orders) fault limit
-fault_or_not limit n read fault w none is = ap (judged limit n read) is ∙ by limit
+pub fault_or_not : (limit : Option ℕ) (n : ℕ) (line : List ℕ) (read : Orders) (fault : Fault) (w : Result Orders Fault) → read.orders ≡ [] → w ≡ Err fault
+    → judged limit n line read w ≡ unless_refused n line (numbered read.request no_orders) fault limit
+fault_or_not limit n line read fault w none is = ap (judged limit n line read) is ∙ by limit
   where
-    by : (l : Option ℕ) → unless_refused n read fault l ≡ unless_refused n (numbered read.request no_orders) fault l
+    by : (l : Option ℕ) → unless_refused n line read fault l ≡ unless_refused n line (numbered read.request no_orders) fault l
     by None = refl
-    by (Some most) = ap as_said (refused_alone n read (flaw_in fault) none)
+    by (Some most) = ap as_said (refused_alone n read (flaw_in line fault) none)
 
 -- want of memory is given for anything
 pub memory_gives : {A : Type 0} (r a : Result A Fault) → r ≡ Err Memory → Gives r a
@@ -375,7 +375,7 @@ gives_as (Err f) a b is given = ⊎_elim inl (λ e. inr (is ∙ e)) given
 
 -- and the others stand for what was read then
 pub line_read : (r : Reading) (next : ReadSoFar) (line : List ℕ) (left : Orders) (taken : Option Order) (m : ℕ) → r.read.orders ≡ []
-    → with_said r.plan r.limit r.number r.flaw r.read (stream_line_of r.hold line) ≡ Ok next → next.1.orders ≡ left.orders ++ option_to_list taken → (IsSome taken ↔ (0 < length next.1.orders))
+    → with_said r.plan r.limit r.number r.flaw r.read line (stream_line_of r.hold line) ≡ Ok next → next.1.orders ≡ left.orders ++ option_to_list taken → (IsSome taken ↔ (0 < length next.1.orders))
     → left ≡ record { orders = left.orders; request = next.1.request; current = next.1.current } → m ≡ r.number + 1
     → (left.orders ≡ []) × Completes r (record { plan = r.plan; hold = r.hold; limit = r.limit; number = m; flaw = next.0; read = left }) line taken
 line_read r next line left taken m none is parts some same number =
@@ -504,6 +504,6 @@ script_is plan n read (line ∷ lines) orders is = by (with_line plan n read (fe
   where
     by : (w : Result Orders Fault) → and_then (λ more. orders_from plan (n + 1) more lines) w ≡ Ok orders
         → ((more : Orders) → orders_from plan (n + 1) more lines ≡ Ok orders → ◌≡◌ {A = Script} (script_from (plainly plan (n + 1) more) lines) (record { orders = orders; is_sound = true }))
-        → ◌≡◌ {A = Script} (script_after read (λ q. script_from q lines) (onward (plainly plan n read) (judged None n read w))) (record { orders = orders; is_sound = true })
+        → ◌≡◌ {A = Script} (script_after read (λ q. script_from q lines) (onward (plainly plan n read) (judged None n line read w))) (record { orders = orders; is_sound = true })
     by (Ok more) h rest = rest more h
     by (Err fault) h rest = absurd (let no = h in cc)

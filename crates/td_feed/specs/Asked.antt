@@ -13,7 +13,7 @@ use Rattle.td_journal.specs.declared.submitted.Submitted.{Submitted}
 use Rattle.td_group.specs.Groups.{may_follow}
 use Rattle.td_journal.specs.Numbers.{may_come}
 use Rattle.td_feed.specs.declared.note.Flaw.{Flaw}
-use Rattle.td_feed.specs.declared.note.Flaw.TheVariants as flaws
+use Rattle.td_feed.specs.declared.note.Cause.TheVariants as cause
 use Rattle.td_feed.specs.declared.note.Note.{Note}
 use Rattle.td_feed.specs.declared.order.FeedLine.{FeedLine}
 use Rattle.td_feed.specs.declared.order.FeedLine.TheVariants.{Data, Request}
@@ -22,6 +22,7 @@ use Rattle.td_feed.specs.declared.order.Order.TheVariants as order
 use Rattle.td_feed.specs.declared.reading.Reading.{Reading as AnyReading}
 use Rattle.td_feed.specs.declared.at_once.Asked.{Asked}
 use Rattle.td_feed.specs.declared.at_once.Asked.TheVariants.{One, Epochs}
+use Rattle.td_feed.specs.Noted.{flaw_of, cause_in}
 use Rattle.td_feed.specs.Orders.{Orders, no_orders, numbered, is_between, stream_line_of, with_line, with_order, submissions, notes_in}
 
 -- what is left of an input, of which some bytes were read and are in no line yet
@@ -54,22 +55,25 @@ is_over None n = false
 is_over (Some most) n = nat_lt most n
 
 -- with one line more, unless the epoch is refused for what it has then
-abbrev pub unless_over : ℕ → Orders → Orders → Bool → ReadSoFar
-unless_over n read next true = refused n read flaws.TooManyRecords
-unless_over n read next false = (None, next)
+abbrev pub unless_over : ℕ → List ℕ → Orders → Orders → Bool → ReadSoFar
+unless_over n line read next true = refused n read (flaw_of cause.TooManyRecords line)
+unless_over n line read next false = (None, next)
 
 -- a fault, for which an epoch is refused where that is to be
-abbrev pub flaw_in : Fault → Flaw
-flaw_in (Line n fault) = flaws.Line fault
-flaw_in _ = flaws.Line Syntax
+abbrev pub fault_in : Fault → LineFault
+fault_in (Line n fault) = fault
+fault_in _ = Syntax
 
-abbrev pub unless_refused : ℕ → Orders → Fault → Option ℕ → Result ReadSoFar Fault
-unless_refused n read fault None = Err fault
-unless_refused n read fault (Some most) = Ok (refused n read (flaw_in fault))
+abbrev pub flaw_in : List ℕ → Fault → Flaw
+flaw_in line fault = flaw_of (cause_in line (fault_in fault)) line
 
-abbrev pub judged : Option ℕ → ℕ → Orders → Result Orders Fault → Result ReadSoFar Fault
-judged limit n read (Ok next) = Ok (unless_over n read next (is_over limit (length next.current)))
-judged limit n read (Err fault) = unless_refused n read fault limit
+abbrev pub unless_refused : ℕ → List ℕ → Orders → Fault → Option ℕ → Result ReadSoFar Fault
+unless_refused n line read fault None = Err fault
+unless_refused n line read fault (Some most) = Ok (refused n read (flaw_in line fault))
+
+abbrev pub judged : Option ℕ → ℕ → List ℕ → Orders → Result Orders Fault → Result ReadSoFar Fault
+judged limit n line read (Ok next) = Ok (unless_over n line read next (is_over limit (length next.current)))
+judged limit n line read (Err fault) = unless_refused n line read fault limit
 
 -- a request number stands in an epoch that is refused, where there is none yet
 abbrev pub first_number : ℕ → ℕ → ℕ
@@ -85,11 +89,11 @@ passed_over why read (Some (Data Close)) = (None, with_order (order.Say (note_of
 passed_over why read (Some (Request q)) = (Some why, numbered (first_number read.request q) read)
 passed_over why read _ = (Some why, numbered read.request read)
 
--- WITH ONE LINE MORE, which has the number n, or its fault: an epoch with a faulty line, or with too many records, is refused where
+-- WITH ONE LINE MORE, which has the number n and says this, or its fault: an epoch with a faulty line, or with too many records, is refused where
 -- there is a limit of these
-abbrev pub with_said : List PlanLine → Option ℕ → ℕ → Option (ℕ × Flaw) → Orders → Option FeedLine → Result ReadSoFar Fault
-with_said plan limit n (Some why) read said = Ok (passed_over why read said)
-with_said plan limit n None read said = judged limit n read (with_line plan n read said)
+abbrev pub with_said : List PlanLine → Option ℕ → ℕ → Option (ℕ × Flaw) → Orders → List ℕ → Option FeedLine → Result ReadSoFar Fault
+with_said plan limit n (Some why) read line said = Ok (passed_over why read said)
+with_said plan limit n None read line said = judged limit n line read (with_line plan n read said)
 
 -- WHERE A STREAM IS in its input: its plan; whether outputs are held; where it refuses epochs, how many records one may have; the number of
 -- the next line; why the epoch that is open is refused, if it is; and what was read
@@ -118,7 +122,7 @@ onward r (Ok next) = Ok (after_line r next)
 onward r (Err fault) = Err fault
 
 abbrev pub with_next : Reading → List ℕ → Result Reading Fault
-with_next r line = onward r (with_said r.plan r.limit r.number r.flaw r.read (stream_line_of r.hold line))
+with_next r line = onward r (with_said r.plan r.limit r.number r.flaw r.read line (stream_line_of r.hold line))
 
 -- at the end, no epoch may have begun
 abbrev pub may_end : Option (ℕ × Flaw) → Bool → Bool

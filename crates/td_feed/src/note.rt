@@ -3,35 +3,72 @@
 //! An epoch that is refused for its lines is never told to the keeper, so no reply speaks of it.
 ghost use Rattle.std.specs.Prelude.{◌≡◌, ◌⊎◌, Some, string_bytes, IfOk, IfErr, OnOk};
 ghost use Rattle.std.specs.Io.KnownBytes.{Appends};
-ghost use Rattle.td_feed.specs.Noted.{flaw_text, note_line};
+ghost use Rattle.td_feed.specs.Noted.{cause_text, flaw_text, flaw_of, note_line};
 
+use crate::excerpt::Excerpt;
 use std::alloc::Global;
 use std::fmt;
 use td_console::{Fault, LineFault, Sink, write_answer};
 
 /// Why an epoch is refused.
-#[derive(Clone, Copy, Debug)]
-pub enum Flaw {
-    /// What is wrong with a line of it.
+#[derive(Clone, Copy, Debug, PartialEq, Eq)]
+pub enum Cause {
+    /// What is wrong with a line of it, where none of the others says it.
     Line(LineFault),
+    /// A line has no form, and a carriage return, as lines of some systems end in.
+    CarriageReturn,
+    /// A line has a byte above 127.
+    NotAscii,
+    /// A line has no form, and a number that is too large: an input of more than nine digits, a key or a request number from 2^64 on, or a
+    /// value that no `i64` holds.
+    NumberTooLarge,
     /// It has more records than an epoch may have.
     TooManyRecords,
+}
+
+impl fmt::Display for Cause {
+    ghost output = { λ c. Some (cause_text c) };
+
+    fn fmt<W: fmt::Write>(&self, f: &mut fmt::Formatter<W>) -> fmt::Result {
+        match self {
+            Cause::Line(fault) => write!(f, "{fault}"),
+            Cause::CarriageReturn => write!(f, "carriage return"),
+            Cause::NotAscii => write!(f, "a byte above 127"),
+            Cause::NumberTooLarge => write!(f, "number too large"),
+            Cause::TooManyRecords => write!(f, "too many records"),
+        }
+    }
+}
+
+/// Why an epoch is refused, and how the line begins for which it is.
+#[derive(Debug, Drop)]
+pub struct Flaw {
+    pub cause: Cause,
+    pub text: Excerpt,
+}
+
+impl Flaw {
+    /// A cause, and how its line begins. Refusal: `Memory`.
+    pub(crate) fn new(alloc: Global, cause: Cause, line: &[u8]) -> Result<Flaw, Fault>
+        ensures ok { IfOk result (λ flaw. flaw ≡ flaw_of cause line.now) }
+        ensures err { IfErr result (λ f. f ≡ Fault.Memory) }
+    {
+        let text = Excerpt::of(alloc, line)?;
+        Ok(Flaw { cause, text })
+    }
 }
 
 impl fmt::Display for Flaw {
     ghost output = { λ f. Some (flaw_text f) };
 
     fn fmt<W: fmt::Write>(&self, f: &mut fmt::Formatter<W>) -> fmt::Result {
-        match self {
-            Flaw::Line(fault) => write!(f, "{fault}"),
-            Flaw::TooManyRecords => write!(f, "too many records"),
-        }
+        write!(f, "{}: {}", self.cause, self.text)
     }
 }
 
-/// A line that stands for no reply of the keeper's, `no Q L: WHAT`: the epoch with request number Q is refused for its line L. Without a
-/// number, 0 here, it is `no - L: WHAT`.
-#[derive(Clone, Copy, Debug)]
+/// A line that stands for no reply of the keeper's, `no Q L: WHAT: TEXT`: the epoch with request number Q is refused for its line L, which
+/// begins with TEXT. Without a number, 0 here, it is `no - L: WHAT: TEXT`.
+#[derive(Debug, Drop)]
 pub struct Note {
     pub request: u64,
     pub line: u64,
@@ -56,8 +93,8 @@ fn text_of(alloc: Global, note: &Note) -> Result<String, Fault>
         request,
         line,
         flaw,
-    } = *note;
-    if request == 0 {
+    } = note;
+    if *request == 0 {
         Ok(format!(in alloc; "no - {line}: {flaw}\n")?)
     } else {
         Ok(format!(in alloc; "no {request} {line}: {flaw}\n")?)

@@ -4,17 +4,19 @@
 //! request number may stand below the flaw. What was read of the epoch is let go at the flaw.
 ghost use Rattle.std.specs.Prelude.{◌≡◌, [], true, Ok, Err, IfOk, IfErr, length};
 ghost use Rattle.td_feed.specs.Orders.{with_line, is_between, is_of_input, no_orders, numbered, Gives};
+ghost use Rattle.td_feed.specs.Noted.{flaw_of, cause_in};
 ghost use Rattle.td_feed.specs.Asked.{place, at_start, with_said, judged, passed_over, first_number, refused, unless_refused, is_over, may_end, Completes, HasFault, IsOfLine, is_of_reader};
 
 use crate::at_once::Room;
-use crate::note::{Flaw, Note};
+use crate::excerpt::cause_of;
+use crate::note::{Cause, Flaw, Note};
 use crate::order::{
     FeedLine, Order, Orders, has_too_many, is_between, no_orders, numbered, read_stream_line,
     records_in, request_in, taken_out, with_line, with_note,
 };
 use std::alloc::Global;
 use std::mem;
-use td_console::{DataLine, Fault};
+use td_console::{DataLine, Fault, LineFault};
 use td_plan::Plan;
 
 /// Where a stream is in its input: the number of the next line, what was read, and why the epoch that is open is refused, if it is. Where
@@ -63,10 +65,7 @@ impl<'a> Reading<'a> {
     pub(crate) fn is_between(&self) -> bool
         ensures { result ≡ may_end self.now.flaw (is_between self.now.read) }
     {
-        match self.flaw {
-            Some(_) => false,
-            None => is_between(&self.read),
-        }
+        self.flaw.is_none() && is_between(&self.read)
     }
 
     /// The order that one line more completes, if it does. Refusals: the line's fault; `Memory`; `Input` after more lines than can be
@@ -82,18 +81,20 @@ impl<'a> Reading<'a> {
             return Err(Fault::Input);
         };
         let read = mem::replace(&mut self.read, no_orders(alloc));
+        let flaw = self.flaw.take();
         let words = read_stream_line(self.hold, line);
-        let said = with_said(
+        let (flaw, read) = with_said(
             alloc,
             self.plan,
             self.limit,
             self.number,
-            self.flaw,
+            flaw,
             read,
+            line,
             words,
         )?;
-        let (order, read) = taken_out(said.1);
-        self.flaw = said.0;
+        let (order, read) = taken_out(read);
+        self.flaw = flaw;
         self.read = read;
         self.number = next;
         Ok(order)
@@ -109,15 +110,16 @@ fn with_said(
     number: u64,
     flaw: Option<(u64, Flaw)>,
     read: Orders,
+    line: &[u8],
     said: Option<FeedLine>,
 ) -> Result<(Option<(u64, Flaw)>, Orders), Fault>
     requires ready { read.orders ≡ [] }
-    ensures gives { Gives result (with_said plan.now limit number flaw read said) }
+    ensures gives { Gives result (with_said plan.now limit number flaw read line.now said) }
     ensures of_input { IfErr result (λ f. is_of_input f ≡ true) }
 {
     match flaw {
         Some(flaw) => passed_over(alloc, read, flaw, said),
-        None => judged(alloc, plan, limit, number, read, said),
+        None => judged(alloc, plan, limit, number, read, line, said),
     }
 }
 
@@ -128,21 +130,22 @@ fn judged(
     limit: Option<usize>,
     number: u64,
     read: Orders,
+    line: &[u8],
     said: Option<FeedLine>,
 ) -> Result<(Option<(u64, Flaw)>, Orders), Fault>
     requires ready { read.orders ≡ [] }
-    ensures gives { Gives result (judged limit number read (with_line plan.now number read said)) }
+    ensures gives { Gives result (judged limit number line.now read (with_line plan.now number read said)) }
     ensures of_input { IfErr result (λ f. is_of_input f ≡ true) }
 {
     let request = request_in(&read);
     match with_line(alloc, plan, read, number, said) {
         Ok(next) => {
             if is_over(limit, &next) {
-                return Ok(refused(alloc, number, request, Flaw::TooManyRecords));
+                return refused(alloc, number, request, Cause::TooManyRecords, line);
             }
             Ok((None, next))
         }
-        Err(fault) => refused_for(alloc, limit, number, request, fault),
+        Err(fault) => refused_for(alloc, limit, number, request, fault, line),
     }
 }
 
@@ -154,9 +157,10 @@ fn refused_for(
     number: u64,
     request: u64,
     fault: Fault,
+    line: &[u8],
 ) -> Result<(Option<(u64, Flaw)>, Orders), Fault>
     requires of_input { is_of_input fault ≡ true }
-    ensures gives { Gives result (unless_refused number (numbered request no_orders) fault limit) }
+    ensures gives { Gives result (unless_refused number line.now (numbered request no_orders) fault limit) }
     ensures memory { fault ≡ Fault.Memory → result ≡ Err Fault.Memory }
     ensures of_input { IfErr result (λ f. is_of_input f ≡ true) }
 {
@@ -164,7 +168,7 @@ fn refused_for(
         return Err(fault);
     };
     match fault {
-        Fault::Line(_, fault) => Ok(refused(alloc, number, request, Flaw::Line(fault))),
+        Fault::Line(_, fault) => refused(alloc, number, request, cause_in(fault, line), line),
         Fault::Memory => Err(Fault::Memory),
         _ => unreachable!(),
     }
@@ -180,14 +184,30 @@ fn is_over(limit: Option<usize>, read: &Orders) -> bool
     }
 }
 
-/// What was read, where the epoch with this request number is refused for the line with this number.
-fn refused(alloc: Global, number: u64, request: u64, flaw: Flaw) -> (Option<(u64, Flaw)>, Orders)
-    ensures { result ≡ refused number (numbered request no_orders) flaw }
+/// The cause of a line's fault.
+fn cause_in(fault: LineFault, line: &[u8]) -> Cause
+    ensures { result ≡ cause_in line.now fault }
 {
-    (
-        Some((number, flaw)),
-        numbered(alloc, no_orders(alloc), request),
-    )
+    match fault {
+        LineFault::Syntax => cause_of(line),
+        LineFault::NoSuchInput | LineFault::NotClosed => Cause::Line(fault),
+    }
+}
+
+/// What was read, where the epoch with this request number is refused for the line with this number. Refusal: `Memory`.
+fn refused(
+    alloc: Global,
+    number: u64,
+    request: u64,
+    cause: Cause,
+    line: &[u8],
+) -> Result<(Option<(u64, Flaw)>, Orders), Fault>
+    ensures ok { IfOk result (λ next. next ≡ refused number (numbered request no_orders) (flaw_of cause line.now)) }
+    ensures err { IfErr result (λ f. f ≡ Fault.Memory) }
+{
+    let flaw = Flaw::new(alloc, cause, line)?;
+    let none = numbered(alloc, no_orders(alloc), request);
+    Ok((Some((number, flaw)), none))
 }
 
 /// What was read, with one line more of an epoch that is refused. Refusal: `Memory`.

@@ -60,7 +60,7 @@ pub struct StreamOptions {
 /// disk stays there.
 ///
 /// Where epochs are refused, one with a faulty line, or with more records than a cell of the disk holds, is not put on the disk: at its
-/// `.` a line `no Q L: WHAT` is written, with its request number Q, or `-`, and the number L of the line, and the stream goes on.
+/// `.` a line `no Q L: WHAT: TEXT` is written, with its request number Q, or `-`, the number L of the line and its beginning, and the stream goes on.
 ///
 /// Where outputs are held, a line `seen E` between two epochs says that the outputs of all epochs up to E were stored. No cut is taken
 /// beyond the last epoch that was seen, at first the one that the disk keeps; so a later stream of the disk writes again the outputs of

@@ -1,5 +1,6 @@
 use Rattle.std.proofs.Common.{◌≡◌, ◌∙◌, ⊎_elim, ℕ, true, sym, ap}
-use Rattle.td_feed.specs.declared.note.Flaw.TheVariants.{TooManyRecords}
+use Rattle.td_feed.specs.declared.note.Cause.TheVariants.{TooManyRecords}
+use Rattle.td_feed.specs.Noted.{flaw_of}
 use Rattle.td_feed.specs.Orders.{no_orders, numbered}
 use Rattle.td_feed.specs.Asked.{refused, unless_refused}
 use Rattle.td_feed.proofs.Asked.{as_said, refused_alone, over_or_not, fault_or_not, memory_gives, gives_as}
@@ -8,8 +9,8 @@ use Rattle.td_feed.proofs.reading.judged.Goals as goal
 pub returns-then-is_over-clause-gives : goal.returns-then-is_over-clause-gives
 returns-then-is_over-clause-gives c =
     let a = c.args in
-    over_or_not a.limit a.number a.read c.in-Ok.next _ true c.in-Ok.ensures.gives (sym c.is_over.ensures ∙ c.if-is_over.true)
-    ∙ ap as_said (refused_alone a.number a.read TooManyRecords c.requires.ready ∙ ap (λ (q : ℕ). refused a.number (numbered q no_orders) TooManyRecords) (sym c.request_in-request.ensures) ∙ sym c.refused.ensures)
+    over_or_not a.limit a.number a.line.now a.read c.in-Ok.next _ true c.in-Ok.ensures.gives (sym c.is_over.ensures ∙ c.if-is_over.true)
+    ∙ ap as_said (refused_alone a.number a.read (flaw_of TooManyRecords a.line.now) c.requires.ready ∙ ap (λ (q : ℕ). refused a.number (numbered q no_orders) (flaw_of TooManyRecords a.line.now)) (sym c.request_in-request.ensures) ∙ sym c.refused.ensures)
 
 pub returns-in-Err-clause-gives : goal.returns-in-Err-clause-gives
 returns-in-Err-clause-gives c =
@@ -17,6 +18,6 @@ returns-in-Err-clause-gives c =
     let r = c.refused_for.result in
     ⊎_elim (λ memory. memory_gives r _ (c.refused_for.ensures.memory memory))
     (λ is.
-    gives_as r (unless_refused a.number (numbered c.request_in-request.result no_orders) c.in-Err.fault a.limit) _
-    (fault_or_not a.limit a.number a.read c.in-Err.fault _ c.requires.ready is ∙ ap (λ (q : ℕ). unless_refused a.number (numbered q no_orders) c.in-Err.fault a.limit) (sym c.request_in-request.ensures))
+    gives_as r (unless_refused a.number a.line.now (numbered c.request_in-request.result no_orders) c.in-Err.fault a.limit) _
+    (fault_or_not a.limit a.number a.line.now a.read c.in-Err.fault _ c.requires.ready is ∙ ap (λ (q : ℕ). unless_refused a.number a.line.now (numbered q no_orders) c.in-Err.fault a.limit) (sym c.request_in-request.ensures))
     c.refused_for.ensures.gives) c.in-Err.ensures.gives
