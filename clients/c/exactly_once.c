@@ -25,7 +25,7 @@ static struct head {
 } head;
 static char *plan;
 static int folder;
-static FILE *file_of_outputs;
+static FILE *lines; /* the file `outputs` */
 static struct td_state *states;
 static struct td_record *outputs, *records;
 static size_t states_room, outputs_room, records_room;
@@ -81,17 +81,17 @@ static void write_state(void) {
 }
 
 static void write_outputs(void) {
-    require(fseeko(file_of_outputs, 0, SEEK_END) == 0 && ftello(file_of_outputs) >= (off_t)head.place &&
-            fseeko(file_of_outputs, (off_t)head.place, SEEK_SET) == 0, "outputs: it lacks lines", 0);
-    for (const struct td_record *it = outputs; it != outputs + head.outputs; it++) {
-        fprintf(file_of_outputs, "%" PRIu64 " %" PRIu64 " %" PRIu64 " %" PRId64 "\n", head.request, it->vertex, it->key, it->val);
+    require(fseeko(lines, 0, SEEK_END) == 0 && ftello(lines) >= (off_t)head.place && fseeko(lines, (off_t)head.place, SEEK_SET) == 0,
+            "outputs: it lacks lines", 0);
+    for (uint64_t at = 0; at < head.outputs; at++) {
+        fprintf(lines, "%" PRIu64 " %" PRIu64 " %" PRIu64 " %" PRId64 "\n", head.request, outputs[at].vertex, outputs[at].key, outputs[at].val);
     }
-    require(fflush(file_of_outputs) == 0 && !ferror(file_of_outputs), "outputs", errno);
+    require(fflush(lines) == 0 && !ferror(lines), "outputs", errno);
 }
 
 static void put(uint64_t request, size_t count) {
     struct td_counts counts = {0, 0};
-    uint64_t place = 0;
+    uint64_t place = 0, end = (uint64_t)ftello(lines);
     uint32_t answer = TD_ROOM;
     while (answer == TD_ROOM && request > head.request) {
         make_room(counts.states, counts.outputs);
@@ -103,13 +103,13 @@ static void put(uint64_t request, size_t count) {
     } else if (answer != TD_DONE) {
         printf("refused %" PRIu64 ": libtd answers %" PRIu32 " at %" PRIu64 "\n", request, answer, place);
     } else {
-        require(fsync(fileno(file_of_outputs)) == 0, "outputs", errno);
-        head = (struct head){request, (uint64_t)ftello(file_of_outputs), counts.states, counts.outputs};
+        require(end <= INT64_MAX && fsync(fileno(lines)) == 0, "outputs", errno);
+        head = (struct head){request, end, counts.states, counts.outputs};
         write_state();
         write_outputs();
         printf("done %" PRIu64 "\n", request);
     }
-    require(fflush(stdout) == 0, "standard output", errno);
+    require(fflush(stdout) == 0 && !ferror(stdout), "standard output", errno);
 }
 
 /* Reads the number of 64 bits at which a text begins, and passes over it: whether there is one. */
@@ -126,7 +126,7 @@ int main(int argc, char **argv) {
     plan = rest_of(fopen(argv[2], "r"), argv[2]);
     require((folder = open(argv[1], O_RDONLY)) >= 0 && fchdir(folder) == 0, argv[1], errno);
     int fd = open("outputs", O_RDWR | O_CREAT, 0666);
-    require(fd >= 0 && flock(fd, LOCK_EX | LOCK_NB) == 0 && (file_of_outputs = fdopen(fd, "r+")) != NULL, "outputs", errno);
+    require(fd >= 0 && flock(fd, LOCK_EX | LOCK_NB) == 0 && (lines = fdopen(fd, "r+")) != NULL, "outputs", errno);
     read_state();
     write_outputs();
     uint64_t request = 0;

@@ -131,7 +131,7 @@ fn serve() -> Result<()> {
     for line in io::stdin().lines() {
         let line = line?;
         match request {
-            None => request = Some(line.strip_prefix("req ").and_then(|it| it.parse().ok()).filter(|&it| it > 0).ok_or("no request")?),
+            None => request = Some(line.strip_prefix("req ").and_then(|it| it.parse::<u64>().ok()).filter(|&it| it > 0).ok_or("no request")?),
             Some(number) if line == "." => {
                 writeln!(io::stdout(), "{}", service.put(number, &records)?)?;
                 (request, records) = (None, Vec::new());
