@@ -173,11 +173,20 @@ class Round:
         with open(self.folder / "requests") as requests, open(self.folder / "answers", "w") as answers, open(self.folder / "errors", "w") as errors:
             self.service = subprocess.Popen(self.way.words(self.folder, is_last), stdin=requests, stdout=answers, stderr=errors)
 
+    def wait(self):
+        """Waits for the end of the service, and looks often, since the time to it counts: its status."""
+        end = time.monotonic() + SECONDS
+        while self.service.poll() is None:
+            if time.monotonic() > end:
+                lib.fail("the service does not end")
+            time.sleep(0.001)
+        return self.service.returncode
+
     def kill(self):
         """Kills the service: whether it was there."""
         is_there = self.service.poll() is None
         self.service.send_signal(signal.SIGKILL)
-        status = self.service.wait(SECONDS)
+        status = self.wait()
         if not is_there and status != 0:
             lib.fail(f"the service ended with status {status}: {(self.folder / 'errors').read_text()[-2000:]}")
         return is_there and status < 0
@@ -201,7 +210,7 @@ class Round:
 
     def check_end(self):
         """Waits until the service has done all that it got: all requests are answered, and are there."""
-        if self.service.wait(SECONDS) != 0 or self.check(is_ended=True) != REQUESTS or self.answered != REQUESTS:
+        if self.wait() != 0 or self.check(is_ended=True) != REQUESTS or self.answered != REQUESTS:
             lib.fail(f"{self.answered} of {REQUESTS} requests are answered: {(self.folder / 'errors').read_text()[-2000:]}")
 
 
@@ -310,21 +319,29 @@ def compare_with_batch(task):
         lib.fail("td batch has other outputs than are computed here")
 
 
+def seconds_alone(folder, task, way):
+    """The seconds that a service takes for all requests, where nothing kills it."""
+    with lib.folder(within=folder) as place:
+        alone = Round(place, task, way)
+        begun = time.monotonic()
+        alone.start(1)
+        alone.wait()
+        seconds = time.monotonic() - begun
+        alone.check_end()
+    return seconds
+
+
 def kill_rounds(folder, task, way, made):
     """Kills round after round, until there were so many kills: how many rounds there were, and how many kills before the first request."""
     kills, rounds, early = 0, 0, 0
-    alone = Round(folder, task, way)
-    begun = time.monotonic()
-    alone.start(1)
-    alone.check_end()
-    longest = time.monotonic() - begun
+    longest = min(seconds_alone(folder, task, way) for _ in range(3))
     while kills < KILLS:
         rounds += 1
         with lib.folder(within=folder) as place:
             here = Round(place, task, way)
             for _ in range(min(KILLS_OF_A_ROUND, KILLS - kills)):
                 here.start(made.randint(1, here.answered + 1))
-                time.sleep(made.random() * longest / 2)
+                time.sleep(made.random() * longest * 3 / 4)
                 is_killed = here.kill()
                 kills, early = kills + is_killed, early + (here.check() == 0)
                 if not is_killed:
