@@ -13,7 +13,8 @@ one before it. What must come is computed here, by a few lines that know nothing
 - in the end all requests are, and each was answered.
 
 C and Rust have the same files, so each kill there may be followed by a start of the other one. Before that the services get requests that they must refuse,
-leave out or not do. In Python two services stand on one database, and `emit` adds to balances; in C and Rust the second one is refused."""
+leave out or not do. In Python two services stand on one database, and `emit` adds to balances. In C and Rust the second one is refused, and a request's writes
+and syncs are in their order, where there is a strace."""
 
 import collections
 import contextlib
@@ -62,6 +63,9 @@ CASES_OF_FILES = [
     *((f"req 9\n{line}\n.\n", None) for line in ("0 7", "0 7 5 1", "0 -7 5", "0 7 9223372036854775808", "0 7 five", ". 1", "")),
     ("req 9\n.\n0 7 5\n", None),
 ]
+# The calls of a request in C or Rust: what is called, and of which file; and calls that count as another.
+ALIKE = {"pwrite64": "write", "renameat": "rename", "renameat2": "rename"}
+CALLS = [("fsync", "outputs"), ("write", "state.new"), ("fsync", "state.new"), ("rename", ""), ("fsync", "base"), ("write", "outputs"), ("write", "pipe")]
 # Of the file `state`: its head (the number, where the outputs begin, how many states and outputs there are), a state, and an output.
 HEAD, STATE, OUTPUT = struct.Struct("=4Q"), struct.Struct("=QQqq"), struct.Struct("=QQq")
 
@@ -257,6 +261,21 @@ def play_in_files(folder, program):
         lib.fail(f"{program} says {said!r}, beside it {second}, and without its outputs {third}")
 
 
+def compare_calls(folder, program):
+    """A service in C or Rust makes the calls of CALLS for a request, in their order: what a kill cannot show, since the system loses nothing then."""
+    if not lib.is_traced():
+        return
+    way = InFiles(program, program)
+    way.prepare(folder)
+    (folder / "plan").write_text(PLAN)
+    words = ["strace", "-f", "-y", "-o", folder / "trace", "-e", "trace=write,pwrite64,fsync,fdatasync,rename,renameat,renameat2", *way.words(folder)]
+    subprocess.run(words, input="req 1\n0 7 5\n.\n", capture_output=True, text=True, check=True)
+    found = re.findall(r"(?m)^(?:\d+ +)?(\w+)\((?:\d+<([^>]*)>)?", (folder / "trace").read_text())
+    made = [(ALIKE.get(call, call), pathlib.Path(file).name.partition(":")[0]) for call, file in found]
+    if made != CALLS:
+        lib.fail(f"{program} makes the calls {made}, and not {CALLS}")
+
+
 def add_to_balances(folder, library):
     """Two services on one database, whose `emit` adds to balances: an `emit` that fails has added nothing, and what is sent twice is added once."""
     sys.path.insert(0, str(SERVICE.parent))
@@ -373,9 +392,10 @@ def main():
         run_page(release, here)
         library = release / "lib/libtd.so"
         programs = [it for it in (here / "by_c", here / "by_rust") if it.is_file()]
-        for name, play_cases, service in [("python", play_in_database, library), *((f"files {at}", play_in_files, it) for at, it in enumerate(programs))]:
-            (folder / name).mkdir()
-            play_cases(folder / name, service)
+        plays = [(play_in_database, library), *((play_one, it) for it in programs for play_one in (play_in_files, compare_calls))]
+        for number, (play_one, service) in enumerate(plays):
+            (folder / f"play {number}").mkdir()
+            play_one(folder / f"play {number}", service)
         add_to_balances(folder, library)
         ways = {"Python": InDatabase(library)}
         ways.update((name, InFiles(program, last)) for name, program, last in zip(("C", "Rust"), programs, programs[::-1]))
