@@ -1,12 +1,16 @@
 #!/usr/bin/env python3
-"""Takes the time of an epoch of TOTAL by the library, as the Rust client calls it, beside the same epochs through a pipe to `td stream` and to `td batch`.
+"""Takes the time of an epoch of TOTAL by the library, as the Rust client calls it, beside the same epochs by the evaluator in Rattle, and through a pipe to
+`td stream` and to `td batch`.
 
-    bench/library.py [FOLDER]       needs crates/td/out/td, crates/td_c/out/libtd_c.a, cargo and a C compiler; the disk lies in FOLDER
+    bench/library.py [FOLDER]       needs crates/td/out/td, crates/td_c/out/libtd_c.a, cargo, a C compiler and the kit; the disk lies in FOLDER
 
-All take the same records, and the sums of their outputs must be equal. The stream syncs each epoch, and the library and the batch nothing; so a FOLDER
-in memory (/dev/shm, by default) is the harder one for the library. The library is handed all states in each epoch, so keys cost. The best of three
-counts; what makes the keys first is taken off."""
+All take the same records, and the sums of their outputs must be equal. The stream syncs each epoch, and the others nothing; so a FOLDER in memory (/dev/shm,
+by default) is the harder one for the library. The library is handed all states in each epoch, so keys cost; the evaluator keeps them, and keeps the plan. It is
+a program of its own (bench/library.rattle), which is proved on the way. The best of three counts; what makes the keys first is taken off.
 
+Wanted, with 1,000 records an epoch: at most 1.1 times the evaluator, and at most the time of `td stream`."""
+
+import collections
 import os
 import pathlib
 import shutil
@@ -78,30 +82,53 @@ def batched(keys, text):
     return seconds - none, total
 
 
+def evaluated(program):
+    """The seconds of each case's epochs by the evaluator, and the sum of all outputs."""
+    found = {}
+    for line in subprocess.run([program], capture_output=True, text=True, check=True).stdout.splitlines():
+        epochs, count, keys, nanoseconds, total = map(int, line.split())
+        found[epochs, count, keys] = nanoseconds / 1e9, total
+    return found
+
+
+def take_round(programs, place, met):
+    """Adds the seconds and the sum of each case, by each of the four."""
+    program, evaluator = programs
+    for case, run in evaluated(evaluator).items():
+        met[case]["evaluator"].append(run)
+    for case in CASES:
+        text = epochs_of(*case)
+        seconds, total = subprocess.run([program, *map(str, case)], capture_output=True, text=True, check=True).stdout.split()
+        met[case]["library"].append((float(seconds), int(total)))
+        met[case]["stream"].append(streamed(place, case[2], text))
+        met[case]["batch"].append(batched(case[2], text))
+
+
+def print_case(case, met):
+    """Prints the best of each, in milliseconds an epoch; the sums must be equal."""
+    if len({total for runs in met.values() for _, total in runs}) != 1:
+        lib.fail(f"{case[0]} epochs of {case[1]} records: the sums differ: {met}")
+    best = (f"{1000 * min(met[who])[0] / case[0]:.3f}" if met[who] else "-" for who in ("library", "evaluator", "stream", "batch"))
+    print(f"| {' | '.join([*map(str, case), *best])} |")
+
+
 def main():
     at = pathlib.Path(sys.argv[1] if sys.argv[1:] else "/dev/shm")
     if not ARCHIVE.is_file() or not shutil.which("cargo"):
         sys.exit("library: needs crates/td_c/out/libtd_c.a (./build --library) and cargo")
     with lib.folder() as folder:
-        program = build(folder)
+        programs = build(folder), lib.build_beside("td_batch td_catalogue", ROOT / "bench/library.rattle", folder / "evaluator", name="evaluator")
         place = at / f"td-library-{os.getpid()}"
         place.mkdir()
         try:
-            print("| Epochs | Records of one | Keys | by the library, ms | by td stream | by td batch |\n|---|---|---|---|---|---|")
-            for epochs, count, keys in CASES:
-                text = epochs_of(epochs, count, keys)
-                met = {"library": [], "stream": [], "batch": []}
-                for _ in range(ROUNDS):
-                    seconds, total = subprocess.run([program, *map(str, (epochs, count, keys))], capture_output=True, text=True, check=True).stdout.split()
-                    met["library"].append((float(seconds), int(total)))
-                    met["stream"].append(streamed(place, keys, text))
-                    met["batch"].append(batched(keys, text))
-                if len({total for runs in met.values() for _, total in runs}) != 1:
-                    lib.fail(f"{epochs} epochs of {count} records: the sums differ: {met}")
-                best = {who: 1000 * min(runs)[0] / epochs for who, runs in met.items()}
-                print(f"| {epochs} | {count} | {keys} | {best['library']:.3f} | {best['stream']:.3f} | {best['batch']:.3f} |", flush=True)
+            met = {case: collections.defaultdict(list) for case in CASES}
+            for _ in range(ROUNDS):
+                take_round(programs, place, met)
         finally:
             shutil.rmtree(place)
+    print("| Epochs | Records of one | Keys | by the library, ms | by the evaluator | by td stream | by td batch |\n|---|---|---|---|---|---|---|")
+    for case in CASES:
+        print_case(case, met[case])
 
 
 if __name__ == "__main__":

@@ -15,11 +15,11 @@ DOCUMENTS = ("README.md", "examples/README.md", "clients/README.md", *(f"docs/{n
 SECONDS_OF_A_COMMAND = 90
 
 
-def commands_in(file):
+def commands_in(text):
     """The commands of a document, `$ ..` in its indented blocks, each with the lines below it in its block: what it is to print.
     Where a command ends with `<<END`, the lines up to one `END` are of it."""
     found, is_open, is_text = [], False, False
-    for line in file.read_text(encoding="utf-8").split("\n"):
+    for line in text.split("\n"):
         if is_text:
             found[-1] = (f"{found[-1][0]}\n{line.removeprefix('    ')}", [])
             is_text = line != "    END"
@@ -43,7 +43,7 @@ def printed_by(command, program, folder, seconds):
 def run_document(tally, file, programs):
     """Runs the commands of a document one after another, with each build of the program as `td` in a folder of its own with the examples
     and clients in it, and compares what they print."""
-    commands, wrong = commands_in(file), set()
+    commands, wrong = commands_in(file.read_text(encoding="utf-8")), set()
     for program in programs:
         with tempfile.TemporaryDirectory(prefix="td-document-") as folder:
             for name in ("examples", "clients"):

@@ -86,25 +86,26 @@ def library(name, place):
     return compiled(ROOT / f"tests/{name}.c", place / f"{name}.so", "-shared", "-fPIC")
 
 
-def libraries_of(crate):
-    """The libraries that a crate uses, by its line in crates.txt, and the lines of those of this repository, with its own."""
+def libraries_of(crates):
+    """The libraries that some crates use, by their lines in crates.txt, without these crates; and the lines of those of this repository, with their own."""
     lines = {line.split(":")[0].split()[0]: line for line in (ROOT / "crates.txt").read_text().splitlines() if ":" in line and line[0] != "#"}
-    used = lines[crate].split(":")[1].split()
-    return used, [line for name, line in lines.items() if name == crate or name in used]
+    used = [name for name in dict.fromkeys(name for crate in crates for name in lines[crate].split(":")[1].split()) if name not in crates]
+    return used, [line for name, line in lines.items() if name in crates or name in used]
 
 
-def build_beside(crate, source, place, name=None, more=(), parts=(), given=""):
-    """Builds a file as the program of a crate, of its name or another, beside copies of a crate and of those below it with what earlier checks kept:
+def build_beside(crates, source, place, name=None, more=(), parts=(), given=""):
+    """Builds a file as the program of a crate, of its name or another, beside copies of some crates and of those below them with what earlier checks kept:
     they are proved on the way. More libraries, further parts (paths in the crate, and texts) and its input may be given. Answers the program's path."""
     name = name or source.stem
-    used, lines = libraries_of(crate)
+    crates = crates.split()
+    used, lines = libraries_of(crates)
     for below in (line.split(":")[0].split()[0] for line in lines):
         shutil.copytree(ROOT / "crates" / below, place / "crates" / below, ignore=shutil.ignore_patterns("edit_times"))
     own = place / "crates" / name
     for part, text in (("src/main.rt", source.read_text()), *parts):
         (own / part).parent.mkdir(parents=True, exist_ok=True)
         (own / part).write_text(text)
-    (place / "crates.txt").write_text("\n".join([*lines, f"{name}: {' '.join([crate, *used, *more])}", ""]))
+    (place / "crates.txt").write_text("\n".join([*lines, f"{name}: {' '.join([*crates, *used, *more])}", ""]))
     shutil.copy(ROOT / "HANDLES", place / "HANDLES")
     subprocess.run(["git", "init", "-q", place], check=True)
     done = subprocess.run(["rt", "run"], cwd=own, input=given, capture_output=True, text=True)

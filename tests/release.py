@@ -20,7 +20,7 @@ from library import ARCHIVE, loaded
 ROWS = ("rows/batch.txt", "rows/plan.txt", "rows/dump.txt")
 # What a release has, among others; and what no release has.
 HAS = ("bin/td", "share/man/man1/td.1", "README.md", "LICENSE-MIT", "docs/TUTORIAL.md", "docs/draw.py", "examples/count.td", "examples/closures/join.out",
-       "clients/td.py", "clients/words.py", "clients/python/exactly_once.py", "clients/c/td.h", "rows/batch.txt", "tests/rows.py", "SHA256SUMS")
+       "clients/td.py", "clients/words.py", "clients/python/exactly_once.py", "clients/c/exactly_once.c", "clients/c/td.h", "rows/batch.txt", "tests/rows.py", "SHA256SUMS")
 HAS_NOT = ("crates", "build", "check", "docs/CHANGING.md", "tests/library.py", "clients/__pycache__", "clients/rust/target")
 LINK = re.compile(r"\]\(([^)\s#]+)(?:#[^)\s]*)?\)")
 COMMIT = "0123456789abcdef0123456789abcdef01234567"
