@@ -14,7 +14,7 @@ operator, 5 is a line or a closure, 6 a standard stream, 7 `file`, 8 `too much w
 SIGTERM, SIGHUP and Ctrl-C end `td` as a kill does, without a text, and what was acknowledged stands. So does SIGXFSZ,
 which comes where `ulimit -f` is below the size of the disk.
 
-Only the first fault is written: mend it and run again. Each text stands here with common mistakes.
+Only the first fault is written: mend it, run again. Each text stands here with common mistakes.
 `docs/REFUSALS.md` has the rules whole, `docs/FORMATS.md` the plan text and the limits.
 
 `./check` runs each command below; under it stands what it prints.
@@ -225,8 +225,8 @@ From here on the commands use this plan, a running total:
     $ printf '0 input\n1 fold 40 0\n2 output 1\n' > total.plan
 
 **`file`**: PLAN cannot be opened and read, or DISK cannot be made or opened. It is not there, or is a folder, a device or
-a pipe. It may not be read or written. Its folder is not there. Another `td` has it open. Its file
-system has no locks. PLAN comes first.
+a pipe. It may not be read or written. Its folder is not there. Another `td` has it open. Its file system has no
+locks. PLAN comes first.
 
     $ td show total.disk no.plan
     td: file
