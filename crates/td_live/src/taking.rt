@@ -1,5 +1,5 @@
 // Reading a disk over and over, until readings agree.
-ghost use Rattle.std.specs.Prelude.{◌≡◌, ◌≢◌, ◌+◌, ◌<◌, ◌≤◌, true, false, Ok, length, IfOk, OnOk, IsErrOf};
+ghost use Rattle.std.specs.Prelude.{◌≡◌, ◌≢◌, ◌+◌, ◌<◌, ◌≤◌, ◌↔◌, true, false, Ok, length, IfOk, OnOk, IsErrOf, IsTrue};
 ghost use Rattle.td_disk.specs.Disk.{bytes_at, CountsDevice, CountsFailures};
 ghost use Rattle.td_gate.specs.Reads.{IsRead};
 ghost use Rattle.td_live.specs.Readings.{IsReading, LastReadings};
@@ -113,9 +113,14 @@ fn read_piece<D: Disk>(
 {
     td_gate::laws::unchanged::<D>();
     disk.read(at, piece)?;
-    if *bytes == *piece {
-        return Ok(true);
-    }
+    let is_same = are_same(bytes, piece);
     bytes.copy_from_slice(piece);
-    Ok(false)
+    Ok(is_same)
+}
+
+/// Whether two pieces have the same bytes.
+fn are_same(bytes: &[u8], others: &[u8]) -> bool
+    ensures { IsTrue result ↔ bytes.now ≡ others.now }
+{
+    bytes == others
 }
