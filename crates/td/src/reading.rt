@@ -13,7 +13,7 @@ use std::sync::Wait;
 use td_console::{Fault, StdWriter};
 use td_disk::{FileFailure, MakeError, ReadAhead};
 use td_feed::{dump, show};
-use td_live::{LiveError, ReadOnlyFile, Snapshot, snapshot};
+use td_live::{LiveError, ReadOnlyFile, Snapshot, take_snapshot};
 use td_plan::Plan;
 use td_standing::KeeperError;
 
@@ -132,7 +132,7 @@ fn snapshot_of<R: Files<File = File> + AllocGlobal>(
     let plan = plan_or_tell(rt, plan)?;
     let mut file = file_or_tell(rt, path, ReadOnlyFile::open_beside(rt, path))?;
     drop(held);
-    match snapshot(rt.alloc(), &mut file, READINGS) {
+    match take_snapshot(rt.alloc(), &mut file, READINGS) {
         Ok(disk) => Ok((disk, plan)),
         Err(error) => Err(no_snapshot(rt, path, error, file.last_failure())?),
     }

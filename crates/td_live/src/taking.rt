@@ -25,7 +25,7 @@ const PIECE: usize = 1 << 16;
 ///
 /// Refusals: `Memory`, with the disk not called; `Device`, where a read failed; `Busy`, where no three readings one after another gave the
 /// same bytes.
-pub fn snapshot<D: Disk>(alloc: Global, disk: &mut D, most: u32) -> Result<Snapshot, LiveError>
+pub fn take_snapshot<D: Disk>(alloc: Global, disk: &mut D, most: u32) -> Result<Snapshot, LiveError>
     ensures read { IsRead D.capacity D.is_lawful D.state disk.old disk.new }
     ensures failures { CountsDevice result LiveError.Device (D.failures disk.old) (D.failures disk.new) }
     ensures size { IfOk result (λ s. length (bytes_of s) ≡ D.capacity disk.old) }
