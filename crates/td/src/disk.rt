@@ -4,9 +4,11 @@ use crate::disk_closures::{
     put_closures, put_new_closures, read_text, remove_closures, text_of_disk,
 };
 use crate::file_cause::{make_empty, why_not_opened, why_not_read};
+use crate::reading::file_to_read_or_tell;
 use crate::refusal::Refusal;
 use crate::streams;
 use crate::streams::Awaited;
+use crate::waiting::opened;
 use std::fs::File;
 use std::rt::Files;
 use std::sync::Wait;
@@ -15,13 +17,13 @@ use td_calls::Stock;
 use td_console::{Fault, StdReader, StdWriter};
 use td_copy::copy;
 use td_disk::{Disk, FileDisk, FileFailure, ReadAhead};
-use td_feed::{dump, format, read_plan, shape_of, show, upgrade};
+use td_feed::{format, read_plan, shape_of, upgrade};
 use td_head::Shape;
 use td_plan::Plan;
 
 /// Makes a disk of this shape in the file at `disk`, formatted for the plan in the file at `plan`. Its closures in text are those of the
 /// file at `closures`, if there is one; else it has none.
-pub(crate) fn format_disk<R: Files<File = File> + AllocGlobal>(
+pub(crate) fn format_disk<R: Files<File = File> + AllocGlobal + Wait>(
     rt: &R,
     disk: &str,
     plan: &str,
@@ -29,43 +31,17 @@ pub(crate) fn format_disk<R: Files<File = File> + AllocGlobal>(
     n: u32,
     k: u32,
     closures: Option<&str>,
+    wait: u32,
 ) -> Result<(), Refusal> {
     let held = hold_streams(rt)?;
     let plan = plan_at(rt, plan)?;
     let closures = read_text(rt, closures)?;
     let shape = shape_of(m, n, k)?;
-    let mut file = FileDisk::create(rt, disk, shape.bytes()).map_err(Fault::from)?;
+    let create = || FileDisk::create(rt, disk, shape.bytes());
+    let mut file = opened(rt, disk, wait, create).map_err(Fault::from)?;
     put_closures(rt, disk, &closures)?;
     drop(held);
     Ok(format(rt.alloc(), &mut file, &plan, shape)?)
-}
-
-/// Writes what the disk in the file at `disk` tells to standard output.
-pub(crate) fn show_disk<R: Files<File = File> + Print + AllocGlobal + Wait>(
-    rt: &R,
-    disk: &str,
-    plan: &str,
-) -> Result<(), Fault> {
-    let (mut disk, plan) = open_disk(rt, disk, plan)?;
-    let mut writer = StdWriter(Awaited::new(rt, io::writer(rt)));
-    show(rt.alloc(), &mut disk, &plan, &mut writer)
-}
-
-/// Writes the epochs after the checkpoint of the disk in the file at `disk` to standard output, as lines that a feed takes.
-pub(crate) fn dump_disk<R: Files<File = File> + Print + AllocGlobal + Wait>(
-    rt: &R,
-    path: &str,
-    plan: &str,
-) -> Result<(), Refusal> {
-    let (mut disk, plan) = open_disk_or_tell(rt, path, plan)?;
-    let mut writer = StdWriter(Awaited::new(rt, io::writer(rt)));
-    match dump(rt.alloc(), &mut disk, &plan, &mut writer) {
-        Ok(()) => Ok(()),
-        Err(fault) => {
-            let failure = disk.inner().last_failure();
-            Err(Refusal::Plain(fault).on_disk(rt.alloc(), path, failure))
-        }
-    }
 }
 
 /// Raises the disk in the file at `disk` to the version of the format that has request numbers.
@@ -73,15 +49,16 @@ pub(crate) fn upgrade_disk<R: Files<File = File> + Print + AllocGlobal + Wait>(
     rt: &R,
     disk: &str,
     plan: &str,
+    wait: u32,
 ) -> Result<(), Fault> {
-    let (disk, plan) = open_disk(rt, disk, plan)?;
+    let (disk, plan) = open_disk(rt, disk, plan, wait)?;
     let mut writer = StdWriter(Awaited::new(rt, io::writer(rt)));
     upgrade::<_, Stock, _>(rt.alloc(), disk, &plan, &mut writer).1
 }
 
 /// Makes a disk of this shape in a file at `new`, where there is none, and puts on it what the disk in the file at `disk` tells; up to
 /// the epoch `until`, if it is given. It has that disk's closures in text. Where that fails, the files that were made go away again.
-pub(crate) fn copy_disk<R: Files<File = File> + AllocGlobal>(
+pub(crate) fn copy_disk<R: Files<File = File> + AllocGlobal + Wait>(
     rt: &R,
     path: &str,
     plan: &str,
@@ -90,12 +67,13 @@ pub(crate) fn copy_disk<R: Files<File = File> + AllocGlobal>(
     n: u32,
     k: u32,
     until: Option<u64>,
+    wait: u32,
 ) -> Result<(), Refusal> {
     let alloc = rt.alloc();
     let held = hold_streams(rt)?;
     let plan = plan_or_tell(rt, plan)?;
     let shape = shape_or_tell(rt, m, n, k)?;
-    let mut disk = ReadAhead::new(alloc, disk_or_tell(rt, path)?);
+    let mut disk = ReadAhead::new(alloc, file_to_read_or_tell(rt, path, wait)?);
     let closures = text_of_disk(rt, path)?;
     let make = || make_disk_with(rt, new, shape, &closures);
     let copied = copy(alloc, &mut disk, &plan, shape, until, make);
@@ -205,14 +183,15 @@ pub(crate) fn shape_or_tell<R: AllocGlobal>(
 }
 
 /// The disk in the file at `path`, which is read a block at a time, and the plan in the file at `plan`; where one cannot be had, why.
-pub(crate) fn open_disk_or_tell<R: Files<File = File> + AllocGlobal>(
+pub(crate) fn open_disk_or_tell<R: Files<File = File> + AllocGlobal + Wait>(
     rt: &R,
     path: &str,
     plan: &str,
+    wait: u32,
 ) -> Result<(ReadAhead<FileDisk>, Plan), Refusal> {
     let held = hold_streams(rt)?;
     let plan = plan_or_tell(rt, plan)?;
-    let disk = disk_or_tell(rt, path)?;
+    let disk = disk_or_tell(rt, path, wait)?;
     drop(held);
     Ok((ReadAhead::new(rt.alloc(), disk), plan))
 }
@@ -230,11 +209,12 @@ pub(crate) fn plan_or_tell<R: Files<File = File> + AllocGlobal>(
 }
 
 /// The disk in the file at `path`, or why it cannot be had.
-fn disk_or_tell<R: Files<File = File> + AllocGlobal>(
+fn disk_or_tell<R: Files<File = File> + AllocGlobal + Wait>(
     rt: &R,
     path: &str,
+    wait: u32,
 ) -> Result<FileDisk, Refusal> {
-    match FileDisk::open(rt, path) {
+    match opened(rt, path, wait, || FileDisk::open(rt, path)) {
         Ok(disk) => Ok(disk),
         Err(error) => match Fault::from(error) {
             Fault::File => Err(file_refusal(rt, path, why_not_opened(rt, path))?),
@@ -254,20 +234,24 @@ pub(crate) fn file_refusal<R: AllocGlobal>(
 }
 
 /// The disk in the file at `disk`, which is read a block at a time, and the plan in the file at `plan`.
-pub(crate) fn open_disk<R: Files<File = File> + AllocGlobal>(
+pub(crate) fn open_disk<R: Files<File = File> + AllocGlobal + Wait>(
     rt: &R,
     disk: &str,
     plan: &str,
+    wait: u32,
 ) -> Result<(ReadAhead<FileDisk>, Plan), Fault> {
     let held = hold_streams(rt)?;
     let plan = plan_at(rt, plan)?;
-    let disk = FileDisk::open(rt, disk)?;
+    let disk = opened(rt, disk, wait, || FileDisk::open(rt, disk))?;
     drop(held);
     Ok((ReadAhead::new(rt.alloc(), disk), plan))
 }
 
 /// The plan in the file at `path`.
-fn plan_at<R: Files<File = File> + AllocGlobal>(rt: &R, path: &str) -> Result<Plan, Fault> {
+pub(crate) fn plan_at<R: Files<File = File> + AllocGlobal>(
+    rt: &R,
+    path: &str,
+) -> Result<Plan, Fault> {
     let file = open_to_read(rt, path)?;
     read_plan(rt.alloc(), &mut StdReader(file))
 }

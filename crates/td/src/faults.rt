@@ -224,9 +224,9 @@ From here on the commands use this plan, a running total:
 
     $ printf '0 input\n1 fold 40 0\n2 output 1\n' > total.plan
 
-**`file`**: PLAN cannot be opened and read, or DISK cannot be made, or opened to be read and written. It is not there,
-or is a folder, a device or a pipe. It may not be written. Its folder is not there. Another `td` has it open. Its file
-system has no locks. PLAN comes first.
+**`file`**: PLAN cannot be opened and read, or DISK cannot be made or opened. It is not there, or is a folder, a device or
+a pipe. It may not be read or written. Its folder is not there. Another `td` has it open. Its file system has no
+locks. PLAN comes first.
 
     $ td show total.disk no.plan
     td: file
@@ -249,6 +249,8 @@ With place and cause. `td copy` makes its file NEW, and refuses one that is ther
     td: file: total.plan: is there
     $ td copy total.disk total.plan no_folder/new.disk 4 2 3
     td: file: no_folder/new.disk: no such folder
+
+**`busy: DISK changes while it is read`**: a `td` writes DISK, and `--live` found it never at rest. Try again.
 
 **`shape`**: M is not 1 to 65,536, N not 1 to 65,536, or K not 1 to 1,048,576. It comes before DISK is made.
 

@@ -1,6 +1,7 @@
 //! Why a file cannot be had, as a second look at it finds. A disk's own call answers `File` alone. What a file was at the first
 //! look, where somebody changed it in between, is not known.
 
+use std::fs;
 use std::fs::{File, OpenOptions, TryLockError};
 use std::io::ErrorKind;
 use std::rt::Files;
@@ -28,6 +29,44 @@ pub(crate) fn why_not_opened<R: Files<File = File>>(rt: &R, path: &str) -> &'sta
             Err(TryLockError::Error(_)) => "cannot be locked",
         },
         Err(error) => open_cause(error.kind()),
+    }
+}
+
+/// Why the file of a disk cannot be opened to be read beside others who read it. A pipe would be waited for, so it is looked at first.
+pub(crate) fn why_not_opened_to_read<R: Files<File = File>>(rt: &R, path: &str) -> &'static str {
+    match fs::metadata(rt, path) {
+        Ok(found) if found.is_dir() => "a folder",
+        Ok(found) if !found.is_file() => "no file",
+        Ok(_) => why_not_read_beside(rt, path),
+        Err(error) => open_cause(error.kind()),
+    }
+}
+
+/// The same of a file that is there.
+fn why_not_read_beside<R: Files<File = File>>(rt: &R, path: &str) -> &'static str {
+    match File::open(rt, path) {
+        Ok(file) => match file.try_lock_shared() {
+            Ok(()) => "cannot be opened",
+            Err(TryLockError::WouldBlock) => "locked by another process",
+            Err(TryLockError::Error(_)) => "cannot be locked",
+        },
+        Err(error) => open_cause(error.kind()),
+    }
+}
+
+/// Whether another process has locked a file.
+pub(crate) fn is_locked<R: Files<File = File>>(rt: &R, path: &str) -> bool {
+    match fs::metadata(rt, path) {
+        Ok(found) if found.is_file() => is_file_locked(rt, path),
+        _ => false,
+    }
+}
+
+/// The same of a file that is there.
+fn is_file_locked<R: Files<File = File>>(rt: &R, path: &str) -> bool {
+    match File::open(rt, path) {
+        Ok(file) => matches!(file.try_lock(), Err(TryLockError::WouldBlock)),
+        Err(_) => false,
     }
 }
 

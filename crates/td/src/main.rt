@@ -16,21 +16,22 @@ mod file_cause;
 mod language;
 mod plan;
 mod progress;
+mod reading;
 mod refusal;
 mod shelves;
 mod states;
 mod streams;
+mod waiting;
 
 use crate::closures::closures_at;
-use crate::disk::{
-    copy_disk, dump_disk, format_disk, open_disk, open_disk_or_tell, show_disk, upgrade_disk,
-};
+use crate::disk::{copy_disk, format_disk, open_disk, open_disk_or_tell, upgrade_disk};
 use crate::disk_closures::closures_of_disk;
 use crate::engine::{Engine, StreamOptions};
 use crate::faults::FAULTS;
 use crate::language::LANGUAGE;
 use crate::plan::print_plan;
 use crate::progress::stream_told;
+use crate::reading::{dump_disk, dump_live, show_disk, show_live};
 use crate::refusal::Refusal;
 use crate::shelves::both_shelves;
 use crate::states::{load_disk, states_of_disk};
@@ -44,7 +45,7 @@ use std::{env, io};
 use td_catalogue::{Catalogue, Shelves};
 use td_console::{Fault, StdReader, StdWriter, read_picks};
 use td_feed::Marked;
-use td_words::{Job, WordsError, words};
+use td_words::{Job, WordsError, wait_of, words};
 use td_written::{batch, feed, run, sim};
 
 /// The program's name and version, and the logic of the kit that it is written for. Whether a program was proved is not its own
@@ -56,10 +57,14 @@ fn main(rt: HostRuntime) -> ExitCode {
         Ok(given) => given,
         Err(error) => return refused(&rt, error),
     };
-    match words(rt.alloc(), &given) {
+    let (wait, given) = match wait_of(&given) {
+        Ok(split) => split,
+        Err(error) => return refused(&rt, error),
+    };
+    match words(rt.alloc(), given) {
         Ok(job) => {
             let tells_who = tells_who(&job);
-            ended(&rt, tells_who, done(&rt, rt.stderr(), job))
+            ended(&rt, tells_who, done(&rt, rt.stderr(), job, wait))
         }
         Err(error) => refused(&rt, error),
     }
@@ -70,6 +75,7 @@ fn tells_who(job: &Job<'_>) -> bool {
     matches!(
         job,
         Job::Stream { .. }
+            | Job::Show { live: true, .. }
             | Job::Dump { .. }
             | Job::Copy { .. }
             | Job::States { .. }
@@ -78,7 +84,7 @@ fn tells_who(job: &Job<'_>) -> bool {
     )
 }
 
-/// Does what is asked for. How far a stream has come is told to `stderr`, if that is asked for. Whether that is a terminal is
+/// Does what is asked for. A disk that another process has locked is waited for, `wait` seconds at most. How far a stream has come is told to `stderr`, if that is asked for. Whether that is a terminal is
 /// asked of `Stderr`, since no bound of a runtime says it.
 fn done<
     R: Files<File = File>
@@ -92,7 +98,7 @@ fn done<
         + Send
         + Copy
         + 'static,
->(rt: &R, stderr: Stderr, job: Job<'_>) -> Result<(), Refusal>
+>(rt: &R, stderr: Stderr, job: Job<'_>, wait: u32) -> Result<(), Refusal>
     requires workers { HasWorkers job }
 {
     match job {
@@ -120,13 +126,13 @@ fn done<
             n,
             k,
             closures,
-        } => format_disk(rt, disk, plan, m, n, k, closures),
+        } => format_disk(rt, disk, plan, m, n, k, closures, wait),
         Job::Feed {
             disk: path,
             plan,
             workers,
         } => {
-            let (disk, plan) = open_disk(rt, path, plan)?;
+            let (disk, plan) = open_disk(rt, path, plan, wait)?;
             let closures = closures_of_disk(rt, path)?;
             run_engine(rt, Engine::Feed(disk, plan, workers, closures))
         }
@@ -141,7 +147,7 @@ fn done<
             refuse,
             hold,
         } => {
-            let (disk, plan) = open_disk_or_tell(rt, path, plan)?;
+            let (disk, plan) = open_disk_or_tell(rt, path, plan, wait)?;
             let closures = closures_of_disk(rt, path)?;
             let told = progress.then_some(stderr);
             let options = StreamOptions {
@@ -156,9 +162,21 @@ fn done<
                 Engine::Stream(disk, path, plan, workers, options, told, closures),
             )
         }
-        Job::Show { disk, plan } => Ok(show_disk(rt, disk, plan)?),
-        Job::Dump { disk, plan } => dump_disk(rt, disk, plan),
-        Job::Upgrade { disk, plan } => Ok(upgrade_disk(rt, disk, plan)?),
+        Job::Show { disk, plan, live } => {
+            if live {
+                show_live(rt, disk, plan)
+            } else {
+                Ok(show_disk(rt, disk, plan, wait)?)
+            }
+        }
+        Job::Dump { disk, plan, live } => {
+            if live {
+                dump_live(rt, disk, plan)
+            } else {
+                dump_disk(rt, disk, plan, wait)
+            }
+        }
+        Job::Upgrade { disk, plan } => Ok(upgrade_disk(rt, disk, plan, wait)?),
         Job::Copy {
             disk,
             plan,
@@ -167,8 +185,8 @@ fn done<
             n,
             k,
             until,
-        } => copy_disk(rt, disk, plan, new, m, n, k, until),
-        Job::States { disk, plan } => states_of_disk(rt, disk, plan),
+        } => copy_disk(rt, disk, plan, new, m, n, k, until, wait),
+        Job::States { disk, plan } => states_of_disk(rt, disk, plan, wait),
         Job::Load {
             new,
             plan,

@@ -1,5 +1,5 @@
 //! What is told of a command that failed. The commands that td had from the first tell the fault alone, with one status; `stream`, `dump`,
-//! `copy`, `states` and `load` tell its place and its cause too, where these are known, and these and `plan` have a status for each who is to do something.
+//! `copy`, `states`, `load` and `show --live` tell its place and its cause too, where these are known, and these and `plan` have a status for each who is to do something.
 
 use std::alloc::{AllocError, AllocFailed, Global};
 use td_closures::Fault as ClosuresFault;
@@ -25,6 +25,8 @@ pub(crate) enum Refusal {
     New(Fault),
     /// The fault of a line of a checkpoint in text, or of a list of renamed vertices.
     States(StatesError),
+    /// A disk changes while it is read, as the place says, and is never at rest for long enough.
+    Busy(String),
     /// The epochs under way take more work than a stream may do, of which this one is the first.
     TooMuchWork(u64),
 }
@@ -96,6 +98,7 @@ impl Refusal {
             Refusal::Closures(fault, place) => format!(in alloc; "td: {fault}: {place}"),
             Refusal::Copy(error) => format!(in alloc; "td: {error}"),
             Refusal::States(error) => format!(in alloc; "td: {error}"),
+            Refusal::Busy(place) => format!(in alloc; "td: busy: {place}"),
             Refusal::TooMuchWork(epoch) => format!(in alloc; "td: too much work: epoch {epoch}"),
         }
     }
@@ -110,6 +113,7 @@ impl Refusal {
             ),
             Refusal::Closures(..) | Refusal::States(_) => LINE,
             Refusal::Copy(_) => OPERATOR,
+            Refusal::Busy(_) => ELSE,
             Refusal::TooMuchWork(_) => TOO_MUCH_WORK,
         }
     }

@@ -1,9 +1,8 @@
 //! A disk's checkpoint as text, and a disk that is made of such a text.
 
-use crate::disk::{
-    hold_streams, make_disk_with, open_disk_or_tell, plan_or_tell, remove_disk, shape_or_tell,
-};
+use crate::disk::{hold_streams, make_disk_with, plan_or_tell, remove_disk, shape_or_tell};
 use crate::disk_closures::read_text;
+use crate::reading::open_to_read_or_tell;
 use crate::refusal::Refusal;
 use crate::streams::Awaited;
 use std::alloc::Global;
@@ -19,9 +18,10 @@ pub(crate) fn states_of_disk<R: Files<File = File> + Print + Eprint + AllocGloba
     rt: &R,
     path: &str,
     plan: &str,
+    wait: u32,
 ) -> Result<(), Refusal> {
     let alloc = rt.alloc();
-    let (mut disk, plan) = open_disk_or_tell(rt, path, plan)?;
+    let (mut disk, plan) = open_to_read_or_tell(rt, path, plan, wait)?;
     let mut writer = StdWriter(Awaited::new(rt, io::writer(rt)));
     match write_states(alloc, &mut disk, &plan, &mut writer) {
         Ok(epochs) => {

@@ -82,12 +82,12 @@ pub only_feed : (rows : List Row) (job : Job) → IsOf (codes "feed") rows job �
 only_feed rows (Feed disk plan w) h = (disk, plan, w, refl, h.1)
 only_feed rows _ h = let other = ap (bytes_eq (codes "feed")) h.0 in cc
 
-pub only_show : (rows : List Row) (job : Job) → IsOf (codes "show") rows job → (disk : Bor Text) × (plan : Bor Text) × HasValues rows (Show disk plan)
-only_show rows (Show disk plan) h = (disk, plan, h.1)
+pub only_show : (rows : List Row) (job : Job) → IsOf (codes "show") rows job → (disk : Bor Text) × (plan : Bor Text) × (live : Bool) × HasValues rows (Show disk plan live)
+only_show rows (Show disk plan live) h = (disk, plan, live, h.1)
 only_show rows _ h = let other = ap (bytes_eq (codes "show")) h.0 in cc
 
-pub only_dump : (rows : List Row) (job : Job) → IsOf (codes "dump") rows job → (disk : Bor Text) × (plan : Bor Text) × HasValues rows (Dump disk plan)
-only_dump rows (Dump disk plan) h = (disk, plan, h.1)
+pub only_dump : (rows : List Row) (job : Job) → IsOf (codes "dump") rows job → (disk : Bor Text) × (plan : Bor Text) × (live : Bool) × HasValues rows (Dump disk plan live)
+only_dump rows (Dump disk plan live) h = (disk, plan, live, h.1)
 only_dump rows _ h = let other = ap (bytes_eq (codes "dump")) h.0 in cc
 
 pub only_upgrade : (rows : List Row) (job : Job) → IsOf (codes "upgrade") rows job → (disk : Bor Text) × (plan : Bor Text) × HasValues rows (Upgrade disk plan)

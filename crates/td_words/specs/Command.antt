@@ -92,10 +92,10 @@ abbrev pub feed_app : App
 feed_app = with_rule (with_files (new_app (codes "feed"))) workers_rule
 
 abbrev pub show_app : App
-show_app = with_files (new_app (codes "show"))
+show_app = with_rule (with_files (new_app (codes "show"))) (flag_rule (codes "live"))
 
 abbrev pub dump_app : App
-dump_app = with_files (new_app (codes "dump"))
+dump_app = with_rule (with_files (new_app (codes "dump"))) (flag_rule (codes "live"))
 
 abbrev pub upgrade_app : App
 upgrade_app = with_files (new_app (codes "upgrade"))
@@ -217,8 +217,8 @@ name_of (Run workers closures) = codes "run"
 name_of (Sim workers picks closures) = codes "sim"
 name_of (Format disk plan m n k closures) = codes "format"
 name_of (Feed disk plan workers) = codes "feed"
-name_of (Show disk plan) = codes "show"
-name_of (Dump disk plan) = codes "dump"
+name_of (Show disk plan live) = codes "show"
+name_of (Dump disk plan live) = codes "dump"
 name_of (Upgrade disk plan) = codes "upgrade"
 name_of (Copy disk plan new m n k until) = codes "copy"
 name_of (States disk plan) = codes "states"
@@ -242,8 +242,8 @@ HasValues rows (Format disk plan m n k closures) = (first_of (codes "disk") rows
     × IsNumber (codes "m") 0 4294967295 rows m × IsNumber (codes "n") 0 4294967295 rows n × IsNumber (codes "k") 0 4294967295 rows k
     × IsClosures rows closures
 HasValues rows (Feed disk plan workers) = (first_of (codes "disk") rows ≡ Some disk.now) × (first_of (codes "plan") rows ≡ Some plan.now) × IsWorkers rows workers
-HasValues rows (Show disk plan) = (first_of (codes "disk") rows ≡ Some disk.now) × (first_of (codes "plan") rows ≡ Some plan.now)
-HasValues rows (Dump disk plan) = (first_of (codes "disk") rows ≡ Some disk.now) × (first_of (codes "plan") rows ≡ Some plan.now)
+HasValues rows (Show disk plan live) = (first_of (codes "disk") rows ≡ Some disk.now) × (first_of (codes "plan") rows ≡ Some plan.now) × IsFlag (codes "live") rows live
+HasValues rows (Dump disk plan live) = (first_of (codes "disk") rows ≡ Some disk.now) × (first_of (codes "plan") rows ≡ Some plan.now) × IsFlag (codes "live") rows live
 HasValues rows (Upgrade disk plan) = (first_of (codes "disk") rows ≡ Some disk.now) × (first_of (codes "plan") rows ≡ Some plan.now)
 HasValues rows (Copy disk plan new m n k until) = (first_of (codes "disk") rows ≡ Some disk.now) × (first_of (codes "plan") rows ≡ Some plan.now)
     × (first_of (codes "new") rows ≡ Some new.now)

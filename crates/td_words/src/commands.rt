@@ -73,6 +73,8 @@ const STATES: &str = "How many states a cut may keep, 1 to 1048576";
 
 const CUT_EVERY: &str = "Cut after each E epochs, 1 to 65536";
 
+const LIVE: &str = "Read DISK beside a td that writes it";
+
 const UNTIL: &str = "Copy what DISK has up to epoch E";
 
 const MOST: &str = "Stop where an epoch takes more than R deliveries";
@@ -106,7 +108,8 @@ Output goes to standard output, faults to standard error
 Exit status: 0; 2 for words that do not parse; after a fault 1, or of dump, copy, states, load, stream and plan what their help
 tells
 'td help COMMAND' tells what a command reads and writes, 'td help faults' what each fault means, 'td help closures' how closures are
-written as text, 'td --version' the version";
+written as text, 'td --version' the version
+'td --wait SECONDS COMMAND ..' waits for a disk that another td has open, 1 to 86400 seconds";
 
 const BATCH_MORE: &str = "\
 Reads:  the lines of a plan, a line '--', and lines 'INPUT KEY VALUE', where a line '.' closes an epoch
@@ -159,7 +162,8 @@ Writes: a line 'kept EPOCH', of the last cut, and 'told EPOCH', of the last epoc
 Common faults:
         'file': PLAN or DISK cannot be read, or another td has DISK open
         'another plan': DISK was formatted for another plan than PLAN
-Exit status: 0, or 1 after a fault, which is told on standard error
+        'busy: DISK changes while it is read': with --live, a td writes DISK so often that no reading is of one moment; try again
+Exit status: 0, or 1 after a fault, which is told on standard error; with --live as of td dump
 Each fault is explained by 'td help faults'";
 
 const DUMP_MORE: &str = "\
@@ -169,6 +173,7 @@ Writes: a line '# kept EPOCH told EPOCH last REQUEST, epochs COUNT of N, states 
 Common faults:
         'file: PATH: CAUSE': a file that cannot be read, and why, as 'locked by another process'
         'another plan: DISK': DISK was formatted for another plan than PLAN
+        'busy: DISK changes while it is read': with --live, a td writes DISK so often that no reading is of one moment; try again
 Exit status: 0; 3 the device failed; 4 an operator is wanted; 5 a line of the input; 6 standard input or output;
         7 a file; 1 any other fault
 Each fault is explained by 'td help faults'";
@@ -349,7 +354,8 @@ fn show_leaf<'a>(alloc: Global) -> Result<Command<'a>, AllocError>
 {
     let leaf = new_leaf(alloc, "show", SHOW, SHOW_MORE);
     let leaf = with_arg(leaf, word_arg(alloc, "disk", "DISK", DISK))?;
-    with_arg(leaf, word_arg(alloc, "plan", "PLAN", PLAN))
+    let leaf = with_arg(leaf, word_arg(alloc, "plan", "PLAN", PLAN))?;
+    with_arg(leaf, flag_arg(alloc, "live", LIVE))
 }
 
 /// `dump`.
@@ -359,7 +365,8 @@ fn dump_leaf<'a>(alloc: Global) -> Result<Command<'a>, AllocError>
 {
     let leaf = new_leaf(alloc, "dump", DUMP, DUMP_MORE);
     let leaf = with_arg(leaf, word_arg(alloc, "disk", "DISK", DISK))?;
-    with_arg(leaf, word_arg(alloc, "plan", "PLAN", PLAN))
+    let leaf = with_arg(leaf, word_arg(alloc, "plan", "PLAN", PLAN))?;
+    with_arg(leaf, flag_arg(alloc, "live", LIVE))
 }
 
 /// `upgrade`.

@@ -35,15 +35,17 @@ pub enum Job<'a> {
         plan: &'a str,
         workers: u8,
     },
-    /// To write what the disk `disk` tells.
+    /// To write what the disk `disk` tells, beside a process that writes it, if `live`.
     Show {
         disk: &'a str,
         plan: &'a str,
+        live: bool,
     },
-    /// To write the epochs after the checkpoint of the disk `disk` as lines that a feed takes.
+    /// To write the epochs after the checkpoint of the disk `disk` as lines that a feed takes, beside a process that writes it, if `live`.
     Dump {
         disk: &'a str,
         plan: &'a str,
+        live: bool,
     },
     /// To raise the disk `disk` to version 2 of the format, which has request numbers.
     Upgrade {

@@ -8,6 +8,8 @@
 mod commands;
 mod job;
 mod parse;
+mod wait;
 
 pub use job::{Job, WordsError};
 pub use parse::words;
+pub use wait::wait_of;

@@ -16,8 +16,8 @@ use clap::{ArgMatches, Error};
 use std::alloc::Global;
 
 /// What these words ask for, of which the first is the program's name. The subcommands are `batch`, `run [--workers W]`,
-/// `sim [--workers W] [--picks LIST]`, each with `[--closures FILE]`, `format DISK PLAN M N K`, `feed [--workers W] DISK PLAN`, `show DISK PLAN`,
-/// `dump DISK PLAN`, `upgrade DISK PLAN`, `copy [--until E] DISK PLAN NEW M N K`, `states DISK PLAN`,
+/// `sim [--workers W] [--picks LIST]`, each with `[--closures FILE]`, `format DISK PLAN M N K`, `feed [--workers W] DISK PLAN`,
+/// `show [--live] DISK PLAN`, `dump [--live] DISK PLAN`, `upgrade DISK PLAN`, `copy [--until E] DISK PLAN NEW M N K`, `states DISK PLAN`,
 /// `load [--map LIST] [--closures FILE] NEW PLAN M N K`, `stream [--workers W] [--cut-every E] [--most R]
 /// [--progress] [--marks [--hold]] [--refuse] DISK PLAN` and `plan [--dot] [--closures FILE] PLAN`. W is 1 to 16, and 1 where it is not given; LIST is `0` where it is not given; M, N and K
 /// are numbers of 32 bits. E of `--cut-every` is 1 to 65536, E of `--until` 0 to 2^63 - 1, and R 1 to 2^63 - 1; each is none where it is not
@@ -232,7 +232,8 @@ fn show_job<'a>(matches: &ArgMatches<'a>) -> Option<Job<'a>>
 {
     let disk = word_of(matches, "disk")?;
     let plan = word_of(matches, "plan")?;
-    Some(Job::Show { disk, plan })
+    let live = flag_of(matches, "live")?;
+    Some(Job::Show { disk, plan, live })
 }
 
 /// The dump of a disk that the matches of `dump` ask for.
@@ -242,7 +243,8 @@ fn dump_job<'a>(matches: &ArgMatches<'a>) -> Option<Job<'a>>
 {
     let disk = word_of(matches, "disk")?;
     let plan = word_of(matches, "plan")?;
-    Some(Job::Dump { disk, plan })
+    let live = flag_of(matches, "live")?;
+    Some(Job::Dump { disk, plan, live })
 }
 
 /// The upgrade of a disk that the matches of `upgrade` ask for.

@@ -1,0 +1,3 @@
+pub mod Readings
+pub mod Snapshots
+pub mod Files
