@@ -35,17 +35,40 @@ pub fn take_snapshot<D: Disk>(alloc: Global, disk: &mut D, most: u32) -> Result<
     ensures lawful { IfOk result (λ s. D.is_lawful disk.old → bytes_of s ≡ (D.state disk.old).bytes) }
     ensures busy { IsErrOf result LiveError.Busy → D.is_lawful disk.old → most < 3 }
 {
-    td_gate::laws::reads_in_turn::<D>();
     let mut bytes = vec![in alloc; 0; disk.size() as usize]?;
     let mut piece = vec![in alloc; 0; PIECE]?;
+    if read_until_alike(disk, &mut bytes, &mut piece, most)? {
+        Ok(Snapshot::of(bytes))
+    } else {
+        Err(LiveError::Busy)
+    }
+}
+
+/// Reads a disk over and over, `most` times at most, until three readings one after another gave the same bytes; whether they did. Refusal:
+/// `Device`.
+fn read_until_alike<D: Disk>(
+    disk: &mut D,
+    bytes: &mut [u8],
+    piece: &mut [u8],
+    most: u32,
+) -> Result<bool, Fault>
+    requires size { length bytes.old ≡ D.capacity disk.old }
+    requires some { 0 < length piece.old }
+    ensures read { IsRead D.capacity D.is_lawful D.state disk.old disk.new }
+    ensures failures { CountsFailures result (D.failures disk.old) (D.failures disk.new) }
+    ensures alike { IfOk result (λ is. is ≡ true → LastReadings D.read_gives 3 bytes.new disk.new) }
+    ensures lawful { IfOk result (λ is. is ≡ true → D.is_lawful disk.old → bytes.new ≡ (D.state disk.old).bytes) }
+    ensures busy { IfOk result (λ is. is ≡ false → D.is_lawful disk.old → most < 3) }
+{
+    td_gate::laws::reads_in_turn::<D>();
     let mut alike = 0;
     for _ in 0..most {
-        alike = read_again(disk, &mut bytes, &mut piece, alike)?;
+        alike = read_again(disk, bytes, piece, alike)?;
         if alike == ALIKE {
-            return Ok(Snapshot::of(bytes));
+            return Ok(true);
         }
     }
-    Err(LiveError::Busy)
+    Ok(false)
 }
 
 /// One reading more; how many of the last ones gave the same bytes, of which there were `alike` before. Refusal: `Device`.

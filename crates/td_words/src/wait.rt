@@ -30,7 +30,7 @@ pub fn wait_of<'a>(given: &'a [String]) -> Result<(u32, &'a [String]), WordsErro
 
 /// Whether these words ask to wait.
 fn asks_to_wait(given: &[String]) -> bool
-    ensures { result ≡ asks_to_wait (map string_bytes given.now) }
+    ensures asks { result ≡ asks_to_wait (map string_bytes given.now) }
     ensures two { result ≡ true → 2 ≤ length given.now }
 {
     match given {
