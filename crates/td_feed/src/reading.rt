@@ -75,9 +75,9 @@ impl<'a> Reading<'a> {
         };
         let read = mem::replace(&mut self.read, no_orders(alloc));
         let flaw = self.flaw.take();
-        let (flaw, read) = with_said(alloc, self.plan, self.limit, self.number, flaw, read, line)?;
-        let (order, read) = taken_out(read);
-        self.flaw = flaw;
+        let said = with_said(alloc, self.plan, self.limit, self.number, flaw, read, line)?;
+        let (order, read) = taken_out(said.1);
+        self.flaw = said.0;
         self.read = read;
         self.number = next;
         Ok(order)
