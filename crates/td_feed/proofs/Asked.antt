@@ -1,6 +1,6 @@
 -- Reading what is asked for line by line.
 use Rattle.std.proofs.Common.{◌≡◌, ◌⊎◌, ⊎_elim, inl, inr, ℕ, ◌+◌, ◌<◌, ◌↔◌, ◌==◌, Bool, true, false, cond, List, [], ◌∷◌, ◌++◌, length, length-append, arith, Option, Some, None, Result, Ok, Err, All, refl, sym, ap, ◌∙◌, subst, append_assoc, append-nil}
-use Rattle.std.specs.Prelude.{if◌then◌else◌, IfOk, IfSome}
+use Rattle.std.specs.Prelude.{if◌then◌else◌, IfOk, IfErr, IfSome}
 use Rattle.std.specs.List.{slice_split, onto_first}
 use Rattle.std.specs.Io.KnownBytes.{prepend_known, Consumes, IsAtEnd}
 use Rattle.std.specs.Option.{IsSome, option_to_list}
@@ -348,6 +348,11 @@ module _ (r : Reading) where
 -- an epoch that may be refused, by what its line came to
 abbrev pub as_said : ReadSoFar → Result ReadSoFar Fault
 as_said next = Ok next
+
+-- it is refused, or memory ran out
+pub gives_refused : (r a : Result ReadSoFar Fault) (wanted : ReadSoFar) → a ≡ Ok wanted → IfOk r (λ next. next ≡ wanted) → IfErr r (λ f. f ≡ Memory) → Gives r a
+gives_refused (Ok next) a wanted is ok err = is ∙ ap as_said (sym ok)
+gives_refused (Err fault) a wanted is ok err = inl err
 
 pub refused_alone : (n : ℕ) (read : Orders) (why : Flaw) → read.orders ≡ [] → refused n read why ≡ refused n (numbered read.request no_orders) why
 refused_alone n read why none = λ i. (Some (n, why), record { orders = none i; request = read.request; current = [] })

@@ -14,6 +14,7 @@ pub mod Reread
 pub mod Pieces
 pub mod Counting
 pub mod Asked
+pub mod Excerpts
 pub mod Obeyed
 mod Shown
 pub mod Acknowledged

@@ -1,5 +1,7 @@
 //! How a line begins, and why it has no form.
-ghost use Rattle.std.specs.Prelude.{◌≡◌, Some, nat_lt, slice_index, IfOk, IfErr};
+ghost use Rattle.std.specs.Prelude.{◌≡◌, ◌<◌, Some, nat_lt, slice_index, IfOk, IfErr};
+ghost use Rattle.std.specs.List.{list_all};
+ghost use Rattle.std.specs.Char.{is_ascii_digit};
 ghost use Rattle.td_plan.specs.Text.{words};
 ghost use Rattle.td_feed.specs.Noted.{shown, excerpt, is_from, is_too_large, is_too_large_value, has_large, cause_of};
 
@@ -110,10 +112,16 @@ fn is_too_large_value(word: &str) -> bool
 fn is_too_large(limit: u128, word: &str) -> bool
     ensures { result ≡ is_too_large limit word.now }
 {
-    let bytes = word.as_bytes();
-    begins_above_zero(bytes)
-        && bytes.iter().all(|byte| byte.is_ascii_digit())
-        && is_from(limit, natural(word))
+    if !begins_above_zero(word.as_bytes()) || !are_digits(word.as_bytes()) {
+        return false;
+    }
+    is_from(limit, natural(word))
+}
+
+fn are_digits(word: &[u8]) -> bool
+    ensures { result ≡ list_all is_ascii_digit word.now }
+{
+    word.iter().all(|byte| byte.is_ascii_digit())
 }
 
 /// Whether the first byte is above the digit 0.

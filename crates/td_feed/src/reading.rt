@@ -83,7 +83,7 @@ impl<'a> Reading<'a> {
         let read = mem::replace(&mut self.read, no_orders(alloc));
         let flaw = self.flaw.take();
         let words = read_stream_line(self.hold, line);
-        let (flaw, read) = with_said(
+        let said = with_said(
             alloc,
             self.plan,
             self.limit,
@@ -93,8 +93,8 @@ impl<'a> Reading<'a> {
             line,
             words,
         )?;
-        let (order, read) = taken_out(read);
-        self.flaw = flaw;
+        let (order, read) = taken_out(said.1);
+        self.flaw = said.0;
         self.read = read;
         self.number = next;
         Ok(order)

@@ -3,14 +3,16 @@ use Rattle.td_feed.specs.declared.note.Cause.TheVariants.{TooManyRecords}
 use Rattle.td_feed.specs.Noted.{flaw_of}
 use Rattle.td_feed.specs.Orders.{no_orders, numbered}
 use Rattle.td_feed.specs.Asked.{refused, unless_refused}
-use Rattle.td_feed.proofs.Asked.{as_said, refused_alone, over_or_not, fault_or_not, memory_gives, gives_as}
+use Rattle.td_feed.proofs.Asked.{as_said, gives_refused, refused_alone, over_or_not, fault_or_not, memory_gives, gives_as}
 use Rattle.td_feed.proofs.reading.judged.Goals as goal
 
 pub returns-then-is_over-clause-gives : goal.returns-then-is_over-clause-gives
 returns-then-is_over-clause-gives c =
     let a = c.args in
-    over_or_not a.limit a.number a.line.now a.read c.in-Ok.next _ true c.in-Ok.ensures.gives (sym c.is_over.ensures ∙ c.if-is_over.true)
-    ∙ ap as_said (refused_alone a.number a.read (flaw_of TooManyRecords a.line.now) c.requires.ready ∙ ap (λ (q : ℕ). refused a.number (numbered q no_orders) (flaw_of TooManyRecords a.line.now)) (sym c.request_in-request.ensures) ∙ sym c.refused.ensures)
+    gives_refused c.refused.result _ (refused a.number (numbered c.request_in-request.result no_orders) (flaw_of TooManyRecords a.line.now))
+    (over_or_not a.limit a.number a.line.now a.read c.in-Ok.next _ true c.in-Ok.ensures.gives (sym c.is_over.ensures ∙ c.if-is_over.true)
+    ∙ ap as_said (refused_alone a.number a.read (flaw_of TooManyRecords a.line.now) c.requires.ready ∙ ap (λ (q : ℕ). refused a.number (numbered q no_orders) (flaw_of TooManyRecords a.line.now)) (sym c.request_in-request.ensures)))
+    c.refused.ensures.ok c.refused.ensures.err
 
 pub returns-in-Err-clause-gives : goal.returns-in-Err-clause-gives
 returns-in-Err-clause-gives c =

@@ -1,0 +1,12 @@
+-- How a line begins, and why it has no form.
+use Rattle.std.proofs.Common.{◌≡◌, ◌≢◌, ℕ, ◌^◌, ◌==◌, false, List, [], ◌∷◌, refl, get_or}
+use Rattle.std.proofs.lemmas.Bool.{ne_eqb}
+use Rattle.td_feed.specs.Noted.{is_too_large, is_too_large_value}
+
+no_minus : (word : List ℕ) → ((rest : List ℕ) → word ≢ 45 ∷ rest) → (get_or word 0 0 == 45) ≡ false
+no_minus [] h = refl
+no_minus (b ∷ rest) h = ne_eqb b 45 (λ e. h rest (λ i. e i ∷ rest))
+
+-- a value without a minus sign
+pub without_minus : (word : List ℕ) → ((rest : List ℕ) → word ≢ 45 ∷ rest) → is_too_large_value word ≡ is_too_large (2 ^ 63) word
+without_minus word h = rw (no_minus word h) refl
