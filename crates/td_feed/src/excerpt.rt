@@ -1,5 +1,5 @@
 //! How a line begins, and why it has no form.
-ghost use Rattle.std.specs.Prelude.{◌≡◌, ◌<◌, Some, nat_lt, slice_index, IfOk, IfErr};
+ghost use Rattle.std.specs.Prelude.{◌≡◌, ◌<◌, Some, nat_lt, slice_index, take, IfOk, IfErr};
 ghost use Rattle.std.specs.List.{list_all};
 ghost use Rattle.std.specs.Char.{is_ascii_digit};
 ghost use Rattle.td_plan.specs.Text.{words};
@@ -36,8 +36,10 @@ impl Excerpt {
         ensures err { IfErr result (λ f. f ≡ Fault.Memory) }
     {
         let mut text = String::new(alloc);
-        for byte in line.iter().take(SHOWN) {
+        let mut rest = beginning(line);
+        while let [byte, others @ ..] = rest {
             text.push(char::from(shown(*byte)))?;
+            rest = others;
         }
         Ok(Excerpt { text })
     }
@@ -48,6 +50,16 @@ impl fmt::Display for Excerpt {
 
     fn fmt<W: fmt::Write>(&self, f: &mut fmt::Formatter<W>) -> fmt::Result {
         write!(f, "{}", self.text)
+    }
+}
+
+/// The bytes of a line of which characters are shown.
+fn beginning(line: &[u8]) -> &[u8]
+    ensures { result.now ≡ take 80 line.now }
+{
+    match line.split_at_checked(SHOWN) {
+        Some((beginning, _)) => beginning,
+        None => line,
     }
 }
 
