@@ -14,11 +14,14 @@ mod engine;
 mod faults;
 mod file_cause;
 mod language;
+mod meter;
 mod plan;
 mod progress;
 mod refusal;
+mod room;
 mod shelves;
 mod states;
+mod status;
 mod streams;
 
 use crate::closures::closures_at;
@@ -26,7 +29,7 @@ use crate::disk::{
     copy_disk, dump_disk, format_disk, open_disk, open_disk_or_tell, show_disk, upgrade_disk,
 };
 use crate::disk_closures::closures_of_disk;
-use crate::engine::{Engine, StreamOptions};
+use crate::engine::{Engine, StreamOptions, Telling};
 use crate::faults::FAULTS;
 use crate::language::LANGUAGE;
 use crate::plan::print_plan;
@@ -139,10 +142,17 @@ fn done<
             progress,
             marks,
             refuse,
+            room,
+            status,
         } => {
             let (disk, plan) = open_disk_or_tell(rt, path, plan)?;
             let closures = closures_of_disk(rt, path)?;
-            let told = progress.then_some(stderr);
+            let telling = Telling {
+                stderr,
+                progress,
+                room,
+                status,
+            };
             let options = StreamOptions {
                 cut_every,
                 most,
@@ -151,7 +161,7 @@ fn done<
             };
             run_engine(
                 rt,
-                Engine::Stream(disk, path, plan, workers, options, told, closures),
+                Engine::Stream(disk, path, plan, workers, options, telling, closures),
             )
         }
         Job::Show { disk, plan } => Ok(show_disk(rt, disk, plan)?),
@@ -248,10 +258,18 @@ fn ended<R: Eprint + AllocGlobal>(
 }
 
 /// Answers standard input with the closures of the catalogue, of both shelves, and what closures in text the engine has.
-fn run_engine<R: Input + Print + AllocGlobal + Threads + Wait + Sync + Send + Copy + 'static>(
-    rt: &R,
-    engine: Engine<'_>,
-) -> Result<(), Refusal>
+fn run_engine<
+    R: Files<File = File>
+        + Input
+        + Print
+        + AllocGlobal
+        + Threads
+        + Wait
+        + Sync
+        + Send
+        + Copy
+        + 'static,
+>(rt: &R, engine: Engine<'_>) -> Result<(), Refusal>
     requires lawful { IsLawfulEngine engine }
 {
     let mut reader = StdReader(Awaited::new(rt, rt.reader()));
@@ -295,7 +313,7 @@ fn run_engine<R: Input + Print + AllocGlobal + Threads + Wait + Sync + Send + Co
             );
             Ok(fed?)
         }
-        Engine::Stream(disk, path, plan, workers, options, told, closures) => {
+        Engine::Stream(disk, path, plan, workers, options, telling, closures) => {
             if options.marks {
                 let mut writer = Marked(writer);
                 stream_told(
@@ -307,7 +325,7 @@ fn run_engine<R: Input + Print + AllocGlobal + Threads + Wait + Sync + Send + Co
                     options,
                     reader,
                     &mut writer,
-                    told,
+                    telling,
                     closures,
                 )
             } else {
@@ -320,7 +338,7 @@ fn run_engine<R: Input + Print + AllocGlobal + Threads + Wait + Sync + Send + Co
                     options,
                     reader,
                     &mut writer,
-                    told,
+                    telling,
                     closures,
                 )
             }
