@@ -104,7 +104,7 @@ pub(crate) fn stream_told<
     let held = held_for(rt, telling)?;
     let ending = Arc::new(rt.alloc(), Ending::new())?;
     let gauge = Arc::new(rt.alloc(), Gauge::new())?;
-    let watch = followed(rt, telling, shape, &gauge, &ending)?;
+    let watch = followed(rt, telling, path, shape, &gauge, &ending)?;
     let disk = Metered::new(disk, Arc::try_clone(&gauge)?, shape);
     let reader = Noticed::new(reader, gauge);
     let (disk, ended) = stream::<_, _, _, Catalogue, Shelves, _>(
@@ -188,6 +188,7 @@ fn held_for<R: Files<File = File>>(
 fn followed<R: Files<File = File> + Threads + Wait + AllocGlobal + Sync + Send + Copy + 'static>(
     rt: &R,
     telling: Telling<'_>,
+    path: &str,
     shape: Option<Shape>,
     gauge: &Arc<Gauge, Global>,
     ending: &Arc<Ending, Global>,
@@ -210,7 +211,7 @@ fn followed<R: Files<File = File> + Threads + Wait + AllocGlobal + Sync + Send +
         unreachable!()
     };
     let gauge = Arc::try_clone(gauge)?;
-    let follower = Follower::new(rt.alloc(), telling, shape, gauge)?;
+    let follower = Follower::new(rt.alloc(), telling, path, shape, gauge)?;
     let ending = Arc::try_clone(ending)?;
     let here = *rt;
     match thread::spawn(rt, move || follow(&here, follower, reader, &ending)) {
@@ -268,11 +269,12 @@ impl Follower {
     fn new(
         alloc: Global,
         telling: Telling<'_>,
+        disk: &str,
         shape: Option<Shape>,
         gauge: Arc<Gauge, Global>,
     ) -> Result<Follower, AllocError> {
         let status = match telling.status {
-            Some(path) => Some(StatusFile::new(alloc, path)?),
+            Some(path) => Some(StatusFile::new(alloc, path, disk)?),
             None => None,
         };
         Ok(Follower {

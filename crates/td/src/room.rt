@@ -105,100 +105,81 @@ pub(crate) const FIRST: &str = "# HELP td_acked_epoch ";
 pub(crate) const FIRST_LEN: usize = 22;
 
 impl Status {
-    /// The text of a status file, in the form that Prometheus reads. Refusal: `Memory`.
-    pub(crate) fn text(&self, alloc: Global) -> Result<String, Fault> {
+    /// The text of a status file, in the form that Prometheus reads; each number has this label. Refusal: `Memory`.
+    pub(crate) fn text(&self, alloc: Global, label: &str) -> Result<String, Fault> {
         let Room { cells, states } = self.room;
         let mut text = String::new(alloc);
-        push(
-            &mut text,
-            "acked_epoch",
-            "The last epoch on the disk",
-            GAUGE,
-            self.acked,
-        )?;
-        push(
-            &mut text,
-            "done_epoch",
-            "The last epoch that is computed",
-            GAUGE,
-            self.done,
-        )?;
-        push(
-            &mut text,
-            "kept_epoch",
-            "The epoch of the last cut",
-            GAUGE,
-            self.kept,
-        )?;
-        push(
-            &mut text,
-            "cells_used",
-            "How many epochs are on the disk after the last cut",
-            GAUGE,
-            cells.used,
-        )?;
-        push(
-            &mut text,
-            "cells_limit",
-            "How many epochs find room after a cut: N",
-            GAUGE,
-            cells.of,
-        )?;
-        push(
-            &mut text,
-            "states_used",
-            "How many states the last cut has",
-            GAUGE,
-            states.used,
-        )?;
-        push(
-            &mut text,
-            "states_limit",
-            "How many states find room: K",
-            GAUGE,
-            states.of,
-        )?;
-        push(
-            &mut text,
-            "records_total",
-            "How many records this stream has put on the disk",
-            COUNTER,
-            self.records,
-        )?;
-        push(
-            &mut text,
-            "epochs_per_second",
-            "How many epochs it has put there in the last second",
-            GAUGE,
-            self.epochs_in_a_second,
-        )?;
-        push(
-            &mut text,
-            "seconds_since_cut",
-            "How many seconds have passed since the last cut, or the start",
-            GAUGE,
-            self.seconds_since_cut,
-        )?;
-        push(
-            &mut text,
-            "running",
-            "1 while the stream runs, and 0 at its end",
-            GAUGE,
-            u64::from(self.is_running),
-        )?;
+        push(&mut text, ACKED, label, self.acked)?;
+        push(&mut text, DONE, label, self.done)?;
+        push(&mut text, KEPT, label, self.kept)?;
+        push(&mut text, CELLS_USED, label, cells.used)?;
+        push(&mut text, CELLS_LIMIT, label, cells.of)?;
+        push(&mut text, STATES_USED, label, states.used)?;
+        push(&mut text, STATES_LIMIT, label, states.of)?;
+        push(&mut text, RECORDS, label, self.records)?;
+        push(&mut text, EPOCHS, label, self.epochs_in_a_second)?;
+        push(&mut text, SECONDS, label, self.seconds_since_cut)?;
+        push(&mut text, RUNNING, label, u64::from(self.is_running))?;
         Ok(text)
     }
 }
 
-/// The kinds of numbers that Prometheus tells apart: one that may fall, and one that does not.
-const GAUGE: &str = "gauge";
+/// A number of a status file: its name, what it is, and its kind: a gauge may fall, a counter does not.
+#[derive(Clone, Copy)]
+struct Number {
+    name: &'static str,
+    help: &'static str,
+    kind: &'static str,
+}
 
-const COUNTER: &str = "counter";
+const fn gauge(name: &'static str, help: &'static str) -> Number {
+    Number {
+        name,
+        help,
+        kind: "gauge",
+    }
+}
 
-/// Appends a number with its name, what it is, and its kind. Refusal: `Memory`.
-fn push(text: &mut String, name: &str, help: &str, kind: &str, number: u64) -> Result<(), Fault> {
-    writeln!(text, "# HELP td_{name} {help}.")?;
-    writeln!(text, "# TYPE td_{name} {kind}")?;
-    writeln!(text, "td_{name} {number}")?;
+const ACKED: Number = gauge("td_acked_epoch", "The last epoch on the disk.");
+
+const DONE: Number = gauge("td_done_epoch", "The last epoch that is computed.");
+
+const KEPT: Number = gauge("td_kept_epoch", "The epoch of the last cut.");
+
+const CELLS_USED: Number = gauge(
+    "td_cells_used",
+    "How many epochs are on the disk after the last cut.",
+);
+
+const CELLS_LIMIT: Number = gauge("td_cells_limit", "How many epochs find room after a cut.");
+
+const STATES_USED: Number = gauge("td_states_used", "How many states the last cut has.");
+
+const STATES_LIMIT: Number = gauge("td_states_limit", "How many states find room.");
+
+const RECORDS: Number = Number {
+    name: "td_records_total",
+    help: "How many records this stream has put on the disk.",
+    kind: "counter",
+};
+
+const EPOCHS: Number = gauge(
+    "td_epochs_per_second",
+    "How many epochs this stream has put on the disk in the last second.",
+);
+
+const SECONDS: Number = gauge(
+    "td_seconds_since_cut",
+    "How many seconds have passed since the last cut, or the start.",
+);
+
+const RUNNING: Number = gauge("td_running", "1 while the stream runs, and 0 at its end.");
+
+/// Appends the lines of a number. Refusal: `Memory`.
+fn push(text: &mut String, number: Number, label: &str, value: u64) -> Result<(), Fault> {
+    let Number { name, help, kind } = number;
+    writeln!(text, "# HELP {name} {help}")?;
+    writeln!(text, "# TYPE {name} {kind}")?;
+    writeln!(text, "{name}{label} {value}")?;
     Ok(())
 }

@@ -19,6 +19,7 @@ use td_console::Fault;
 pub(crate) struct StatusFile {
     path: String,
     new_path: String,
+    label: String,
     has_failed: bool,
     kept: Option<u64>,
     epochs: u64,
@@ -26,11 +27,12 @@ pub(crate) struct StatusFile {
 }
 
 impl StatusFile {
-    /// The status file at `path`, which is not written yet.
-    pub(crate) fn new(alloc: Global, path: &str) -> Result<StatusFile, AllocError> {
+    /// The status file at `path` of the stream of the disk at `disk`. It is not written yet.
+    pub(crate) fn new(alloc: Global, path: &str, disk: &str) -> Result<StatusFile, AllocError> {
         Ok(StatusFile {
             path: String::from_str(alloc, path)?,
             new_path: format!(in alloc; "{path}.new")?,
+            label: label_of(alloc, disk)?,
             has_failed: false,
             kept: None,
             epochs: 0,
@@ -97,7 +99,7 @@ impl StatusFile {
         rt: &R,
         status: Status,
     ) -> Result<(), &'static str> {
-        let Ok(text) = status.text(rt.alloc()) else {
+        let Ok(text) = status.text(rt.alloc(), self.label.as_str()) else {
             return Err("memory");
         };
         let (path, new_path) = (self.path.as_str(), self.new_path.as_str());
@@ -111,6 +113,23 @@ impl StatusFile {
             Err(error) => Err(write_cause(error.kind())),
         }
     }
+}
+
+/// The label of the disk at `disk`: two disks may have status files in one folder.
+fn label_of(alloc: Global, disk: &str) -> Result<String, AllocError> {
+    let mut label = String::from_str(alloc, "{disk=\"")?;
+    for each in disk.chars() {
+        match each {
+            '\n' => label.push_str("\\n")?,
+            '"' | '\\' => {
+                label.push('\\')?;
+                label.push(each)?;
+            }
+            _ => label.push(each)?,
+        }
+    }
+    label.push_str("\"}")?;
+    Ok(label)
 }
 
 /// The line that says why the file at `path` cannot be written.
