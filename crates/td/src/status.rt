@@ -8,10 +8,10 @@ use crate::meter::Counts;
 use crate::refusal::Refusal;
 use crate::room::{FIRST, FIRST_LEN, Room, Status};
 use std::alloc::{AllocError, Global};
-use std::fs;
 use std::fs::File;
 use std::io::{ErrorKind, Read};
 use std::rt::{Files, Stderr};
+use std::{fs, io};
 use td_console::Fault;
 
 /// A status file, and what its numbers are computed of.
@@ -78,41 +78,52 @@ impl StatusFile {
         status: Status,
         before: &str,
     ) {
-        let Err(cause) = self.put(rt, status) else {
+        let Err((path, cause)) = self.put(rt, status) else {
             return;
         };
+        let line = said(rt.alloc(), path, cause);
         if self.has_failed {
             return;
         }
         self.has_failed = true;
-        let path = self.path.as_str();
-        let _ = eprint!(stderr; "{before}");
-        let _ = match said(rt.alloc(), path, cause) {
+        let _ = stderr.eprint(before);
+        let _ = match &line {
             Ok(line) => stderr.eprint(line.as_str()),
             Err(_) => stderr.eprint("td: memory\n"),
         };
     }
 
-    /// Writes it, or answers why it cannot be written.
+    /// Writes it, or answers which file cannot be written, and why.
     fn put<R: Files<File = File> + AllocGlobal>(
         &self,
         rt: &R,
         status: Status,
-    ) -> Result<(), &'static str> {
-        let Ok(text) = status.text(rt.alloc(), self.label.as_str()) else {
-            return Err("memory");
-        };
+    ) -> Result<(), (&str, &'static str)> {
         let (path, new_path) = (self.path.as_str(), self.new_path.as_str());
-        check_own(rt, path)?;
-        check_own(rt, new_path)?;
-        if let Err(error) = fs::write(rt, new_path, text.as_str()) {
-            return Err(write_cause(error.kind()));
+        let Ok(text) = status.text(rt.alloc(), self.label.as_str()) else {
+            return Err((path, "memory"));
+        };
+        for each in [path, new_path] {
+            if let Err(cause) = check_own(rt, each) {
+                return Err((each, cause));
+            }
         }
-        match fs::rename(rt, new_path, path) {
+        match put_in_place(rt, new_path, path, text.as_str()) {
             Ok(()) => Ok(()),
-            Err(error) => Err(write_cause(error.kind())),
+            Err(error) => Err((path, write_cause(error.kind()))),
         }
     }
+}
+
+/// Writes a text to the file at `new_path`, and renames it to `path`.
+fn put_in_place<R: Files<File = File>>(
+    rt: &R,
+    new_path: &str,
+    path: &str,
+    text: &str,
+) -> io::Result<()> {
+    fs::write(rt, new_path, text)?;
+    fs::rename(rt, new_path, path)
 }
 
 /// The label of the disk at `disk`: two disks may have status files in one folder.
