@@ -82,9 +82,12 @@ def known_moments(folder):
     expect(stream.wait_for(running=1), acked_epoch=0, done_epoch=0, kept_epoch=0, cells_used=0, states_used=0, records_total=0, epochs_per_second=0, **limits)
     stream.send("0 7 5\n0 8 1\n.\n0 9 1\n.\n.\n")
     expect(stream.wait_for(acked_epoch=3, done_epoch=3), kept_epoch=0, cells_used=3, states_used=0, records_total=3, **limits)
-    stream.wait_for(epochs_per_second=0, seconds_since_cut=3)
+    stream.wait_for(epochs_per_second=0, seconds_since_cut=4)
     stream.send("cut\n")
-    expect(stream.wait_for(kept_epoch=3), acked_epoch=3, done_epoch=3, cells_used=0, states_used=3, records_total=3, seconds_since_cut=0, running=1, **limits)
+    found = stream.wait_for(kept_epoch=3)
+    expect(found, acked_epoch=3, done_epoch=3, cells_used=0, states_used=3, records_total=3, running=1, **limits)
+    if found["seconds_since_cut"] >= 4:
+        raise ValueError(f"a cut changed nothing in {found}")
     stream.wait_for(seconds_since_cut=2)
     stream.send("0 7 1\n.\n")
     if said := stream.end():

@@ -42,16 +42,18 @@ impl Gauge {
         }
     }
 
-    /// What was counted; None before the disk is recovered.
-    pub(crate) fn counts(&self) -> Option<Counts> {
-        if !self.is_read.load(Ordering::SeqCst) {
-            return None;
-        }
-        Some(Counts {
+    /// Whether the input is read, which is so once the disk is recovered.
+    pub(crate) fn is_read(&self) -> bool {
+        self.is_read.load(Ordering::SeqCst)
+    }
+
+    /// What was counted.
+    pub(crate) fn counts(&self) -> Counts {
+        Counts {
             states: self.states.load(Ordering::SeqCst),
             epochs: self.epochs.load(Ordering::SeqCst),
             records: self.records.load(Ordering::SeqCst),
-        })
+        }
     }
 }
 
@@ -92,7 +94,7 @@ impl Meter {
     /// Bytes were written: a gate, or what stands before one.
     fn note_write(&mut self, at: u64, bytes: &[u8]) {
         if bytes.len() < FRONT_LEN {
-            self.is_opened = bytes.first() == Some(&OPEN);
+            self.is_opened = bytes.starts_with(&[OPEN]);
             return;
         }
         let count = u64::from(Front::read(bytes).count);

@@ -232,7 +232,7 @@ fn follow<R: Files<File = File> + Wait + AllocGlobal>(
     for _ in rt.forever() {
         // Asked before the words are read: at the end these are the last.
         let is_last = ending.of_stream.wait(rt);
-        follower.tell(rt, reader.read(), is_last);
+        follower.tell(rt, &mut reader, is_last);
         if is_last {
             break;
         }
@@ -290,21 +290,28 @@ impl Follower {
         })
     }
 
-    /// Tells what is new at these words, and writes the status file. What room there is, is known once the disk is recovered.
+    /// Tells how far a watch has come, where that is new, and writes the status file. What room there is, is known once the disk is recovered.
     fn tell<R: Files<File = File> + AllocGlobal>(
         &mut self,
         rt: &R,
-        words: [u64; 3],
+        reader: &mut Reader,
         is_last: bool,
     ) {
-        let [acked, done, kept] = words;
+        // Asked before the words are read: where the disk is recovered, these are its own. What is counted is never behind them.
+        let shape = if self.gauge.is_read() {
+            self.shape
+        } else {
+            None
+        };
+        let [acked, done, kept] = reader.read();
+        let counts = self.gauge.counts();
         let mut line = Line {
             acked,
             done,
             kept,
             room: None,
         };
-        let (Some(shape), Some(counts)) = (self.shape, self.gauge.counts()) else {
+        let Some(shape) = shape else {
             self.write_line(line, is_last);
             return;
         };
@@ -313,13 +320,12 @@ impl Follower {
             line.room = Some(room);
         }
         self.write_line(line, is_last);
-        let before = self.before_a_line();
-        self.warned.warn(self.stderr, room, before);
-        let Some(file) = &mut self.status else {
-            return;
-        };
-        let status = file.status(acked, done, kept, room, counts, is_last);
-        file.write(rt, self.stderr, status, before);
+        let (stderr, before) = (self.stderr, self.before_a_line());
+        self.warned.warn(stderr, room, before);
+        if let Some(file) = &mut self.status {
+            let status = file.status(acked, done, kept, room, counts, is_last);
+            file.write(rt, stderr, status, before);
+        }
     }
 
     /// Writes a line, where lines are asked for: each second in which it is another one; and at the end, if it is another one, or none was
