@@ -108,78 +108,52 @@ impl Status {
     /// The text of a status file, in the form that Prometheus reads; each number has this label. Refusal: `Memory`.
     pub(crate) fn text(&self, alloc: Global, label: &str) -> Result<String, Fault> {
         let Room { cells, states } = self.room;
-        let mut text = String::new(alloc);
-        push(&mut text, ACKED, label, self.acked)?;
-        push(&mut text, DONE, label, self.done)?;
-        push(&mut text, KEPT, label, self.kept)?;
-        push(&mut text, CELLS_USED, label, cells.used)?;
-        push(&mut text, CELLS_LIMIT, label, cells.of)?;
-        push(&mut text, STATES_USED, label, states.used)?;
-        push(&mut text, STATES_LIMIT, label, states.of)?;
-        push(&mut text, RECORDS, label, self.records)?;
-        push(&mut text, EPOCHS, label, self.epochs_in_a_second)?;
-        push(&mut text, SECONDS, label, self.seconds_since_cut)?;
-        push(&mut text, RUNNING, label, u64::from(self.is_running))?;
+        let is_running = u64::from(self.is_running);
+        let mut numbers = Numbers {
+            text: String::new(alloc),
+            label,
+        };
+        numbers.push("acked_epoch", "The last epoch on the disk", self.acked)?;
+        numbers.push("done_epoch", "The last epoch that is computed", self.done)?;
+        numbers.push("kept_epoch", "The epoch of the last cut", self.kept)?;
+        numbers.push("cells_used", "Epochs after the last cut", cells.used)?;
+        numbers.push("cells_limit", "Epochs that find room", cells.of)?;
+        numbers.push("states_used", "States of the last cut", states.used)?;
+        numbers.push("states_limit", "States that find room", states.of)?;
+        numbers.push("records_total", RECORDS, self.records)?;
+        numbers.push("epochs_per_second", EPOCHS, self.epochs_in_a_second)?;
+        numbers.push("seconds_since_cut", SECONDS, self.seconds_since_cut)?;
+        numbers.push("running", "1, and 0 at the end of the stream", is_running)?;
+        let Numbers { text, label: _ } = numbers;
         Ok(text)
     }
 }
 
-/// A number of a status file: its name, what it is, and its kind: a gauge may fall, a counter does not.
-#[derive(Clone, Copy)]
-struct Number {
-    name: &'static str,
-    help: &'static str,
-    kind: &'static str,
+const RECORDS: &str = "Records that the stream has put on the disk";
+
+const EPOCHS: &str = "Epochs that it has put there in the last second";
+
+const SECONDS: &str = "Seconds since the last cut, or the start";
+
+/// The numbers of a status file as a text, with the label of each.
+#[derive(Drop)]
+struct Numbers<'a> {
+    text: String,
+    label: &'a str,
 }
 
-const fn gauge(name: &'static str, help: &'static str) -> Number {
-    Number {
-        name,
-        help,
-        kind: "gauge",
+impl<'a> Numbers<'a> {
+    /// Appends the lines of a number: what it is, its kind, and itself. Refusal: `Memory`.
+    fn push(&mut self, name: &str, help: &str, number: u64) -> Result<(), Fault> {
+        let label = self.label;
+        let kind = if name.ends_with("_total") {
+            "counter"
+        } else {
+            "gauge"
+        };
+        writeln!(self.text, "# HELP td_{name} {help}.")?;
+        writeln!(self.text, "# TYPE td_{name} {kind}")?;
+        writeln!(self.text, "td_{name}{label} {number}")?;
+        Ok(())
     }
-}
-
-const ACKED: Number = gauge("td_acked_epoch", "The last epoch on the disk.");
-
-const DONE: Number = gauge("td_done_epoch", "The last epoch that is computed.");
-
-const KEPT: Number = gauge("td_kept_epoch", "The epoch of the last cut.");
-
-const CELLS_USED: Number = gauge(
-    "td_cells_used",
-    "How many epochs are on the disk after the last cut.",
-);
-
-const CELLS_LIMIT: Number = gauge("td_cells_limit", "How many epochs find room after a cut.");
-
-const STATES_USED: Number = gauge("td_states_used", "How many states the last cut has.");
-
-const STATES_LIMIT: Number = gauge("td_states_limit", "How many states find room.");
-
-const RECORDS: Number = Number {
-    name: "td_records_total",
-    help: "How many records this stream has put on the disk.",
-    kind: "counter",
-};
-
-const EPOCHS: Number = gauge(
-    "td_epochs_per_second",
-    "How many epochs this stream has put on the disk in the last second.",
-);
-
-const SECONDS: Number = gauge(
-    "td_seconds_since_cut",
-    "How many seconds have passed since the last cut, or the start.",
-);
-
-const RUNNING: Number = gauge("td_running", "1 while the stream runs, and 0 at its end.");
-
-/// Appends the lines of a number. Refusal: `Memory`.
-fn push(text: &mut String, number: Number, label: &str, value: u64) -> Result<(), Fault> {
-    let Number { name, help, kind } = number;
-    writeln!(text, "# HELP {name} {help}")?;
-    writeln!(text, "# TYPE {name} {kind}")?;
-    writeln!(text, "{name}{label} {value}")?;
-    Ok(())
 }
