@@ -37,6 +37,7 @@ use crate::progress::stream_told;
 use crate::refusal::Refusal;
 use crate::shelves::both_shelves;
 use crate::states::{load_disk, states_of_disk};
+use crate::status::Places;
 use crate::streams::Awaited;
 use std::fs::File;
 use std::process::ExitCode;
@@ -85,6 +86,7 @@ fn tells_who(job: &Job<'_>) -> bool {
 /// asked of `Stderr`, since no bound of a runtime says it.
 fn done<
     R: Files<File = File>
+        + Places
         + Input
         + Print
         + Eprint
@@ -260,6 +262,7 @@ fn ended<R: Eprint + AllocGlobal>(
 /// Answers standard input with the closures of the catalogue, of both shelves, and what closures in text the engine has.
 fn run_engine<
     R: Files<File = File>
+        + Places
         + Input
         + Print
         + AllocGlobal
