@@ -38,6 +38,7 @@ use crate::reading::{dump_disk, dump_live, show_disk, show_live};
 use crate::refusal::Refusal;
 use crate::shelves::both_shelves;
 use crate::states::{load_disk, states_of_disk};
+use crate::status::Places;
 use crate::streams::Awaited;
 use std::fs::File;
 use std::process::ExitCode;
@@ -91,6 +92,7 @@ fn tells_who(job: &Job<'_>) -> bool {
 /// told to `stderr`, if that is asked for. Whether that is a terminal is asked of `Stderr`, since no bound of a runtime says it.
 fn done<
     R: Files<File = File>
+        + Places
         + Input
         + Print
         + Eprint
@@ -280,6 +282,7 @@ fn ended<R: Eprint + AllocGlobal>(
 /// Answers standard input with the closures of the catalogue, of both shelves, and what closures in text the engine has.
 fn run_engine<
     R: Files<File = File>
+        + Places
         + Input
         + Print
         + AllocGlobal

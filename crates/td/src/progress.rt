@@ -10,7 +10,7 @@ use crate::engine::{StreamOptions, Telling};
 use crate::meter::{Gauge, Metered, Noticed};
 use crate::refusal::Refusal;
 use crate::room::{Room, Warned};
-use crate::status::StatusFile;
+use crate::status::{Places, StatusFile};
 use std::alloc::{AllocError, Global};
 use std::fs::File;
 use std::io::IsTerminal;
@@ -83,7 +83,7 @@ impl Ending {
 pub(crate) fn stream_told<
     I: Source + Drop,
     W: Voice,
-    R: Files<File = File> + Threads + Wait + AllocGlobal + Sync + Send + Copy + 'static,
+    R: Files<File = File> + Places + Threads + Wait + AllocGlobal + Sync + Send + Copy + 'static,
 >(
     rt: &R,
     disk: ReadAhead<FileDisk>,
@@ -188,7 +188,7 @@ fn held_for<R: Files<File = File>>(
 }
 
 /// The writer of a watch that a thread follows until an ending has come; none where nothing is told. Refusal: `Memory`.
-fn followed<R: Files<File = File> + Threads + Wait + AllocGlobal + Sync + Send + Copy + 'static>(
+fn followed<R: Places + Threads + Wait + AllocGlobal + Sync + Send + Copy + 'static>(
     rt: &R,
     telling: Telling<'_>,
     path: &str,
@@ -225,12 +225,7 @@ fn followed<R: Files<File = File> + Threads + Wait + AllocGlobal + Sync + Send +
 
 /// Tells how far a watch has come, each second and at the end. A write to standard error that fails is passed over. Where one waits, since
 /// nobody reads a pipe that is full, the thread is left behind at the end.
-fn follow<R: Files<File = File> + Wait + AllocGlobal>(
-    rt: &R,
-    follower: Follower,
-    mut reader: Reader,
-    ending: &Ending,
-) {
+fn follow<R: Places + Wait>(rt: &R, follower: Follower, mut reader: Reader, ending: &Ending) {
     let mut follower = follower;
     for _ in rt.forever() {
         // Asked before the words are read: at the end these are the last.
@@ -294,12 +289,7 @@ impl Follower {
     }
 
     /// Tells how far a watch has come, where that is new, and writes the status file. What room there is, is known once the disk is recovered.
-    fn tell<R: Files<File = File> + AllocGlobal>(
-        &mut self,
-        rt: &R,
-        reader: &mut Reader,
-        is_last: bool,
-    ) {
+    fn tell<R: Places>(&mut self, rt: &R, reader: &mut Reader, is_last: bool) {
         // Asked before the words are read: where the disk is recovered, these are its own. What is counted is never behind them.
         let shape = if self.gauge.is_read() {
             self.shape

@@ -14,9 +14,30 @@ use std::rt::{Files, Stderr};
 use std::{fs, io};
 use td_console::Fault;
 
+/// What a status file is written by. A thread has a file system by it, since it has no types of its own: those of `Files` may not go to
+/// another thread.
+pub(crate) trait Places {
+    /// Finds nothing at `path`, or a status file; else why not.
+    fn check_own(&self, path: &str) -> Result<(), &'static str>;
+
+    /// Writes a text to the file at `new_path`, and renames it to `path`.
+    fn put_in_place(&self, new_path: &str, path: &str, text: &str) -> io::Result<()>;
+}
+
+impl Places for HostRuntime {
+    fn check_own(&self, path: &str) -> Result<(), &'static str> {
+        check_own(self, path)
+    }
+
+    fn put_in_place(&self, new_path: &str, path: &str, text: &str) -> io::Result<()> {
+        put_in_place(self, new_path, path, text)
+    }
+}
+
 /// A status file, and what its numbers are computed of.
 #[derive(Drop)]
 pub(crate) struct StatusFile {
+    alloc: Global,
     path: String,
     new_path: String,
     label: String,
@@ -30,6 +51,7 @@ impl StatusFile {
     /// The status file at `path` of the stream of the disk at `disk`. It is not written yet.
     pub(crate) fn new(alloc: Global, path: &str, disk: &str) -> Result<StatusFile, AllocError> {
         Ok(StatusFile {
+            alloc,
             path: String::from_str(alloc, path)?,
             new_path: format!(in alloc; "{path}.new")?,
             label: label_of(alloc, disk)?,
@@ -71,7 +93,7 @@ impl StatusFile {
     }
 
     /// Writes it. Where that fails, it says so on standard error, the first time, on a line that begins with `before`.
-    pub(crate) fn write<R: Files<File = File> + AllocGlobal>(
+    pub(crate) fn write<R: Places>(
         &mut self,
         rt: &R,
         stderr: Stderr,
@@ -81,7 +103,7 @@ impl StatusFile {
         let Err((path, cause)) = self.put(rt, status) else {
             return;
         };
-        let line = said(rt.alloc(), path, cause);
+        let line = said(self.alloc, path, cause);
         if self.has_failed {
             return;
         }
@@ -94,21 +116,17 @@ impl StatusFile {
     }
 
     /// Writes it, or answers which file cannot be written, and why.
-    fn put<R: Files<File = File> + AllocGlobal>(
-        &self,
-        rt: &R,
-        status: Status,
-    ) -> Result<(), (&str, &'static str)> {
+    fn put<R: Places>(&self, rt: &R, status: Status) -> Result<(), (&str, &'static str)> {
         let (path, new_path) = (self.path.as_str(), self.new_path.as_str());
-        let Ok(text) = status.text(rt.alloc(), self.label.as_str()) else {
+        let Ok(text) = status.text(self.alloc, self.label.as_str()) else {
             return Err((path, "memory"));
         };
         for each in [path, new_path] {
-            if let Err(cause) = check_own(rt, each) {
+            if let Err(cause) = rt.check_own(each) {
                 return Err((each, cause));
             }
         }
-        match put_in_place(rt, new_path, path, text.as_str()) {
+        match rt.put_in_place(new_path, path, text.as_str()) {
             Ok(()) => Ok(()),
             Err(error) => Err((path, write_cause(error.kind()))),
         }
