@@ -107,6 +107,7 @@ PLACES = {
         "td_feed/specs/Dumped.antt: 32, 2",
         "td_feed/specs/Noted.antt: 32, 1",
         "td_feed/specs/Shown.antt: 32, 5",
+        "td_feed/src/excerpt.rt: 32, 1",
         "td_states/specs/Lines.antt: 32, 3",
     ],
     CODE: [

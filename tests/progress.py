@@ -1,5 +1,5 @@
 #!/usr/bin/env python3
-"""Follows a stream that goes on: what `td stream --progress` writes to standard error second by second, in lines and on a terminal.
+"""Follows a stream that goes on: what `td stream --progress` and `--room` write to standard error second by second, in lines and on a terminal.
 
     tests/progress.py       needs crates/td/out/td (see the README)
 
@@ -19,7 +19,8 @@ import tty
 import lib
 
 TD = lib.built(lib.TD)
-WORDS = re.compile(r"acked (\d+) done (\d+) kept (\d+)")
+WORDS = {"--progress": re.compile(r"acked (\d+) done (\d+) kept (\d+)"),
+         "--room": re.compile(r"acked (\d+) done (\d+) kept (\d+) cells \d of 8 states \d of 3 *")}
 # Seconds in which words must be told, and in which nothing may be written where nothing came.
 SECONDS = 30
 QUIET = 2.5
@@ -37,22 +38,25 @@ def read_until(file, wanted, said):
     return said
 
 
-def follow(folder, is_terminal):
+def follow(folder, option, is_terminal):
     """All that a stream wrote to standard error."""
     ours, theirs = os.openpty() if is_terminal else os.pipe()
     if is_terminal:
         tty.setraw(theirs)
     end = "" if is_terminal else "\n"
-    stream = subprocess.Popen([TD, "stream", folder / "disk", folder / "plan", "--progress"], stdin=subprocess.PIPE,
+    rooms = ["", ""]
+    if option == "--room":
+        rooms = [f" cells {cells} of 8 states {states} of 3" + " " * 10 * is_terminal for cells, states in ((1, 0), (0, 1))]
+    stream = subprocess.Popen([TD, "stream", folder / "disk", folder / "plan", option], stdin=subprocess.PIPE,
                               stdout=subprocess.DEVNULL, stderr=theirs)
     os.close(theirs)
     try:
         stream.stdin.write(b"0 7 5\n.\n")
         stream.stdin.flush()
-        said = read_until(ours, f"acked 1 done 1 kept 0{end}", b"")
+        said = read_until(ours, f"acked 1 done 1 kept 0{rooms[0]}{end}", b"")
         stream.stdin.write(b"0 7 1\n.\ncut\n")
         stream.stdin.flush()
-        said = read_until(ours, f"acked 2 done 2 kept 2{end}", said)
+        said = read_until(ours, f"acked 2 done 2 kept 2{rooms[1]}{end}", said)
         if select.select([ours], [], [], QUIET)[0]:
             raise ValueError(f"{os.read(ours, 4096)!r} was written where nothing came")
         stream.stdin.close()
@@ -76,16 +80,16 @@ def rest_of(file):
     return said
 
 
-def check(said, is_terminal):
+def check(said, option, is_terminal):
     """Raises where it is not as it must be."""
     whole = re.fullmatch(r"(\r[^\r\n]+)+\n" if is_terminal else r"([^\r\n]+\n)+", said)
     lines = said.strip("\r\n").split("\r" if is_terminal else "\n")
-    words = [WORDS.fullmatch(line) for line in lines]
+    words = [WORDS[option].fullmatch(line) for line in lines]
     if not whole or not all(words):
         raise ValueError(f"{said!r} is not of that form")
     told = [tuple(map(int, it.groups())) for it in words]
-    for before, after in zip(told, told[1:]):
-        if before == after or any(old > new for old, new in zip(before, after)):
+    for before, after, line, next_line in zip(told, told[1:], lines, lines[1:]):
+        if line == next_line or any(old > new for old, new in zip(before, after)):
             raise ValueError(f"after {before} came {after}")
     if is_terminal and any(len(old) > len(new) for old, new in zip(lines, lines[1:])):
         raise ValueError(f"a line of {said!r} is shorter than the one before")
@@ -99,12 +103,13 @@ def short_run(folder):
 
 
 def main():
-    for name, is_terminal in ("lines", False), ("a terminal", True):
+    for name, option, is_terminal in (("lines", "--progress", False), ("a terminal", "--progress", True),
+                                      ("lines with the room", "--room", False), ("a terminal with the room", "--room", True)):
         with lib.folder() as folder:
             (folder / "plan").write_text(lib.TOTAL)
             subprocess.run([TD, "format", folder / "disk", folder / "plan", "4", "8", "3"], check=True)
             try:
-                check(follow(folder, is_terminal), is_terminal)
+                check(follow(folder, option, is_terminal), option, is_terminal)
                 least = min(short_run(folder) for _ in range(SHORT_RUNS))
             except ValueError as error:
                 print(f"{name}: WRONG: {error}")

@@ -8,5 +8,5 @@ abbrev pub IsLawfulEngine : Engine → Type 0
 IsLawfulEngine (Batch closures) = Unit {0}
 IsLawfulEngine (Run workers closures) = (1 ≤ workers) × (workers ≤ 16)
 IsLawfulEngine (Feed disk plan workers closures) = (1 ≤ workers) × (workers ≤ 16)
-IsLawfulEngine (Stream disk path plan workers limits told closures) = (1 ≤ workers) × (workers ≤ 16)
+IsLawfulEngine (Stream disk path plan workers options telling closures) = (1 ≤ workers) × (workers ≤ 16)
 IsLawfulEngine (Sim workers picks closures) = (1 ≤ workers) × (workers ≤ 16) × (0 < length picks.items)

@@ -6,15 +6,15 @@ use td_formula::Closure;
 use td_plan::Plan;
 
 /// Which engine is to answer: the plain evaluator, or a hall of so many shards; `Sim` takes tasks by these picks. `Feed` works on a disk
-/// for a plan. `Stream` does so as the input comes: on a disk at this path, with these options; and it tells standard error how far it
-/// has come, if it has that. Each has closures in text beside the catalogue's.
+/// for a plan. `Stream` does so as the input comes: on a disk at this path, with these options; and it tells how far it has come, as it
+/// is asked to. Each has closures in text beside the catalogue's.
 #[derive(Drop)]
 pub(crate) enum Engine<'a> {
     Batch(Vec<Closure>),
     Run(u8, Vec<Closure>),
     Sim(u8, Vec<u64>, Vec<Closure>),
     Feed(ReadAhead<FileDisk>, Plan, u8, Vec<Closure>),
-    Stream(ReadAhead<FileDisk>, &'a str, Plan, u8, StreamOptions, Option<Stderr>, Vec<Closure>),
+    Stream(ReadAhead<FileDisk>, &'a str, Plan, u8, StreamOptions, Telling<'a>, Vec<Closure>),
 }
 
 /// After how many epochs a stream cuts, how many tasks each of its epochs may take, whether it marks them, whether it refuses those with
@@ -26,4 +26,25 @@ pub(crate) struct StreamOptions {
     pub marks: bool,
     pub refuse: bool,
     pub hold: bool,
+}
+
+/// What is told of a stream: lines on standard error of how far it has come, and of its room too; and a status file.
+#[derive(Clone, Copy)]
+pub(crate) struct Telling<'a> {
+    pub stderr: Stderr,
+    pub progress: bool,
+    pub room: bool,
+    pub status: Option<&'a str>,
+}
+
+impl<'a> Telling<'a> {
+    /// Whether anything is told.
+    pub(crate) fn is_any(&self) -> bool {
+        self.progress || self.has_room()
+    }
+
+    /// Whether it is told what room the disk has.
+    pub(crate) fn has_room(&self) -> bool {
+        self.room || self.status.is_some()
+    }
 }

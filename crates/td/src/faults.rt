@@ -6,7 +6,7 @@ pub(crate) const FAULTS: &str = r#"# Faults: what `td` says, an input that bring
 
 A fault is one line on standard error: `td: ` and a text. Nothing is written to standard output. But `td feed` and
 `td stream` leave standing what they wrote before the fault, and an epoch of which they wrote `ack` stays on the disk.
-With `--progress` a stream's other lines stand before the fault.
+With `--progress` or `--room` a stream's other lines stand before the fault.
 
 The status is 1, of the program's words 2. `td stream`, `dump`, `copy`, `states`, `load` and `plan` have more. 3 is `device`, 4 wants an
 operator, 5 is a line or a closure, 6 a standard stream, 7 `file`, 8 `too much work`.
@@ -200,14 +200,13 @@ A second `--` line. A carriage return, a tab or a byte that is not ASCII, as in 
     $ printf '0 input\n1 output 0\n--\n0 1 5\r\n.\r\n' | td batch
     td: line 4: syntax
 
-**`line L: no such input`**: the first number of a record's line is the number of an input of the plan, and not of
-another vertex.
+**`line L: no such input`**: the first number of a record's line is that of an input of the plan, not of another vertex.
 
     $ printf '0 input\n1 output 0\n--\n1 7 1\n.\n' | td batch
     td: line 4: no such input
 
-**`line L: epoch not closed`**: there are records after the last `.`, or there is none. L is the line after the last
-one, where the `.` is to stand.
+**`line L: epoch not closed`**: there are records after the last `.`, or there is none. L is the line after the last,
+where the `.` is to stand.
 
     $ printf '0 input\n1 output 0\n--\n0 7 1\n' | td batch
     td: line 5: epoch not closed
@@ -224,9 +223,9 @@ From here on the commands use this plan, a running total:
 
     $ printf '0 input\n1 fold 40 0\n2 output 1\n' > total.plan
 
-**`file`**: PLAN cannot be opened and read, or DISK cannot be made or opened. It is not there, or is a folder, a device or
-a pipe. It may not be read or written. Its folder is not there. Another `td` has it open. Its file system has no
-locks. PLAN comes first.
+**`file`**: PLAN cannot be opened and read, or DISK cannot be made or opened. It or its folder is not there. It is a
+folder, a device or a pipe, or may not be read or written. Another `td` has it open. Its file system has no locks. PLAN
+comes first.
 
     $ td show total.disk no.plan
     td: file
@@ -345,7 +344,7 @@ An epoch that begins so ends with a `.` too, and no `cut` stands in it:
 
 **`old version`**: an epoch has a request number, and the disk is of version 1 of its format, which has none. What
 stands before it in the input was fed. `td upgrade` raises the disk to version 2 and leaves all on it as it is. Then
-feed again. Here a disk is made one of version 1 by hand:
+feed again. Here a disk of version 1 is made by hand:
 
     $ td format total.disk total.plan 4 2 3; printf '\001' | dd of=total.disk bs=1 seek=7 conv=notrunc 2> dd.txt
     $ printf 'req 5\n0 7 5\n.\n' | td feed total.disk total.plan
@@ -369,8 +368,8 @@ be fed without request numbers:
 
 **`journal full`**: the disk has room for the N epochs after a cut, and they stand there. Cut: feed a line `cut`, and
 then the epochs that have no `ack`. An epoch whose request number is on the disk already needs no room. `td stream` cuts
-by itself where the journal is full. `td copy` makes a disk with a larger N, and says so where the N that it is given is
-too small.
+by itself where the journal is full, with `--hold` up to the last `seen`. `td copy` makes a disk with a larger N, and
+says so where the given N is too small.
 
     $ td format total.disk total.plan 4 2 3; printf '.\n.\n.\n' | td feed total.disk total.plan
     ack 1
@@ -443,9 +442,9 @@ its records in each turn.
     td: too much work: epoch 1
     status 8
 
-An epoch is acknowledged before it is computed. So it stands on the disk, and nothing is lost. A later start allows R
-for each epoch since the last cut: it ends in the same way, or gets through. Where the work is wanted, start with a
-greater R, or without `--most`. Else go on without that epoch:
+An epoch is acknowledged before it is computed: it stands on the disk, and nothing is lost. A later start allows R for
+each epoch since the last cut: it ends alike, or gets through. Where the work is wanted, start with a greater R, or
+without `--most`. Else go on without that epoch:
 
 1. Look at it by `td dump`, and keep what was dumped. Where several epochs were read at once it may be one after that in
    the text.
@@ -485,10 +484,9 @@ In this order:
    file is good. Go to step 6.
    - `read`, and `the file has become shorter`: something cut the file off. Look for what did it, and put a copy back.
    Go to step 6.
-   - Anything else, and whatever the cause of a `sync`: go on with step 4. So it is with a line without a call, as of
-   `format`, `feed`, `show` and `upgrade`.
-4. **Mend or replace the device.** Look at what the system says of the device (`dmesg`). Where it is replaced copy the
-   file to the new one by `cp`, and DISK.closures, where it is there. Then run `sync`, and go on with that copy.
+   - Anything else, any cause of a `sync`, or no call, as of `format`, `feed`, `show` and `upgrade`: go on with step 4.
+4. **Mend or replace the device.** Look at what `dmesg` says of it. Where it is replaced copy the file to the new one by
+   `cp`, and DISK.closures, where it is there. Then run `sync`, and go on with that copy.
 5. **Start the machine again**, or take the file system off and put it on again. After a sync that failed, an operating
    system may keep in its memory what the device never got. It then answers reads, and later syncs, from there. A loss
    of power would take away what `td` would find and acknowledge. (Or copy the file past that memory, as by
@@ -518,8 +516,7 @@ An epoch may also grow to more than the memory holds, by a loop that multiplies 
 it is computed. So each later start ends as `memory` again, or does not end. Start the stream with `--most R`, and go on
 as for `too much work`.
 
-**`spent`**: `td run`, `sim`, `feed` and `stream` number their tasks, and 2^63 of them were taken. No machine comes so
-far.
+**`spent`**: `td run`, `sim`, `feed` and `stream` number their tasks, and 2^63 were taken. No machine comes so far.
 
 ### output
 

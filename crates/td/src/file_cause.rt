@@ -109,3 +109,13 @@ fn make_cause(kind: ErrorKind) -> &'static str {
         _ => "cannot be made",
     }
 }
+
+/// Why a file that may be there cannot be written.
+pub(crate) fn write_cause(kind: ErrorKind) -> &'static str {
+    match kind {
+        ErrorKind::IsADirectory => "a folder",
+        ErrorKind::OutOfMemory => "memory",
+        ErrorKind::StorageFull => "no space left on device",
+        kind => make_cause(kind),
+    }
+}

@@ -14,19 +14,22 @@ mod engine;
 mod faults;
 mod file_cause;
 mod language;
+mod meter;
 mod plan;
 mod progress;
 mod reading;
 mod refusal;
+mod room;
 mod shelves;
 mod states;
+mod status;
 mod streams;
 mod waiting;
 
 use crate::closures::closures_at;
 use crate::disk::{copy_disk, format_disk, open_disk, open_disk_or_tell, upgrade_disk};
 use crate::disk_closures::closures_of_disk;
-use crate::engine::{Engine, StreamOptions};
+use crate::engine::{Engine, StreamOptions, Telling};
 use crate::faults::FAULTS;
 use crate::language::LANGUAGE;
 use crate::plan::print_plan;
@@ -35,6 +38,7 @@ use crate::reading::{dump_disk, dump_live, show_disk, show_live};
 use crate::refusal::Refusal;
 use crate::shelves::both_shelves;
 use crate::states::{load_disk, states_of_disk};
+use crate::status::Places;
 use crate::streams::Awaited;
 use std::fs::File;
 use std::process::ExitCode;
@@ -84,10 +88,11 @@ fn tells_who(job: &Job<'_>) -> bool {
     )
 }
 
-/// Does what is asked for. A disk that another process has locked is waited for, `wait` seconds at most. How far a stream has come is told to `stderr`, if that is asked for. Whether that is a terminal is
-/// asked of `Stderr`, since no bound of a runtime says it.
+/// Does what is asked for. A disk that another process has locked is waited for, `wait` seconds at most. How far a stream has come is
+/// told to `stderr`, if that is asked for. Whether that is a terminal is asked of `Stderr`, since no bound of a runtime says it.
 fn done<
     R: Files<File = File>
+        + Places
         + Input
         + Print
         + Eprint
@@ -146,10 +151,17 @@ fn done<
             marks,
             refuse,
             hold,
+            room,
+            status,
         } => {
             let (disk, plan) = open_disk_or_tell(rt, path, plan, wait)?;
             let closures = closures_of_disk(rt, path)?;
-            let told = progress.then_some(stderr);
+            let telling = Telling {
+                stderr,
+                progress,
+                room,
+                status,
+            };
             let options = StreamOptions {
                 cut_every,
                 most,
@@ -159,7 +171,7 @@ fn done<
             };
             run_engine(
                 rt,
-                Engine::Stream(disk, path, plan, workers, options, told, closures),
+                Engine::Stream(disk, path, plan, workers, options, telling, closures),
             )
         }
         Job::Show { disk, plan, live } => {
@@ -268,10 +280,19 @@ fn ended<R: Eprint + AllocGlobal>(
 }
 
 /// Answers standard input with the closures of the catalogue, of both shelves, and what closures in text the engine has.
-fn run_engine<R: Input + Print + AllocGlobal + Threads + Wait + Sync + Send + Copy + 'static>(
-    rt: &R,
-    engine: Engine<'_>,
-) -> Result<(), Refusal>
+fn run_engine<
+    R: Files<File = File>
+        + Places
+        + Input
+        + Print
+        + AllocGlobal
+        + Threads
+        + Wait
+        + Sync
+        + Send
+        + Copy
+        + 'static,
+>(rt: &R, engine: Engine<'_>) -> Result<(), Refusal>
     requires lawful { IsLawfulEngine engine }
 {
     let mut reader = StdReader(Awaited::new(rt, rt.reader()));
@@ -315,7 +336,7 @@ fn run_engine<R: Input + Print + AllocGlobal + Threads + Wait + Sync + Send + Co
             );
             Ok(fed?)
         }
-        Engine::Stream(disk, path, plan, workers, options, told, closures) => {
+        Engine::Stream(disk, path, plan, workers, options, telling, closures) => {
             if options.marks {
                 let mut writer = Marked(writer);
                 stream_told(
@@ -327,7 +348,7 @@ fn run_engine<R: Input + Print + AllocGlobal + Threads + Wait + Sync + Send + Co
                     options,
                     reader,
                     &mut writer,
-                    told,
+                    telling,
                     closures,
                 )
             } else {
@@ -340,7 +361,7 @@ fn run_engine<R: Input + Print + AllocGlobal + Threads + Wait + Sync + Send + Co
                     options,
                     reader,
                     &mut writer,
-                    told,
+                    telling,
                     closures,
                 )
             }

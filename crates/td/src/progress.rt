@@ -1,15 +1,20 @@
 //! A stream, and beside it, where that is asked for, a thread that tells how far it has come.
 //!
 //! The thread writes on change, so each line of a log says something new and the last one is how the stream ended. It is not
-//! joined: to know that a write would wait takes `poll`. It takes no memory, so nothing that it does can be refused. On a
-//! terminal that also has the output, the lines run into one another.
+//! joined: to know that a write would wait takes `poll`. Its lines take no memory, so none of them can be refused. On a
+//! terminal that also has the output, the lines run into one another. A status file is written each second.
 ghost use Rattle.std.specs.Prelude.{◌≡◌, ◌≤◌, [], ◌∷◌, IfOk, IfSome};
 
-use crate::engine::StreamOptions;
+use crate::disk::hold_streams;
+use crate::engine::{StreamOptions, Telling};
+use crate::meter::{Gauge, Metered, Noticed};
 use crate::refusal::Refusal;
-use std::alloc::Global;
+use crate::room::{Room, Warned};
+use crate::status::{Places, StatusFile};
+use std::alloc::{AllocError, Global};
+use std::fs::File;
 use std::io::IsTerminal;
-use std::rt::Stderr;
+use std::rt::{Files, Stderr};
 use std::sync::atomic::{AtomicBool, Ordering};
 use std::sync::{Arc, Wait};
 use std::thread;
@@ -20,6 +25,7 @@ use td_console::{Fault, Source};
 use td_disk::{FileDisk, ReadAhead};
 use td_feed::Voice;
 use td_formula::Closure;
+use td_head::Shape;
 use td_plan::Plan;
 use td_standing::KeeperError;
 use td_watch::{Reader, Watch, Writer};
@@ -62,12 +68,22 @@ struct Ending {
     of_telling: Moment,
 }
 
-/// Does what `stream` does, and meanwhile tells `told`, if that is given, how far it has come. Refusals: those of `stream`, of a
+impl Ending {
+    /// Neither has come.
+    fn new() -> Ending {
+        Ending {
+            of_stream: Moment::new(),
+            of_telling: Moment::new(),
+        }
+    }
+}
+
+/// Does what `stream` does, and meanwhile tells how far it has come, where that is asked for. Refusals: those of `stream`, of a
 /// disk in the file at `path`, with place and cause; and `Memory`, before it is called, where there is no room for a watch or no thread.
 pub(crate) fn stream_told<
     I: Source + Drop,
     W: Voice,
-    R: Threads + Wait + AllocGlobal + Sync + Send + Copy + 'static,
+    R: Files<File = File> + Places + Threads + Wait + AllocGlobal + Sync + Send + Copy + 'static,
 >(
     rt: &R,
     disk: ReadAhead<FileDisk>,
@@ -77,21 +93,21 @@ pub(crate) fn stream_told<
     options: StreamOptions,
     reader: I,
     writer: &mut W,
-    told: Option<Stderr>,
+    telling: Telling<'_>,
     closures: Vec<Closure>,
 ) -> Result<(), Refusal>
     requires some { 1 ≤ workers }
     requires most { workers ≤ 16 }
 {
-    let ending = Arc::new(
-        rt.alloc(),
-        Ending {
-            of_stream: Moment::new(),
-            of_telling: Moment::new(),
-        },
-    )?;
-    let watch = followed(rt, told, &ending)?;
-    let (mut disk, ended) = stream::<_, _, _, Catalogue, Shelves, _>(
+    let mut disk = disk;
+    let shape = shape_told(rt.alloc(), &mut disk, plan, telling);
+    let held = held_for(rt, telling)?;
+    let ending = Arc::new(rt.alloc(), Ending::new())?;
+    let gauge = Arc::new(rt.alloc(), Gauge::new())?;
+    let watch = followed(rt, telling, path, shape, &gauge, &ending)?;
+    let disk = Metered::new(disk, Arc::try_clone(&gauge)?, shape);
+    let reader = Noticed::new(reader, gauge);
+    let (disk, ended) = stream::<_, _, _, Catalogue, Shelves, _>(
         rt,
         rt.alloc(),
         disk,
@@ -110,37 +126,81 @@ pub(crate) fn stream_told<
         closures,
     );
     ending.of_stream.tell();
-    if told.is_some() {
+    if telling.is_any() {
         // A thread that is still told nothing then waits for a pipe that nobody reads, and is left behind.
         let _ = ending.of_telling.wait(rt);
     }
+    drop(held);
+    ended_as(rt.alloc(), disk, path, plan, options, ended)
+}
+
+/// How a stream ended: as its fault, with the place and the cause on the disk in the file at `path`.
+fn ended_as(
+    alloc: Global,
+    disk: Metered<ReadAhead<FileDisk>>,
+    path: &str,
+    plan: &Plan,
+    options: StreamOptions,
+    ended: Result<(), Fault>,
+) -> Result<(), Refusal> {
     match ended {
         Ok(()) => Ok(()),
         Err(Fault::Keeper(KeeperError::NotPassed(epoch))) if options.most.is_some() => {
             Err(Refusal::TooMuchWork(epoch))
         }
         Err(fault) => {
-            let failure = disk.inner().last_failure();
+            let mut disk = disk;
+            let failure = disk.inner().inner().last_failure();
             Err(
                 Refusal::Plain(fault)
-                    .on_disk(rt.alloc(), path, failure)
-                    .for_room(rt.alloc(), &mut disk, plan),
+                    .on_disk(alloc, path, failure)
+                    .for_room(alloc, &mut disk, plan),
             )
         }
     }
 }
 
-/// The writer of a watch that a thread follows until an ending has come; none where it is told nowhere. Refusal: `Memory`.
-fn followed<R: Threads + Wait + AllocGlobal + Sync + Send + Copy + 'static>(
+/// What a disk has room for, where that is told; None where the disk is refused, which the stream then says.
+fn shape_told(
+    alloc: Global,
+    disk: &mut ReadAhead<FileDisk>,
+    plan: &Plan,
+    telling: Telling<'_>,
+) -> Option<Shape> {
+    if !telling.has_room() {
+        return None;
+    }
+    match td_head::read(alloc, disk, plan) {
+        Ok(head) => Some(head.shape),
+        Err(_) => None,
+    }
+}
+
+/// Takes the numbers of the standard streams, where one is closed: a status file is opened again and again.
+fn held_for<R: Files<File = File>>(
     rt: &R,
-    told: Option<Stderr>,
+    telling: Telling<'_>,
+) -> Result<Option<[File; 3]>, Fault> {
+    match telling.status {
+        Some(_) => hold_streams(rt),
+        None => Ok(None),
+    }
+}
+
+/// The writer of a watch that a thread follows until an ending has come; none where nothing is told. Refusal: `Memory`.
+fn followed<R: Places + Threads + Wait + AllocGlobal + Sync + Send + Copy + 'static>(
+    rt: &R,
+    telling: Telling<'_>,
+    path: &str,
+    shape: Option<Shape>,
+    gauge: &Arc<Gauge, Global>,
     ending: &Arc<Ending, Global>,
 ) -> Result<Option<Writer>, Fault>
     ensures { IfOk result (λ watch. IfSome watch (λ w. w.words ≡ 0 ∷ 0 ∷ 0 ∷ [])) }
 {
-    let Some(stderr) = told else {
+    if !telling.is_any() {
         return Ok(None);
-    };
+    }
     let Ok(
         Watch {
             writer,
@@ -153,47 +213,157 @@ fn followed<R: Threads + Wait + AllocGlobal + Sync + Send + Copy + 'static>(
     let Some(reader) = readers.pop() else {
         unreachable!()
     };
+    let gauge = Arc::try_clone(gauge)?;
+    let follower = Follower::new(rt.alloc(), telling, path, shape, gauge)?;
     let ending = Arc::try_clone(ending)?;
     let here = *rt;
-    match thread::spawn(rt, move || follow(&here, stderr, reader, &ending)) {
+    match thread::spawn(rt, move || follow(&here, follower, reader, &ending)) {
         Ok(_) => Ok(Some(writer)),
         Err(_) => Err(Fault::Memory),
     }
 }
 
-/// Writes how far a watch has come: each second in which a word rose; and at the end, if one rose since, or nothing was written. A write
-/// that fails is passed over. Where one waits, since nobody reads a pipe that is full, the thread is left behind at the end.
-fn follow<R: Wait>(rt: &R, stderr: Stderr, mut reader: Reader, ending: &Ending) {
-    let is_terminal = stderr.is_terminal();
-    let mut written: Option<[u64; 3]> = None;
+/// Tells how far a watch has come, each second and at the end. A write to standard error that fails is passed over. Where one waits, since
+/// nobody reads a pipe that is full, the thread is left behind at the end.
+fn follow<R: Places + Wait>(rt: &R, follower: Follower, mut reader: Reader, ending: &Ending) {
+    let mut follower = follower;
     for _ in rt.forever() {
         // Asked before the words are read: at the end these are the last.
         let is_last = ending.of_stream.wait(rt);
-        let words = reader.read();
-        let is_new = match written {
-            Some(before) => words != before,
-            None => is_last || words != [0; 3],
-        };
-        if is_new {
-            write_words(stderr, is_terminal, words);
-            written = Some(words);
-        }
+        follower.tell(rt, &mut reader, is_last);
         if is_last {
             break;
         }
     }
-    if is_terminal {
-        let _ = stderr.eprint("\n");
-    }
+    follower.end_line();
     ending.of_telling.tell();
 }
 
-/// Writes words as a line; on a terminal over the line before, which is never longer, since no word falls.
-fn write_words(stderr: Stderr, is_terminal: bool, words: [u64; 3]) {
-    let [acked, done, kept] = words;
-    let _ = if is_terminal {
-        eprint!(stderr; "\racked {acked} done {done} kept {kept}")
-    } else {
-        eprintln!(stderr; "acked {acked} done {done} kept {kept}")
-    };
+/// What a line says: how far a stream has come, and what room its disk has, where that is asked for and known.
+#[derive(Clone, Copy, Debug, PartialEq, Eq)]
+struct Line {
+    acked: u64,
+    done: u64,
+    kept: u64,
+    room: Option<Room>,
+}
+
+/// What tells how far a stream has come, beside its watch.
+#[derive(Drop)]
+struct Follower {
+    stderr: Stderr,
+    is_terminal: bool,
+    has_lines: bool,
+    has_room: bool,
+    shape: Option<Shape>,
+    gauge: Arc<Gauge, Global>,
+    status: Option<StatusFile>,
+    written: Option<Line>,
+    warned: Warned,
+}
+
+impl Follower {
+    /// Nothing was told yet.
+    fn new(
+        alloc: Global,
+        telling: Telling<'_>,
+        disk: &str,
+        shape: Option<Shape>,
+        gauge: Arc<Gauge, Global>,
+    ) -> Result<Follower, AllocError> {
+        let status = match telling.status {
+            Some(path) => Some(StatusFile::new(alloc, path, disk)?),
+            None => None,
+        };
+        Ok(Follower {
+            stderr: telling.stderr,
+            is_terminal: telling.stderr.is_terminal(),
+            has_lines: telling.progress || telling.room,
+            has_room: telling.room,
+            shape,
+            gauge,
+            status,
+            written: None,
+            warned: Warned::new(),
+        })
+    }
+
+    /// Tells how far a watch has come, where that is new, and writes the status file. What room there is, is known once the disk is recovered.
+    fn tell<R: Places>(&mut self, rt: &R, reader: &mut Reader, is_last: bool) {
+        // Asked before the words are read: where the disk is recovered, these are its own. What is counted is never behind them.
+        let shape = if self.gauge.is_read() {
+            self.shape
+        } else {
+            None
+        };
+        let [acked, done, kept] = reader.read();
+        let counts = self.gauge.counts();
+        let mut line = Line {
+            acked,
+            done,
+            kept,
+            room: None,
+        };
+        let Some(shape) = shape else {
+            self.write_line(line, is_last);
+            return;
+        };
+        let room = Room::of(shape, acked.saturating_sub(kept), counts.states);
+        if self.has_room {
+            line.room = Some(room);
+        }
+        self.write_line(line, is_last);
+        let (stderr, before) = (self.stderr, self.before_a_line());
+        self.warned.warn(stderr, room, before);
+        if let Some(file) = &mut self.status {
+            let status = file.status(acked, done, kept, room, counts, is_last);
+            file.write(rt, stderr, status, before);
+        }
+    }
+
+    /// Writes a line, where lines are asked for: each second in which it is another one; and at the end, if it is another one, or none was
+    /// written. On a terminal it is written over the line before, which is no longer, or has blanks at its end.
+    fn write_line(&mut self, line: Line, is_last: bool) {
+        let Line {
+            acked,
+            done,
+            kept,
+            room,
+        } = line;
+        let is_new = match self.written {
+            Some(before) => line != before,
+            None => is_last || acked > 0 || done > 0 || kept > 0,
+        };
+        if !self.has_lines || !is_new {
+            return;
+        }
+        let stderr = self.stderr;
+        let _ = match (self.is_terminal, room) {
+            (true, None) => eprint!(stderr; "\racked {acked} done {done} kept {kept}"),
+            (true, Some(room)) => {
+                eprint!(stderr; "\racked {acked} done {done} kept {kept} {room}          ")
+            }
+            (false, None) => eprintln!(stderr; "acked {acked} done {done} kept {kept}"),
+            (false, Some(room)) => eprintln!(stderr;
+                "acked {acked} done {done} kept {kept} {room}"
+            ),
+        };
+        self.written = Some(line);
+    }
+
+    /// What a line begins with that is no such line: a terminal's line is ended.
+    fn before_a_line(&self) -> &'static str {
+        if self.is_terminal && self.written.is_some() {
+            "\n"
+        } else {
+            ""
+        }
+    }
+
+    /// Ends the line of a terminal.
+    fn end_line(&self) {
+        if self.is_terminal && self.has_lines {
+            let _ = self.stderr.eprint("\n");
+        }
+    }
 }

@@ -93,6 +93,11 @@ const PROGRESS: &str = "Write how far it has come to standard error, each second
 
 const MARKS: &str = "Write 'done EPOCH' after the output lines of each epoch";
 
+const ROOM: &str = "Do what --progress does, and write how much room is used";
+
+const STATUS: &str =
+    "A file that is written anew each second, with numbers as Prometheus reads them";
+
 const REFUSE: &str =
     "Refuse an epoch with a fault, and go on: write 'no REQUEST LINE: WHAT' at its '.'";
 
@@ -234,7 +239,10 @@ Writes: DISK, and, of all epochs that are closed and before it waits for more li
         with --marks, 'done EPOCH' after the output lines of an epoch, also where it has none;
         with --refuse, 'no REQUEST LINE: WHAT' for an epoch with a fault, and '-' where it has no request number;
         with --hold, no cut beyond the last EPOCH of a line 'seen EPOCH', and 'full EPOCH' where DISK is full up to EPOCH;
-        with --progress, to standard error, 'acked EPOCH done EPOCH kept EPOCH': the last epoch on DISK, computed, and cut
+        with --progress, to standard error, 'acked EPOCH done EPOCH kept EPOCH': the last epoch on DISK, computed, and cut;
+        with --room behind that 'cells COUNT of N states COUNT of K': the epochs after the cut, and its states;
+        with --room or --status, once, 'td: little room: cells COUNT of N', or states, where four fifths are used;
+        with --status FILE, FILE: what is there is written over only where it is such a file
 A cut keeps the states on DISK, and frees the room of the epochs up to it
 Common faults:
         'line 9: syntax': no record, or a 'cut' inside an epoch; what stands before it was fed
@@ -436,7 +444,9 @@ fn stream_leaf<'a>(alloc: Global) -> Result<Command<'a>, AllocError>
     let leaf = with_arg(leaf, flag_arg(alloc, "progress", PROGRESS))?;
     let leaf = with_arg(leaf, flag_arg(alloc, "marks", MARKS))?;
     let leaf = with_arg(leaf, flag_arg(alloc, "refuse", REFUSE))?;
-    with_arg(leaf, flag_arg(alloc, "hold", HOLD))
+    let leaf = with_arg(leaf, flag_arg(alloc, "hold", HOLD))?;
+    let leaf = with_arg(leaf, flag_arg(alloc, "room", ROOM))?;
+    with_arg(leaf, file_arg(alloc, "status", STATUS))
 }
 
 /// `plan`.

@@ -83,7 +83,8 @@ pub enum Job<'a> {
     /// To feed the epochs of standard input to the disk `disk` as they come, by a hall of so many shards, with a cut after each
     /// `cut_every` epochs, if there is such a number; to stop where an epoch takes more than `most` deliveries, if there is such
     /// a number; to tell how far it has come, if `progress`; to mark the end of each epoch, if `marks`; to refuse an epoch with a fault
-    /// and go on, if `refuse`; and to hold the outputs until they were seen, if `hold`, which stands only with `marks`.
+    /// and go on, if `refuse`; to hold the outputs until they were seen, if `hold`, which stands only with `marks`; to tell its room too, if
+    /// `room`; and to write that to the file `status` each second, if there is one.
     Stream {
         disk: &'a str,
         plan: &'a str,
@@ -94,6 +95,8 @@ pub enum Job<'a> {
         marks: bool,
         refuse: bool,
         hold: bool,
+        room: bool,
+        status: Option<&'a str>,
     },
     /// To write the lines of the plan in the file `plan` with what its closures are in words, or a picture of it, if `dot`.
     Plan {

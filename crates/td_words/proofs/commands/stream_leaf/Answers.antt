@@ -12,4 +12,7 @@ returns-clause-app c =
     let grown_5 = c.in_ok-leaf-5.ensures.shape ∙ ap₂ with_rule grown_4 c.option_arg-2.ensures.rule in
     let grown_6 = c.in_ok-leaf-6.ensures.shape ∙ ap₂ with_rule grown_5 c.flag_arg.ensures.rule in
     let grown_7 = c.in_ok-leaf-7.ensures.shape ∙ ap₂ with_rule grown_6 c.flag_arg-2.ensures.rule in
-    IfOk-weaker c.with_arg-8.result _ _ (λ m h. h ∙ ap₂ with_rule grown_7 c.flag_arg-3.ensures.rule) c.with_arg-8.ensures.shape
+    let grown_8 = c.in_ok-leaf-8.ensures.shape ∙ ap₂ with_rule grown_7 c.flag_arg-3.ensures.rule in
+    let grown_9 = c.in_ok-leaf-9.ensures.shape ∙ ap₂ with_rule grown_8 c.flag_arg-4.ensures.rule in
+    let grown_10 = c.in_ok-leaf-10.ensures.shape ∙ ap₂ with_rule grown_9 c.flag_arg-5.ensures.rule in
+    IfOk-weaker c.with_arg-11.result _ _ (λ m h. h ∙ ap₂ with_rule grown_10 c.file_arg.ensures.rule) c.with_arg-11.ensures.shape
