@@ -1,5 +1,5 @@
 -- A reading, piece by piece.
-use Rattle.std.proofs.Common.{◌≡◌, ◌⊎◌, inl, inr, ℕ, suc, ◌+◌, ◌≤◌, Bool, true, false, List, [], ◌++◌, length, take, drop, refl, sym, ◌∙◌, ap, ap₂, subst, arith, Ok, Result}
+use Rattle.std.proofs.Common.{◌≡◌, ◌⊎◌, inl, inr, ℕ, suc, ◌+◌, ◌≤◌, Bool, true, false, List, ◌++◌, length, take, drop, sym, ◌∙◌, ap, ap₂, subst, arith, Ok, Result}
 use Rattle.std.specs.Prelude.{⊤}
 use Rattle.std.proofs.lemmas.List.{take-append-drop, take-take, drop-take, drop-drop, drop_at, length-take-le}
 use borrow.Rule.Slice.PartMut.{put_mid}
@@ -15,9 +15,6 @@ with_piece at n xs =
     ∙ ap₂ (λ (a b : List ℕ). a ++ b) (take-take at (at + n) xs (omega arith)) (drop-take at n xs)
 
 module _ {D : Type 0} (gives : D → ℕ → List ℕ → Result ⊤ Fault → D → Type 0) where
-  pub none_read : (d : D) → IsReading gives [] d d
-  none_read d = (0, (refl, refl))
-
   pub more_read : (front last bytes : List ℕ) (at : ℕ) (old mid new : D) → length front ≡ at → bytes ≡ front ++ last
       → IsReading gives front old mid → gives mid at last (Ok tt) new → IsReading gives bytes old new
   more_read front last bytes at old mid new size is reading gave =

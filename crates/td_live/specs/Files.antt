@@ -1,10 +1,9 @@
 -- What a file that is only read keeps to beyond what every disk does: it takes no write, and a sync that failed is final.
-use Rattle.std.specs.Prelude.{◌≡◌, ◌↔◌, ◌⊎◌, ◌-◌, ◌^◌, ◌<◌, true, false, ℕ, Bool, Option, Result, IsErr, ⊤}
+use Rattle.std.specs.Prelude.{◌≡◌, ◌↔◌, ◌⊎◌, ◌-◌, ◌^◌, ◌<◌, true, false, Bool, Option, Result, IsErr, ⊤}
 use Rattle.std.specs.declared.io.ErrorKind.{ErrorKind}
 use Rattle.std.specs.declared.io.ErrorKind.TheVariants.{InvalidInput, ReadOnlyFilesystem}
 use Rattle.td_disk.specs.FileDisk.{IsOf}
 use Rattle.td_disk.specs.declared.error.Fault.{Fault}
-use Rattle.td_disk.specs.declared.file_failure.FileCall.{FileCall}
 use Rattle.td_disk.specs.declared.file_failure.FileCall.TheVariants.{Read, Sync}
 use Rattle.td_disk.specs.declared.file_failure.FileFailure.{FileFailure}
 use Rattle.td_live.specs.declared.file.ReadOnlyFile.{ReadOnlyFile}

@@ -1,4 +1,4 @@
-use Rattle.std.proofs.Common.{◌≡◌, inl, inr, ℕ, ◌+◌, ◌-◌, ◌≤◌, true, false, List, length, take, drop, sym, ◌∙◌, ap, arith, rules}
+use Rattle.std.proofs.Common.{◌≡◌, inl, inr, ℕ, ◌+◌, ◌-◌, ◌≤◌, List, length, take, drop, ◌∙◌, ap, arith, rules}
 use Rattle.std.proofs.lemmas.List.{places, length-take-le}
 use Rattle.td_live.proofs.Pieces.{more_read, front, rest, lawful, same, other_piece, other_front, OneMore, same_more, other_more}
 use Rattle.td_live.proofs.taking.read_over.Goals.{then-not-branch, else-not-branch}

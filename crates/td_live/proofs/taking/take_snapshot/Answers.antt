@@ -1,4 +1,4 @@
-use Rattle.std.proofs.Common.{◌≡◌, ℕ, List, length, sym, ◌∙◌, subst, arith, rules}
+use Rattle.std.proofs.Common.{ℕ, List, sym, ◌∙◌, subst, arith, rules}
 use Rattle.td_live.specs.Readings.{LastReadings}
 use Rattle.td_live.proofs.Counted.{counts_ok, counts_busy, counts_device, rewritten}
 use Rattle.td_live.proofs.taking.take_snapshot.Goals as goal
