@@ -190,7 +190,10 @@ fn cause_in(fault: LineFault, line: &[u8]) -> Cause
 {
     match fault {
         LineFault::Syntax => cause_of(line),
-        LineFault::NoSuchInput | LineFault::NotClosed => Cause::Line(fault),
+        LineFault::NoSuchInput
+        | LineFault::NotClosed
+        | LineFault::NotOut
+        | LineFault::SeenBefore => Cause::Line(fault),
     }
 }
 
