@@ -190,10 +190,8 @@ fn cause_in(fault: LineFault, line: &[u8]) -> Cause
 {
     match fault {
         LineFault::Syntax => cause_of(line),
-        LineFault::NoSuchInput
-        | LineFault::NotClosed
-        | LineFault::NotOut
-        | LineFault::SeenBefore => Cause::Line(fault),
+        LineFault::NoSuchInput | LineFault::NotClosed | LineFault::NotOut | LineFault::SeenBefore =>
+            Cause::Line(fault),
     }
 }
 
