@@ -27,7 +27,7 @@ SECOND = 1000
 
 Row = collections.namedtuple("Row", "kind first last answer")
 STRING = r'"(?:[^"\\]|\\.)*"'
-ROW = re.compile(rf"Row {{\s*first: (\d+),\s*last: (\d+),\s*form: Form::\w+,\s*front: {STRING},\s*back: {STRING},\s*answer: ({STRING}),\s*}},")
+ROW = re.compile(rf"\(\s*(\d+),\s*(\d+),\s*Form::\w+,\s*{STRING},\s*{STRING},\s*({STRING}),?\s*\),")
 
 
 def rows_of(kind, source):

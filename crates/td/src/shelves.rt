@@ -48,9 +48,9 @@ fn push_rows(
     is_second: bool,
 ) -> Result<(), Refusal> {
     for row in rows {
-        if (SECOND <= row.first) == is_second {
+        if (SECOND <= row.0) == is_second {
             let codes = codes_of(alloc, kind, row)?;
-            push_answer(alloc, text, codes.as_str(), row.answer)?;
+            push_answer(alloc, text, codes.as_str(), row.5)?;
         }
     }
     Ok(())
@@ -58,8 +58,8 @@ fn push_rows(
 
 /// The kind of a row and its codes.
 fn codes_of(alloc: Global, kind: &str, row: &Row) -> Result<String, Refusal> {
-    let first = row.first;
-    let most = row.last.saturating_sub(first);
+    let first = row.0;
+    let most = row.1.saturating_sub(first);
     if most == 0 {
         Ok(format!(in alloc; "{kind} {first}")?)
     } else {

@@ -5,7 +5,6 @@ use Rattle.td_plan.specs.declared.vertex.Kind.{Kind}
 use Rattle.td_plan.specs.declared.vertex.Kind.TheVariants.{Map, Group, Fold}
 use Rattle.td_picture.specs.declared.table.Form.{Form}
 use Rattle.td_picture.specs.declared.table.Form.TheVariants.{Plain, Number, Divisor, Count, Eight}
-use Rattle.td_picture.specs.declared.table.Row.{Row as TableRow}
 use Rattle.td_picture.specs.declared.table.TheConstants.{MAPS, GROUPS, FOLDS}
 
 abbrev pub Text : Type 0
@@ -35,18 +34,15 @@ words_in Eight front back p = eight_from front p
 abbrev pub Row : Type 0
 Row = ℕ × ℕ × Form × Text × Text
 
-abbrev pub row_in : TableRow → Row
-row_in r = (r.first, r.last, r.form, r.front.now, r.back.now)
-
 -- the rows of maps, of groups and of folds
 abbrev pub map_rows : List Row
-map_rows = map row_in MAPS
+map_rows = map (λ r. (r.0, r.1, r.2, r.3.now, r.4.now)) MAPS
 
 abbrev pub group_rows : List Row
-group_rows = map row_in GROUPS
+group_rows = map (λ r. (r.0, r.1, r.2, r.3.now, r.4.now)) GROUPS
 
 abbrev pub fold_rows : List Row
-fold_rows = map row_in FOLDS
+fold_rows = map (λ r. (r.0, r.1, r.2, r.3.now, r.4.now)) FOLDS
 
 -- whether a row has a code
 abbrev pub is_in : ℕ → Row → Bool

@@ -1,7 +1,7 @@
 //! What the closures of the catalogue are, in words.
 ghost use Rattle.std.specs.Prelude.{◌≡◌, ◌≤◌, ◌<◌, ◌^◌, ◌++◌, OnOk, IfErr, IfSome, map, option_map, string_bytes, unwrap_or};
 ghost use Rattle.std.specs.Option.{option_copied};
-ghost use Rattle.td_picture.specs.Words.{has_closure, told_of, told_between, words_at, words_in, row_in, row_at, unknown, count_in, eight_from};
+ghost use Rattle.td_picture.specs.Words.{has_closure, told_of, told_between, words_at, words_in, row_at, unknown, count_in, eight_from};
 
 use crate::table::{FOLDS, Form, GROUPS, MAPS, Row};
 use std::fmt::Write;
@@ -51,11 +51,11 @@ fn print_words(text: &mut String, kind: Kind) -> Result<(), PlanError>
 
 /// Appends what is told of the closure of a code, by the rows of its kind. Refusal: `Memory`.
 fn print_of(text: &mut String, rows: &[Row], code: u16) -> Result<(), PlanError>
-    ensures ok { OnOk result (string_bytes text.new ≡ string_bytes text.old ++ unwrap_or (words_at (map row_in rows.now) code) unknown) }
+    ensures ok { OnOk result (string_bytes text.new ≡ string_bytes text.old ++ unwrap_or (words_at (map (λ r. (r.0, r.1, r.2, r.3.now, r.4.now)) rows.now) code) unknown) }
     ensures err { IfErr result (λ e. e ≡ PlanError.Memory) }
 {
     match row_at(rows, code) {
-        Some(row) => print_in(text, row.form, row.front, row.back, code - row.first)?,
+        Some(row) => print_in(text, row.2, row.3, row.4, code - row.0)?,
         None => text.push_str(UNKNOWN)?,
     }
     Ok(())
@@ -63,12 +63,12 @@ fn print_of(text: &mut String, rows: &[Row], code: u16) -> Result<(), PlanError>
 
 /// The row that has a code.
 fn row_at(rows: &[Row], code: u16) -> Option<&Row>
-    ensures row { option_map row_in (option_copied result) ≡ row_at (map row_in rows.now) code }
-    ensures above { IfSome result (λ row. row.now.first ≤ code) }
+    ensures row { option_map (λ r. (r.0, r.1, r.2, r.3.now, r.4.now)) (option_copied result) ≡ row_at (map (λ r. (r.0, r.1, r.2, r.3.now, r.4.now)) rows.now) code }
+    ensures above { IfSome result (λ row. row.now.0 ≤ code) }
 {
     let mut rest = rows;
     while let [row, others @ ..] = rest {
-        if row.first <= code && code <= row.last {
+        if row.0 <= code && code <= row.1 {
             return Some(row);
         }
         rest = others;
