@@ -27,6 +27,14 @@ CUT_AFTER = 3
 LOCKED = "locked by another process"
 
 
+def td(*words):
+    """What the program prints; the script ends where it is refused."""
+    done = subprocess.run([TD, *words], stdin=subprocess.DEVNULL, capture_output=True, text=True, timeout=SECONDS)
+    if done.returncode != 0:
+        lib.fail(f"td {' '.join(map(str, words))}: status {done.returncode}: {done.stderr}")
+    return done.stdout
+
+
 class Producer(threading.Thread):
     """Sends epochs to a stream, one after another, each once the one before it is acknowledged, until it is told to stop."""
 
@@ -96,7 +104,7 @@ def reading(producer, command, disk, plan):
 def read_beside(folder):
     """Reads a disk beside a stream, over and over, and by commands that are refused."""
     disk, plan = folder / "disk", folder / "plan"
-    lib.td("format", disk, plan, "4", "4", "8")
+    td("format", disk, plan, "4", "4", "8")
     producer = Producer(disk, plan)
     producer.start()
     try:
@@ -142,16 +150,16 @@ def wait_for(folder):
 def share(folder):
     """Reads a disk that another reader has open, and one that may only be read."""
     disk, plan = folder / "disk", folder / "plan"
-    shown = lib.td("show", disk, plan)
+    shown = td("show", disk, plan)
     with open(disk, "rb") as held:
         fcntl.flock(held, fcntl.LOCK_SH)
-        if lib.td("show", disk, plan) != shown:
+        if td("show", disk, plan) != shown:
             lib.fail("td show beside another reader writes something else")
     os.chmod(disk, 0o444)
     for words in (("show",), ("show", "--live"), ("dump",), ("dump", "--live"), ("states",)):
-        lib.td(*words, disk, plan)
-    lib.td("copy", disk, plan, folder / "new", "4", "4", "8")
-    if lib.td("show", folder / "new", plan) != shown:
+        td(*words, disk, plan)
+    td("copy", disk, plan, folder / "new", "4", "4", "8")
+    if td("show", folder / "new", plan) != shown:
         lib.fail("a copy of a disk that may only be read shows something else")
 
 
