@@ -197,9 +197,10 @@ module _ {D : Type 0} (is_lawful : D → Type 0) (state : D → DiskState) (fail
     plan = ap (λ (k : Keeping D). k.plan) r.cut;
     base = λ last up low.
         let own = r.brings.own.base in
+        let place : n ≡ max r.hall.base (min most (last_passed r.hall)) = r.place in
         let least = min-le_left most (last_passed r.hall) in
         let at : max r.hall.base (min most (last_passed r.hall)) ≤ last = max_at_most r.hall.base (min most (last_passed r.hall)) last (omega (arith, own, low)) (omega (arith, least, up)) in
-        omega (arith, r.base, r.place, at);
+        omega (arith, r.base, place, at);
   }
   cuts most (Refused e b) old new r =
       up_to_same most
