@@ -113,17 +113,17 @@ impl Status {
             text: String::new(alloc),
             label,
         };
-        numbers.push("acked_epoch", "The last epoch on the disk", self.acked)?;
-        numbers.push("done_epoch", "The last epoch that is computed", self.done)?;
-        numbers.push("kept_epoch", "The epoch of the last cut", self.kept)?;
-        numbers.push("cells_used", "Epochs after the last cut", cells.used)?;
-        numbers.push("cells_limit", "Epochs that find room", cells.of)?;
-        numbers.push("states_used", "States of the last cut", states.used)?;
-        numbers.push("states_limit", "States that find room", states.of)?;
-        numbers.push("records_total", RECORDS, self.records)?;
-        numbers.push("epochs_per_second", EPOCHS, self.epochs_in_a_second)?;
-        numbers.push("seconds_since_cut", SECONDS, self.seconds_since_cut)?;
-        numbers.push("running", "1, and 0 at the end of the stream", is_running)?;
+        numbers.push("td_acked_epoch", "The last epoch on the disk", self.acked)?;
+        numbers.push("td_done_epoch", "The last epoch computed", self.done)?;
+        numbers.push("td_kept_epoch", "The epoch of the last cut", self.kept)?;
+        numbers.push("td_cells_used", "Epochs after the last cut", cells.used)?;
+        numbers.push("td_cells_limit", "Epochs that find room", cells.of)?;
+        numbers.push("td_states_used", "States of the last cut", states.used)?;
+        numbers.push("td_states_limit", "States that find room", states.of)?;
+        numbers.push("td_records_total", RECORDS, self.records)?;
+        numbers.push("td_epochs_per_second", EPOCHS, self.epochs_in_a_second)?;
+        numbers.push("td_seconds_since_cut", SECONDS, self.seconds_since_cut)?;
+        numbers.push("td_running", "1, and 0 at the end", is_running)?;
         let Numbers { text, label: _ } = numbers;
         Ok(text)
     }
@@ -151,9 +151,9 @@ impl<'a> Numbers<'a> {
         } else {
             "gauge"
         };
-        writeln!(self.text, "# HELP td_{name} {help}.")?;
-        writeln!(self.text, "# TYPE td_{name} {kind}")?;
-        writeln!(self.text, "td_{name}{label} {number}")?;
+        writeln!(self.text, "# HELP {name} {help}.")?;
+        writeln!(self.text, "# TYPE {name} {kind}")?;
+        writeln!(self.text, "{name}{label} {number}")?;
         Ok(())
     }
 }
