@@ -17,19 +17,19 @@ import lib
 
 TD = lib.asked_td()
 SECONDS, READS = 30, 500
-NAMES = ["td_acked_epoch", "td_done_epoch", "td_kept_epoch", "td_cells_used", "td_cells_limit", "td_states_used", "td_states_limit", "td_records_total",
-         "td_epochs_per_second", "td_seconds_since_cut", "td_running"]
+NAMES = ["acked_epoch", "done_epoch", "kept_epoch", "cells_used", "cells_limit", "states_used", "states_limit", "records_total",
+         "epochs_per_second", "seconds_since_cut", "running"]
 # M, N and K of the disk.
 SHAPE = ("4", "5", "10")
 
 
 def numbers_in(text, label):
-    """The numbers of a status file by name, without its `td_`; it has each in order, after its help and its kind, and nothing else."""
-    wanted = "".join(rf"# HELP {name} [^\n]+\.\n# TYPE {name} {'counter' if name.endswith('_total') else 'gauge'}\n{name}{re.escape(label)} (\d+)\n"
+    """The numbers of a status file by name; it has each in order, after its help and its kind, and nothing else."""
+    wanted = "".join(rf"# HELP td_{name} [^\n]+\.\n# TYPE td_{name} {'counter' if name.endswith('_total') else 'gauge'}\ntd_{name}{re.escape(label)} (\d+)\n"
                      for name in NAMES)
     if not (found := re.fullmatch(wanted, text)):
         raise ValueError(f"{text!r} is no status file")
-    return dict(zip((name.removeprefix("td_") for name in NAMES), map(int, found.groups())))
+    return dict(zip(NAMES, map(int, found.groups())))
 
 
 class Stream:

@@ -34,7 +34,7 @@ module _ (E : Type 0) (f : Found) (id : Text) (r : Option Bool) (none : one_text
       by false h = h.1.1 refl
 
 -- one text is of one flag
-same_flag : (a b : Bool) → flag_text a ≡ flag_text b → a ≡ b
+pub same_flag : (a b : Bool) → flag_text a ≡ flag_text b → a ≡ b
 same_flag true true e = refl
 same_flag false false e = refl
 same_flag true false e = let other = ap (bytes_eq (codes "true")) e in cc

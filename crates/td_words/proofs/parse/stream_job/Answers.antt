@@ -1,5 +1,4 @@
-use Rattle.std.proofs.Common.{◌≡◌, ◌∙◌, Bool, true, false, refl, sym, ap, codes}
-use Rattle.std.specs.Prelude.{not}
+use Rattle.std.proofs.Common.{◌≡◌, ◌∙◌, Bool, true, false, refl, sym, ap₂, codes}
 use Rattle.clap.specs.Words.{found_of, rows_of, one_of}
 use Rattle.td_words.specs.Command.{flag_text, may_hold}
 use Rattle.td_words.proofs.Asked.{when_none, lacks, some_is}
@@ -36,13 +35,9 @@ returns-in_err-hold-clause-none c = when_none _ c.from_residual-in_err-hold.ensu
 pub returns-in_err-room-clause-none : goal.returns-in_err-room-clause-none
 returns-in_err-room-clause-none c = when_none _ c.from_residual-in_err-room.ensures (λ job h. let only = only_stream (rows_of (found_of c.args.matches.now)) job h in c.in_err-room.ensures.none only.9 only.12.9)
 
-not_false : (b : Bool) → not b ≡ false → b ≡ true
-not_false true is = refl
-not_false false is = absurd (let no = is in cc)
-
-not_true : (b : Bool) → not b ≡ true → b ≡ true → ⊥
-not_true true is other = absurd (let no = is in cc)
-not_true false is other = absurd (let no = other in cc)
+not_both : (b : Bool) → b ≡ false → b ≡ true → ⊥
+not_both true is other = absurd (let no = is in cc)
+not_both false is other = absurd (let no = other in cc)
 
 -- outputs cannot be held without marks
 pub returns-then-not-may_hold-clause-none : goal.returns-then-not-may_hold-clause-none
@@ -51,7 +46,7 @@ returns-then-not-may_hold-clause-none c job h =
     let only = only_stream rows job h in
     let marks : only.6 ≡ c.in_ok-marks.marks = same_flag only.6 c.in_ok-marks.marks (some_is (flag_text only.6) (flag_text c.in_ok-marks.marks) (one_of (codes "marks") rows) only.12.6 c.in_ok-marks.ensures.some) in
     let hold : only.8 ≡ c.in_ok-hold.hold = same_flag only.8 c.in_ok-hold.hold (some_is (flag_text only.8) (flag_text c.in_ok-hold.hold) (one_of (codes "hold") rows) only.12.8 c.in_ok-hold.ensures.some) in
-    not_true c.may_hold.result c.if-not-may_hold.true (c.may_hold.ensures ∙ sym (λ i. may_hold (marks i) (hold i)) ∙ only.12.11)
+    not_both c.may_hold.result c.if-not-may_hold.true (c.may_hold.ensures ∙ sym (ap₂ may_hold marks hold) ∙ only.12.11)
 
 pub returns-clause-some : goal.returns-clause-some
-returns-clause-some c = (refl, (c.in_ok-disk.ensures.some, c.in_ok-plan.ensures.some, c.in_ok-workers.ensures.some, c.in_ok-cut_every.ensures.some, c.in_ok-most.ensures.some, c.in_ok-progress.ensures.some, c.in_ok-marks.ensures.some, c.in_ok-refuse.ensures.some, c.in_ok-hold.ensures.some, c.in_ok-room.ensures.some, c.file_of-status.ensures, sym c.may_hold.ensures ∙ not_false c.may_hold.result c.if-not-may_hold.false))
+returns-clause-some c = (refl, (c.in_ok-disk.ensures.some, c.in_ok-plan.ensures.some, c.in_ok-workers.ensures.some, c.in_ok-cut_every.ensures.some, c.in_ok-most.ensures.some, c.in_ok-progress.ensures.some, c.in_ok-marks.ensures.some, c.in_ok-refuse.ensures.some, c.in_ok-hold.ensures.some, c.in_ok-room.ensures.some, c.file_of-status.ensures, sym c.may_hold.ensures ∙ c.if-not-may_hold.false))
