@@ -1,7 +1,6 @@
 //! What a disk tells, in lines.
 //!
-//! It needs no keeper, hence no law and no closures. The file is opened to be read and written all the same, with an exclusive
-//! lock, since it begins with a sync, as recovery does.
+//! It needs no keeper, hence no law and no closures. It begins with a sync, as recovery does, which needs no right to write the file.
 ghost use Rattle.std.specs.Prelude.{◌≡◌, ◌≢◌, ◌⊎◌, ◌↔◌, ◌++◌, ◌+◌, ◌<◌, ◌^◌, ℕ, Ok, length, string_bytes, IfOk, IfErr, OnOk};
 ghost use Rattle.td_disk.specs.Disk.{IsDurable, Rises};
 ghost use Rattle.td_gate.specs.CrashSafe.{CrashSafe, Unchanged};
