@@ -86,33 +86,33 @@ module _ {D : Type 0} where
   keeps_same None same = tt
   keeps_same (Some seen) same = up_to_same seen same
 
-  pub keeps_then : (seen : Option ℕ) {a b c : Keeping D} → KeepsTo seen a b → KeepsTo seen b c → KeepsTo seen a c
-  keeps_then None first next = tt
-  keeps_then (Some seen) first next = up_to_then seen first next
+  pub keeps_then : (seen : Option ℕ) (a b c : Keeping D) → KeepsTo seen a b → KeepsTo seen b c → KeepsTo seen a c
+  keeps_then None a b c first next = tt
+  keeps_then (Some seen) a b c first next = up_to_then seen first next
 
   -- up to what more orders say was seen
-  pub keeps_on : (seen : Option ℕ) (orders : List Order) {a b : Keeping D} → KeepsTo seen a b → KeepsTo (then_seen seen orders) a b
-  keeps_on None orders keeps = tt
-  keeps_on (Some seen) orders keeps = up_to_further seen (seen_after seen orders) (seen_on seen orders) keeps
+  pub keeps_on : (seen : Option ℕ) (orders : List Order) (a b : Keeping D) → KeepsTo seen a b → KeepsTo (then_seen seen orders) a b
+  keeps_on None orders a b keeps = tt
+  keeps_on (Some seen) orders a b keeps = up_to_further seen (seen_after seen orders) (seen_on seen orders) keeps
 
   -- after a command
-  pub moves_then : (command : Command) {a b c : Keeping D} → MovesBase command a b → SameBase b c → MovesBase command a c
-  moves_then Cut first next = tt
-  moves_then (CutUpTo epoch) first next = up_to_then epoch first (up_to_same epoch next)
-  moves_then (Submit batch) first next = base_then first next
-  moves_then (SubmitAs request batch) first next = base_then first next
-  moves_then (SubmitAll group) first next = base_then first next
-  moves_then Release first next = base_then first next
-  moves_then Settle first next = base_then first next
-  moves_then Collect first next = base_then first next
-  moves_then NextOut first next = base_then first next
-  moves_then WriteCut first next = base_then first next
-  moves_then (CloseFree most) first next = base_then first next
+  pub moves_then : (command : Command) (a b c : Keeping D) → MovesBase command a b → SameBase b c → MovesBase command a c
+  moves_then Cut a b c first next = tt
+  moves_then (CutUpTo epoch) a b c first next = up_to_then epoch first (up_to_same epoch next)
+  moves_then (Submit batch) a b c first next = base_then first next
+  moves_then (SubmitAs request batch) a b c first next = base_then first next
+  moves_then (SubmitAll group) a b c first next = base_then first next
+  moves_then Release a b c first next = base_then first next
+  moves_then Settle a b c first next = base_then first next
+  moves_then Collect a b c first next = base_then first next
+  moves_then NextOut a b c first next = base_then first next
+  moves_then WriteCut a b c first next = base_then first next
+  moves_then (CloseFree most) a b c first next = base_then first next
 
   -- a cut is taken up to what was seen
-  pub cut_keeps : (seen : Option ℕ) {a b : Keeping D} → MovesBase (cut_for seen) a b → KeepsTo seen a b
-  cut_keeps None moves = tt
-  cut_keeps (Some seen) moves = moves
+  pub cut_keeps : (seen : Option ℕ) (a b : Keeping D) → MovesBase (cut_for seen) a b → KeepsTo seen a b
+  cut_keeps None a b moves = tt
+  cut_keeps (Some seen) a b moves = moves
 
   by : {old other new : Keeping D} → new ≡ other → SameBase old other → SameBase old new
   by {old = old} is same = subst (λ (k : Keeping D). SameBase old k) (sym is) same

@@ -270,7 +270,7 @@ returns-in_err-begin-clause-held g c =
     let first : Option ℕ = c.first_seen-seen.result in
     let is : first ≡ seen_at pace old.standing.epoch = c.first_seen-seen.ensures ∙ ap (λ (k : Keeping g.row.D.Denot). seen_at pace k.standing.epoch) c.keeper.ensures in
     let keeps : KeepsTo first old new = subst (λ (k : Keeping g.row.D.Denot). KeepsTo first k new) c.allow.ensures c.begin.ensures.held in
-    in_some_is (g.S.Asking.script c.args.orders.now) (λ s there. subst (λ (f : Option ℕ). KeepsTo (then_seen f s.orders) old new) is (keeps_on first s.orders keeps))
+    in_some_is (g.S.Asking.script c.args.orders.now) (λ s there. subst (λ (f : Option ℕ). KeepsTo (then_seen f s.orders) old new) is (keeps_on first s.orders old new keeps))
 
 pub returns-in_default-clause-held : goal.returns-in_default-clause-held
 returns-in_default-clause-held g c =

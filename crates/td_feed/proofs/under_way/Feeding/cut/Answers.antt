@@ -33,11 +33,11 @@ pub returns-in_err-tell-clause-held : goal.returns-in_err-tell-clause-held
 returns-in_err-tell-clause-held g c =
     let old = g.E.Obey.keeping c.settle.new.engine in
     let new = g.E.Obey.keeping c.tell.new.engine in
-    keeps_then c.args.seen (keeps_same c.args.seen c.settle.ensures.base) (cut_keeps c.args.seen (subst (λ (x : Command). MovesBase x old new) c.cut_command.ensures c.tell.ensures.base))
+    keeps_then c.args.seen (g.E.Obey.keeping c.args.engine.now) old new (keeps_same c.args.seen c.settle.ensures.base) (cut_keeps c.args.seen old new (subst (λ (x : Command). MovesBase x old new) c.cut_command.ensures c.tell.ensures.base))
 
 pub returns-clause-held : goal.returns-clause-held
 returns-clause-held g c =
     let old = g.E.Obey.keeping c.settle.new.engine in
     let new = g.E.Obey.keeping c.tell.new.engine in
-    keeps_then c.args.seen (keeps_same c.args.seen c.settle.ensures.base)
-    (keeps_then c.args.seen (cut_keeps c.args.seen (subst (λ (x : Command). MovesBase x old new) c.cut_command.ensures c.tell.ensures.base)) (keeps_same c.args.seen c.tell_aloud.ensures.base))
+    keeps_then c.args.seen (g.E.Obey.keeping c.args.engine.now) old (g.E.Obey.keeping c.tell_aloud.new.engine) (keeps_same c.args.seen c.settle.ensures.base)
+    (keeps_then c.args.seen old new (g.E.Obey.keeping c.tell_aloud.new.engine) (cut_keeps c.args.seen old new (subst (λ (x : Command). MovesBase x old new) c.cut_command.ensures c.tell.ensures.base)) (keeps_same c.args.seen c.tell_aloud.ensures.base))

@@ -18,4 +18,4 @@ pub returns-in_err-obey-clause-held : goal.returns-in_err-obey-clause-held
 returns-in_err-obey-clause-held g c = c.obey.ensures.held
 
 pub returns-clause-held : goal.returns-clause-held
-returns-clause-held g c = keeps_then c.args.seen c.obey.ensures.held c.keep_pace.ensures.held
+returns-clause-held g c = keeps_then c.args.seen (g.E.Obey.keeping c.args.engine.now) (g.E.Obey.keeping c.obey.new.engine) (g.E.Obey.keeping c.keep_pace.new.engine) c.obey.ensures.held c.keep_pace.ensures.held

@@ -15,4 +15,4 @@ pub returns-clause-fed : goal.returns-clause-fed
 returns-clause-fed g c = fed_then c.in_ok-tell_aloud.ensures.fed (c.release.ensures.fed g.W.Voice.marks (g.W.Sink.contents c.tell_aloud.new.writer))
 
 pub returns-clause-base : goal.returns-clause-base
-returns-clause-base g c = moves_then c.args.command c.tell_aloud.ensures.base c.release.ensures.base
+returns-clause-base g c = moves_then c.args.command (g.E.Obey.keeping c.args.engine.now) (g.E.Obey.keeping c.tell_aloud.new.engine) (g.E.Obey.keeping c.release.new.engine) c.tell_aloud.ensures.base c.release.ensures.base
