@@ -282,19 +282,19 @@ module _ {D : Type 0} (is_lawful : D → Type 0) (state : D → DiskState) (fail
   quiet_cut (Written w) old new not_so = absurd not_so
   quiet_cut (Refused e b) old new is = refl
 
-  quiet_cut_up_to : (m : ℕ) (r : Reply) (old new : Keeping D) → Obeys is_lawful state failures answers (CutUpTo m) r old new → line_of marks 0 r ≡ []
-  quiet_cut_up_to m (Submitted n) old new not_so = absurd not_so
-  quiet_cut_up_to m (SubmittedAs n) old new not_so = absurd not_so
-  quiet_cut_up_to m (SubmittedAll n m) old new not_so = absurd not_so
-  quiet_cut_up_to m (RefusedAll e xs) old new not_so = absurd not_so
-  quiet_cut_up_to m (Released n) old new is = refl
-  quiet_cut_up_to m Settled old new is = refl
-  quiet_cut_up_to m (Collected n) old new is = refl
-  quiet_cut_up_to m (Out o) old new not_so = absurd not_so
-  quiet_cut_up_to m (CutTaken n) old new is = refl
-  quiet_cut_up_to m Closed old new is = refl
-  quiet_cut_up_to m (Written w) old new not_so = absurd not_so
-  quiet_cut_up_to m (Refused e b) old new is = refl
+  quiet_cut_up_to : (most : ℕ) (r : Reply) (old new : Keeping D) → Obeys is_lawful state failures answers (CutUpTo most) r old new → line_of marks 0 r ≡ []
+  quiet_cut_up_to most (Submitted n) old new not_so = absurd not_so
+  quiet_cut_up_to most (SubmittedAs n) old new not_so = absurd not_so
+  quiet_cut_up_to most (SubmittedAll n m) old new not_so = absurd not_so
+  quiet_cut_up_to most (RefusedAll e xs) old new not_so = absurd not_so
+  quiet_cut_up_to most (Released n) old new is = refl
+  quiet_cut_up_to most Settled old new is = refl
+  quiet_cut_up_to most (Collected n) old new is = refl
+  quiet_cut_up_to most (Out o) old new not_so = absurd not_so
+  quiet_cut_up_to most (CutTaken n) old new is = refl
+  quiet_cut_up_to most Closed old new is = refl
+  quiet_cut_up_to most (Written w) old new not_so = absurd not_so
+  quiet_cut_up_to most (Refused e b) old new is = refl
 
   quiet_close : (most : ℕ) (r : Reply) (old new : Keeping D) → Obeys is_lawful state failures answers (CloseFree most) r old new → line_of marks 0 r ≡ []
   quiet_close most (Submitted n) old new not_so = absurd not_so.0
