@@ -1,7 +1,6 @@
 -- How far a keeper keeps.
 use Rattle.std.proofs.Common.{◌≡◌, ◌⊎◌, ⊎_elim, ℕ, ◌≤◌, ◌<◌, nat_lt, Bool, true, false, List, [], ◌∷◌, ◌++◌, refl, sym, ap, ◌∙◌, subst, arith}
 use Rattle.std.specs.Prelude.{Option, Some, None, max, min}
-use Rattle.std.specs.Option.{IfSome}
 use Rattle.std.proofs.Math.Nat.{le-max_left, le-max_right, max-eq_left, max-eq_right, min-le_left}
 use Rattle.std.proofs.lemmas.Bool.{ltb-true, ltb-false}
 use Rattle.td_stamp.specs.declared.values.Entry.{Entry}
@@ -15,12 +14,11 @@ use Rattle.td_keeper.specs.declared.command.Reply.TheVariants.{Submitted, Submit
 use Rattle.td_keeper.specs.declared.receipt.Receipt.{Receipt}
 use Rattle.td_keeper.specs.declared.receipt.Receipt.TheVariants.{New, Already}
 use Rattle.td_keeper.specs.Received.{IsReceived}
-use Rattle.td_keeper.specs.Keeping.{Keeping, with_batch, with_group, with_checkpoint}
-use Rattle.td_keeper.specs.Halls.{with_collected, with_cut, collected_hall, cut_hall_up_to, last_passed}
+use Rattle.td_keeper.specs.Keeping.{Keeping, with_group}
+use Rattle.td_keeper.specs.Halls.{last_passed}
 use Rattle.td_keeper.specs.Driven.{Submits, SubmitsAs, SubmitsAll, Releases, Settles, Collects, HandsOut, Cuts, Writes, ClosesFree, Obeys}
 use Rattle.td_feed.specs.declared.order.Order.{Order}
 use Rattle.td_feed.specs.declared.order.Order.TheVariants as order
-use Rattle.td_feed.specs.Asked.{Script}
 use Rattle.td_feed.specs.Carried.{batch_in, is_resting}
 use Rattle.td_feed.specs.Held.{seen_then, seen_after, then_seen, SameBase, GoesUpTo, KeepsTo, MovesBase, cut_for}
 use Rattle.td_feed.proofs.Lines.{is_quiet}

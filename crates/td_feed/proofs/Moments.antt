@@ -9,7 +9,7 @@ use Rattle.td_journal.specs.declared.submitted.Submitted.{Submitted}
 use Rattle.td_standing.specs.Standing.{Standing, last_epoch}
 use Rattle.td_standing.specs.Stops.{Stands}
 use Rattle.td_standing.specs.Advanced.{TellsAdvance, states_by}
-use Rattle.td_feed.specs.Fed.{TellsHistory, TellsOnward}
+use Rattle.td_feed.specs.Fed.{TellsOnward}
 use Rattle.td_feed.proofs.Carrying.{Stands-on, as_long}
 
 -- a beginning of a list with more, that is no shorter than the list, is the list with some of what is more

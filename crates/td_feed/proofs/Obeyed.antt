@@ -21,7 +21,7 @@ use Rattle.td_feed.specs.Carried.{new_to, Carries, Leaves}
 use Rattle.td_console.specs.declared.faults.Fault.{Fault}
 use Rattle.td_feed.specs.Said.{Says, SaysBy}
 use Rattle.td_feed.proofs.Carrying.{unmoved, then_carries, carries_then, then_leaves, leaves_all}
-use Rattle.td_feed.proofs.Held.{seen_further, seen_on, seen_append, base_itself, up_to_then, up_to_same, up_to_further}
+use Rattle.td_feed.proofs.Held.{seen_further, seen_on, seen_append, up_to_then, up_to_same, up_to_further}
 use Rattle.td_feed.proofs.Lines.{says_then, then_quiet}
 use Rattle.td_feed.proofs.Newness.{new_on, new_after-append}
 use Rattle.td_feed.proofs.Released.{submissions-append, notes-append}

@@ -1,28 +1,28 @@
 -- How calls of a feed come together, one after another.
-use Rattle.std.proofs.Common.{◌≡◌, ◌⊎◌, inl, inr, ℕ, Bool, true, false, List, [], ◌∷◌, ◌++◌, refl, sym, ap, ◌∙◌, subst, append-nil}
-use Rattle.std.specs.Prelude.{◌↔◌, Option, Some, None, Result, Ok, Err, OnOk, OnErr, IfOk, IfErr, IfSome}
+use Rattle.std.proofs.Common.{◌≡◌, ◌⊎◌, inr, ℕ, Bool, true, false, List, [], ◌∷◌, refl, sym, ap, ◌∙◌, subst}
+use Rattle.std.specs.Prelude.{◌↔◌, Option, Some, None, Result, Ok, Err, OnOk, IfErr, IfSome}
 use Rattle.std.specs.Result.{IsErrAnd}
 use Rattle.std.proofs.lemmas.Result.{on_ok_weaker, on_err_weaker}
 use Rattle.td_calls.specs.Answers.{Answers}
-use Rattle.td_disk.specs.Disk.{DiskState, CountsDevice}
+use Rattle.td_disk.specs.Disk.{DiskState}
 use Rattle.td_journal.specs.declared.submitted.Submitted.{Submitted}
 use Rattle.td_machine.specs.State.{HallState}
 use Rattle.td_machine.specs.Active.{unpassed}
 use Rattle.td_standing.specs.declared.error.KeeperError.TheVariants as error
 use Rattle.td_standing.specs.Standing.{last_epoch}
 use Rattle.td_keeper.specs.declared.command.Command.{Command}
-use Rattle.td_keeper.specs.declared.command.Command.TheVariants.{Release, Settle, Collect, Cut, CloseFree}
+use Rattle.td_keeper.specs.declared.command.Command.TheVariants.{Release, Settle, Collect}
 use Rattle.td_keeper.specs.declared.command.Reply.{Reply}
 use Rattle.td_keeper.specs.declared.command.Reply.TheVariants.{Submitted as AsSubmitted, SubmittedAs, SubmittedAll, Released, Settled, Collected, Out, CutTaken, Written, Closed, Refused, RefusedAll}
 use Rattle.td_keeper.specs.Keeping.{Keeping, since_base}
-use Rattle.td_keeper.specs.Driven.{Obeys, ComesOf, submitted_in}
+use Rattle.td_keeper.specs.Driven.{ComesOf}
 use Rattle.td_pool.specs.declared.error.PoolError.{PoolError}
 use Rattle.td_console.specs.declared.faults.Fault.{Fault}
 use Rattle.std.specs.Io.KnownBytes.{Appends}
 use Rattle.td_console.specs.declared.faults.Fault.TheVariants.{Keeper, Output, Memory}
 use Rattle.td_feed.specs.Noted.{note_line}
-use Rattle.td_feed.specs.Carried.{batch_in, new_to, is_refused, Carries, Leaves}
-use Rattle.td_feed.specs.Said.{full_line, Says, SaysBy}
+use Rattle.td_feed.specs.Carried.{batch_in, new_to, Carries, Leaves}
+use Rattle.td_feed.specs.Said.{full_line, SaysBy}
 use Rattle.td_feed.specs.declared.note.Note.{Note}
 use Rattle.td_feed.specs.Orders.{submissions, notes_in}
 use Rattle.td_feed.specs.Asked.{Script}

@@ -1,7 +1,6 @@
 -- What one command leaves of a keeper.
-use Rattle.std.proofs.Common.{◌≡◌, ◌⊎◌, ⊎_elim, inr, ℕ, ◌+◌, ◌^◌, Bool, true, false, ◌&&◌, not, nat_le, nat_lt, List, [], ◌∷◌, ◌++◌, length, refl, sym, ap, ◌∙◌, subst, arith}
+use Rattle.std.proofs.Common.{◌≡◌, ◌⊎◌, ⊎_elim, inr, ℕ, ◌+◌, ◌^◌, Bool, true, false, ◌&&◌, not, nat_le, nat_lt, List, [], ◌∷◌, length, refl, sym, ap, ◌∙◌, subst, arith}
 use Rattle.std.specs.Prelude.{Option, Some, None, if◌then◌else◌, Result, Ok, Err, IfOk, IfErr, OnErr}
-use Rattle.std.proofs.lemmas.List.{append-nil}
 use Rattle.td_stamp.specs.declared.values.Entry.{Entry}
 use Rattle.td_calls.specs.Answers.{Answers}
 use Rattle.td_disk.specs.Disk.{DiskState}
@@ -22,7 +21,7 @@ use Rattle.td_keeper.specs.Received.{IsReceived, received_in}
 use Rattle.td_group.specs.Groups.{may_follow}
 use Rattle.td_keeper.specs.Refused.{is_new, has_number, all_accepted, all_few}
 use Rattle.td_keeper.specs.Keeping.{Keeping, IsKeeping}
-use Rattle.td_keeper.specs.Driven.{submitted_in, submitted_by, may_write, Obeys, Driven, Rests}
+use Rattle.td_keeper.specs.Driven.{submitted_in, may_write, Obeys, Rests}
 use Rattle.td_feed.specs.Carried.{Carries, Stopped, Leaves, batch_in, new_to, is_refused, is_repeated, is_resting, IsRising}
 use Rattle.td_feed.proofs.Newness.{new_one, old_one, all_new}
 use Rattle.td_feed.proofs.Carrying.{Stands-on, Cuts-on, unmoved, submitted, grouped, checkpointed, leaves_none, stopped_one, stopped_none, stopped_all}

@@ -1,6 +1,5 @@
-use Rattle.std.proofs.Common.{◌≡◌, ◌∙◌, refl, sym, ap, subst}
+use Rattle.std.proofs.Common.{◌≡◌, refl, sym, ap, subst}
 use Rattle.std.specs.Prelude.{Ok, Err, OnOk}
-use Rattle.std.specs.Option.{IfSome}
 use Rattle.std.proofs.lemmas.Option.{IfSome_then}
 use Rattle.td_console.specs.declared.faults.Fault.TheVariants.{Memory}
 use Rattle.td_keeper.specs.Keeping.{Keeping}

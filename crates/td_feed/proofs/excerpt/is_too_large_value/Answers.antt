@@ -1,4 +1,4 @@
-use Rattle.std.proofs.Common.{◌≡◌, ◌∙◌, ℕ, Bool, None, sym, ap, lit<}
+use Rattle.std.proofs.Common.{◌∙◌, None, sym, lit<}
 use Rattle.std.proofs.lemmas.Str.Pattern.{strip_prefix_char}
 use Rattle.td_feed.proofs.Excerpts.{without_minus}
 use Rattle.td_feed.proofs.excerpt.is_too_large_value.Goals as goal

@@ -14,7 +14,7 @@ use Rattle.td_journal.specs.Numbers.{greatest}
 use Rattle.td_keeper.specs.Keeping.{Keeping}
 use Rattle.td_feed.specs.Orders.{orders_of, submitted_by, new_after}
 use Rattle.td_feed.specs.Fed.{EachTellsHistory, EachTellsSome}
-use Rattle.td_feed.specs.Carried.{StandsFor, new_to, Carries, Leaves}
+use Rattle.td_feed.specs.Carried.{new_to, Carries}
 use Rattle.td_feed.specs.Said.{epochs_alone}
 use Rattle.td_feed.specs.Session.{KeepsDisk, Feeds}
 use Rattle.td_feed.proofs.Newness.{last_of_history}

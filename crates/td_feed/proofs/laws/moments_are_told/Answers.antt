@@ -1,11 +1,11 @@
-use Rattle.std.proofs.Common.{◌≡◌, ◌+◌, length, ⊎_elim, [], List, ◌++◌, sym, subst, append-nil, arith}
+use Rattle.std.proofs.Common.{◌+◌, length, ⊎_elim, List, sym, subst, append-nil, arith}
 use Rattle.td_plan.specs.Lines.{Line}
 use Rattle.td_journal.specs.declared.submitted.Submitted.{Submitted}
 use Rattle.td_keeper.specs.Keeping.{Keeping}
 use Rattle.td_standing.specs.Stops.{Stands}
 use Rattle.td_standing.specs.Advanced.{TellsAdvance, states_by}
 use Rattle.td_keeper.specs.Driven.{submitted_by}
-use Rattle.td_feed.specs.Fed.{TellsHistory, TellsOnward}
+use Rattle.td_feed.specs.Fed.{TellsHistory}
 use Rattle.td_feed.proofs.Carrying.{found}
 use Rattle.td_feed.proofs.Moments.{advanced_onward}
 use Rattle.td_feed.proofs.laws.moments_are_told.Goals as goal

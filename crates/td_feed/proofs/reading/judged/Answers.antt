@@ -1,4 +1,4 @@
-use Rattle.std.proofs.Common.{◌≡◌, ◌∙◌, ⊎_elim, ℕ, true, sym, ap}
+use Rattle.std.proofs.Common.{◌∙◌, ⊎_elim, ℕ, true, sym, ap}
 use Rattle.td_feed.specs.declared.note.Cause.TheVariants.{TooManyRecords}
 use Rattle.td_feed.specs.Noted.{flaw_of}
 use Rattle.td_feed.specs.Orders.{no_orders, numbered}

@@ -1,10 +1,10 @@
-use Rattle.std.proofs.Common.{ℕ, refl, ap, ◌∙◌, subst}
+use Rattle.std.proofs.Common.{ℕ, ap, ◌∙◌, subst}
 use Rattle.std.specs.Prelude.{Option, option_map}
 use Rattle.std.specs.Option.{IfSome}
 use Rattle.td_feed.specs.Asked.{Script, script_of}
 use Rattle.td_feed.specs.Session.{limit_of, FeedsScript}
 use Rattle.td_feed.proofs.Carrying.{of_made}
-use Rattle.td_feed.proofs.Session.{in_some_is, disk_same, none_fed}
+use Rattle.td_feed.proofs.Session.{in_some_is, none_fed}
 use Rattle.td_feed.specs.declared.under_way.Pace.{Pace}
 use Rattle.td_feed.specs.Held.{KeepsTo, seen_at, first_seen, then_seen}
 use Rattle.td_feed.proofs.Held.{base_itself, keeps_same}

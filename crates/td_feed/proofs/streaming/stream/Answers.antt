@@ -1,7 +1,6 @@
 use Rattle.std.proofs.Common.{◌≡◌, ◌==◌, eqb-true, Bool, true, false, ℕ, ◌≤◌, arith, List, ◌++◌, refl, sym, ap, ◌∙◌, subst, inl, inr, ⊎_elim}
-use Rattle.std.specs.Prelude.{Option, Some, None, IfSome, Result, Ok, Err, OnOk}
+use Rattle.std.specs.Prelude.{Option, IfSome, Ok}
 use Rattle.td_console.specs.Refusals.{keeper_fault}
-use Rattle.std.proofs.lemmas.Option.{IfSome_then}
 use Rattle.td_plan.specs.Lines.{Line}
 use Rattle.td_disk.specs.Disk.{DiskState, Rises, IsDurable}
 use Rattle.td_gate.specs.CrashSafe.{CrashSafe, Unchanged}
@@ -19,7 +18,7 @@ use Rattle.td_feed.proofs.Held.{seen_on, seen_further}
 use Rattle.td_feed.specs.Orders.{submissions, new_after}
 use Rattle.td_feed.specs.Asked.{Script, script_of}
 use Rattle.td_feed.specs.Fed.{EachTellsHistory, EachTellsSome}
-use Rattle.td_feed.specs.Carried.{StandsFor, new_to, Carries, Leaves}
+use Rattle.td_feed.specs.Carried.{new_to, Carries}
 use Rattle.td_feed.specs.Session.{limit_of, wanted_by, KeepsDisk, FeedsScript}
 use Rattle.td_feed.proofs.Newness.{last_of_history}
 use Rattle.td_feed.proofs.Carrying.{in_some, ended_some, ended_all, none_more, still_each, found}

@@ -1,4 +1,4 @@
-use Rattle.std.proofs.Common.{◌≡◌, false, sym, ◌∙◌, inr}
+use Rattle.std.proofs.Common.{◌≡◌, sym, ◌∙◌, inr}
 use Rattle.td_keeper.specs.declared.command.Command.{Command}
 use Rattle.td_keeper.specs.declared.command.Reply.{Reply}
 use Rattle.td_keeper.specs.Driven.{is_failed, ComesOf}

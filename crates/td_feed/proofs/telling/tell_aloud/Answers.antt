@@ -1,4 +1,4 @@
-use Rattle.std.proofs.Common.{◌≡◌, inr, ℕ, List, [], refl, subst, ap}
+use Rattle.std.proofs.Common.{◌≡◌, inr, ℕ, List, refl, subst, ap}
 use Rattle.std.specs.Prelude.{OnOk}
 use Rattle.std.specs.Io.KnownBytes.{Appends}
 use Rattle.td_journal.specs.declared.submitted.Submitted.{Submitted}

@@ -1,7 +1,6 @@
-use Rattle.std.proofs.Common.{◌≡◌, ◌∙◌, true, [], refl, ap, subst}
+use Rattle.std.proofs.Common.{◌∙◌, ap, subst}
 use Rattle.td_feed.proofs.Session.{disk_then, disk_handed, fed_after, fed_handed, fed_refused, fed_quietly}
 use Rattle.td_keeper.specs.declared.command.Command.{Command}
-use Rattle.td_keeper.specs.Keeping.{Keeping}
 use Rattle.td_feed.specs.Carried.{batch_in, new_to, is_resting}
 use Rattle.td_feed.specs.Held.{MovesBase}
 use Rattle.td_feed.proofs.Lines.{is_quiet}
