@@ -1,7 +1,9 @@
 #!/usr/bin/env python3
 """A live client of `td stream`: it sends batches, and stores the outputs of each, whatever dies at whatever moment.
 
-    clients/td.py DISK PLAN BATCHES TABLE [TD]      sends the batches of a file, and stores their outputs in a table of sqlite3
+    clients/td.py DISK PLAN BATCHES TABLE [TD [OPTION..]]
+
+sends the batches of a file, and stores their outputs in a table of sqlite3. Options are more words of `td stream`, as `--hold`.
 
 **What is guaranteed.** Let the stream, the client, or both be killed at any moments, and the client be started again. When `Client.run` returns,
 each batch of the source is on the disk once, and all outputs of each epoch are stored once, under the epoch's number.
@@ -238,11 +240,11 @@ def table_of(file):
 
 
 def main():
-    if len(sys.argv) not in (5, 6):
+    if len(sys.argv) < 5:
         sys.exit(__doc__)
-    disk, plan, batches, table, *td = sys.argv[1:]
+    disk, plan, batches, table, td, *options = [*sys.argv[1:], *["td"] * (len(sys.argv) == 5)]
     try:
-        Client(disk, plan, batches_of(batches), table_of(table), *td).run()
+        Client(disk, plan, batches_of(batches), table_of(table), td, options=tuple(options)).run()
     except Stopped as stop:
         print(f"{sys.argv[0]}: {stop}", file=sys.stderr)
         sys.exit(stop.status)

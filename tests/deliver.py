@@ -1,5 +1,5 @@
 #!/usr/bin/env python3
-"""Kills `td stream --marks`, its client clients/td.py, and both at once, at 300 moments: each output is stored, once.
+"""Kills `td stream --marks`, with and without `--hold`, its client clients/td.py, and both at once, at 300 moments: each output is stored, once.
 
     tests/deliver.py [SEED [TD [CLIENT]]]       needs crates/td/out/td (see the README), or the program TD; of another client than clients/td.py
 
@@ -41,6 +41,8 @@ KILLS_OF_A_PLAN, EPOCHS, RECORDS, KEYS, STATES = 150, 500, 3, 6, 64
 # How many cells a round's disk has.
 CELLS = (8, 2, 4, 32)
 WAYS = ("the stream", "the client", "both")
+# The words of a round's streams beside `--marks`.
+OPTIONS = ((), ("--hold",), ("--hold", "--cut-every", "2"))
 # A kill comes so long after a stream's start at most: one in so many parts of what all batches take. One client in so many is killed by its own
 # start, at most so many seconds after it.
 PARTS, BY_OWN_START, SECONDS_OF_A_START = 12, 8, 0.1
@@ -142,14 +144,15 @@ def play_cases(folder):
 class Round:
     """A fresh disk and table, and the clients that are started there one after another."""
 
-    def __init__(self, folder, task, cells):
+    def __init__(self, folder, task, cells, options=()):
+        self.options = options
         self.task, self.disk, self.table, self.errors = task, folder / "disk", folder / "table", folder / "errors"
         self.table.unlink(missing_ok=True)
         td("format", self.disk, task.plan, RECORDS, cells, STATES)
         self.start()
 
     def start(self):
-        words = [sys.executable, "-B", CLIENT, self.disk, self.task.plan, self.task.batches, self.table, TD]
+        words = [sys.executable, "-B", CLIENT, self.disk, self.task.plan, self.task.batches, self.table, TD, *self.options]
         with open(self.errors, "a") as errors:
             self.client = subprocess.Popen(words, stdin=subprocess.DEVNULL, stdout=errors, stderr=errors, start_new_session=True)
 
@@ -255,7 +258,7 @@ def kill_rounds(folder, which, made):
     longest = seconds_of(folder, task) / PARTS
     kills = rounds = 0
     while kills < KILLS_OF_A_PLAN:
-        here = Round(folder, task, CELLS[rounds % len(CELLS)])
+        here = Round(folder, task, CELLS[rounds % len(CELLS)], OPTIONS[rounds % len(OPTIONS)])
         rounds += 1
         try:
             while kills < KILLS_OF_A_PLAN and kill_next(here, WAYS[kills % len(WAYS)], longest, made):
