@@ -143,6 +143,8 @@ class Stream:
 
     def refuse(self, number, why):
         """Passes over a batch that the stream refused: it is no epoch."""
+        if not self.client.refused:
+            raise Stopped(f"no {number} {why}".rstrip("\n"), 5)
         self.client.refused(int(number), why.rstrip("\n"))
         with self.changed:
             self.sent -= 1

@@ -111,11 +111,41 @@ class Task:
             lib.fail(f"{which}: {len(self.outputs)} of {EPOCHS} epochs have outputs; two of one vertex and key: {has_twice}")
 
 
-def play_cases(folder):
-    """Has the client work with a program in place of `td`; the script ends where it stores other outputs, or ends otherwise."""
+def client_module():
     spec = importlib.util.spec_from_file_location("client", CLIENT)
     client = importlib.util.module_from_spec(spec)
     spec.loader.exec_module(client)
+    return client
+
+
+def play_refused(folder):
+    """Has the client pass over batches with a fault; the script ends where it stores other outputs, or is told of other batches."""
+    batches = [(1, [(0, 7, 5)]), (2, [(0, 7, 1), (9, 7, 1)]), (3, [(0, 7, 2 ** 63)]), (5, [(0, 8, 1)]), (6, [(0, 7, 1)] * (RECORDS + 1)), (7, [(0, 7, -1)])]
+    (folder / "plan").write_text(PLANS["most"])
+    stored, refused, client = [], [], client_module()
+
+    def run(name, **more):
+        td("format", folder / name, folder / "plan", RECORDS, 2, STATES)
+        source = lambda first: iter([batch for batch in batches if batch[0] >= first])
+        client.Client(folder / name, folder / "plan", source, lambda *epoch: stored.append(epoch), TD, **more).run()
+
+    # (the number of a line hangs on where the client cut)
+    run("disk", refused=lambda number, why: refused.append((number, why.partition(": ")[2])))
+    wanted = [(1, [(3, 7, 5), (4, 7, 1), (4, 7, 5)]), (2, [(3, 8, 1), (4, 8, 1), (4, 8, 1)]), (3, [(3, 7, 4), (4, 7, 1), (4, 7, 4)])]
+    passed_over = [(2, "no such input: 9 7 1"), (3, "number too large: 0 7 9223372036854775808"), (6, "too many records: 0 7 1")]
+    if (stored, refused) != (wanted, passed_over):
+        lib.fail(f"batches with a fault: stored {stored}, refused {refused}")
+    try:
+        run("other", options=("--refuse",))
+        lib.fail("a client that is to pass over nothing passed over a batch")
+    except client.Stopped as stop:
+        if stop.status != 5:
+            lib.fail(f"a batch with a fault ended the client with status {stop.status}: {stop}")
+
+
+def play_cases(folder):
+    """Has the client work with a program in place of `td`; the script ends where it stores other outputs, or ends otherwise."""
+    client = client_module()
     program = folder / "program"
     program.write_text(IN_PLACE)
     program.chmod(0o755)
@@ -274,7 +304,8 @@ def main():
         return lib.skip("this system does not list a process's children")
     with lib.folder() as folder:
         play_cases(folder)
-    print(f"{len(CASES)} cases with a program in place of td: as they should be")
+        play_refused(folder)
+    print(f"{len(CASES)} cases with a program in place of td, and batches with a fault: as they should be")
     made = random.Random(SEED)
     for which in PLANS:
         with lib.folder(in_memory=True) as folder:
