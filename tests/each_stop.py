@@ -1,5 +1,5 @@
 #!/usr/bin/env python3
-"""Stops four feeds and three streams at each of their writes and syncs, and crashes them in five ways, the streams in seven.
+"""Stops four feeds and four streams at each of their writes and syncs, and crashes them in five ways, the streams in seven.
 
     tests/each_stop.py          needs crates/td/out/td and crates/feed_steps/out/feed_steps (see the README), and for the streams
                                 strace; without it says so, and stops the feeds alone
@@ -29,9 +29,11 @@ synced, every second one old and the others new. All lines of a stream are given
 due, or the next epoch that comes twice. Of two streams nobody asks for
 a cut but after the last epoch: one cuts where the ring is full, and after a stop is streamed on with `--cut-every 2`; the other the
 other way round. The third has request numbers, lines `cut`, and epochs that come twice, and is streamed again from its beginning.
+The fourth holds its outputs (`--marks --hold`): lines `seen` say which were stored, and it is streamed on with what a consumer sends then.
 What is required of feeds is required of them, with the lines of a stream: first those of the epochs that the disk told at the
 start, and then for each group `ack` of each of its epochs, their output lines, and the cut that is due. So none is written of an epoch
-that was not acknowledged, or told at the start. In the end each is as a stream that was not stopped.
+that was not acknowledged, or told at the start. The checkpoint is that of the last line `cut`, or of the one that comes next: so where outputs are
+held, those that were not seen are written again. In the end each is as a stream that was not stopped.
 
 Two feeds by `td feed` on a file have each of their writes and syncs fail **alone**, all that might follow being as on a sound disk; and so has each stop
 of a stream. Such a run ends with the disk's failure and makes no write and no sync of its own behind it: what a failed sync dropped, a second one does
@@ -327,6 +329,64 @@ class NumberedStream(Stream, NumberedFeed):
     goes_on = "each was streamed again from its beginning, with each request once"
 
 
+class HeldStream(Stream):
+    """A stream that holds its outputs, of a consumer that has seen those of all epochs but the last after each second one, and all at the end."""
+
+    goes_on = "each was streamed on to the whole, and wrote again what was not seen"
+
+    def words(self, disk, workers, every):
+        return [*super().words(disk, workers, every), "--marks", "--hold"]
+
+    def input_after(self, told):
+        lines = []
+        for number, (records, _) in enumerate(self.epochs[told:], told + 1):
+            lines += lines_of(records) + [f"seen {number - 1}"] * (number % 2 == 0)
+        return [*lines, f"seen {len(self.epochs)}", "cut"]
+
+    def rest(self, kept, told):
+        """What a consumer sends that has seen all that was written at the start, if there is anything left."""
+        seen = [f"seen {told}"] * (told > kept)
+        return [*seen, *self.input_after(told)] if kept < len(self.epochs) else []
+
+    def said(self, lines, kept, told):
+        """What is done at once of what these lines ask for, and written: a group's epochs, or None of any other line, and of the start."""
+        room, seen, last = int(self.shape.split()[1]), kept, told
+        orders = collections.deque(line for line in lines if line in (".", "cut") or line.startswith("seen "))
+        step, written = None, self.marked(range(kept + 1, told + 1))
+        while True:
+            is_cut = last - kept == room and seen > kept
+            kept = seen if is_cut else kept
+            yield step, written + [f"cut {kept}"] * is_cut + [f"full {last}"] * (last - kept == room)
+            if not orders:
+                return
+            order = orders.popleft()
+            step, written = None, []
+            if order == "cut":
+                kept, written = seen, [f"cut {seen}"]
+            elif order != ".":
+                seen = int(order.removeprefix("seen "))
+            else:
+                first, last = last + 1, last + 1
+                while orders and orders[0] == "." and last - kept < room:
+                    orders.popleft()
+                    last += 1
+                step = range(first, last + 1)
+                written = [f"ack {number}" for number in step] + self.marked(step)
+
+    def marked(self, numbers):
+        """The output lines of epochs, each with its mark."""
+        return [line for number in numbers for line in [*self.outputs[number], f"done {number}"]]
+
+    def whole_steps(self):
+        return [step for step, _ in self.said(self.input_after(0), 0, 0)]
+
+    def whole(self):
+        return self.written(0, 0)
+
+    def written(self, kept, told):
+        return [line for _, lines in self.said(self.rest(kept, told), kept, told) for line in lines]
+
+
 def failures(before):
     """The words of strace by which each write and each sync fails that comes after these calls."""
     if before is None:
@@ -481,6 +541,11 @@ def play_stops(stream, folder):
     return {at: (written[at[0] - 1], *gone_on[left[at]]) for at in left}
 
 
+def lawful_cuts(whole, written):
+    """The checkpoints of which one is told, where so much of the whole is written: that of the last cut, and of the one that comes next."""
+    return [max(numbers_after("cut ", written), default=0), *numbers_after("cut ", whole[len(written):])[:1]]
+
+
 def stop_each_of_stream(stream):
     """Plays all stops of a stream with all fills: how many were met, and which last epochs were told."""
     with lib.folder(in_memory=True) as folder:
@@ -488,8 +553,8 @@ def stop_each_of_stream(stream):
     numbers = set()
     for (stop, fill), (written, shown, rest) in played.items():
         is_met, kept, told = read_stop(f"stop {stop}, {fill}", stream, written + shown)
-        if not is_met or kept < max(numbers_after("cut ", written), default=0):
-            lib.fail(f"stop {stop}, {fill}: a stream did not tell that its disk failed, or a cut is not told: {written}, {shown}")
+        if not is_met or kept not in lawful_cuts(stream.whole(), written[:-1]):
+            lib.fail(f"stop {stop}, {fill}: a stream did not tell that its disk failed, or another cut is told than its last or next: {written}, {shown}")
         check_rest(f"stop {stop}, {fill}", stream, kept, told, shown + rest)
         numbers.add(told)
     return [(len(played), numbers)]
@@ -592,7 +657,7 @@ def main():
     read_each_once()
     epochs = [(records, number == STREAM_EPOCHS) for number, (records, _) in enumerate(made_epochs(STREAM_EPOCHS), 1)]
     for stream in (Stream(FOLDS, "3 3 6", epochs, None, 2), Stream(FOLDS, "3 3 6", epochs, 2, None),
-                   NumberedStream(FOLDS, "3 3 6", made_epochs(NUMBERED_EPOCHS), None, 2)):
+                   NumberedStream(FOLDS, "3 3 6", made_epochs(NUMBERED_EPOCHS), None, 2), HeldStream(FOLDS, "3 3 6", epochs, None, None)):
         tell(stream, stop_each_of_stream(stream))
 
 
