@@ -93,6 +93,7 @@ ON_FILES = [
     ("dump disk plan", b"", MADE[:2]),
     ("show disk plan --live", b"", MADE[:2]),
     ("dump disk plan --live", b"", MADE[:2]),
+    ("dump disk plan --at", b"", MADE[:2]),
     ("copy disk plan new 5 4 3", b"", MADE[:2]),
     ("copy disk plan new 5 4 3", b"", MADE_WITH_CLOSURES[:2]),
     ("states disk plan", b"", MADE[:2]),
@@ -106,6 +107,7 @@ ON_FILES = [
     ("stream disk plan --workers 2 --cut-every 2", b"req 3\n0 9 4\n.\nreq 4\n.\nreq 4\n0 9 4\n.\ncut\nreq 5\n0 7 1\n0 8 1\n.\n", MADE),
     ("stream disk plan --refuse", b"req 3\n0 9 4\n.\nreq 4\n0 9\n.\n0 9 4\n0 9\n.\nreq 5\n0 7 1\n0 8 1\n.\n", MADE),
     ("stream disk plan --marks", b"req 3\n0 9 4\n.\nreq 4\n.\nreq 4\n.\ncut\nreq 5\n0 7 1\n0 8 1\n.\nreq 6\n.\n", MADE),
+    ("stream disk plan --refuse --at", b"at 2\n0 7 5\n.\nat 3\nreq 3\n0 9 4\n.\nat 5\n.\n0 8 1\n.\nat 5\n.\n", MADE),
     ("stream disk plan --marks --hold", b"seen 2\ncut\nreq 3\n0 9 4\n.\nseen 3\nreq 5\n0 7 1\n0 8 1\n.\ncut\n", MADE),
 ]
 # Those of them that may change the disk though they are refused, but not what it tells, but to what they would make of it.

@@ -18,13 +18,14 @@ pub(crate) enum Engine<'a> {
 }
 
 /// After how many epochs a stream cuts, how many tasks each of its epochs may take, whether it marks them, whether it refuses those with
-/// a fault and goes on, and whether it holds their outputs until they were seen.
+/// a fault and goes on, whether lines name their places, and whether it holds their outputs until they were seen.
 #[derive(Clone, Copy, Debug, Drop)]
 pub(crate) struct StreamOptions {
     pub cut_every: Option<u32>,
     pub most: Option<u64>,
     pub marks: bool,
     pub refuse: bool,
+    pub at: bool,
     pub hold: bool,
 }
 

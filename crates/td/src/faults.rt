@@ -342,9 +342,14 @@ An epoch that begins so ends with a `.` too, and no `cut` stands in it:
     $ printf 'seen 1\n' | td stream total.disk total.plan --marks --hold
     td: line 1: outputs not written yet
 
+**`line L: gap`**: of `td stream --at`: the disk lacks an epoch before E of the line `at E`. Send that first:
+
+    $ printf 'at 3\n0 7 5\n.\n' | td stream total.disk total.plan --at
+    td: line 1: gap
+
 **`old version`**: an epoch has a request number, and the disk is of version 1 of its format, which has none. What
-stands before it in the input was fed. `td upgrade` raises the disk to version 2 and leaves all on it as it is. Then
-feed again. Here a disk of version 1 is made by hand:
+stands before it was fed. `td upgrade` raises the disk to version 2 and leaves all on it. Then feed again. Here a disk
+of version 1 is made by hand:
 
     $ td format total.disk total.plan 4 2 3; printf '\001' | dd of=total.disk bs=1 seek=7 conv=notrunc 2> dd.txt
     $ printf 'req 5\n0 7 5\n.\n' | td feed total.disk total.plan
@@ -355,8 +360,8 @@ feed again. Here a disk of version 1 is made by hand:
     1 2 7 5
 
 **`last generation`**: `td upgrade` writes a head with the generation after that of the head that counts, and there is
-none after 2^64 - 1. No disk comes so far: here the number is written into a head of version 1 by hand. Such a disk can
-be fed without request numbers:
+none after 2^64 - 1. No disk comes so far: here it is written into a head by hand. Such a disk is fed without request
+numbers:
 
     $ td format total.disk total.plan 4 2 3
     $ printf '\001\377\377\377\377\377\377\377\377' | dd of=total.disk bs=1 seek=7 conv=notrunc 2> dd.txt
@@ -367,9 +372,9 @@ be fed without request numbers:
     1 2 7 5
 
 **`journal full`**: the disk has room for the N epochs after a cut, and they stand there. Cut: feed a line `cut`, and
-then the epochs that have no `ack`. An epoch whose request number is on the disk already needs no room. `td stream` cuts
+the epochs that have no `ack`. An epoch whose request number is on the disk needs no room. `td stream` cuts
 by itself where the journal is full, with `--hold` up to the last `seen`. `td copy` makes a disk with a larger N, and
-says so where the given N is too small.
+says where N is too small.
 
     $ td format total.disk total.plan 4 2 3; printf '.\n.\n.\n' | td feed total.disk total.plan
     ack 1
@@ -383,7 +388,7 @@ says so where the given N is too small.
     ack 3
 
 **`too many records`**: an epoch has more than M records. Close it earlier, or copy the disk to one with a larger M.
-`td stream` writes it at the record that is one too many, before the `.` comes.
+`td stream` writes it at the record that is one too many, before the `.`.
 
     $ td format total.disk total.plan 4 2 3
     $ printf '0 7 1\n0 7 1\n0 7 1\n0 7 1\n0 7 1\n.\n' | td feed total.disk total.plan
@@ -396,7 +401,7 @@ says so where the given N is too small.
     td: too many records: epoch 1 has 2, M is 1
 
 **`too many keys`**: at a cut the folds keep more than K states. The disk stays as it was before the cut, with its
-epochs. It cannot be cut any more unless later epochs remove states. Copy it to one with a larger K, and go on with
+epochs. It cannot be cut unless later epochs remove states. Copy it to one with a larger K, and go on with
 that. The first line of `td dump` says how many states a disk has of its K.
 
     $ td format total.disk total.plan 4 2 3
@@ -414,8 +419,8 @@ that. The first line of `td dump` says how many states a disk has of its K.
     1 2 4 5
     cut 1
 
-**`no more epochs`**: the last epoch that has a number, 2^63 - 1, stands on the disk. No feed comes so far: here its
-number is written into a slot by hand:
+**`no more epochs`**: the last epoch that has a number, 2^63 - 1, stands on the disk. No feed comes so far: here it
+is written by hand:
 
     $ td format total.disk total.plan 4 2 3
     $ printf '\177\377\377\377\377\377\377\377' | dd of=total.disk bs=1 seek=8258 conv=notrunc 2> dd.txt

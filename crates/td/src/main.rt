@@ -150,6 +150,7 @@ fn done<
             progress,
             marks,
             refuse,
+            at,
             hold,
             room,
             status,
@@ -167,6 +168,7 @@ fn done<
                 most,
                 marks,
                 refuse,
+                at,
                 hold,
             };
             run_engine(
@@ -181,11 +183,16 @@ fn done<
                 Ok(show_disk(rt, disk, plan, wait)?)
             }
         }
-        Job::Dump { disk, plan, live } => {
+        Job::Dump {
+            disk,
+            plan,
+            live,
+            at,
+        } => {
             if live {
-                dump_live(rt, disk, plan)
+                dump_live(rt, disk, plan, at)
             } else {
-                dump_disk(rt, disk, plan, wait)
+                dump_disk(rt, disk, plan, at, wait)
             }
         }
         Job::Upgrade { disk, plan } => Ok(upgrade_disk(rt, disk, plan, wait)?),

@@ -117,6 +117,7 @@ pub(crate) fn stream_told<
             cut_every: options.cut_every,
             most: options.most,
             refuse: options.refuse,
+            placing: options.at,
             hold: options.hold,
         },
         reader,

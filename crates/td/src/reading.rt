@@ -11,8 +11,8 @@ use std::io;
 use std::rt::Files;
 use std::sync::Wait;
 use td_console::{Fault, StdWriter};
-use td_disk::{FileFailure, MakeError, ReadAhead};
-use td_feed::{dump, show};
+use td_disk::{Disk, FileFailure, MakeError, ReadAhead};
+use td_feed::{dump, dump_placed, show};
 use td_live::{LiveError, ReadOnlyFile, Snapshot, take_snapshot};
 use td_plan::Plan;
 use td_standing::KeeperError;
@@ -50,16 +50,17 @@ pub(crate) fn show_live<R: Files<File = File> + Print + AllocGlobal + Wait>(
     }
 }
 
-/// Writes the epochs after the checkpoint of the disk in the file at `path` to standard output, as lines that a feed takes.
+/// Writes the epochs after the checkpoint of the disk in the file at `path` to standard output, as lines that a feed takes; with `at` each
+/// with its place, as a stream with places takes them.
 pub(crate) fn dump_disk<R: Files<File = File> + Print + AllocGlobal + Wait>(
     rt: &R,
     path: &str,
     plan: &str,
+    at: bool,
     wait: u32,
 ) -> Result<(), Refusal> {
     let (mut disk, plan) = open_to_read_or_tell(rt, path, plan, wait)?;
-    let mut writer = StdWriter(Awaited::new(rt, io::writer(rt)));
-    match dump(rt.alloc(), &mut disk, &plan, &mut writer) {
+    match print_dump(rt, &mut disk, &plan, at) {
         Ok(()) => Ok(()),
         Err(fault) => {
             let failure = disk.inner().last_failure();
@@ -73,12 +74,27 @@ pub(crate) fn dump_live<R: Files<File = File> + Print + AllocGlobal + Wait>(
     rt: &R,
     path: &str,
     plan: &str,
+    at: bool,
 ) -> Result<(), Refusal> {
     let (mut disk, plan) = snapshot_of(rt, path, plan)?;
-    let mut writer = StdWriter(Awaited::new(rt, io::writer(rt)));
-    match dump(rt.alloc(), &mut disk, &plan, &mut writer) {
+    match print_dump(rt, &mut disk, &plan, at) {
         Ok(()) => Ok(()),
         Err(fault) => Err(Refusal::Plain(fault).on_disk(rt.alloc(), path, None)),
+    }
+}
+
+/// Writes the epochs after the checkpoint of a disk to standard output, with `at` each with its place.
+fn print_dump<D: Disk, R: Print + AllocGlobal + Wait>(
+    rt: &R,
+    disk: &mut D,
+    plan: &Plan,
+    at: bool,
+) -> Result<(), Fault> {
+    let mut writer = StdWriter(Awaited::new(rt, io::writer(rt)));
+    if at {
+        dump_placed(rt.alloc(), disk, plan, &mut writer)
+    } else {
+        dump(rt.alloc(), disk, plan, &mut writer)
     }
 }
 

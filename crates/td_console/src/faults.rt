@@ -28,6 +28,8 @@ pub enum LineFault {
     NotOut,
     /// An epoch is said to have been seen that comes before the last one of which this was said.
     SeenBefore,
+    /// The disk lacks an epoch before the one that a line names.
+    Gap,
 }
 
 impl fmt::Display for LineFault {
@@ -40,6 +42,7 @@ impl fmt::Display for LineFault {
             LineFault::NotClosed => write!(f, "epoch not closed"),
             LineFault::NotOut => write!(f, "outputs not written yet"),
             LineFault::SeenBefore => write!(f, "a later epoch was seen"),
+            LineFault::Gap => write!(f, "gap"),
         }
     }
 }

@@ -17,13 +17,13 @@ use Rattle.td_console.specs.declared.faults.LineFault.TheVariants.{NoSuchInput}
 use Rattle.td_console.specs.declared.faults.Fault.{Fault}
 use Rattle.td_console.specs.declared.faults.Fault.TheVariants.{Line, Memory}
 use Rattle.td_feed.specs.declared.order.FeedLine.{FeedLine}
-use Rattle.td_feed.specs.declared.order.FeedLine.TheVariants.{Data, Request, Cut, Seen}
+use Rattle.td_feed.specs.declared.order.FeedLine.TheVariants.{Data, Request, At, Cut, Seen}
 use Rattle.td_feed.specs.declared.order.Order.{Order}
 use Rattle.td_feed.specs.declared.at_once.Asked.{Asked}
 use Rattle.td_feed.specs.declared.at_once.Asked.TheVariants.{One}
 use Rattle.td_feed.specs.declared.order.Order.TheVariants as order
 use Rattle.td_feed.specs.declared.note.Flaw.{Flaw}
-use Rattle.td_feed.specs.Orders.{Orders, Gives, no_orders, numbered, order_for, is_between, with_cut, with_request, with_seen, with_line, feed_line_of, stream_line_of, orders_from, and_then, ended}
+use Rattle.td_feed.specs.Orders.{Orders, Gives, no_orders, numbered, order_at, has_no_number, may_be_placed, is_between, with_cut, with_request, with_place, with_seen, with_line, feed_line_of, stream_line_of, orders_from, and_then, ended}
 use Rattle.td_feed.specs.Asked.{Script, Reading, ReadSoFar, refused, is_over, unless_over, flaw_in, unless_refused, judged, with_said, after_line, onward, note_of, with_next, may_end, script_after, script_from, after_order, after_orders, script_on, script_ahead, Completes, HasFault, TakesLine, Asks, IsOf, SameScript, script_left}
 
 -- there is always a part
@@ -130,7 +130,7 @@ ok_some (Err e) P Q f h = h
 
 -- orders that were read before others
 abbrev prefixed : List Order → Orders → Orders
-prefixed os read = record { orders = os ++ read.orders; request = read.request; current = read.current }
+prefixed os read = record { orders = os ++ read.orders; place = read.place; request = read.request; current = read.current }
 
 abbrev prefixed_if : List Order → Result Orders Fault → Result Orders Fault
 prefixed_if os (Ok read) = Ok (prefixed os read)
@@ -144,7 +144,7 @@ judged_prefixed_if os (Ok next) = Ok (judged_prefixed os next)
 judged_prefixed_if os (Err fault) = Err fault
 
 abbrev reading_prefixed : List Order → Reading → Reading
-reading_prefixed os r = record { plan = r.plan; hold = r.hold; limit = r.limit; number = r.number; flaw = r.flaw; read = prefixed os r.read }
+reading_prefixed os r = record { plan = r.plan; placing = r.placing; hold = r.hold; limit = r.limit; number = r.number; flaw = r.flaw; read = prefixed os r.read }
 
 abbrev reading_prefixed_if : List Order → Result Reading Fault → Result Reading Fault
 reading_prefixed_if os (Ok r) = Ok (reading_prefixed os r)
@@ -159,25 +159,30 @@ module _ (plan : List PlanLine) (os : List Order) where
   line_prefixed n read (Some Cut) = by (is_between read)
     where
       by : (b : Bool) → with_cut n (prefixed os read) b ≡ prefixed_if os (with_cut n read b)
-      by true = λ i. Ok (record { orders = append_assoc os read.orders (order.Cut ∷ []) i; request = read.request; current = read.current })
+      by true = λ i. Ok (record { orders = append_assoc os read.orders (order.Cut ∷ []) i; place = read.place; request = read.request; current = read.current })
       by false = refl
   line_prefixed n read (Some (Seen epoch)) = by (is_between read)
     where
       by : (b : Bool) → with_seen n epoch (prefixed os read) b ≡ prefixed_if os (with_seen n epoch read b)
-      by true = λ i. Ok (record { orders = append_assoc os read.orders (order.Seen n epoch ∷ []) i; request = read.request; current = read.current })
+      by true = λ i. Ok (record { orders = append_assoc os read.orders (order.Seen n epoch ∷ []) i; place = read.place; request = read.request; current = read.current })
       by false = refl
-  line_prefixed n read (Some (Request q)) = by (is_between read)
+  line_prefixed n read (Some (Request q)) = by (has_no_number read)
     where
       by : (b : Bool) → with_request n q (prefixed os read) b ≡ prefixed_if os (with_request n q read b)
       by true = refl
       by false = refl
+  line_prefixed n read (Some (At epoch)) = by (may_be_placed read)
+    where
+      by : (b : Bool) → with_place n epoch (prefixed os read) b ≡ prefixed_if os (with_place n epoch read b)
+      by true = refl
+      by false = refl
   line_prefixed n read (Some (Data PassedOver)) = refl
   line_prefixed n read (Some (Data Close)) =
-      λ i. Ok (record { orders = append_assoc os read.orders (order_for read.request (bag_of entry_cmp read.current) ∷ []) i; request = 0; current = [] })
+      λ i. Ok (record { orders = append_assoc os read.orders (order_at read.place read.request (bag_of entry_cmp read.current) ∷ []) i; place = None; request = 0; current = [] })
   line_prefixed n read (Some (Data (Record input rec))) = by (is_input_of plan input)
     where
-      by : (b : Bool) → (if b then Ok (record { orders = os ++ read.orders; request = read.request; current = read.current ++ record { input = input; rec = rec } ∷ [] }) else Err (Line n NoSuchInput))
-          ≡ prefixed_if os (if b then Ok (record { orders = read.orders; request = read.request; current = read.current ++ record { input = input; rec = rec } ∷ [] }) else Err (Line n NoSuchInput))
+      by : (b : Bool) → (if b then Ok (record { orders = os ++ read.orders; place = read.place; request = read.request; current = read.current ++ record { input = input; rec = rec } ∷ [] }) else Err (Line n NoSuchInput))
+          ≡ prefixed_if os (if b then Ok (record { orders = read.orders; place = read.place; request = read.request; current = read.current ++ record { input = input; rec = rec } ∷ [] }) else Err (Line n NoSuchInput))
       by true = refl
       by false = refl
 
@@ -188,10 +193,11 @@ module _ (plan : List PlanLine) (os : List Order) where
   said_prefixed limit n (Some why) read line (Some Cut) = refl
   said_prefixed limit n (Some why) read line (Some (Seen epoch)) = refl
   said_prefixed limit n (Some why) read line (Some (Request q)) = refl
+  said_prefixed limit n (Some why) read line (Some (At epoch)) = refl
   said_prefixed limit n (Some why) read line (Some (Data PassedOver)) = refl
   said_prefixed limit n (Some why) read line (Some (Data (Record input rec))) = refl
   said_prefixed limit n (Some why) read line (Some (Data Close)) =
-      λ i. Ok (None, record { orders = append_assoc os read.orders (order.Say (note_of read.request why) ∷ []) i; request = 0; current = [] })
+      λ i. Ok (None, record { orders = append_assoc os read.orders (order.Say (note_of read.request why) ∷ []) i; place = None; request = 0; current = [] })
   said_prefixed limit n None read line said = ap (judged limit n line (prefixed os read)) (line_prefixed n read said) ∙ by (with_line plan n read said)
     where
       over : (next : Orders) (b : Bool) → ◌≡◌ {A = Result ReadSoFar Fault} (Ok (unless_over n line (prefixed os read) (prefixed os next) b)) (judged_prefixed_if os (Ok (unless_over n line read next b)))
@@ -213,8 +219,8 @@ module _ (os : List Order) where
 
   next_prefixed : (r : Reading) (line : List ℕ) → with_next (reading_prefixed os r) line ≡ reading_prefixed_if os (with_next r line)
   next_prefixed r line =
-      ap (onward (reading_prefixed os r)) (said_prefixed r.plan os r.limit r.number r.flaw r.read line (stream_line_of r.hold line))
-      ∙ onward_prefixed r (with_said r.plan r.limit r.number r.flaw r.read line (stream_line_of r.hold line))
+      ap (onward (reading_prefixed os r)) (said_prefixed r.plan os r.limit r.number r.flaw r.read line (stream_line_of r.placing r.hold line))
+      ∙ onward_prefixed r (with_said r.plan r.limit r.number r.flaw r.read line (stream_line_of r.placing r.hold line))
 
   script_prefixed : (r : Reading) (lines : List (List ℕ)) → script_from (reading_prefixed os r) lines ≡ prefixed_script os (script_from r lines)
   script_prefixed r [] = refl
@@ -263,16 +269,22 @@ module _ (plan : List PlanLine) (n : ℕ) where
       by : (b : Bool) → with_seen n epoch read b ≡ Ok next → AtMostOne next.orders
       by true e = inr (order.Seen n epoch, sym (orders_in e) ∙ ap (λ l. l ++ order.Seen n epoch ∷ []) none)
       by false e = absurd (let no = e in cc)
-  one_at_most read next (Some (Request q)) none is = by (is_between read) is
+  one_at_most read next (Some (Request q)) none is = by (has_no_number read) is
     where
       by : (b : Bool) → with_request n q read b ≡ Ok next → AtMostOne next.orders
       by true e = inl (sym (orders_in e) ∙ none)
       by false e = absurd (let no = e in cc)
+  one_at_most read next (Some (At epoch)) none is = by (may_be_placed read) is
+    where
+      by : (b : Bool) → with_place n epoch read b ≡ Ok next → AtMostOne next.orders
+      by true e = inl (sym (orders_in e) ∙ none)
+      by false e = absurd (let no = e in cc)
   one_at_most read next (Some (Data PassedOver)) none is = inl (sym (orders_in is) ∙ none)
-  one_at_most read next (Some (Data Close)) none is = inr (order_for read.request (bag_of entry_cmp read.current), sym (orders_in is) ∙ ap (λ l. l ++ order_for read.request (bag_of entry_cmp read.current) ∷ []) none)
+  one_at_most read next (Some (Data Close)) none is =
+      let o = order_at read.place read.request (bag_of entry_cmp read.current) in inr (o, sym (orders_in is) ∙ ap (λ l. l ++ o ∷ []) none)
   one_at_most read next (Some (Data (Record input rec))) none is = by (is_input_of plan input) is
     where
-      by : (b : Bool) → (if b then Ok (record { orders = read.orders; request = read.request; current = read.current ++ record { input = input; rec = rec } ∷ [] }) else Err (Line n NoSuchInput)) ≡ Ok next
+      by : (b : Bool) → (if b then Ok (record { orders = read.orders; place = read.place; request = read.request; current = read.current ++ record { input = input; rec = rec } ∷ [] }) else Err (Line n NoSuchInput)) ≡ Ok next
           → AtMostOne next.orders
       by true e = inl (sym (orders_in e) ∙ none)
       by false e = absurd (let no = e in cc)
@@ -283,6 +295,7 @@ module _ (plan : List PlanLine) (n : ℕ) where
   judged_one limit (Some why) read next line (Some Cut) none is = inl (sym (judged_in is) ∙ none)
   judged_one limit (Some why) read next line (Some (Seen epoch)) none is = inl (sym (judged_in is) ∙ none)
   judged_one limit (Some why) read next line (Some (Request q)) none is = inl (sym (judged_in is) ∙ none)
+  judged_one limit (Some why) read next line (Some (At epoch)) none is = inl (sym (judged_in is) ∙ none)
   judged_one limit (Some why) read next line (Some (Data PassedOver)) none is = inl (sym (judged_in is) ∙ none)
   judged_one limit (Some why) read next line (Some (Data (Record input rec))) none is = inl (sym (judged_in is) ∙ none)
   judged_one limit (Some why) read next line (Some (Data Close)) none is =
@@ -303,13 +316,13 @@ module _ (plan : List PlanLine) (n : ℕ) where
 
 -- with what is left of its orders
 abbrev pub leaving : List Order → ReadSoFar → ReadSoFar
-leaving left next = (next.0, record { orders = left; request = next.1.request; current = next.1.current })
+leaving left next = (next.0, record { orders = left; place = next.1.place; request = next.1.request; current = next.1.current })
 
 module _ (r : Reading) where
   -- ONE LINE MORE, after which the last order was taken out, if there is one
-  pub completes : (next : ReadSoFar) (line : List ℕ) (left : List Order) (taken : Option Order) → r.read.orders ≡ [] → with_said r.plan r.limit r.number r.flaw r.read line (stream_line_of r.hold line) ≡ Ok next
+  pub completes : (next : ReadSoFar) (line : List ℕ) (left : List Order) (taken : Option Order) → r.read.orders ≡ [] → with_said r.plan r.limit r.number r.flaw r.read line (stream_line_of r.placing r.hold line) ≡ Ok next
       → next.1.orders ≡ left ++ option_to_list taken → (IsSome taken ↔ (0 < length next.1.orders)) → (left ≡ []) × Completes r (after_line r (leaving left next)) line taken
-  completes next line left taken none is parts some = by (judged_one r.plan r.number r.limit r.flaw r.read next line (stream_line_of r.hold line) none is) taken parts some
+  completes next line left taken none is parts some = by (judged_one r.plan r.number r.limit r.flaw r.read next line (stream_line_of r.placing r.hold line) none is) taken parts some
     where
       follows : (more : List (List ℕ)) → script_from r (line ∷ more) ≡ script_from (after_line r next) more
       follows more = ap (λ (w : Result ReadSoFar Fault). script_after r.read (λ q. script_from q more) (onward r w)) is
@@ -341,7 +354,7 @@ module _ (r : Reading) where
                 ∙ script_prefixed (o ∷ []) (after_line r (leaving left next)) more,
           )
 
-  pub at_fault : (line : List ℕ) (fault : Fault) → r.read.orders ≡ [] → with_said r.plan r.limit r.number r.flaw r.read line (stream_line_of r.hold line) ≡ Err fault → HasFault r line
+  pub at_fault : (line : List ℕ) (fault : Fault) → r.read.orders ≡ [] → with_said r.plan r.limit r.number r.flaw r.read line (stream_line_of r.placing r.hold line) ≡ Err fault → HasFault r line
   at_fault line fault none is more =
       ap (λ (w : Result ReadSoFar Fault). script_after r.read (λ q. script_from q more) (onward r w)) is ∙ (λ i. record { orders = none i; is_sound = false })
 
@@ -355,7 +368,7 @@ gives_refused (Ok next) a wanted is ok err = is ∙ ap as_said (sym ok)
 gives_refused (Err fault) a wanted is ok err = inl err
 
 pub refused_alone : (n : ℕ) (read : Orders) (why : Flaw) → read.orders ≡ [] → refused n read why ≡ refused n (numbered read.request no_orders) why
-refused_alone n read why none = λ i. (Some (n, why), record { orders = none i; request = read.request; current = [] })
+refused_alone n read why none = λ i. (Some (n, why), record { orders = none i; place = None; request = read.request; current = [] })
 
 pub over_or_not : (limit : Option ℕ) (n : ℕ) (line : List ℕ) (read next : Orders) (w : Result Orders Fault) (b : Bool) → w ≡ Ok next → is_over limit (length next.current) ≡ b
     → judged limit n line read w ≡ Ok (unless_over n line read next b)
@@ -380,12 +393,12 @@ gives_as (Err f) a b is given = ⊎_elim inl (λ e. inr (is ∙ e)) given
 
 -- and the others stand for what was read then
 pub line_read : (r : Reading) (next : ReadSoFar) (line : List ℕ) (left : Orders) (taken : Option Order) (m : ℕ) → r.read.orders ≡ []
-    → with_said r.plan r.limit r.number r.flaw r.read line (stream_line_of r.hold line) ≡ Ok next → next.1.orders ≡ left.orders ++ option_to_list taken → (IsSome taken ↔ (0 < length next.1.orders))
-    → left ≡ record { orders = left.orders; request = next.1.request; current = next.1.current } → m ≡ r.number + 1
-    → (left.orders ≡ []) × Completes r (record { plan = r.plan; hold = r.hold; limit = r.limit; number = m; flaw = next.0; read = left }) line taken
+    → with_said r.plan r.limit r.number r.flaw r.read line (stream_line_of r.placing r.hold line) ≡ Ok next → next.1.orders ≡ left.orders ++ option_to_list taken → (IsSome taken ↔ (0 < length next.1.orders))
+    → left ≡ record { orders = left.orders; place = next.1.place; request = next.1.request; current = next.1.current } → m ≡ r.number + 1
+    → (left.orders ≡ []) × Completes r (record { plan = r.plan; placing = r.placing; hold = r.hold; limit = r.limit; number = m; flaw = next.0; read = left }) line taken
 line_read r next line left taken m none is parts some same number =
     let all = completes r next line left.orders taken none is parts some in
-    (all.0, subst (λ (q : Reading). Completes r q line taken) (λ i. record { plan = r.plan; hold = r.hold; limit = r.limit; number = sym number i; flaw = next.0; read = sym same i }) all.1)
+    (all.0, subst (λ (q : Reading). Completes r q line taken) (λ i. record { plan = r.plan; placing = r.placing; hold = r.hold; limit = r.limit; number = sym number i; flaw = next.0; read = sym same i }) all.1)
 
 -- what was asked for, as lines are taken
 pub same_itself : (s : Option Script) → SameScript s s
@@ -495,7 +508,7 @@ got (Err fault) = []
 
 -- where no epoch is refused
 abbrev plainly : List PlanLine → ℕ → Orders → Reading
-plainly plan n read = record { plan = plan; hold = false; limit = None; number = n; flaw = None; read = read }
+plainly plan n read = record { plan = plan; placing = false; hold = false; limit = None; number = n; flaw = None; read = read }
 
 -- AN INPUT WITHOUT A FAULT: its script is its orders
 pub script_is : (plan : List PlanLine) (n : ℕ) (read : Orders) (lines : List (List ℕ)) (orders : List Order) → orders_from plan n read lines ≡ Ok orders

@@ -121,6 +121,7 @@ module _ {D : Type 0} (answers : Answers) where
   unmoved old new plan standing whole = record {
     plan = plan;
     whole = whole;
+    told = omega (arith, ap last_epoch standing);
     last = ap last_request standing;
     stands = λ history is.
         subst (λ (h : List Submitted). Stands (states_by answers new.plan) new.standing h) (sym (append-nil history))
@@ -137,6 +138,7 @@ module _ {D : Type 0} (answers : Answers) where
   then_carries a b c x y first second = record {
     plan = second.plan ∙ first.plan;
     whole = second.whole;
+    told = omega (arith, second.told, first.told, length-append x y);
     last = second.last ∙ (ap (λ (q : ℕ). greatest q y) first.last ∙ sym (greatest-append (last_request a.standing) x y));
     stands = λ history is.
         subst (λ (h : List Submitted). StandsFor answers c h) (append_assoc history x y) (second.stands (history ++ x) (first.stands history is));
@@ -152,6 +154,7 @@ module _ {D : Type 0} (answers : Answers) where
       subst (λ (k : Keeping D). Carries answers old k x) (sym is) (record {
         plan = refl;
         whole = whole;
+        told = omega (arith, length-append old.standing.submitted x);
         last = greatest-append old.standing.last old.standing.submitted x;
         stands = λ history s. more_stands answers old.plan old.standing history x s;
       })
@@ -197,6 +200,7 @@ module _ (answers : Answers) (stands_on : Stands-on answers) where
       subst (λ (k : Keeping D). Carries answers old k []) (sym is) (record {
         plan = refl;
         whole = whole;
+        told = omega (arith, length-drop n s.submitted, most);
         last = sym (greatest-append s.last (take n s.submitted) (drop n s.submitted)) ∙ ap (greatest s.last) (take-append-drop n s.submitted);
         stands = λ history h.
             let next = stands_on (tree_of old.plan) s t history [] h advance in

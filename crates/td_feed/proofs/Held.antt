@@ -39,6 +39,7 @@ seen_more a b (order.Seen line epoch) less =
     max_at_most a epoch (max b epoch) (omega (arith, left, less)) right
 seen_more a b (order.Submit batch) less = less
 seen_more a b (order.SubmitAs request batch) less = less
+seen_more a b (order.SubmitAt place request batch) less = less
 seen_more a b order.Cut less = less
 seen_more a b (order.Say note) less = less
 
@@ -50,6 +51,7 @@ seen_one : (a : ℕ) (o : Order) → a ≤ seen_then a o
 seen_one a (order.Seen line epoch) = le-max_left a epoch
 seen_one a (order.Submit batch) = omega arith
 seen_one a (order.SubmitAs request batch) = omega arith
+seen_one a (order.SubmitAt place request batch) = omega arith
 seen_one a order.Cut = omega arith
 seen_one a (order.Say note) = omega arith
 

@@ -15,6 +15,10 @@ pub mod Pieces
 pub mod Counting
 pub mod Asked
 pub mod Excerpts
+pub mod Placed
+pub mod Unplaced
+pub mod PlacedDump
+pub mod BringsOn
 pub mod Obeyed
 mod Shown
 pub mod Acknowledged

@@ -181,6 +181,12 @@ module _ {D : Type 0} (is_lawful : D → Type 0) (state : D → DiskState) (fail
   pub unheard : (u v : Option (List ℕ)) (a b : Keeping D) (ns : List Note) → SaysSome is_lawful state failures answers marks u v a b ns → SaysUnheard is_lawful state failures answers marks a b
   unheard u v a b ns some = record { commands = commands_in some.sayings; replies = replies_in some.sayings; driven = some.driven }
 
+  -- whatever came of it, the keeper was told commands
+  pub always_driven : (result : Result (Unit {0}) Fault) (u v : Option (List ℕ)) (a b : Keeping D) (x : List AnySubmitted) (ns : List Note) → SaysBy is_lawful state failures answers marks result u v a b x ns
+      → SaysUnheard is_lawful state failures answers marks a b
+  always_driven (Ok done) u v a b x ns all = unheard u v a b ns (some_of_all u v a b x ns all)
+  always_driven (Err fault) u v a b x ns said = ⊎_elim (λ output. output.1) (λ some. unheard u v a b ns some) said
+
   driven-append : (cs : List Command) (rs : List Reply) (ds : List Command) (ss : List Reply) (a b c : Keeping D) → Driven is_lawful state failures answers cs rs a b
       → Driven is_lawful state failures answers ds ss b c → Driven is_lawful state failures answers (cs ++ ds) (rs ++ ss) a c
   driven-append [] [] ds ss a b c is rest = subst (λ (k : Keeping D). Driven is_lawful state failures answers ds ss k c) is rest

@@ -44,6 +44,12 @@ front_end u v w before text held there more line all first none step then =
     let both = front_before u w (before ++ text) there line (front_on u v w (before ++ text) held there now step) in
     subst (λ (l : List ℕ). WritesFront u w l more) (append_assoc before text line) (subst (λ (l : List ℕ). WritesFront u w ((before ++ text) ++ line) l) (sym then) both)
 
+-- a line is held, and then what comes next is written in steps of its own
+pub front_first : (u v w : Option (List ℕ)) (held there more line text left : List ℕ) → WritesFront u v held there → more ≡ there ++ line → WritesFront v w (more ++ text) left → WritesFront u w (held ++ (line ++ text)) left
+front_first u v w held there more line text left first then step =
+    let same : more ++ text ≡ there ++ (line ++ text) = ap (λ (l : List ℕ). l ++ text) then ∙ append_assoc there line text in
+    front_on u v w (held ++ (line ++ text)) (there ++ (line ++ text)) left (front_before u v held there (line ++ text) first) (subst (λ (l : List ℕ). WritesFront v w l left) same step)
+
 -- what comes next is written in steps of its own
 pub front_next : (u v w : Option (List ℕ)) (whole held more text rest all : List ℕ) → WritesFront u v whole (held ++ all) → all ≡ text ++ rest → WritesFront v w (held ++ text) more → WritesFront u w whole (more ++ rest)
 front_next u v w whole held more text rest all first is step =

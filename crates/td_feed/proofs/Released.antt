@@ -35,6 +35,7 @@ pub submissions-append : (xs ys : List Order) → submissions (xs ++ ys) ≡ sub
 submissions-append [] ys = refl
 submissions-append (order.Submit batch ∷ xs) ys = ap (λ (l : List Submitted). submission 0 batch ∷ l) (submissions-append xs ys)
 submissions-append (order.SubmitAs request batch ∷ xs) ys = ap (λ (l : List Submitted). submission request batch ∷ l) (submissions-append xs ys)
+submissions-append (order.SubmitAt place request batch ∷ xs) ys = ap (λ (l : List Submitted). submission request batch ∷ l) (submissions-append xs ys)
 submissions-append (order.Cut ∷ xs) ys = submissions-append xs ys
 submissions-append (order.Seen line epoch ∷ xs) ys = submissions-append xs ys
 submissions-append (order.Say note ∷ xs) ys = submissions-append xs ys
@@ -44,6 +45,7 @@ pub notes-append : (xs ys : List Order) → notes_in (xs ++ ys) ≡ notes_in xs 
 notes-append [] ys = refl
 notes-append (order.Submit batch ∷ xs) ys = notes-append xs ys
 notes-append (order.SubmitAs request batch ∷ xs) ys = notes-append xs ys
+notes-append (order.SubmitAt place request batch ∷ xs) ys = notes-append xs ys
 notes-append (order.Cut ∷ xs) ys = notes-append xs ys
 notes-append (order.Seen line epoch ∷ xs) ys = notes-append xs ys
 notes-append (order.Say note ∷ xs) ys = ap (λ (l : List Note). note ∷ l) (notes-append xs ys)

@@ -55,7 +55,7 @@ number_again : (n : ℕ) → n < 2 ^ 8 → number_of (decimal n) ≡ Some n
 number_again n h = rw (natural_again n (omega (arith, h)), lt-ltb n 1000000000 (omega (arith, h))) refl
 
 -- LINES
-spaced : (w rest : List ℕ) → is_word w ≡ true → list_all is_printable rest ≡ true → list_all is_printable (w ++ 32 ∷ rest) ≡ true
+pub spaced : (w rest : List ℕ) → is_word w ≡ true → list_all is_printable rest ≡ true → list_all is_printable (w ++ 32 ∷ rest) ≡ true
 spaced w rest is h = list_all-append is_printable w (32 ∷ rest) ∙ rw (word_printable w is, h) refl
 
 -- what a line says that has these words
@@ -70,15 +70,15 @@ module _ (line : List ℕ) (ws : List (List ℕ)) (printable : list_all is_print
   data_said comment = rw (printable, has, comment) refl
 
 -- `INPUT KEY VAL`, without the line feed
-abbrev record_words : Entry → List ℕ
+abbrev pub record_words : Entry → List ℕ
 record_words e = decimal e.input ++ (32 ∷ (decimal e.rec.key ++ (32 ∷ signed_decimal e.rec.val)))
 
-record_printable : (e : Entry) → list_all is_printable (record_words e) ≡ true
+pub record_printable : (e : Entry) → list_all is_printable (record_words e) ≡ true
 record_printable e =
     spaced (decimal e.input) (decimal e.rec.key ++ (32 ∷ signed_decimal e.rec.val)) (number_word e.input)
     (spaced (decimal e.rec.key) (signed_decimal e.rec.val) (number_word e.rec.key) (word_printable (signed_decimal e.rec.val) (signed_word e.rec.val)))
 
-record_three : (e : Entry) → words (record_words e) ≡ decimal e.input ∷ decimal e.rec.key ∷ signed_decimal e.rec.val ∷ []
+pub record_three : (e : Entry) → words (record_words e) ≡ decimal e.input ∷ decimal e.rec.key ∷ signed_decimal e.rec.val ∷ []
 record_three e =
     word_first (decimal e.input) (number_word e.input) (decimal e.rec.key ++ (32 ∷ signed_decimal e.rec.val))
     ∙ ap (λ ws. decimal e.input ∷ ws) (word_first (decimal e.rec.key) (number_word e.rec.key) (signed_decimal e.rec.val)
@@ -87,27 +87,27 @@ record_three e =
 record_spelled : (e : Entry) → FitsLine e → spelled (decimal e.input ∷ decimal e.rec.key ∷ signed_decimal e.rec.val ∷ []) ≡ Some (Record e.input e.rec)
 record_spelled e fits = rw (number_again e.input fits.input, natural_again e.rec.key fits.key, integer_again e.rec.val fits.val) refl
 
-record_said : (e : Entry) → FitsLine e → feed_line_of (record_words e) ≡ Some (Data (Record e.input e.rec))
+pub record_said : (e : Entry) → FitsLine e → feed_line_of (record_words e) ≡ Some (Data (Record e.input e.rec))
 record_said e fits =
     let line = record_words e in
     let ws = decimal e.input ∷ decimal e.rec.key ∷ signed_decimal e.rec.val ∷ [] in
     let none = no_byte 35 e.input (omega arith) (let h = fits.input in omega (arith, h)) in
     feed_said line ws (record_printable e) (record_three e) refl ∙ ap (option_map Data) (data_said line ws (record_printable e) (record_three e) none ∙ record_spelled e fits)
 
-close_said : feed_line_of (codes ".") ≡ Some (Data Close)
+pub close_said : feed_line_of (codes ".") ≡ Some (Data Close)
 close_said = refl
 
 -- `req Q`
-abbrev request_words : ℕ → List ℕ
+abbrev pub request_words : ℕ → List ℕ
 request_words q = codes "req" ++ 32 ∷ decimal q
 
-request_printable : (q : ℕ) → list_all is_printable (request_words q) ≡ true
+pub request_printable : (q : ℕ) → list_all is_printable (request_words q) ≡ true
 request_printable q = spaced (codes "req") (decimal q) refl (word_printable (decimal q) (number_word q))
 
-request_two : (q : ℕ) → words (request_words q) ≡ codes "req" ∷ decimal q ∷ []
+pub request_two : (q : ℕ) → words (request_words q) ≡ codes "req" ∷ decimal q ∷ []
 request_two q = word_first (codes "req") refl (decimal q) ∙ ap (λ ws. codes "req" ∷ ws) (word_last (decimal q) (number_word q))
 
-request_said : (q : ℕ) → suc q < 2 ^ 64 → feed_line_of (request_words (suc q)) ≡ Some (Request (suc q))
+pub request_said : (q : ℕ) → suc q < 2 ^ 64 → feed_line_of (request_words (suc q)) ≡ Some (Request (suc q))
 request_said q h =
     let line = request_words (suc q) in
     feed_said line (codes "req" ∷ decimal (suc q) ∷ []) (request_printable (suc q)) (request_two (suc q)) refl ∙ ap (λ o. or_data line (positive o)) (natural_again (suc q) h)
@@ -122,7 +122,7 @@ comment_no_request [] = refl
 comment_no_request (w ∷ []) = refl
 comment_no_request (w ∷ v ∷ ws) = refl
 
-comment_said : (rest : List ℕ) → list_all is_printable rest ≡ true → feed_line_of (codes "#" ++ 32 ∷ rest) ≡ Some (Data PassedOver)
+pub comment_said : (rest : List ℕ) → list_all is_printable rest ≡ true → feed_line_of (codes "#" ++ 32 ∷ rest) ≡ Some (Data PassedOver)
 comment_said rest h =
     let line = codes "#" ++ 32 ∷ rest in
     let ws = codes "#" ∷ words rest in
@@ -147,8 +147,8 @@ one_line plan read next line rest text said is printable says then n = (
 )
 
 -- with a record more
-abbrev with_entry : Orders → Entry → Orders
-with_entry read e = record { orders = read.orders; request = read.request; current = read.current ++ e ∷ [] }
+abbrev pub with_entry : Orders → Entry → Orders
+with_entry read e = record { orders = read.orders; place = read.place; request = read.request; current = read.current ++ e ∷ [] }
 
 record_goes : (plan : List PlanLine) (read : Orders) (e : Entry) (rest : List ℕ) → is_input_of plan e.input ≡ true → FitsLine e → Goes plan read (record_line e ++ rest) (with_entry read e) rest
 record_goes plan read e rest input fits =
@@ -158,12 +158,12 @@ record_goes plan read e rest input fits =
     is = simp append_assoc
 
 -- and with those of a batch
-abbrev with_entries : Orders → List Entry → Orders
-with_entries read es = record { orders = read.orders; request = read.request; current = read.current ++ es }
+abbrev pub with_entries : Orders → List Entry → Orders
+with_entries read es = record { orders = read.orders; place = read.place; request = read.request; current = read.current ++ es }
 
 records_go : (plan : List PlanLine) (read : Orders) (es : List Entry) (rest : List ℕ) → list_all (λ e. is_input_of plan e.input) es ≡ true → Each FitsLine es → Goes plan read (flat_map record_line es ++ rest) (with_entries read es) rest
 records_go plan read [] rest inputs fits = λ n.
-    (n, ap (λ c. orders_from plan n (record { orders = read.orders; request = read.request; current = c }) (text_lines rest)) (sym (append-nil read.current)))
+    (n, ap (λ c. orders_from plan n (record { orders = read.orders; place = read.place; request = read.request; current = c }) (text_lines rest)) (sym (append-nil read.current)))
 records_go plan read (e ∷ es) rest inputs fits =
     let p = both (is_input_of plan e.input) (list_all (λ e. is_input_of plan e.input) es) inputs in
     let first : Goes plan read (record_line e ++ (flat_map record_line es ++ rest)) (with_entry read e) (flat_map record_line es ++ rest) = record_goes plan read e (flat_map record_line es ++ rest) p.0 fits.0 in
@@ -172,14 +172,14 @@ records_go plan read (e ∷ es) rest inputs fits =
     let text : record_line e ++ (flat_map record_line es ++ rest) ≡ flat_map record_line (e ∷ es) ++ rest = sym (append_assoc (record_line e) (flat_map record_line es) rest) in
     let entries : (read.current ++ e ∷ []) ++ es ≡ read.current ++ e ∷ es = append_assoc read.current (e ∷ []) es in
     subst (λ t. Goes plan read t (with_entries read (e ∷ es)) rest) text
-    (subst (λ c. Goes plan read (record_line e ++ (flat_map record_line es ++ rest)) (record { orders = read.orders; request = read.request; current = c }) rest) entries all)
+    (subst (λ c. Goes plan read (record_line e ++ (flat_map record_line es ++ rest)) (record { orders = read.orders; place = read.place; request = read.request; current = c }) rest) entries all)
 
 -- between two epochs, with these orders
 abbrev between : List Order → Orders
-between orders = record { orders = orders; request = 0; current = [] }
+between orders = record { orders = orders; place = None; request = 0; current = [] }
 
 abbrev begun : List Order → ℕ → Orders
-begun orders q = record { orders = orders; request = q; current = [] }
+begun orders q = record { orders = orders; place = None; request = q; current = [] }
 
 request_goes : (plan : List PlanLine) (orders : List Order) (q : ℕ) (rest : List ℕ) → q < 2 ^ 64 → Goes plan (between orders) (request_line q ++ rest) (begun orders q) rest
 request_goes plan orders zero rest h = λ n. (n, refl)
@@ -194,9 +194,9 @@ abbrev order_of : Submitted → Order
 order_of s = order_for s.request s.batch
 
 close_goes : (plan : List PlanLine) (orders : List Order) (s : Submitted) (rest : List ℕ) → IsBag entry_cmp s.batch
-    → Goes plan (record { orders = orders; request = s.request; current = s.batch }) (codes ".\n" ++ rest) (between (orders ++ order_of s ∷ [])) rest
+    → Goes plan (record { orders = orders; place = None; request = s.request; current = s.batch }) (codes ".\n" ++ rest) (between (orders ++ order_of s ∷ [])) rest
 close_goes plan orders s rest bag =
-    one_line plan (record { orders = orders; request = s.request; current = s.batch }) (between (orders ++ order_of s ∷ [])) (codes ".") rest (codes ".\n" ++ rest) (Some (Data Close)) refl refl close_said
+    one_line plan (record { orders = orders; place = None; request = s.request; current = s.batch }) (between (orders ++ order_of s ∷ [])) (codes ".") rest (codes ".\n" ++ rest) (Some (Data Close)) refl refl close_said
     (λ n. ap (λ (b : List Entry). Ok (with_order (order_for s.request b) (between orders))) bag)
 
 -- an epoch that is read as it was written: its numbers fit, its records name inputs of the plan, and are in order
@@ -215,7 +215,7 @@ epoch_goes plan orders s rest is =
     let last = close_goes plan orders s rest is.bag in
     subst (λ t. Goes plan (between orders) t (between (orders ++ order_of s ∷ [])) rest) text
     (goes_on plan (between orders) (begun orders s.request) (between (orders ++ order_of s ∷ [])) (request_line s.request ++ (records ++ end)) (records ++ end) rest first
-    (goes_on plan (begun orders s.request) (record { orders = orders; request = s.request; current = s.batch }) (between (orders ++ order_of s ∷ [])) (records ++ end) end rest more last))
+    (goes_on plan (begun orders s.request) (record { orders = orders; place = None; request = s.request; current = s.batch }) (between (orders ++ order_of s ∷ [])) (records ++ end) end rest more last))
   where
     epoch_in : (a b c d : List ℕ) → a ++ (b ++ (c ++ d)) ≡ ((a ++ b) ++ c) ++ d
     epoch_in a b c d = simp append_assoc
@@ -237,20 +237,20 @@ submits (s ∷ x) = by s.request (submits x)
     by (suc q) more = ap (λ l. submission (suc q) s.batch ∷ l) more
 
 -- the first line, behind its `# `
-abbrev standing_rest : Standing → List ℕ
+abbrev pub standing_rest : Standing → List ℕ
 standing_rest s = codes "kept " ++ decimal s.epoch ++ codes " told " ++ decimal (last_epoch s) ++ codes " last " ++ decimal (last_request s)
 
 joined : (xs words : List ℕ) (n : ℕ) → list_all is_printable xs ≡ true → list_all is_printable words ≡ true → list_all is_printable (xs ++ words ++ decimal n) ≡ true
 joined xs words n a b =
     list_all-append is_printable (xs ++ words) (decimal n) ∙ rw (list_all-append is_printable xs words, a, b, word_printable (decimal n) (number_word n)) refl
 
-standing_printable : (s : Standing) → list_all is_printable (standing_rest s) ≡ true
+pub standing_printable : (s : Standing) → list_all is_printable (standing_rest s) ≡ true
 standing_printable s =
     let kept = codes "kept " ++ decimal s.epoch in
     let told = kept ++ codes " told " ++ decimal (last_epoch s) in
     joined told (codes " last ") (last_request s) (joined kept (codes " told ") (last_epoch s) (joined [] (codes "kept ") s.epoch refl refl) refl) refl
 
-room_printable : (sizes : Sizes) (s : Standing) → list_all is_printable (room_words sizes s) ≡ true
+pub room_printable : (sizes : Sizes) (s : Standing) → list_all is_printable (room_words sizes s) ≡ true
 room_printable sizes s =
     let epochs = codes ", epochs " ++ decimal (length s.submitted) in
     let cells = epochs ++ codes " of " ++ decimal sizes.n in

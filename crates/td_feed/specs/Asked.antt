@@ -15,6 +15,7 @@ use Rattle.td_journal.specs.Numbers.{may_come}
 use Rattle.td_feed.specs.declared.note.Flaw.{Flaw}
 use Rattle.td_feed.specs.declared.note.Cause.TheVariants as cause
 use Rattle.td_feed.specs.declared.note.Note.{Note}
+use Rattle.td_feed.specs.declared.note.Note.TheVariants.{Refused}
 use Rattle.td_feed.specs.declared.order.FeedLine.{FeedLine}
 use Rattle.td_feed.specs.declared.order.FeedLine.TheVariants.{Data, Request}
 use Rattle.td_feed.specs.declared.order.Order.{Order}
@@ -49,6 +50,11 @@ ReadSoFar = Option (ℕ × Flaw) × Orders
 abbrev pub refused : ℕ → Orders → Flaw → ReadSoFar
 refused n read why = (Some (n, why), numbered read.request read)
 
+-- whether epochs are refused: where there is a limit of their records
+abbrev pub is_given : Option ℕ → Bool
+is_given None = false
+is_given (Some most) = true
+
 -- whether an epoch has more records than it may have, where it is refused then
 abbrev pub is_over : Option ℕ → ℕ → Bool
 is_over None n = false
@@ -81,7 +87,7 @@ first_number request q = if request == 0 then q else request
 
 -- the note for an epoch that is refused
 abbrev pub note_of : ℕ → ℕ × Flaw → Note
-note_of request why = record { request = request; line = why.0; flaw = why.1 }
+note_of request why = Refused request why.0 why.1
 
 -- A LINE OF AN EPOCH THAT IS REFUSED: a `.` ends it, and its note is to be written; a request number is its own; all others are passed over
 abbrev pub passed_over : ℕ × Flaw → Orders → Option FeedLine → ReadSoFar
@@ -95,10 +101,11 @@ abbrev pub with_said : List PlanLine → Option ℕ → ℕ → Option (ℕ × F
 with_said plan limit n (Some why) read line said = Ok (passed_over why read said)
 with_said plan limit n None read line said = judged limit n line read (with_line plan n read said)
 
--- WHERE A STREAM IS in its input: its plan; whether outputs are held; where it refuses epochs, how many records one may have; the number of
--- the next line; why the epoch that is open is refused, if it is; and what was read
+-- WHERE A STREAM IS in its input: its plan; whether epochs may have places; whether outputs are held; where it refuses epochs, how many
+-- records one may have; the number of the next line; why the epoch that is open is refused, if it is; and what was read
 pub record Reading : Type 0 where
   pub plan : List PlanLine
+  pub placing : Bool
   pub hold : Bool
   pub limit : Option ℕ
   pub number : ℕ
@@ -107,22 +114,22 @@ pub record Reading : Type 0 where
 
 -- of a reader of lines
 abbrev pub place : AnyReading → Reading
-place r = record { plan = r.plan.now; hold = r.hold; limit = r.limit; number = r.number; flaw = r.flaw; read = r.read }
+place r = record { plan = r.plan.now; placing = r.placing; hold = r.hold; limit = r.limit; number = r.number; flaw = r.flaw; read = r.read }
 
 -- before the first line
-abbrev pub at_start : Bool → Option ℕ → List PlanLine → Reading
-at_start hold limit plan = record { plan = plan; hold = hold; limit = limit; number = 1; flaw = None; read = no_orders }
+abbrev pub at_start : Bool → Bool → Option ℕ → List PlanLine → Reading
+at_start placing hold limit plan = record { plan = plan; placing = placing; hold = hold; limit = limit; number = 1; flaw = None; read = no_orders }
 
 -- after one line more, or its fault
 abbrev pub after_line : Reading → ReadSoFar → Reading
-after_line r next = record { plan = r.plan; hold = r.hold; limit = r.limit; number = r.number + 1; flaw = next.0; read = next.1 }
+after_line r next = record { plan = r.plan; placing = r.placing; hold = r.hold; limit = r.limit; number = r.number + 1; flaw = next.0; read = next.1 }
 
 abbrev pub onward : Reading → Result ReadSoFar Fault → Result Reading Fault
 onward r (Ok next) = Ok (after_line r next)
 onward r (Err fault) = Err fault
 
 abbrev pub with_next : Reading → List ℕ → Result Reading Fault
-with_next r line = onward r (with_said r.plan r.limit r.number r.flaw r.read line (stream_line_of r.hold line))
+with_next r line = onward r (with_said r.plan r.limit r.number r.flaw r.read line (stream_line_of r.placing r.hold line))
 
 -- at the end, no epoch may have begun
 abbrev pub may_end : Option (ℕ × Flaw) → Bool → Bool
@@ -139,9 +146,10 @@ abbrev pub script_from : Reading → List (List ℕ) → Script
 script_from r [] = record { orders = r.read.orders; is_sound = may_end r.flaw (is_between r.read) }
 script_from r (line ∷ lines) = script_after r.read (λ more. script_from more lines) (with_next r line)
 
--- THE SCRIPT OF AN INPUT, of a stream that holds outputs or not, and that refuses epochs, with so many records at most, or not
-abbrev pub script_of : Bool → Option ℕ → List PlanLine → List ℕ → Script
-script_of hold limit plan input = script_from (at_start hold limit plan) (text_lines input)
+-- THE SCRIPT OF AN INPUT, of a stream whose epochs may have places or not, that holds outputs or not, and that refuses epochs, with so many
+-- records at most, or not
+abbrev pub script_of : Bool → Bool → Option ℕ → List PlanLine → List ℕ → Script
+script_of placing hold limit plan input = script_from (at_start placing hold limit plan) (text_lines input)
 
 -- what is left of a script, where the rest of the input is known
 abbrev pub script_left : Option (List ℕ) → Reading → Option Script
@@ -186,6 +194,7 @@ SameScript (Some old) (Some new) = old ≡ new
 abbrev pub IsNext : ℕ → Order → Type 0
 IsNext last (order.Submit batch) = Unit {0}
 IsNext last (order.SubmitAs request batch) = may_come (Some last) request ≡ true
+IsNext last (order.SubmitAt place request batch) = ⊥
 IsNext last order.Cut = ⊥
 IsNext last (order.Seen line epoch) = ⊥
 IsNext last (order.Say note) = ⊥
@@ -200,10 +209,16 @@ abbrev pub notes_for : Asked → List Note
 notes_for (One order) = notes_in (order ∷ [])
 notes_for (Epochs group) = []
 
--- and is these orders: one alone, or some that submit a group
+-- no order has a place
+abbrev pub HaveNoPlace : List Order → Type 0
+HaveNoPlace [] = Unit {0}
+HaveNoPlace (order.SubmitAt place request batch ∷ orders) = ⊥
+HaveNoPlace (_ ∷ orders) = HaveNoPlace orders
+
+-- and is these orders: one alone, or some that submit a group, in no place
 abbrev pub IsOf : Asked → List Order → Type 0
 IsOf (One order) orders = orders ≡ order ∷ []
-IsOf (Epochs group) orders = (submissions orders ≡ group) × (notes_in orders ≡ [])
+IsOf (Epochs group) orders = (submissions orders ≡ group) × (notes_in orders ≡ []) × HaveNoPlace orders
 
 -- something was asked for, the first of a script; or nothing, and the script has ended without a fault
 abbrev pub Asks : Option Script → Option Script → Option Asked → Type 0

@@ -6,7 +6,7 @@ use Rattle.td_disk.specs.Disk.{DiskState}
 use Rattle.td_journal.specs.declared.submitted.Submitted.{Submitted}
 use Rattle.td_journal.specs.Numbers.{greatest}
 use Rattle.td_group.specs.Groups.{may_follow}
-use Rattle.td_standing.specs.Standing.{last_request, submission}
+use Rattle.td_standing.specs.Standing.{last_epoch, last_request, submission}
 use Rattle.td_standing.specs.Stops.{Stands}
 use Rattle.td_standing.specs.Advanced.{states_by}
 use Rattle.td_keeper.specs.Keeping.{Keeping}
@@ -23,10 +23,11 @@ abbrev pub StandsFor : {D : Type 0} → Answers → Keeping D → List Submitted
 StandsFor answers k history = Stands (states_by answers k.plan) k.standing history
 
 -- THE KEEPER GOES ON with these batches: the device did not fail, what stood for a history stands for it and them, and the
--- greatest request number is raised by theirs
+-- last epoch and the greatest request number are raised by theirs
 pub record Carries {D : Type 0} (answers : Answers) (old new : Keeping D) (x : List Submitted) : Type 0 where
   pub plan : new.plan ≡ old.plan
   pub whole : new.broken ≡ false
+  pub told : last_epoch new.standing ≡ last_epoch old.standing + length x
   pub last : last_request new.standing ≡ greatest (last_request old.standing) x
   pub stands : (history : List Submitted) → StandsFor answers old history → StandsFor answers new (history ++ x)
 

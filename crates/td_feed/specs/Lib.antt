@@ -9,4 +9,5 @@ pub mod Carried
 pub mod Said
 pub mod Upgraded
 pub mod Asked
+pub mod Placed
 pub mod Session

@@ -12,6 +12,7 @@ use Rattle.td_feed.specs.declared.note.Cause.{Cause}
 use Rattle.td_feed.specs.declared.note.Cause.TheVariants.{Line, CarriageReturn, NotAscii, NumberTooLarge, TooManyRecords}
 use Rattle.td_feed.specs.declared.note.Flaw.{Flaw}
 use Rattle.td_feed.specs.declared.note.Note.{Note}
+use Rattle.td_feed.specs.declared.note.Note.TheVariants.{Refused, There, Gap}
 
 -- why an epoch is refused
 abbrev pub cause_text : Cause → List ℕ
@@ -74,6 +75,15 @@ no_line request line flaw =
     if request == 0 then codes "no - " ++ decimal line ++ codes ": " ++ flaw_text flaw ++ 10 ∷ []
     else codes "no " ++ decimal request ++ 32 ∷ decimal line ++ codes ": " ++ flaw_text flaw ++ 10 ∷ []
 
+-- `there E` and `gap E`
+abbrev pub there_line : ℕ → List ℕ
+there_line epoch = codes "there " ++ decimal epoch ++ 10 ∷ []
+
+abbrev pub gap_line : ℕ → List ℕ
+gap_line epoch = codes "gap " ++ decimal epoch ++ 10 ∷ []
+
 -- THE LINE OF A NOTE
 abbrev pub note_line : Note → List ℕ
-note_line note = no_line note.request note.line note.flaw
+note_line (Refused request line flaw) = no_line request line flaw
+note_line (There epoch) = there_line epoch
+note_line (Gap epoch) = gap_line epoch

@@ -18,7 +18,8 @@ use Rattle.td_console.specs.declared.faults.Fault.{Fault}
 use Rattle.td_console.specs.declared.faults.Fault.TheVariants.{Line, Memory}
 use Rattle.td_console.specs.Data.{data_line_of}
 use Rattle.td_feed.specs.declared.order.FeedLine.{FeedLine}
-use Rattle.td_feed.specs.declared.order.FeedLine.TheVariants.{Data, Request, Cut, Seen}
+use Rattle.td_feed.specs.declared.order.FeedLine.TheVariants.{Data, Request, At, Cut, Seen}
+use Rattle.td_feed.specs.declared.order.Place.{Place}
 use Rattle.td_feed.specs.declared.order.Order.{Order}
 use Rattle.td_feed.specs.declared.order.Order.TheVariants as order
 use Rattle.td_feed.specs.declared.note.Note.{Note}
@@ -59,69 +60,108 @@ abbrev pub or_feed_line : List ℕ → Option ℕ → Option FeedLine
 or_feed_line line (Some epoch) = Some (Seen epoch)
 or_feed_line line None = feed_line_of line
 
--- what a line of a stream says, if it has a form: where outputs are held, also which epoch was seen
-abbrev pub stream_line_of : Bool → List ℕ → Option FeedLine
-stream_line_of false line = feed_line_of line
-stream_line_of true line = if list_all is_ascii line then or_feed_line line (seen_of (words line)) else None
+-- what a line says, if it has a form, where epochs have no places: where outputs are held, also which epoch was seen
+abbrev pub held_line_of : Bool → List ℕ → Option FeedLine
+held_line_of false line = feed_line_of line
+held_line_of true line = if list_all is_ascii line then or_feed_line line (seen_of (words line)) else None
 
--- Orders that were read so far; and of the epoch that is not closed its request number, 0 for none, and its entries as they were
--- read
+-- the epoch of the words `at E`
+abbrev pub place_of : List (List ℕ) → Option ℕ
+place_of (word ∷ number ∷ []) = if bytes_eq word (codes "at") then positive (natural_of number) else None
+place_of _ = None
+
+-- the place of an epoch, or what else a line says
+abbrev pub or_held_line : Bool → List ℕ → Option ℕ → Option FeedLine
+or_held_line hold line (Some epoch) = Some (At epoch)
+or_held_line hold line None = held_line_of hold line
+
+-- what a line of a stream says, if it has a form: where epochs have places, also the place of one
+abbrev pub stream_line_of : Bool → Bool → List ℕ → Option FeedLine
+stream_line_of false hold line = held_line_of hold line
+stream_line_of true hold line = if list_all is_ascii line then or_held_line hold line (place_of (words line)) else None
+
+-- Orders that were read so far; and of the epoch that is not closed its place, if it has one, its request number, 0 for none, and its
+-- entries as they were read
 pub record Orders : Type 0 where
   pub orders : List Order
+  pub place : Option Place
   pub request : ℕ
   pub current : List Entry
 
 -- before the first line
 abbrev pub no_orders : Orders
-no_orders = record { orders = []; request = 0; current = [] }
+no_orders = record { orders = []; place = None; request = 0; current = [] }
 
 -- with one order more, and nothing after it
 abbrev pub with_order : Order → Orders → Orders
-with_order o read = record { orders = read.orders ++ o ∷ []; request = 0; current = [] }
+with_order o read = record { orders = read.orders ++ o ∷ []; place = None; request = 0; current = [] }
 
--- with this request number, of an epoch without records
+-- with this request number, of an epoch without a place and without records
 abbrev pub numbered : ℕ → Orders → Orders
-numbered request read = record { orders = read.orders; request = request; current = [] }
+numbered request read = record { orders = read.orders; place = None; request = request; current = [] }
 
 -- whether there is no record
 abbrev pub has_none : List Entry → Bool
 has_none [] = true
 has_none (entry ∷ entries) = false
 
--- whether an epoch has not begun: neither a request number nor a record stands in it
+-- whether there is no place
+abbrev pub has_no_place : Option Place → Bool
+has_no_place None = true
+has_no_place (Some place) = false
+
+-- whether neither a request number nor a record stands in an epoch, and neither a place nor a record
+abbrev pub has_no_number : Orders → Bool
+has_no_number read = (read.request == 0) && has_none read.current
+
+abbrev pub may_be_placed : Orders → Bool
+may_be_placed read = has_no_place read.place && has_none read.current
+
+-- whether an epoch has not begun: neither a place nor a request number nor a record stands in it
 abbrev pub is_between : Orders → Bool
-is_between read = (read.request == 0) && has_none read.current
+is_between read = has_no_place read.place && has_no_number read
 
 -- a cut stands between epochs alone
 abbrev pub with_cut : ℕ → Orders → Bool → Result Orders Fault
-with_cut n read true = Ok (record { orders = read.orders ++ order.Cut ∷ []; request = read.request; current = read.current })
+with_cut n read true = Ok (record { orders = read.orders ++ order.Cut ∷ []; place = read.place; request = read.request; current = read.current })
 with_cut n read false = Err (Line n Syntax)
 
 -- and so does an epoch that was seen
 abbrev pub with_seen : ℕ → ℕ → Orders → Bool → Result Orders Fault
-with_seen n epoch read true = Ok (record { orders = read.orders ++ order.Seen n epoch ∷ []; request = read.request; current = read.current })
+with_seen n epoch read true = Ok (record { orders = read.orders ++ order.Seen n epoch ∷ []; place = read.place; request = read.request; current = read.current })
 with_seen n epoch read false = Err (Line n Syntax)
 
--- and a request number, which is of the epoch after it
+-- a request number is of the epoch after it, and stands before its records
 abbrev pub with_request : ℕ → ℕ → Orders → Bool → Result Orders Fault
-with_request n q read true = Ok (record { orders = read.orders; request = q; current = read.current })
+with_request n q read true = Ok (record { orders = read.orders; place = read.place; request = q; current = read.current })
 with_request n q read false = Err (Line n Syntax)
+
+-- and so does its place
+abbrev pub with_place : ℕ → ℕ → Orders → Bool → Result Orders Fault
+with_place n epoch read true = Ok (record { orders = read.orders; place = Some (record { epoch = epoch; line = n }); request = read.request; current = read.current })
+with_place n epoch read false = Err (Line n Syntax)
 
 -- what submits a batch under a request number, or without one
 abbrev pub order_for : ℕ → List Entry → Order
 order_for zero batch = order.Submit batch
 order_for (suc q) batch = order.SubmitAs (suc q) batch
 
+-- and at a place, if it has one
+abbrev pub order_at : Option Place → ℕ → List Entry → Order
+order_at None request batch = order_for request batch
+order_at (Some place) request batch = order.SubmitAt place request batch
+
 -- with one line more, which has the number n, or its fault
 abbrev pub with_line : List PlanLine → ℕ → Orders → Option FeedLine → Result Orders Fault
 with_line plan n read None = Err (Line n Syntax)
 with_line plan n read (Some Cut) = with_cut n read (is_between read)
-with_line plan n read (Some (Request q)) = with_request n q read (is_between read)
+with_line plan n read (Some (Request q)) = with_request n q read (has_no_number read)
+with_line plan n read (Some (At epoch)) = with_place n epoch read (may_be_placed read)
 with_line plan n read (Some (Seen epoch)) = with_seen n epoch read (is_between read)
 with_line plan n read (Some (Data PassedOver)) = Ok read
-with_line plan n read (Some (Data Close)) = Ok (with_order (order_for read.request (bag_of entry_cmp read.current)) read)
+with_line plan n read (Some (Data Close)) = Ok (with_order (order_at read.place read.request (bag_of entry_cmp read.current)) read)
 with_line plan n read (Some (Data (Record input rec))) =
-    if is_input_of plan input then Ok (record { orders = read.orders; request = read.request; current = read.current ++ record { input = input; rec = rec } ∷ [] })
+    if is_input_of plan input then Ok (record { orders = read.orders; place = read.place; request = read.request; current = read.current ++ record { input = input; rec = rec } ∷ [] })
     else Err (Line n NoSuchInput)
 
 -- what comes after an answer, unless it is a fault
@@ -148,6 +188,7 @@ abbrev pub submissions : List Order → List Submitted
 submissions [] = []
 submissions (order.Submit batch ∷ orders) = submission 0 batch ∷ submissions orders
 submissions (order.SubmitAs request batch ∷ orders) = submission request batch ∷ submissions orders
+submissions (order.SubmitAt place request batch ∷ orders) = submission request batch ∷ submissions orders
 submissions (order.Cut ∷ orders) = submissions orders
 submissions (order.Seen line epoch ∷ orders) = submissions orders
 submissions (order.Say note ∷ orders) = submissions orders
@@ -157,6 +198,7 @@ abbrev pub notes_in : List Order → List Note
 notes_in [] = []
 notes_in (order.Submit batch ∷ orders) = notes_in orders
 notes_in (order.SubmitAs request batch ∷ orders) = notes_in orders
+notes_in (order.SubmitAt place request batch ∷ orders) = notes_in orders
 notes_in (order.Cut ∷ orders) = notes_in orders
 notes_in (order.Seen line epoch ∷ orders) = notes_in orders
 notes_in (order.Say note ∷ orders) = note ∷ notes_in orders
@@ -171,10 +213,11 @@ abbrev pub submitted_by : Result (List Order) Fault → List Submitted
 submitted_by (Ok orders) = submissions orders
 submitted_by (Err fault) = []
 
--- what an order of a feed submits names inputs of the plan; it has no notes
+-- what an order of a feed submits names inputs of the plan; it has no places and no notes
 abbrev pub IsAccepted : List PlanLine → Order → Type 0
 IsAccepted plan (order.Submit batch) = IsTrue (list_all (λ e. is_input_of plan e.input) batch)
 IsAccepted plan (order.SubmitAs request batch) = IsTrue (list_all (λ e. is_input_of plan e.input) batch)
+IsAccepted plan (order.SubmitAt place request batch) = ⊥
 IsAccepted plan order.Cut = Unit {0}
 IsAccepted plan (order.Seen line epoch) = Unit {0}
 IsAccepted plan (order.Say note) = ⊥

@@ -13,7 +13,7 @@ use Rattle.td_standing.specs.declared.error.KeeperError.TheVariants.{Device}
 use Rattle.td_standing.specs.Read.{Refused as Refusal}
 use Rattle.td_standing.specs.Told.{Told}
 use Rattle.td_standing.specs.Tells.{Keeps}
-use Rattle.td_standing.specs.Standing.{Standing, last_epoch}
+use Rattle.td_standing.specs.Standing.{Standing, last_epoch, last_request}
 use Rattle.td_standing.specs.Advanced.{HeldWhere}
 use Rattle.td_keeper.specs.declared.command.Command.{Command}
 use Rattle.td_keeper.specs.declared.command.Reply.{Reply}
@@ -119,15 +119,16 @@ fault_in (Refused error back) = keeper_fault error
 fault_in (RefusedAll (Keeper error) back) = keeper_fault error
 fault_in _ = Memory
 
--- WHAT AN INPUT ASKS FOR: epochs; notes; and of a stream that refuses epochs how many records one may have
+-- WHAT AN INPUT ASKS FOR of a disk with this last epoch and this greatest request number: epochs; notes; and of a stream that refuses
+-- epochs how many records one may have
 pub record Wanted : Type 0 where
-  pub epochs : List AnySubmitted
-  pub notes : List Note
+  pub epochs : ℕ → ℕ → List AnySubmitted
+  pub notes : ℕ → ℕ → List Note
   pub limit : Option ℕ
 
--- epochs alone
+-- epochs alone, whatever the disk has
 abbrev pub epochs_alone : List AnySubmitted → Wanted
-epochs_alone x = record { epochs = x; notes = []; limit = None }
+epochs_alone x = record { epochs = λ told last. x; notes = λ told last. []; limit = None }
 
 module _ {D : Type 0} (is_lawful : D → Type 0) (state : D → DiskState) (failures : D → ℕ) (answers : Answers) (marks : Bool) where
   -- A KEEPER WAS TOLD WHAT SUBMITS THESE, and the lines of its replies were appended to what a writer holds, and these notes beside them,
@@ -180,7 +181,8 @@ module _ {D : Type 0} (is_lawful : D → Type 0) (state : D → DiskState) (fail
     pub lawful_left : is_lawful disk → is_lawful left
     pub holds : is_lawful left → HeldWhere ended.broken answers ended.plan ended.head ended.side ended.standing (state left)
     pub limit : IfSome wanted.limit (λ most. most ≡ keeper.head.shape.m)
-    pub said : SaysBy result before after (record keeper { watch = watch }) ended (new_to keeper wanted.epochs) wanted.notes
+    pub said : SaysBy result before after (record keeper { watch = watch }) ended
+        (new_to keeper (wanted.epochs (last_epoch keeper.standing) (last_request keeper.standing))) (wanted.notes (last_epoch keeper.standing) (last_request keeper.standing))
     pub all_out : alone ≡ true → OnOk result (IsAllOut ended)
 
   -- OR NO KEEPER WAS FOUND on it: the disk tells this refusal, or a call of it or memory failed; and nothing was written, there or to a writer

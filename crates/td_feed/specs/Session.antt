@@ -1,5 +1,5 @@
 -- What a call does with a disk, with a keeper at work and with a writer, by its answer.
-use Rattle.std.specs.Prelude.{◌≡◌, ◌↔◌, ℕ, Bool, false, true, List, [], ◌∷◌, ◌++◌, Option, Some, None, Result, OnOk, OnErr}
+use Rattle.std.specs.Prelude.{◌≡◌, ◌↔◌, ℕ, Bool, false, true, List, [], ◌∷◌, ◌++◌, length, Option, Some, None, Result, OnOk, OnErr}
 use Rattle.td_plan.specs.Lines.{Line as PlanLine}
 use Rattle.td_calls.specs.Answers.{Answers}
 use Rattle.td_disk.specs.Disk.{DiskState, CountsDevice}
@@ -8,13 +8,14 @@ use Rattle.td_journal.specs.Numbers.{greatest}
 use Rattle.td_standing.specs.declared.error.KeeperError.TheVariants.{Device}
 use Rattle.td_keeper.specs.declared.command.Command.{Command}
 use Rattle.td_keeper.specs.declared.command.Reply.{Reply}
-use Rattle.td_keeper.specs.Keeping.{Keeping, EachKeepsTo}
+use Rattle.td_keeper.specs.Keeping.{Keeping, EachKeepsTo, EverKeepsTo}
 use Rattle.td_keeper.specs.Driven.{submitted_in, Obeys, Driven}
 use Rattle.td_console.specs.declared.faults.Fault.{Fault}
 use Rattle.td_console.specs.declared.faults.Fault.TheVariants.{Keeper}
 use Rattle.td_feed.specs.declared.note.Note.{Note}
 use Rattle.td_feed.specs.Orders.{submissions, notes_in, new_after}
 use Rattle.td_feed.specs.Asked.{Script, script_of}
+use Rattle.td_feed.specs.Placed.{placed}
 use Rattle.td_feed.specs.Fed.{EachTellsHistory, EachTellsSome}
 use Rattle.td_feed.specs.Held.{seen_after}
 use Rattle.td_feed.specs.Carried.{batch_in, new_to, is_refused, Carries, Leaves}
@@ -25,9 +26,13 @@ abbrev pub limit_of : Bool → ℕ → Option ℕ
 limit_of true records = Some records
 limit_of false records = None
 
--- what a script asks for
-abbrev pub wanted_by : Option ℕ → Script → Wanted
-wanted_by limit script = record { epochs = submissions script.orders; notes = notes_in script.orders; limit = limit }
+-- what a script asks for, of a stream that refuses epochs or not
+abbrev pub wanted_by : Bool → Option ℕ → Script → Wanted
+wanted_by refuse limit script = record {
+  epochs = λ told last. submissions (placed refuse told last script).orders;
+  notes = λ told last. notes_in (placed refuse told last script).orders;
+  limit = limit;
+}
 
 -- THE DISK IS KEPT: it is as large as it was, and as lawful; and its device is told to have failed exactly where it did
 pub record KeepsDisk {D T : Type 0} (capacity : D → ℕ) (is_lawful : D → Type 0) (failures : D → ℕ) (result : Result T Fault) (old new : D) : Type 0 where
@@ -71,21 +76,26 @@ module _ {D : Type 0} (is_lawful : D → Type 0) (state : D → DiskState) (fail
     -- one that stood for a history, whatever a crash had left of it, stands after Ok for that and each of these that is new: has no
     -- request number, or one that is above all before
     pub fed : OnOk result (is_lawful disk → (history : List AnySubmitted) → EachTellsHistory answers plan history (state disk)
-        → EachTellsHistory answers plan (history ++ new_after (greatest 0 history) wanted.epochs) (state left))
+        → EachTellsHistory answers plan (history ++ new_after (greatest 0 history) (wanted.epochs (length history) (greatest 0 history))) (state left))
     -- at any answer it stands for that and a beginning of them: some number of them, or with these the whole group that came next
     pub safe : is_lawful disk → (history : List AnySubmitted) → EachTellsHistory answers plan history (state disk)
-        → EachTellsSome answers plan history (new_after (greatest 0 history) wanted.epochs) (state left)
+        → EachTellsSome answers plan history (new_after (greatest 0 history) (wanted.epochs (length history) (greatest 0 history))) (state left)
     -- what is written are the lines of what the keeper of the disk replied, and the notes, one after another: all of them after Ok, and
     -- a beginning of them at a refusal, where the writer did not fail
     pub said : SaysFed is_lawful state failures answers marks result plan alone disk left before after wanted
 
-  -- A DISK IS FED AS THE INPUT COMES: what its script asks for; Ok is answered only to one without a fault. Of a stream that refuses epochs,
-  -- one may have so many records
-  pub record StreamsDisk (refuse hold : Bool) (result : Result (Unit {0}) Fault) (plan : List PlanLine) (alone : Bool) (disk left : D) (before after : Option (List ℕ)) (input : List ℕ) : Type 0 where
+  -- A DISK IS FED AS THE INPUT COMES: what its script asks for, where epochs have places or not; Ok is answered only to one without a fault,
+  -- and a gap is one, unless epochs are refused. Of a stream that refuses epochs, one may have so many records
+  pub record StreamsDisk (placing refuse hold : Bool) (result : Result (Unit {0}) Fault) (plan : List PlanLine) (alone : Bool) (disk left : D) (before after : Option (List ℕ)) (input : List ℕ) : Type 0 where
     pub records : ℕ
-    pub sound : OnOk result ((script_of hold (limit_of refuse records) plan input).is_sound ≡ true)
-    pub fed : FeedsDisk result plan alone disk left before after (wanted_by (limit_of refuse records) (script_of hold (limit_of refuse records) plan input))
+    pub sound : OnOk result ((script_of placing hold (limit_of refuse records) plan input).is_sound ≡ true)
+    pub no_gap : OnOk result (is_lawful disk → (history : List AnySubmitted) → EachTellsHistory answers plan history (state disk)
+        → (placed refuse (length history) (greatest 0 history) (script_of placing hold (limit_of refuse records) plan input)).is_sound ≡ true)
+    pub fed : FeedsDisk result plan alone disk left before after (wanted_by refuse (limit_of refuse records) (script_of placing hold (limit_of refuse records) plan input))
     -- where outputs are held, nothing is kept beyond the last epoch that the input says was seen, whatever a crash leaves: so each later
     -- stream writes again the outputs of every epoch after it
     pub held : hold ≡ true → is_lawful disk → (kept : ℕ) → EachKeepsTo plan kept (state disk)
-        → EachKeepsTo plan (seen_after kept (script_of hold (limit_of refuse records) plan input).orders) (state left)
+        → EachKeepsTo plan (seen_after kept (script_of placing hold (limit_of refuse records) plan input).orders) (state left)
+    -- nor whatever a crash left at any moment of the stream, in the middle of a write too
+    pub ever_held : hold ≡ true → is_lawful disk → (kept : ℕ) → EachKeepsTo plan kept (state disk)
+        → EverKeepsTo plan (seen_after kept (script_of placing hold (limit_of refuse records) plan input).orders) (state disk).moment (state left)

@@ -4,18 +4,22 @@
 //! left, where it is known. A fault of a line that was read ahead waits until the epochs before it are on the disk and their
 //! lines are written.
 //!
+//! An epoch that names its place is compared with the disk when it is asked for, after those before it. So it goes alone.
+//!
 //! A line and an open epoch have limits here, since a producer that closes neither would fill the memory. An epoch whose request
 //! number is on the disk already has no limit, since it is not put there again.
-ghost use Rattle.std.specs.Prelude.{◌≡◌, ◌<◌, ◌≤◌, ◌++◌, ◌∷◌, ℕ, List, [], Option, Some, None, true, false, length, option_map, OnOk, IfOk, IfErr, IfSome, IfNone};
+ghost use Rattle.std.specs.Prelude.{◌≡◌, ◌==◌, ◌+◌, ◌<◌, ◌≤◌, ◌++◌, ◌∷◌, ℕ, List, [], Option, Some, None, true, false, length, option_map, OnOk, IfOk, IfErr, IfSome, IfNone, OnErr};
 ghost use Rattle.td_group.specs.Groups.{may_follow};
 ghost use Rattle.td_feed.specs.declared.order.Order.{Order as AnyOrder};
 ghost use Rattle.td_feed.specs.Orders.{is_between, submissions, notes_in};
 ghost use Rattle.td_feed.specs.declared.at_once.Asked.TheVariants.{One};
-ghost use Rattle.td_feed.specs.Asked.{unread, Script, script_left, script_of, script_on, script_ahead, place, may_end, SameScript, Asks, IsOf, MayFollow, is_of_reader};
+ghost use Rattle.td_feed.specs.Asked.{unread, Script, script_left, script_of, script_on, script_ahead, place, may_end, SameScript, is_given, HaveNoPlace, Asks, IsOf, MayFollow, is_of_reader};
+ghost use Rattle.td_feed.specs.Placed.{at_disk, not_in_place, placed, told_by, last_by};
 
 use crate::at_once::{Asked, Room, take_fitting};
 use crate::line_reader::Lines;
-use crate::order::Order;
+use crate::note::Note;
+use crate::order::{Order, Place};
 use crate::reading::Reading;
 use std::alloc::Global;
 use std::collections::VecDeque;
@@ -30,13 +34,14 @@ const LINES: u64 = 1 << 32;
 
 /// What is asked for, order by order, or several at once.
 pub(crate) trait Asking {
-    /// The orders that come, up to the first fault or to the end, where they are known.
-    ghost script: { Self → Option Script };
+    /// The orders that come, up to the first fault or to the end, where they are known, at a disk with this last epoch and this greatest
+    /// request number.
+    ghost script: { ℕ → ℕ → Self → Option Script };
 
     /// The next order, or a group of epochs that are at hand and find this room; None at the end. Refusals: those of a reader; the first
     /// fault of the lines; `TooManyRecords` of an epoch that is open; `Memory`.
     fn next_asked(&mut self, alloc: Global, room: &Room) -> Result<Option<Asked>, Fault>
-        ensures asked { IfOk result (Asks (script self.old) (script self.new)) }
+        ensures asked { IfOk result (λ asked. Asks (script room.now.told room.now.last self.old) (script (told_by room.now.told room.now.last asked) (last_by room.now.last asked) self.new) asked) }
         ensures rising { IfOk result (MayFollow room.now.last) }
         ensures err { IfErr result (λ f. is_of_reader f ≡ true) };
 }
@@ -46,7 +51,7 @@ pub(crate) trait Asking {
 pub(crate) struct Listed(pub(crate) VecDeque<Order>);
 
 impl Asking for Listed {
-    ghost script = { λ l. Some (record { orders = l.0.items; is_sound = true }) };
+    ghost script = { λ told last l. Some (record { orders = l.0.items; is_sound = true }) };
 
     fn next_asked(&mut self, alloc: Global, room: &Room) -> Result<Option<Asked>, Fault> {
         Ok(take_asked(alloc, &mut self.0, room))
@@ -68,7 +73,7 @@ fn take_asked(alloc: Global, orders: &mut VecDeque<Order>, room: &Room) -> Optio
 
 /// Takes the first orders, as many as submit epochs that together find this room; fewer where memory runs out.
 fn take_group(alloc: Global, orders: &mut VecDeque<Order>, room: &Room) -> Vec<Submitted>
-    ensures taken { (taken : List AnyOrder) × (orders.old.items ≡ taken ++ orders.new.items) × (submissions taken ≡ result.items) × (notes_in taken ≡ []) }
+    ensures taken { (taken : List AnyOrder) × (orders.old.items ≡ taken ++ orders.new.items) × (submissions taken ≡ result.items) × (notes_in taken ≡ []) × HaveNoPlace taken }
     ensures none { result.items ≡ [] → orders.new.items ≡ orders.old.items }
     ensures rising { may_follow (Some room.now.last) result.items ≡ true }
 {
@@ -87,6 +92,47 @@ fn take_group(alloc: Global, orders: &mut VecDeque<Order>, room: &Room) -> Vec<S
     group
 }
 
+/// An order where the disk has these epochs: one in its place, or a note that it is there already. Refusal: `Gap`, where the disk lacks an epoch
+/// before it; a note of that, where epochs are refused.
+fn at_disk(order: Order, refuses: bool, room: &Room) -> Result<Order, Fault>
+    ensures ok { IfOk result (λ o. at_disk refuses room.now.told order ≡ Some o) }
+    ensures refused { OnErr result (at_disk refuses room.now.told order ≡ None) }
+    ensures err { IfErr result (λ f. is_of_reader f ≡ true) }
+{
+    match order {
+        Order::SubmitAt(place, request, batch) => {
+            if is_next(place, room.told) {
+                Ok(Order::SubmitAt(place, request, batch))
+            } else {
+                not_in_place(place, refuses, room.told)
+            }
+        }
+        _ => Ok(order),
+    }
+}
+
+/// Whether a place is that of the epoch after this one.
+fn is_next(place: Place, told: u64) -> bool
+    ensures { result ≡ (place.epoch == told + 1) }
+{
+    told < place.epoch && place.epoch - told == 1
+}
+
+/// The same of one that is not in its place.
+fn not_in_place(place: Place, refuses: bool, told: u64) -> Result<Order, Fault>
+    ensures ok { IfOk result (λ o. not_in_place refuses told place.epoch ≡ Some o) }
+    ensures refused { OnErr result (not_in_place refuses told place.epoch ≡ None) }
+    ensures err { IfErr result (λ f. is_of_reader f ≡ true) }
+{
+    if place.epoch <= told {
+        return Ok(Order::Say(Note::There(place.epoch)));
+    }
+    if refuses {
+        return Ok(Order::Say(Note::Gap(place.epoch)));
+    }
+    Err(Fault::Line(place.line, LineFault::Gap))
+}
+
 /// The orders of a reader's lines. Those whose lines the input has given already are read ahead, up to the first line with a fault; each
 /// other one is read when it is asked for.
 #[derive(Drop)]
@@ -95,26 +141,30 @@ pub(crate) struct Streamed<'a, I: Source> {
     reading: Reading<'a>,
     ahead: VecDeque<Order>,
     stopped: Option<(u64, LineFault)>,
+    refuses: bool,
     ghost none_ready: { reading.read.orders ≡ [] },
 }
 
 impl<'a, I: Source> Streamed<'a, I> {
-    /// The orders of a reader's lines. Where outputs are held, lines may say which were seen. Where a limit is given, an epoch with more
-    /// records than that, or with a faulty line, is refused.
+    /// The orders of a reader's lines, of which those that submit an epoch may have places. Where outputs are held, lines may say which were
+    /// seen. Where a limit is given, an epoch with more records than that, with a faulty line, or after a gap, is refused.
     pub(crate) fn new(
         alloc: Global,
         plan: &'a Plan,
+        placing: bool,
         hold: bool,
         limit: Option<usize>,
         reader: I,
     ) -> Streamed<'a, I>
-        ensures { script_ahead (unread (I.remaining result.lines.reader) result.lines.unread) (place result.reading) result.ahead.items result.stopped ≡ option_map (script_of hold limit plan.now) (I.remaining reader) }
+        ensures script { script_ahead (unread (I.remaining result.lines.reader) result.lines.unread) (place result.reading) result.ahead.items result.stopped ≡ option_map (script_of placing hold limit plan.now) (I.remaining reader) }
+        ensures refuses { result.refuses ≡ is_given limit }
     {
         Streamed {
             lines: Lines::new(alloc, reader),
-            reading: Reading::new(alloc, plan, hold, limit),
+            reading: Reading::new(alloc, plan, placing, hold, limit),
             ahead: VecDeque::new(alloc),
             stopped: None,
+            refuses: limit.is_some(),
         }
     }
 
@@ -127,6 +177,7 @@ impl<'a, I: Source> Streamed<'a, I> {
         ensures none { IfOk result (λ any. any ≡ false
             → Asks (script_ahead (unread (I.remaining self.old.lines.reader) self.old.lines.unread) (place self.old.reading) self.old.ahead.items self.old.stopped)
             (script_ahead (unread (I.remaining self.new.lines.reader) self.new.lines.unread) (place self.new.reading) self.new.ahead.items self.new.stopped) None) }
+        ensures refuses { self.new.refuses ≡ self.old.refuses }
         ensures err { IfErr result (λ f. is_of_reader f ≡ true) }
     {
         if !self.ahead.is_empty() {
@@ -147,7 +198,7 @@ impl<'a, I: Source> Streamed<'a, I> {
     fn next_order(&mut self, alloc: Global, room: &Room) -> Result<Option<Order>, Fault>
         ensures order { IfOk result (λ order. Asks (script_left (unread (I.remaining self.old.lines.reader) self.old.lines.unread) (place self.old.reading))
             (script_left (unread (I.remaining self.new.lines.reader) self.new.lines.unread) (place self.new.reading)) (option_map One order)) }
-        ensures same { (self.new.ahead ≡ self.old.ahead) × (self.new.stopped ≡ self.old.stopped) }
+        ensures same { (self.new.ahead ≡ self.old.ahead) × (self.new.stopped ≡ self.old.stopped) × (self.new.refuses ≡ self.old.refuses) }
         ensures err { IfErr result (λ f. is_of_reader f ≡ true) }
     {
         for _line in 0..LINES {
@@ -170,6 +221,7 @@ impl<'a, I: Source> Streamed<'a, I> {
         ensures same { OnOk result (SameScript (script_ahead (unread (I.remaining self.old.lines.reader) self.old.lines.unread) (place self.old.reading) self.old.ahead.items self.old.stopped)
             (script_ahead (unread (I.remaining self.new.lines.reader) self.new.lines.unread) (place self.new.reading) self.new.ahead.items self.new.stopped)) }
         ensures grows { OnOk result (length self.old.ahead.items ≤ length self.new.ahead.items) }
+        ensures refuses { self.new.refuses ≡ self.old.refuses }
         ensures err { IfErr result (λ f. is_of_reader f ≡ true) }
     {
         for _line in 0..LINES {
@@ -193,7 +245,7 @@ impl<'a, I: Source> Streamed<'a, I> {
         requires { self.old.stopped ≡ None }
         ensures added { OnOk result ((more : List (List ℕ)) → script_on (place self.old.reading) self.old.ahead.items None (line.now ∷ more)
             ≡ script_on (place self.new.reading) self.new.ahead.items self.new.stopped more) }
-        ensures same { self.new.lines ≡ self.old.lines }
+        ensures same { (self.new.lines ≡ self.old.lines) × (self.new.refuses ≡ self.old.refuses) }
         ensures grows { OnOk result (length self.old.ahead.items ≤ length self.new.ahead.items) }
         ensures err { IfErr result (λ f. is_of_reader f ≡ true) }
     {
@@ -220,13 +272,17 @@ impl<'a, I: Source> Streamed<'a, I> {
 }
 
 impl<'a, I: Source> Asking for Streamed<'a, I> {
-    ghost script = { λ s. script_ahead (unread (I.remaining s.lines.reader) s.lines.unread) (place s.reading) s.ahead.items s.stopped };
+    ghost script = { λ told last s. option_map (placed s.refuses told last) (script_ahead (unread (I.remaining s.lines.reader) s.lines.unread) (place s.reading) s.ahead.items s.stopped) };
 
     fn next_asked(&mut self, alloc: Global, room: &Room) -> Result<Option<Asked>, Fault> {
         if !self.is_any_ahead(alloc, room)? {
             return Ok(None);
         }
         self.read_ahead(alloc, room)?;
-        Ok(take_asked(alloc, &mut self.ahead, room))
+        match take_asked(alloc, &mut self.ahead, room) {
+            Some(Asked::One(order)) => Ok(Some(Asked::One(at_disk(order, self.refuses, room)?))),
+            Some(Asked::Epochs(group)) => Ok(Some(Asked::Epochs(group))),
+            None => Ok(None),
+        }
     }
 }

@@ -5,12 +5,12 @@
 //! was acknowledged.
 ghost use Rattle.std.specs.Prelude.{◌≡◌, ◌≤◌, ℕ, [], ◌∷◌, Some, true, IfSome, IfNone, IsTrue, length};
 ghost use Rattle.td_journal.specs.Numbers.{may_come};
-ghost use Rattle.td_standing.specs.Standing.{last_request};
+ghost use Rattle.td_standing.specs.Standing.{last_epoch, last_request};
 ghost use Rattle.td_feed.specs.declared.order.Order.{Order as AnyOrder};
 ghost use Rattle.td_feed.specs.Orders.{submissions, notes_in};
-ghost use Rattle.td_feed.specs.Asked.{IsNext};
+ghost use Rattle.td_feed.specs.Asked.{HaveNoPlace, IsNext};
 
-use crate::order::Order;
+use crate::order::{Order, Place};
 use std::collections::VecDeque;
 use td_calls::Law;
 use td_disk::Disk;
@@ -54,6 +54,8 @@ impl Asked {
 /// How much a keeper takes at once, after what it has.
 #[derive(Clone, Copy, Debug, Drop)]
 pub(crate) struct Room {
+    /// The last epoch so far.
+    pub told: u64,
     /// The greatest request number so far.
     pub last: u64,
     is_numbered: bool,
@@ -65,11 +67,13 @@ pub(crate) struct Room {
 impl Room {
     /// The room that a keeper has, for at most so many epochs.
     pub(crate) fn of<D: Disk, L: Law>(keeper: &Keeper<D, L>, most: u64) -> Room
+        ensures told { result.told ≡ last_epoch keeper.now.standing }
         ensures last { result.last ≡ last_request keeper.now.standing }
     {
         let records = u64::from(keeper.records());
         let numbers = (EPOCHS_END - 1).saturating_sub(keeper.last_epoch());
         Room {
+            told: keeper.last_epoch(),
             last: keeper.last_request(),
             is_numbered: keeper.version() >= NUMBERED,
             epochs: most
@@ -83,8 +87,17 @@ impl Room {
 
     /// Whether an epoch with this request number, 0 for none, would be put on the disk next: it is no repetition, and the disk has
     /// request numbers if it has one.
-    pub(crate) fn takes_number(&self, request: u64) -> bool {
+    fn takes_number(&self, request: u64) -> bool {
         request == 0 || self.is_numbered && self.last < request
+    }
+
+    /// Whether an epoch with this place, if it has one, and this request number, 0 for none, may be put on the disk, next or after others:
+    /// it is no repetition, and the disk has no epoch at its place.
+    pub(crate) fn takes(&self, place: Option<Place>, request: u64) -> bool {
+        match place {
+            Some(place) => self.told < place.epoch && self.takes_number(request),
+            None => self.takes_number(request),
+        }
     }
 
     /// Whether an order submits an epoch that finds room, after this greatest request number.
@@ -96,7 +109,7 @@ impl Room {
             Order::SubmitAs(request, batch) => {
                 self.is_numbered && last < *request && batch.len() <= self.records
             }
-            Order::Cut | Order::Say(_) | Order::Seen { .. } => false,
+            Order::SubmitAt(..) | Order::Cut | Order::Say(_) | Order::Seen { .. } => false,
         }
     }
 }
@@ -108,7 +121,7 @@ pub(crate) fn take_fitting(
     last: u64,
 ) -> Option<Submitted>
     ensures some { IfSome result (λ s. (order : AnyOrder) × (orders.old.items ≡ order ∷ orders.new.items)
-        × (submissions (order ∷ []) ≡ s ∷ []) × (notes_in (order ∷ []) ≡ []) × (may_come (Some last) s.request ≡ true)) }
+        × (submissions (order ∷ []) ≡ s ∷ []) × (notes_in (order ∷ []) ≡ []) × (may_come (Some last) s.request ≡ true) × HaveNoPlace (order ∷ [])) }
     ensures none { IfNone result (orders.new ≡ orders.old) }
 {
     if !room.fits(orders.front()?, last) {
@@ -117,6 +130,7 @@ pub(crate) fn take_fitting(
     match orders.pop_front() {
         Some(Order::Submit(batch)) => Some(Submitted { request: 0, batch }),
         Some(Order::SubmitAs(request, batch)) => Some(Submitted { request, batch }),
-        Some(Order::Cut | Order::Say(_) | Order::Seen { .. }) | None => unreachable!(),
+        Some(Order::SubmitAt(..) | Order::Cut | Order::Say(_) | Order::Seen { .. }) | None =>
+            unreachable!(),
     }
 }

@@ -29,10 +29,10 @@ use td_stamp::Entry;
 use td_standing::{Recovered, recover_device};
 
 /// Lines are written where they have so many bytes.
-const PIECE: usize = 65_536;
+pub(crate) const PIECE: usize = 65_536;
 
 /// A line of an epoch has at most so many: the longest is that of a record, with numbers of 3, 20 and 20 digits.
-const LINE: usize = 64;
+pub(crate) const LINE: usize = 64;
 
 /// Writes what a disk has for a plan after its checkpoint, as lines that a feed takes: first `# kept C told T last Q, epochs U of
 /// N, states S of K`, with the epoch of the checkpoint, the last epoch, and the greatest request number (0 for none), how many
@@ -70,7 +70,7 @@ pub fn dump<D: Disk, W: Sink>(
 }
 
 /// The first line of what was read. Refusal: `Memory`.
-fn summary_of(alloc: Global, recovered: &Recovered) -> Result<String, Fault>
+pub(crate) fn summary_of(alloc: Global, recovered: &Recovered) -> Result<String, Fault>
     requires small { recovered.now.checkpoint.epoch + length recovered.now.submitted.items < 2 ^ 63 }
     ensures ok { IfOk result (λ text. string_bytes text ≡ summary_line recovered.now.head.shape (standing_of recovered.now)) }
     ensures err { IfErr result (λ f. f ≡ Fault.Memory) }
@@ -142,7 +142,7 @@ fn write_epochs<W: Sink>(
 }
 
 /// The same for one epoch.
-fn write_epoch<W: Sink>(
+pub(crate) fn write_epoch<W: Sink>(
     submitted: &Submitted,
     lines: &mut String,
     writer: &mut W,
@@ -166,7 +166,7 @@ fn write_epoch<W: Sink>(
 }
 
 /// Writes the lines that are held, where they make a piece, and lets them go; so there is room for a line more. Refusal: `Output`.
-fn make_room<W: Sink>(lines: &mut String, writer: &mut W) -> Result<(), Fault>
+pub(crate) fn make_room<W: Sink>(lines: &mut String, writer: &mut W) -> Result<(), Fault>
     requires room { 65600 ≤ string_capacity lines.old }
     ensures room { 65600 ≤ string_capacity lines.new }
     ensures line { OnOk result (string_len lines.new + 64 ≤ string_capacity lines.new) }
@@ -212,7 +212,7 @@ fn print_record(lines: &mut String, entry: Entry)
 }
 
 /// Appends a text for which there is room.
-fn push(lines: &mut String, text: &str)
+pub(crate) fn push(lines: &mut String, text: &str)
     requires room { string_len lines.old + length text.now ≤ string_capacity lines.old }
     ensures bytes { string_bytes lines.new ≡ string_bytes lines.old ++ text.now }
     ensures len { string_len lines.new ≡ string_len lines.old + length text.now }

@@ -2,6 +2,7 @@
 ghost use Rattle.std.specs.Prelude.{◌≡◌, ℕ, true, false, Ok, Err, IfOk, IfErr, IfSome, OnOk, ◌⊎◌};
 ghost use Rattle.td_pool.specs.declared.error.PoolError.{PoolError as AnyPoolError};
 ghost use Rattle.td_standing.specs.declared.error.KeeperError.TheVariants.{NotPassed};
+ghost use Rattle.td_standing.specs.Standing.{last_epoch, last_request};
 ghost use Rattle.td_feed.specs.Asked.{is_of_reader};
 ghost use Rattle.td_feed.specs.Fed.{pool_fault};
 ghost use Rattle.td_feed.specs.Held.{KeepsTo, seen_at, then_seen, seen_with};
@@ -36,11 +37,11 @@ pub(crate) fn obey_each<D: Disk, S: Asking, W: Voice, L: Law, R: Wait, E: Obey<D
 ) -> Result<(), Fault>
     requires whole { (E.keeping engine.old).broken ≡ false }
     ensures disk { KeepsDisk D.capacity D.is_lawful D.failures result (E.keeping engine.old).device (E.keeping engine.new).device }
-    ensures fed { IfSome (S.script orders.old) (λ script. FeedsScript D.is_lawful D.state D.failures L.answers W.marks result (W.contents writer.old) (W.contents writer.new) (E.keeping engine.old) (E.keeping engine.new) script) }
+    ensures fed { IfSome (S.script (last_epoch (E.keeping engine.old).standing) (last_request (E.keeping engine.old).standing) orders.old) (λ script. FeedsScript D.is_lawful D.state D.failures L.answers W.marks result (W.contents writer.old) (W.contents writer.new) (E.keeping engine.old) (E.keeping engine.new) script) }
     ensures all_out { E.alone ≡ true → OnOk result (IsAllOut (E.keeping engine.new)) }
 
     // Where outputs are held, nothing is kept beyond what the script says was seen.
-    ensures held { IfSome (S.script orders.old) (λ script. KeepsTo (then_seen (seen_at feeding.pace (E.keeping engine.old).standing.epoch) script.orders) (E.keeping engine.old) (E.keeping engine.new)) }
+    ensures held { IfSome (S.script (last_epoch (E.keeping engine.old).standing) (last_request (E.keeping engine.old).standing) orders.old) (λ script. KeepsTo (then_seen (seen_at feeding.pace (E.keeping engine.old).standing.epoch) script.orders) (E.keeping engine.old) (E.keeping engine.new)) }
 {
     if is_refused {
         return Err(Fault::Memory);
@@ -49,8 +50,9 @@ pub(crate) fn obey_each<D: Disk, S: Asking, W: Voice, L: Law, R: Wait, E: Obey<D
     engine.allow(open_epochs(engine.keeper()));
     feeding.begin(rt, alloc, engine, seen, writer)?;
     for _asked in rt.forever() {
-        let most = feeding.pace.epochs_at_once(engine.keeper());
-        let room = Room::of(engine.keeper(), most);
+        let keeper = engine.keeper();
+        let most = feeding.pace.epochs_at_once(keeper);
+        let room = Room::of(keeper, most);
         let Some(asked) = orders.next_asked(alloc, &room)? else {
             return feeding.settle(rt, alloc, engine, writer);
         };
@@ -85,7 +87,13 @@ fn seen_with<D: Disk, L: Law>(
             }
             Ok(Some(last.max(*epoch)))
         }
-        Asked::One(Order::Submit(_) | Order::SubmitAs(..) | Order::Cut | Order::Say(_))
+        Asked::One(
+            Order::Submit(_)
+            | Order::SubmitAs(..)
+            | Order::SubmitAt(..)
+            | Order::Cut
+            | Order::Say(_),
+        )
         | Asked::Epochs(_) => Ok(Some(last)),
     }
 }

@@ -1,9 +1,9 @@
 //! What a stream writes beside the lines of its keeper's replies.
 //!
-//! An epoch that is refused for its lines is never told to the keeper, so no reply speaks of it.
+//! An epoch that is refused for its lines is never told to the keeper, so no reply speaks of it. Nor is one that is not in its place.
 ghost use Rattle.std.specs.Prelude.{◌≡◌, ◌⊎◌, Some, string_bytes, IfOk, IfErr, OnOk};
 ghost use Rattle.std.specs.Io.KnownBytes.{Appends};
-ghost use Rattle.td_feed.specs.Noted.{cause_text, flaw_text, flaw_of, note_line};
+ghost use Rattle.td_feed.specs.Noted.{cause_text, flaw_text, flaw_of, no_line, there_line, gap_line, note_line};
 
 use crate::excerpt::Excerpt;
 use std::alloc::Global;
@@ -66,13 +66,16 @@ impl fmt::Display for Flaw {
     }
 }
 
-/// A line that stands for no reply of the keeper's, `no Q L: WHAT: TEXT`: the epoch with request number Q is refused for its line L, which
-/// begins with TEXT. Without a number, 0 here, it is `no - L: WHAT: TEXT`.
+/// A line that stands for no reply of the keeper's.
 #[derive(Debug, Drop)]
-pub struct Note {
-    pub request: u64,
-    pub line: u64,
-    pub flaw: Flaw,
+pub enum Note {
+    /// `no Q L: WHAT: TEXT`: the epoch with request number Q is refused for its line L, which begins with TEXT. Without a number, 0 here,
+    /// it is `no - L: WHAT: TEXT`.
+    Refused { request: u64, line: u64, flaw: Flaw },
+    /// `there E`: the disk has the epoch E already.
+    There(u64),
+    /// `gap E`: the disk lacks an epoch before the epoch E.
+    Gap(u64),
 }
 
 /// Writes the line of a note. Refusals: `Memory`, with nothing written, and `Output`.
@@ -89,12 +92,23 @@ fn text_of(alloc: Global, note: &Note) -> Result<String, Fault>
     ensures ok { IfOk result (λ line. string_bytes line ≡ note_line note.now) }
     ensures err { IfErr result (λ f. f ≡ Fault.Memory) }
 {
-    let Note {
-        request,
-        line,
-        flaw,
-    } = note;
-    if *request == 0 {
+    match note {
+        Note::Refused {
+            request,
+            line,
+            flaw,
+        } => refused_line(alloc, *request, *line, flaw),
+        Note::There(epoch) => Ok(format!(in alloc; "there {epoch}\n")?),
+        Note::Gap(epoch) => Ok(format!(in alloc; "gap {epoch}\n")?),
+    }
+}
+
+/// The line of an epoch that is refused. Refusal: `Memory`.
+fn refused_line(alloc: Global, request: u64, line: u64, flaw: &Flaw) -> Result<String, Fault>
+    ensures ok { IfOk result (λ text. string_bytes text ≡ no_line request line flaw.now) }
+    ensures err { IfErr result (λ f. f ≡ Fault.Memory) }
+{
+    if request == 0 {
         Ok(format!(in alloc; "no - {line}: {flaw}\n")?)
     } else {
         Ok(format!(in alloc; "no {request} {line}: {flaw}\n")?)

@@ -5,7 +5,7 @@ ghost use Rattle.std.specs.Prelude.{◌≡◌, ◌⊎◌, ◌↔◌, ◌<◌, �
 ghost use Rattle.std.specs.Bool.{OnTrue};
 ghost use Rattle.std.specs.Option.{IsSome, option_to_list};
 ghost use Rattle.td_plan.specs.Text.{text_lines, words};
-ghost use Rattle.td_feed.specs.Orders.{is_cut, request_of, positive, seen_of, feed_line_of, stream_line_of, is_between, numbered, order_for, with_order, with_cut, with_request, with_seen, with_line};
+ghost use Rattle.td_feed.specs.Orders.{is_cut, request_of, positive, place_of, seen_of, feed_line_of, held_line_of, stream_line_of, has_no_number, may_be_placed, is_between, numbered, order_for, order_at, with_order, with_cut, with_request, with_place, with_seen, with_line};
 ghost use Rattle.td_feed.specs.Orders.{no_orders, orders_of, is_of_input, IsAccepted, IsFirstLine, Gives};
 
 use crate::at_once::Room;
@@ -26,10 +26,19 @@ pub enum FeedLine {
     Data(DataLine),
     /// `req Q`: the epoch that begins has this request number.
     Request(u64),
+    /// `at E`: the epoch that begins is this one, or is not put on the disk.
+    At(u64),
     /// `cut`.
     Cut,
     /// `seen E`: the consumer has stored the output lines of all epochs up to this one.
     Seen(u64),
+}
+
+/// The place of an epoch: which one it is to be, as the line with this number says.
+#[derive(Clone, Copy, Debug, PartialEq, Eq, Drop)]
+pub struct Place {
+    pub epoch: u64,
+    pub line: u64,
 }
 
 /// What the input asks for.
@@ -39,6 +48,8 @@ pub enum Order {
     Submit(Batch),
     /// The next epoch, with this request number and this batch, unless it was submitted before.
     SubmitAs(u64, Batch),
+    /// The same of an epoch that has this place; its request number is 0 for none. The place is compared before this is obeyed.
+    SubmitAt(Place, u64, Batch),
     /// To settle, cut, and write the cut.
     Cut,
     /// To write a note.
@@ -47,11 +58,12 @@ pub enum Order {
     Seen { line: u64, epoch: u64 },
 }
 
-/// Orders that were read, and of the epoch that is not closed its request number, 0 for none, and its entries in the order of
+/// Orders that were read, and of the epoch that is not closed its place, its request number, 0 for none, and its entries in the order of
 /// their lines.
 #[derive(Drop)]
 pub(crate) struct Orders {
     pub(crate) orders: Vec<Order>,
+    place: Option<Place>,
     request: u64,
     current: Vec<Entry>,
 }
@@ -61,7 +73,7 @@ impl Model for Orders {
 
     ghost Value = { Orders };
 
-    ghost view = { λ r. record { orders = r.orders.items; request = r.request; current = r.current.items } };
+    ghost view = { λ r. record { orders = r.orders.items; place = r.place; request = r.request; current = r.current.items } };
 }
 
 /// What an input asks for, in order. A line is a data line; or, where neither a record nor a request number stands in the current
@@ -94,6 +106,7 @@ pub(crate) fn no_orders(alloc: Global) -> Orders
 {
     Orders {
         orders: Vec::new(alloc),
+        place: None,
         request: 0,
         current: Vec::new(alloc),
     }
@@ -113,6 +126,7 @@ pub(crate) fn with_line(
     let said = match said {
         Some(FeedLine::Data(said)) => said,
         Some(FeedLine::Request(request)) => return with_request(read, number, request),
+        Some(FeedLine::At(epoch)) => return with_place(read, number, epoch),
         Some(FeedLine::Cut) => return with_cut(read, number),
         Some(FeedLine::Seen(epoch)) => return with_seen(read, number, epoch),
         None => return Err(Fault::Line(number, LineFault::Syntax)),
@@ -138,12 +152,13 @@ pub(crate) fn records_in(read: &Orders) -> usize
     read.current.len()
 }
 
-/// With this request number, and without the records of the epoch that is open.
+/// With this request number, and without the place and the records of the epoch that is open.
 pub(crate) fn numbered(alloc: Global, read: Orders, request: u64) -> Orders
     ensures { result ≡ numbered request read }
 {
     Orders {
         orders: read.orders,
+        place: None,
         request,
         current: Vec::new(alloc),
     }
@@ -156,12 +171,14 @@ pub(crate) fn with_note(alloc: Global, read: Orders, note: Note) -> Result<Order
 {
     let Orders {
         mut orders,
+        place: _,
         request: _,
         current: _,
     } = read;
     orders.push(Order::Say(note))?;
     Ok(Orders {
         orders,
+        place: None,
         request: 0,
         current: Vec::new(alloc),
     })
@@ -171,43 +188,74 @@ pub(crate) fn with_note(alloc: Global, read: Orders, note: Note) -> Result<Order
 pub(crate) fn taken_out(read: Orders) -> (Option<Order>, Orders)
     ensures parts { read.orders ≡ result.1.orders ++ option_to_list result.0 }
     ensures some { IsSome result.0 ↔ (0 < length read.orders) }
-    ensures same { result.1 ≡ record { orders = result.1.orders; request = read.request; current = read.current } }
+    ensures same { result.1 ≡ record { orders = result.1.orders; place = read.place; request = read.request; current = read.current } }
 {
     let Orders {
         mut orders,
+        place,
         request,
         current,
     } = read;
     let order = orders.pop();
     let others = Orders {
         orders,
+        place,
         request,
         current,
     };
     (order, others)
 }
 
-/// Whether an epoch has not begun: neither a record nor a request number stands in it.
+/// Whether an epoch has not begun: neither a record nor a place nor a request number stands in it.
 pub(crate) fn is_between(read: &Orders) -> bool
     ensures { result ≡ is_between read.now }
+{
+    read.place.is_none() && has_no_number(read)
+}
+
+/// Whether neither a record nor a request number stands in the epoch.
+fn has_no_number(read: &Orders) -> bool
+    ensures { result ≡ has_no_number read.now }
 {
     read.request == 0 && read.current.is_empty()
 }
 
-/// Whether the epoch that is open has more records than fit, where it would be put on the disk if it were closed.
-pub(crate) fn has_too_many(read: &Orders, room: &Room) -> bool {
-    room.takes_number(read.request) && room.records < read.current.len()
+/// Whether neither a record nor a place stands in the epoch.
+fn may_be_placed(read: &Orders) -> bool
+    ensures { result ≡ may_be_placed read.now }
+{
+    read.place.is_none() && read.current.is_empty()
 }
 
-/// With a request number for the epoch that begins. Refusal: `Syntax` where it has begun.
+/// Whether the epoch that is open has more records than fit, where it would be put on the disk if it were closed.
+pub(crate) fn has_too_many(read: &Orders, room: &Room) -> bool {
+    room.takes(read.place, read.request) && room.records < read.current.len()
+}
+
+/// With a request number for the epoch that begins. Refusal: `Syntax` where it has one, or a record.
 fn with_request(read: Orders, number: u64, request: u64) -> Result<Orders, Fault>
-    ensures gives { Gives result (with_request number request read (is_between read)) }
+    ensures gives { Gives result (with_request number request read (has_no_number read)) }
     ensures of_input { IfErr result (λ f. is_of_input f ≡ true) }
 {
-    if !is_between(&read) {
+    if !has_no_number(&read) {
         return Err(Fault::Line(number, LineFault::Syntax));
     }
     Ok(Orders { request, ..read })
+}
+
+/// With a place for the epoch that begins. Refusal: `Syntax` where it has one, or a record.
+fn with_place(read: Orders, number: u64, epoch: u64) -> Result<Orders, Fault>
+    ensures gives { Gives result (with_place number epoch read (may_be_placed read)) }
+    ensures of_input { IfErr result (λ f. is_of_input f ≡ true) }
+{
+    if !may_be_placed(&read) {
+        return Err(Fault::Line(number, LineFault::Syntax));
+    }
+    let place = Some(Place {
+        epoch,
+        line: number,
+    });
+    Ok(Orders { place, ..read })
 }
 
 /// With a cut. Refusals: `Syntax` where an epoch has begun; `Memory`.
@@ -220,12 +268,14 @@ fn with_cut(read: Orders, number: u64) -> Result<Orders, Fault>
     }
     let Orders {
         mut orders,
+        place,
         request,
         current,
     } = read;
     orders.push(Order::Cut)?;
     Ok(Orders {
         orders,
+        place,
         request,
         current,
     })
@@ -241,6 +291,7 @@ fn with_seen(read: Orders, number: u64, epoch: u64) -> Result<Orders, Fault>
     }
     let Orders {
         mut orders,
+        place,
         request,
         current,
     } = read;
@@ -250,6 +301,7 @@ fn with_seen(read: Orders, number: u64, epoch: u64) -> Result<Orders, Fault>
     })?;
     Ok(Orders {
         orders,
+        place,
         request,
         current,
     })
@@ -262,15 +314,27 @@ fn close(alloc: Global, read: Orders) -> Result<Orders, Fault>
 {
     let Orders {
         mut orders,
+        place,
         request,
         current,
     } = read;
-    orders.push(order_for(request, Batch::from_vec(alloc, current)))?;
+    orders.push(order_at(place, request, Batch::from_vec(alloc, current)))?;
     Ok(Orders {
         orders,
+        place: None,
         request: 0,
         current: Vec::new(alloc),
     })
+}
+
+/// What submits a batch under a request number, or without one where that is 0; and at a place, if there is one.
+fn order_at(place: Option<Place>, request: u64, batch: Batch) -> Order
+    ensures { result ≡ order_at place request batch }
+{
+    match place {
+        Some(place) => Order::SubmitAt(place, request, batch),
+        None => order_for(request, batch),
+    }
 }
 
 /// What submits a batch under a request number, or without one where that is 0.
@@ -301,12 +365,14 @@ fn with_record(
     let input = input as u8;
     let Orders {
         orders,
+        place,
         request,
         mut current,
     } = read;
     current.push(Entry { input, rec })?;
     Ok(Orders {
         orders,
+        place,
         request,
         current,
     })
@@ -329,9 +395,23 @@ fn first_feed_line(bytes: &[u8]) -> Option<(Option<FeedLine>, &[u8])>
     }
 }
 
-/// What a line of a stream says, if it has a form: where outputs are held, also which epoch was seen.
-pub(crate) fn read_stream_line(hold: bool, line: &[u8]) -> Option<FeedLine>
-    ensures { result ≡ stream_line_of hold line.now }
+/// What a line of a stream says, if it has a form: where epochs may have places, also the place of one; and where outputs are held, which
+/// epoch was seen.
+pub(crate) fn read_stream_line(placing: bool, hold: bool, line: &[u8]) -> Option<FeedLine>
+    ensures { result ≡ stream_line_of placing hold line.now }
+{
+    if !placing {
+        return read_held_line(hold, line);
+    }
+    match read_place(ascii_text(line)?) {
+        Some(epoch) => Some(FeedLine::At(epoch)),
+        None => read_held_line(hold, line),
+    }
+}
+
+/// The same where epochs have no places.
+fn read_held_line(hold: bool, line: &[u8]) -> Option<FeedLine>
+    ensures { result ≡ held_line_of hold line.now }
 {
     if !hold {
         return read_feed_line(line);
@@ -377,6 +457,18 @@ fn read_request(line: &str) -> Option<u64>
     let (word, rest) = next_word(line)?;
     let (number, rest) = next_word(rest)?;
     if word != "req" || next_word(rest).is_some() {
+        return None;
+    }
+    positive(natural(number))
+}
+
+/// The epoch that a line `at E` gives, from 1 on, where it is one.
+fn read_place(line: &str) -> Option<u64>
+    ensures { result ≡ place_of (words line.now) }
+{
+    let (word, rest) = next_word(line)?;
+    let (number, rest) = next_word(rest)?;
+    if word != "at" || next_word(rest).is_some() {
         return None;
     }
     positive(natural(number))

@@ -20,10 +20,12 @@ use td_console::{DataLine, Fault, LineFault};
 use td_plan::Plan;
 
 /// Where a stream is in its input: the number of the next line, what was read, and why the epoch that is open is refused, if it is. Where
-/// epochs are refused, one may have so many records. Where outputs are held, lines may say which were seen.
+/// epochs are refused, one may have so many records. Where epochs may have places, lines say which; and where outputs are held, which were
+/// seen.
 #[derive(Drop)]
 pub(crate) struct Reading<'a> {
     plan: &'a Plan,
+    placing: bool,
     hold: bool,
     limit: Option<usize>,
     number: u64,
@@ -36,13 +38,15 @@ impl<'a> Reading<'a> {
     pub(crate) fn new(
         alloc: Global,
         plan: &'a Plan,
+        placing: bool,
         hold: bool,
         limit: Option<usize>,
     ) -> Reading<'a>
-        ensures { place result ≡ at_start hold limit plan.now }
+        ensures { place result ≡ at_start placing hold limit plan.now }
     {
         Reading {
             plan,
+            placing,
             hold,
             limit,
             number: 1,
@@ -82,7 +86,7 @@ impl<'a> Reading<'a> {
         };
         let read = mem::replace(&mut self.read, no_orders(alloc));
         let flaw = self.flaw.take();
-        let words = read_stream_line(self.hold, line);
+        let words = read_stream_line(self.placing, self.hold, line);
         let said = with_said(
             alloc,
             self.plan,
@@ -101,8 +105,8 @@ impl<'a> Reading<'a> {
     }
 }
 
-/// What was read, and what one line more adds, which has this number and says this, if it has a form; or why the epoch is refused. Refusals: the line's fault, where
-/// epochs are not refused; `Memory`.
+/// What was read, and what one line more adds, which has this number and says this, if it has a form; or why the epoch is refused.
+/// Refusals: the line's fault, where epochs are not refused; `Memory`.
 fn with_said(
     alloc: Global,
     plan: &Plan,
@@ -190,8 +194,11 @@ fn cause_in(fault: LineFault, line: &[u8]) -> Cause
 {
     match fault {
         LineFault::Syntax => cause_of(line),
-        LineFault::NoSuchInput | LineFault::NotClosed | LineFault::NotOut | LineFault::SeenBefore =>
-            Cause::Line(fault),
+        LineFault::NoSuchInput
+        | LineFault::NotClosed
+        | LineFault::NotOut
+        | LineFault::SeenBefore
+        | LineFault::Gap => Cause::Line(fault),
     }
 }
 
@@ -224,7 +231,7 @@ fn passed_over(
     let request = request_in(&read);
     match said {
         Some(FeedLine::Data(DataLine::Close)) => {
-            let note = Note {
+            let note = Note::Refused {
                 request,
                 line: flaw.0,
                 flaw: flaw.1,
@@ -237,6 +244,7 @@ fn passed_over(
         }
         Some(
             FeedLine::Data(DataLine::PassedOver | DataLine::Record(..))
+            | FeedLine::At(_)
             | FeedLine::Cut
             | FeedLine::Seen(_),
         )

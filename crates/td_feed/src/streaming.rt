@@ -8,7 +8,9 @@ ghost use Rattle.td_plan.specs.Blocks.{vertices};
 ghost use Rattle.td_calls.specs.Fits.{first_lack};
 ghost use Rattle.td_watch.specs.View.{View};
 ghost use Rattle.td_console.specs.Answer.{lack_fault};
+ghost use Rattle.td_standing.specs.Standing.{last_epoch, last_request};
 ghost use Rattle.td_feed.specs.Asked.{script_of};
+ghost use Rattle.td_feed.specs.Placed.{placed};
 ghost use Rattle.td_feed.specs.Held.{KeepsTo, first_seen, then_seen};
 ghost use Rattle.td_feed.specs.Said.{IsAllOut};
 ghost use Rattle.td_feed.specs.Session.{limit_of, KeepsDisk, FeedsScript, StreamsDisk};
@@ -27,7 +29,7 @@ use td_calls::{Closures, Law};
 use td_console::{Fault, Source, lack_fault};
 use td_disk::Disk;
 use td_keeper::Keeper;
-use td_keeper::laws::{each_is_kept, each_keeps_to_its_base};
+use td_keeper::laws::{driven_keeps_to_its_base, each_is_kept, each_keeps_to_its_base};
 use td_plan::Plan;
 use td_standing::laws;
 use td_watch::Writer;
@@ -39,8 +41,10 @@ pub struct StreamOptions {
     pub cut_every: Option<u32>,
     /// How many tasks an epoch may take, if that is given.
     pub most: Option<u64>,
-    /// Whether an epoch with a faulty line, or with too many records, is refused, and the stream goes on.
+    /// Whether an epoch with a faulty line, with too many records, or after a gap, is refused, and the stream goes on.
     pub refuse: bool,
+    /// Whether lines `at E` name the places of epochs.
+    pub placing: bool,
     /// Whether outputs are held: no cut is taken beyond the last epoch of which a line `seen E` says that its outputs were stored.
     pub hold: bool,
 }
@@ -65,6 +69,10 @@ pub struct StreamOptions {
 /// Where outputs are held, a line `seen E` between two epochs says that the outputs of all epochs up to E were stored. No cut is taken
 /// beyond the last epoch that was seen, at first the one that the disk keeps; so a later stream of the disk writes again the outputs of
 /// each epoch that was not seen. Where the journal is full and nothing more was seen, `full E` is written, with its last epoch E.
+///
+/// Where epochs may have places, a line `at E` before an epoch's records says that it is the epoch E. It is put on the disk where the last
+/// epoch there is E - 1. Else it is not: where the disk has E already, a line `there E` is written at its `.`. Where the disk lacks an
+/// epoch before E, the stream ends with `Gap` of the line `at E`; or it writes `gap E` and goes on, where epochs are refused.
 ///
 /// Refusals: a missing closure, before anything else; what the disk refuses as it is recovered; and then the first of what a line,
 /// the reader, the keeper, a worker or the writer refuse, after all that was asked for before it; but want of memory, where epochs are
@@ -101,10 +109,11 @@ pub fn stream<
 
     // What the input asks for is fed, by one worker until all outputs went out.
     ensures fed { first_lack (C.has_map calls.now) (C.has_group calls.now) (C.has_fold calls.now) (vertices plan.now) ≡ None
-        → IfSome (I.remaining reader) (λ input. StreamsDisk D.is_lawful D.state D.failures L.answers W.marks options.refuse options.hold result.1 plan.now (workers == 1) disk result.0
+        → IfSome (I.remaining reader) (λ input. StreamsDisk D.is_lawful D.state D.failures L.answers W.marks options.placing options.refuse options.hold result.1 plan.now (workers == 1) disk result.0
         (W.contents writer.old) (W.contents writer.new) input) }
 {
     laws::told_in_parts();
+    driven_keeps_to_its_base::<D, L>();
     if let Err(lack) = calls.fits(plan) {
         return (disk, Err(lack_fault(lack)));
     }
@@ -176,9 +185,10 @@ fn obey<
     requires collected { keeper.collected ≡ keeper.base }
     ensures disk { KeepsDisk D.capacity D.is_lawful D.failures result.1 keeper.device result.0.device }
     ensures fed { IfSome (I.remaining reader) (λ input. FeedsScript D.is_lawful D.state D.failures L.answers W.marks result.1 (W.contents writer.old) (W.contents writer.new) keeper result.0
-        (script_of options.hold (limit_of options.refuse keeper.head.shape.m) plan.now input)) }
+        (placed options.refuse (last_epoch keeper.standing) (last_request keeper.standing) (script_of options.placing options.hold (limit_of options.refuse keeper.head.shape.m) plan.now input))) }
     ensures all_out { workers ≡ 1 → OnOk result.1 (IsAllOut result.0) }
-    ensures held { IfSome (I.remaining reader) (λ input. KeepsTo (then_seen (first_seen options.hold keeper.standing.epoch) (script_of options.hold (limit_of options.refuse keeper.head.shape.m) plan.now input).orders) keeper result.0) }
+    ensures held { IfSome (I.remaining reader) (λ input. KeepsTo (then_seen (first_seen options.hold keeper.standing.epoch)
+        (placed options.refuse (last_epoch keeper.standing) (last_request keeper.standing) (script_of options.placing options.hold (limit_of options.refuse keeper.head.shape.m) plan.now input)).orders) keeper result.0) }
 {
     let feeding = Feeding::new(
         &keeper,
@@ -189,7 +199,7 @@ fn obey<
         },
     );
     let limit = limit_of(options.refuse, &keeper);
-    let orders = Streamed::new(alloc, plan, options.hold, limit, reader);
+    let orders = Streamed::new(alloc, plan, options.placing, options.hold, limit, reader);
     if workers == 1 {
         return obey_alone(rt, alloc, keeper, feeding, orders, writer, calls);
     }

@@ -173,6 +173,16 @@ impl Feeding {
                     let command = Command::SubmitAs(request, batch);
                     self.submit(rt, alloc, engine, command, weight, writer)
                 }
+                Order::SubmitAt(_, 0, batch) => {
+                    let weight = weight(&batch);
+                    let command = Command::Submit(batch);
+                    self.submit(rt, alloc, engine, command, weight, writer)
+                }
+                Order::SubmitAt(_, request, batch) => {
+                    let weight = weight(&batch);
+                    let command = Command::SubmitAs(request, batch);
+                    self.submit(rt, alloc, engine, command, weight, writer)
+                }
                 Order::Cut => self.cut(rt, alloc, engine, seen, writer),
                 Order::Say(note) => write_note(alloc, &note, writer),
                 Order::Seen { .. } => Ok(()),

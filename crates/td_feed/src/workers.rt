@@ -5,6 +5,7 @@
 //! `td_workers` is not used here: of a reference in its work nothing is known afterwards, and a feed says what its writer then
 //! holds.
 ghost use Rattle.std.specs.Prelude.{◌≡◌, false, IfSome};
+ghost use Rattle.td_standing.specs.Standing.{last_epoch, last_request};
 ghost use Rattle.td_feed.specs.Held.{KeepsTo, seen_at, then_seen};
 ghost use Rattle.td_feed.specs.Session.{KeepsDisk, FeedsScript};
 
@@ -53,8 +54,8 @@ pub(crate) fn obey_by_workers<
     requires hall { (hall.workers ≡ K.shards) × (hall.given ≡ K.start) }
     requires whole { keeper.broken ≡ false }
     ensures disk { KeepsDisk D.capacity D.is_lawful D.failures result.1 keeper.device result.0.device }
-    ensures fed { IfSome (S.script orders) (λ script. FeedsScript D.is_lawful D.state D.failures L.answers W.marks result.1 (W.contents writer.old) (W.contents writer.new) keeper result.0 script) }
-    ensures held { IfSome (S.script orders) (λ script. KeepsTo (then_seen (seen_at feeding.pace keeper.standing.epoch) script.orders) keeper result.0) }
+    ensures fed { IfSome (S.script (last_epoch keeper.standing) (last_request keeper.standing) orders) (λ script. FeedsScript D.is_lawful D.state D.failures L.answers W.marks result.1 (W.contents writer.old) (W.contents writer.new) keeper result.0 script) }
+    ensures held { IfSome (S.script (last_epoch keeper.standing) (last_request keeper.standing) orders) (λ script. KeepsTo (then_seen (seen_at feeding.pace keeper.standing.epoch) script.orders) keeper result.0) }
 {
     match Pool::<K, L>::new(alloc, hall, blank) {
         Ok((pool, seats)) => beside(
@@ -86,8 +87,8 @@ fn beside<
 ) -> (Keeper<D, L>, Result<(), Fault>)
     requires whole { keeper.broken ≡ false }
     ensures disk { KeepsDisk D.capacity D.is_lawful D.failures result.1 keeper.device result.0.device }
-    ensures fed { IfSome (S.script orders) (λ script. FeedsScript D.is_lawful D.state D.failures L.answers W.marks result.1 (W.contents writer.old) (W.contents writer.new) keeper result.0 script) }
-    ensures held { IfSome (S.script orders) (λ script. KeepsTo (then_seen (seen_at feeding.pace keeper.standing.epoch) script.orders) keeper result.0) }
+    ensures fed { IfSome (S.script (last_epoch keeper.standing) (last_request keeper.standing) orders) (λ script. FeedsScript D.is_lawful D.state D.failures L.answers W.marks result.1 (W.contents writer.old) (W.contents writer.new) keeper result.0 script) }
+    ensures held { IfSome (S.script (last_epoch keeper.standing) (last_request keeper.standing) orders) (λ script. KeepsTo (then_seen (seen_at feeding.pace keeper.standing.epoch) script.orders) keeper result.0) }
 {
     let allowance = Allowance::new(pool, feeding.pace.tasks_of_an_epoch());
     let allowance = &allowance;
@@ -98,8 +99,8 @@ fn beside<
             requires { keeper.broken ≡ false }
             ensures same_writer { result.1.ghost_name ≡ writer.entry.ghost_name }
             ensures disk { KeepsDisk D.capacity D.is_lawful D.failures result.0.1 keeper.device result.0.0.device }
-            ensures fed { IfSome (S.script orders) (λ script. FeedsScript D.is_lawful D.state D.failures L.answers W.marks result.0.1 (W.contents writer.entry.now) (W.contents result.1.now) keeper result.0.0 script) }
-            ensures held { IfSome (S.script orders) (λ script. KeepsTo (then_seen (seen_at feeding.pace keeper.standing.epoch) script.orders) keeper result.0.0) }
+            ensures fed { IfSome (S.script (last_epoch keeper.standing) (last_request keeper.standing) orders) (λ script. FeedsScript D.is_lawful D.state D.failures L.answers W.marks result.0.1 (W.contents writer.entry.now) (W.contents result.1.now) keeper result.0.0 script) }
+            ensures held { IfSome (S.script (last_epoch keeper.standing) (last_request keeper.standing) orders) (λ script. KeepsTo (then_seen (seen_at feeding.pace keeper.standing.epoch) script.orders) keeper result.0.0) }
         {
             let pool = allowance.pool;
             let mut engine = AtPool { keeper, allowance };

@@ -62,6 +62,11 @@ max_at_most a b c first second = by (nat_lt a b) refl
     by true is = let less : a < b = ltb-true a b is in subst (λ (n : ℕ). n ≤ c) (sym (max-eq_right (omega (arith, less)))) second
     by false is = let least : b ≤ a = ltb-false a b is in subst (λ (n : ℕ). n ≤ c) (sym (max-eq_left least)) first
 
+-- a hall is never cut before its base
+pub never_before : (answers : Answers) (S : HallState) → Sound answers S → (most : Option ℕ) → S.base ≤ cut_place most S
+never_before answers S sound None = (last_is (has_passed S) S.base S.next (omega (arith, sound.released)) (unpassed S) refl).after
+never_before answers S sound (Some most) = le-max_left S.base (min most (last_passed S))
+
 module _ {D : Type 0} (answers : Answers) (states_join : StatesJoin answers) (outs_join : OutsJoin answers)
     (k : Keeping D) (keeping : IsKeeping k answers) (S : HallState) (own : IsOwn k S) (sound : Sound answers S) where
   many : length (batches_of k.standing.submitted) ≡ length k.standing.submitted
@@ -217,8 +222,7 @@ module _ {D : Type 0} (answers : Answers) (states_join : StatesJoin answers) (ou
 
   -- where it is cut lies between the base and that epoch, so all up to it have passed
   pub place_after : (most : Option ℕ) → has_passed S S.base ≡ true → S.base ≤ cut_place most S
-  place_after None base = let last = is_last base in omega (arith, last.after)
-  place_after (Some most) base = le-max_left S.base (min most (last_passed S))
+  place_after most base = never_before answers S sound most
 
   pub place_before : (most : Option ℕ) → has_passed S S.base ≡ true → cut_place most S ≤ last_passed S
   place_before None base = omega arith

@@ -12,6 +12,7 @@ mod Runs
 mod Since
 mod Submitting
 mod Driving
+mod Short
 mod Failing
 mod Handing
 mod Receiving

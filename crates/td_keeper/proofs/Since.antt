@@ -15,7 +15,7 @@ use Rattle.td_standing.specs.Stops.{Advance, Holds}
 use Rattle.td_standing.specs.Told.{Told}
 use Rattle.td_standing.specs.Tells.{Tells, Keeps, TellsSince}
 use Rattle.td_standing.specs.Advanced.{TellsAdvance, SinceAdvance, AdvancesSince, HeldWhere, states_by}
-use Rattle.td_keeper.specs.Keeping.{Keeping, EachKeepsTo, KeepsToWhere}
+use Rattle.td_keeper.specs.Keeping.{Keeping, EachKeepsTo, KeepsSince, KeepsToWhere}
 use Rattle.td_keeper.proofs.Submitting.{keeps_of}
 
 -- what is told in parts is told, as it is handed in
@@ -111,6 +111,14 @@ module _ (plan : List Line) (one : OneAnswer) (last : ℕ) where
       → ((c : List ℕ) → state.since moment c → Told plan c (Ok s) ⊎ Told plan c (Ok t)) → s.epoch ≤ last → t.epoch ≤ last → EachKeepsTo plan last state
   keeps_to s t moment state counts each low also c image u told =
       ⊎_elim (λ is. told_at_most c s u is low told) (λ is. told_at_most c t u is also told) (each c (counts c image))
+
+  -- AT EACH MOMENT of a call, where each image that it adds tells one of these
+  pub keeps_since : Together → (head next : Head) (side other : ℕ) (s t : Standing) (old new : DiskState) → s.epoch ≤ last → t.epoch ≤ last
+      → TellsSince (Tells plan head side s) (Tells plan next other t) old new → KeepsSince plan last old new
+  keeps_since together head next side other s t old new low also begun moment c le left = ⊎_elim
+      (λ was. inl was)
+      (λ now. inr (λ u told. ⊎_elim (λ is. told_at_most c s u (together plan head side s c is) low told) (λ is. told_at_most c t u (together plan next other t c is) also told) now))
+      (begun moment c le left)
 
   -- at any time
   pub all_keep_to : (b : Bool) (answers : Answers) → Together → (head : Head) (side : ℕ) (s : Standing) (state : DiskState) → HeldWhere b answers plan head side s state → KeepsToWhere b plan last state

@@ -26,7 +26,7 @@ use Rattle.td_keeper.specs.declared.command.Reply.{Reply}
 use Rattle.td_keeper.specs.declared.command.Reply.TheVariants.{Submitted, SubmittedAs, SubmittedAll, Released, Settled, Collected, Out, CutTaken, Written, Closed, Refused, RefusedAll}
 use Rattle.td_keeper.specs.declared.group.GroupError.{GroupError}
 use Rattle.td_keeper.specs.declared.group.GroupError.TheVariants.{Repeated, Keeper}
-use Rattle.td_keeper.specs.Keeping.{Keeping, IsKeeping, since_base, with_batch, with_group, with_checkpoint, FreeAreShut}
+use Rattle.td_keeper.specs.Keeping.{Keeping, IsKeeping, KeepsSince, since_base, with_batch, with_group, with_checkpoint, FreeAreShut}
 use Rattle.td_keeper.specs.Refused.{is_new, submit_refusal, submit_as_refusal, group_refusal, write_refusal, close_refusal, cut_refusal}
 use Rattle.td_keeper.specs.Received.{IsReceived, received_in}
 use Rattle.td_keeper.specs.Grouped.{AllOrNone}
@@ -133,11 +133,12 @@ module _ {D : Type 0} (is_lawful : D → Type 0) (state : D → DiskState) (fail
     pub since : old.broken ≡ false → AdvancesSince answers old.plan old.standing x (last_epoch old.standing) (state old.device) (state new.device)
 
   -- A COMMAND THAT MAY WRITE, with this reply: the count of failures never falls, and stays where the device did not fail; and so
-  -- the images, where the disk is lawful
+  -- the images, where the disk is lawful; and nothing is kept beyond the base
   pub record MayWrite (reply : Reply) (old new : Keeping D) (x : List AnySubmitted) : Type 0 where
     pub counted : failures old.device ≤ failures new.device
     pub stays : is_failed reply ≡ false → failures new.device ≡ failures old.device
     pub advances : is_lawful old.device → Advances old new x
+    pub short : is_lawful old.device → KeepsSince old.plan old.base (state old.device) (state new.device)
 
   -- nothing was written: what a crash may leave, it might have left before
   abbrev pub Unwritten : Keeping D → Keeping D → Type 0

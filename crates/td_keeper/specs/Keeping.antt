@@ -1,5 +1,5 @@
 -- What contracts see of a keeper, and what each keeper keeps right.
-use Rattle.std.specs.Prelude.{◌≡◌, ℕ, ◌+◌, ◌-◌, min, ◌^◌, ◌<◌, ◌≤◌, Bool, true, false, List, [], ◌∷◌, length, drop, All, Option, Some, None, Ok}
+use Rattle.std.specs.Prelude.{◌≡◌, ◌⊎◌, ℕ, ◌+◌, ◌-◌, min, ◌^◌, ◌<◌, ◌≤◌, Bool, true, false, List, [], ◌∷◌, length, drop, All, Option, Some, None, Ok}
 use Rattle.td_stamp.specs.declared.values.Entry.{Entry}
 use Rattle.td_stamp.specs.declared.epoch_out.EpochOut.{EpochOut}
 use Rattle.td_stamp.specs.States.{StateList}
@@ -66,9 +66,21 @@ abbrev pub is_waiting : Option Taken → Bool
 is_waiting None = false
 is_waiting (Some t) = t.waits
 
--- NOTHING IS KEPT BEYOND AN EPOCH: whatever a crash leaves of a disk, the checkpoint that it tells is of no later one
+-- AN IMAGE KEEPS NOTHING BEYOND AN EPOCH: the checkpoint that it tells is of no later one
+abbrev pub ImageKeepsTo : List Line → ℕ → List ℕ → Type 0
+ImageKeepsTo plan last c = (s : Standing) → Told plan c (Ok s) → s.epoch ≤ last
+
+-- NOTHING IS KEPT BEYOND AN EPOCH, whatever a crash leaves of a disk
 abbrev pub EachKeepsTo : List Line → ℕ → DiskState → Type 0
-EachKeepsTo plan last state = (c : List ℕ) → state.images c → (s : Standing) → Told plan c (Ok s) → s.epoch ≤ last
+EachKeepsTo plan last state = (c : List ℕ) → state.images c → ImageKeepsTo plan last c
+
+-- NOR AT A MOMENT since one, in the middle of a write too
+abbrev pub EverKeepsTo : List Line → ℕ → ℕ → DiskState → Type 0
+EverKeepsTo plan last moment state = (c : List ℕ) → state.since moment c → ImageKeepsTo plan last c
+
+-- Each image since a moment up to old was one by then, or it keeps nothing beyond an epoch.
+abbrev pub KeepsSince : List Line → ℕ → DiskState → DiskState → Type 0
+KeepsSince plan last old new = (t : ℕ) (c : List ℕ) → t ≤ old.moment → new.since t c → old.since t c ⊎ ImageKeepsTo plan last c
 
 -- after a fault of the device in a call that writes
 abbrev pub KeepsToWhere : Bool → List Line → ℕ → DiskState → Type 0

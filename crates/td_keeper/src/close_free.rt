@@ -4,7 +4,7 @@ ghost use Rattle.td_disk.specs.Disk.{Rises};
 ghost use Rattle.td_gate.specs.CrashSafe.{CrashSafe, Unchanged};
 ghost use Rattle.td_standing.specs.Standing.{last_epoch};
 ghost use Rattle.td_standing.specs.Advanced.{SinceAdvance, AdvancesSince};
-ghost use Rattle.td_keeper.specs.Keeping.{FreeAreShut};
+ghost use Rattle.td_keeper.specs.Keeping.{FreeAreShut, KeepsSince};
 ghost use Rattle.td_keeper.specs.Refused.{close_refusal};
 ghost use Rattle.td_standing.specs.declared.error.KeeperError.TheVariants.{Device};
 
@@ -50,6 +50,9 @@ impl<D: Disk, L: Law> Keeper<D, L> {
         // Each image since an earlier moment was one by the start of the call, or the disk tells such an advance in it.
         ensures further { D.is_lawful self.old.device → self.old.broken ≡ false
             → AdvancesSince L.answers self.old.plan self.old.standing [] (last_epoch self.old.standing) (D.state self.old.device) (D.state self.new.device) }
+
+        // Each such image was one by the start of the call, or it keeps nothing beyond the base.
+        ensures short { D.is_lawful self.old.device → KeepsSince self.old.plan self.old.base (D.state self.old.device) (D.state self.new.device) }
     {
         laws::told_in_parts();
         laws::standings_advance::<L>();

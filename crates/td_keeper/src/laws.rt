@@ -6,7 +6,7 @@ ghost use Rattle.td_standing.specs.Read.{Stood};
 ghost use Rattle.td_journal.specs.declared.submitted.Submitted.{Submitted as AnySubmitted};
 ghost use Rattle.td_standing.specs.Stops.{Stands};
 ghost use Rattle.td_standing.specs.Advanced.{HeldWhere, states_by};
-ghost use Rattle.td_keeper.specs.Keeping.{Keeping, IsKeeping, EachKeepsTo, KeepsToWhere};
+ghost use Rattle.td_keeper.specs.Keeping.{Keeping, IsKeeping, EachKeepsTo, KeepsSince, KeepsToWhere};
 ghost use Rattle.td_keeper.specs.declared.command.Command.{Command as AnyCommand};
 ghost use Rattle.td_keeper.specs.declared.command.Reply.{Reply as AnyReply};
 ghost use Rattle.td_keeper.specs.Acknowledged.{acknowledged_by, outs_of, HandsOutUpTo, Acknowledges, TellsWork};
@@ -110,6 +110,16 @@ pub fn driven_advances<D: Disk, L: Law>()
         → Advances D.is_lawful D.state D.failures L.answers old new (submitted_by commands replies) }
 {
     laws::advances_join::<L>();
+}
+
+/// NOTHING IS KEPT BEYOND A KEEPER'S BASE, at each moment of commands, in the middle of a write too. The base never falls; and each image that a
+/// crash leaves at such a moment was one before the commands, or the checkpoint that it tells is of no epoch beyond the base.
+pub fn driven_keeps_to_its_base<D: Disk, L: Law>()
+    ensures { (commands : List AnyCommand) (replies : List AnyReply) (old new : Keeping D) → D.is_lawful old.device
+        → Driven D.is_lawful D.state D.failures L.answers commands replies old new
+        → (old.base ≤ new.base) × KeepsSince old.plan new.base (D.state old.device) (D.state new.device) }
+{
+    td_machine::laws::reached::<L>();
 }
 
 /// WHAT IS ACKNOWLEDGED IS THERE, batch by batch. What replies acknowledge are the epochs that follow the keeper's last, in the order

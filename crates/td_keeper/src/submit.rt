@@ -7,7 +7,7 @@ ghost use Rattle.td_standing.specs.Standing.{last_epoch, last_request, submissio
 ghost use Rattle.td_standing.specs.Told.{inputs_of};
 ghost use Rattle.td_standing.specs.Tells.{IsFresh};
 ghost use Rattle.td_standing.specs.Advanced.{SinceAdvance, AdvancesSince};
-ghost use Rattle.td_keeper.specs.Keeping.{with_batch};
+ghost use Rattle.td_keeper.specs.Keeping.{with_batch, KeepsSince};
 ghost use Rattle.td_keeper.specs.Received.{IsReceived};
 ghost use Rattle.td_keeper.specs.Refused.{is_new, submit_refusal, request_refusal, submit_as_refusal};
 ghost use Rattle.td_standing.specs.declared.error.KeeperError.TheVariants.{Memory, Device, Broken, OldVersion};
@@ -64,6 +64,9 @@ impl<D: Disk, L: Law> Keeper<D, L> {
         // Each image since an earlier moment was one by the start of the call, or the disk tells such an advance in it.
         ensures further { D.is_lawful self.old.device → self.old.broken ≡ false
             → AdvancesSince L.answers self.old.plan self.old.standing (submission 0 batch ∷ []) (last_epoch self.old.standing) (D.state self.old.device) (D.state self.new.device) }
+
+        // Each such image was one by the start of the call, or it keeps nothing beyond the base.
+        ensures short { D.is_lawful self.old.device → KeepsSince self.old.plan self.old.base (D.state self.old.device) (D.state self.new.device) }
 
         // After any refusal but `Device` it tells an advance without the batch.
         ensures nothing { IfErr result (λ e. (e.0 ≡ Device) ⊎ (D.is_lawful self.old.device → self.old.broken ≡ false
@@ -123,6 +126,9 @@ impl<D: Disk, L: Law> Keeper<D, L> {
         ensures further { D.is_lawful self.old.device → self.old.broken ≡ false
             → AdvancesSince L.answers self.old.plan self.old.standing (submission request batch ∷ []) (last_epoch self.old.standing) (D.state self.old.device) (D.state self.new.device) }
 
+        // Each such image was one by the start of the call, or it keeps nothing beyond the base.
+        ensures short { D.is_lawful self.old.device → KeepsSince self.old.plan self.old.base (D.state self.old.device) (D.state self.new.device) }
+
         // After any refusal but `Device` it tells an advance without the batch.
         ensures nothing { IfErr result (λ e. (e.0 ≡ Device) ⊎ (D.is_lawful self.old.device → self.old.broken ≡ false
             → AdvancesSince L.answers self.old.plan self.old.standing [] (last_epoch self.old.standing) (D.state self.old.device) (D.state self.new.device))) }
@@ -178,6 +184,9 @@ impl<D: Disk, L: Law> Keeper<D, L> {
         // Each image since an earlier moment was one by the start of the call, or the disk tells such an advance in it.
         ensures further { D.is_lawful self.old.device → self.old.broken ≡ false
             → AdvancesSince L.answers self.old.plan self.old.standing (submission request batch ∷ []) (last_epoch self.old.standing) (D.state self.old.device) (D.state self.new.device) }
+
+        // Each such image was one by the start of the call, or it keeps nothing beyond the base.
+        ensures short { D.is_lawful self.old.device → KeepsSince self.old.plan self.old.base (D.state self.old.device) (D.state self.new.device) }
 
         // After any refusal but `Device` it tells an advance without the batch.
         ensures nothing { IfErr result (λ e. (e.0 ≡ Device) ⊎ (D.is_lawful self.old.device → self.old.broken ≡ false

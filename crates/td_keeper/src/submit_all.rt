@@ -10,7 +10,7 @@ ghost use Rattle.td_group.specs.Groups.{AllFew, AreBatches, AreFresh, may_follow
 ghost use Rattle.td_standing.specs.Standing.{last_epoch, last_request};
 ghost use Rattle.td_standing.specs.Told.{inputs_of};
 ghost use Rattle.td_standing.specs.Advanced.{SinceAdvance, AdvancesSince};
-ghost use Rattle.td_keeper.specs.Keeping.{with_epochs, with_group};
+ghost use Rattle.td_keeper.specs.Keeping.{with_epochs, with_group, KeepsSince};
 ghost use Rattle.td_keeper.specs.Grouped.{AllOrNone};
 ghost use Rattle.td_keeper.specs.Refused.{has_number, all_accepted, all_few, group_refusal};
 ghost use Rattle.td_standing.specs.declared.error.KeeperError.TheVariants.{Memory, Device};
@@ -78,6 +78,9 @@ impl<D: Disk, L: Law> Keeper<D, L> {
         ensures further { D.is_lawful self.old.device → self.old.broken ≡ false
             → AdvancesSince L.answers self.old.plan self.old.standing group (last_epoch self.old.standing) (D.state self.old.device) (D.state self.new.device) }
 
+        // Each such image was one by the start of the call, or it keeps nothing beyond the base.
+        ensures short { D.is_lawful self.old.device → KeepsSince self.old.plan self.old.base (D.state self.old.device) (D.state self.new.device) }
+
         // After any refusal but `Device` it tells an advance without the group.
         ensures nothing { IfErr result (λ e. (e.0 ≡ ByKeeper Device) ⊎ (D.is_lawful self.old.device → self.old.broken ≡ false
             → AdvancesSince L.answers self.old.plan self.old.standing [] (last_epoch self.old.standing) (D.state self.old.device) (D.state self.new.device))) }
@@ -136,6 +139,7 @@ impl<D: Disk, L: Law> Keeper<D, L> {
             → SinceAdvance L.answers self.old.plan self.old.standing group.items (last_epoch self.old.standing) (D.state self.old.device).moment (D.state self.new.device) }
         ensures further { D.is_lawful self.old.device → self.old.broken ≡ false
             → AdvancesSince L.answers self.old.plan self.old.standing group.items (last_epoch self.old.standing) (D.state self.old.device) (D.state self.new.device) }
+        ensures short { D.is_lawful self.old.device → KeepsSince self.old.plan self.old.base (D.state self.old.device) (D.state self.new.device) }
         ensures nothing { IfErr result (λ e. (e.0 ≡ Device) ⊎ (D.is_lawful self.old.device → self.old.broken ≡ false
             → AdvancesSince L.answers self.old.plan self.old.standing [] (last_epoch self.old.standing) (D.state self.old.device) (D.state self.new.device))) }
         ensures last_request { OnOk result (last_request self.new.standing ≡ greatest (last_request self.old.standing) group.items) }

@@ -55,7 +55,7 @@ epoch_still history more e there =
     subst (λ (l : List Epoch). Contains l e) (sym (epochs_on 1 history more)) (Contains-append_left (epochs_of history) (epochs_from (1 + length history) more) e there)
 
 -- numbered outputs, and then others
-numbered-append : (n : ℕ) (xs ys : List (List Output)) → numbered n (xs ++ ys) ≡ numbered n xs ++ numbered (n + length xs) ys
+pub numbered-append : (n : ℕ) (xs ys : List (List Output)) → numbered n (xs ++ ys) ≡ numbered n xs ++ numbered (n + length xs) ys
 numbered-append n [] ys = let is : n ≡ n + 0 = omega arith in ap (λ m. numbered m ys) is
 numbered-append n (x ∷ xs) ys =
     let is : n + 1 + length xs ≡ n + length (x ∷ xs) = omega arith in

@@ -10,3 +10,4 @@ mod Plays
 mod Engines
 mod Lives
 mod Found
+mod Delivered

@@ -41,7 +41,7 @@ pub same_standing : (s t : Standing) → ◌≡◌ {A = Result Standing KeeperEr
 same_standing s t is = cc
 
 -- what holds of all of two lists holds of all of the first
-first_of : {X : Type 0} (P : X → Type 0) (xs ys : List X) → All P (xs ++ ys) → All P xs
+pub first_of : {X : Type 0} (P : X → Type 0) (xs ys : List X) → All P (xs ++ ys) → All P xs
 first_of P [] ys all = All-nil P
 first_of P (x ∷ xs) ys all = All-cons P x xs (All-head P x (xs ++ ys) all) (first_of P xs ys (All-tail P x (xs ++ ys) all))
 

@@ -75,6 +75,7 @@ module _ {D : Type 0} (is_lawful : D → Type 0) (state : D → DiskState) (fail
     counted = is.counted;
     stays = is.stays;
     advances = λ lawful. let on = is.advances lawful in record { lawful = on.lawful; later = on.later; since = on.since };
+    short = is.short;
   }
 
   fails : (old new : Keeping D) → Fails is_lawful state failures answers old new → Fails is_lawful state failures answers (unwatched old) (unwatched new)

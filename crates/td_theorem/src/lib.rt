@@ -9,5 +9,6 @@
 #![tactic(auto)]
 
 pub mod feeds;
+pub mod held;
 pub mod laws;
 pub mod run;

@@ -86,8 +86,8 @@ pub only_show : (rows : List Row) (job : Job) → IsOf (codes "show") rows job �
 only_show rows (Show disk plan live) h = (disk, plan, live, h.1)
 only_show rows _ h = let other = ap (bytes_eq (codes "show")) h.0 in cc
 
-pub only_dump : (rows : List Row) (job : Job) → IsOf (codes "dump") rows job → (disk : Bor Text) × (plan : Bor Text) × (live : Bool) × HasValues rows (Dump disk plan live)
-only_dump rows (Dump disk plan live) h = (disk, plan, live, h.1)
+pub only_dump : (rows : List Row) (job : Job) → IsOf (codes "dump") rows job → (disk : Bor Text) × (plan : Bor Text) × (live : Bool) × (at : Bool) × HasValues rows (Dump disk plan live at)
+only_dump rows (Dump disk plan live at) h = (disk, plan, live, at, h.1)
 only_dump rows _ h = let other = ap (bytes_eq (codes "dump")) h.0 in cc
 
 pub only_upgrade : (rows : List Row) (job : Job) → IsOf (codes "upgrade") rows job → (disk : Bor Text) × (plan : Bor Text) × HasValues rows (Upgrade disk plan)
@@ -114,7 +114,7 @@ pub has_workers : (met : Option (Text × List Row)) (job : Job) → IsNamed met 
 has_workers met (Run w c) n = (n.2.0.4, n.2.0.5)
 has_workers met (Sim w picks c) n = (n.2.0.4, n.2.0.5)
 has_workers met (Feed disk plan w) n = (n.2.2.4, n.2.2.5)
-has_workers met (Stream disk plan w cut_every most progress marks refuse hold room status) n = (n.2.2.4, n.2.2.5)
+has_workers met (Stream disk plan w cut_every most progress marks refuse at hold room status) n = (n.2.2.4, n.2.2.5)
 has_workers met _ n = tt
 
 -- help is asked for, where the parse failed with help

@@ -77,7 +77,7 @@ const LIVE: &str = "Read DISK beside a td that writes it";
 
 const UNTIL: &str = "Copy what DISK has up to epoch E";
 
-const MOST: &str = "Stop where an epoch takes more than R deliveries";
+const MOST: &str = "Stop where epochs take more than R deliveries on average";
 
 const PLAN_OR_INPUT: &str =
     "A file with the lines of a plan, or with an input of td batch, of which the plan is taken";
@@ -103,6 +103,10 @@ const REFUSE: &str =
 
 const HOLD: &str =
     "With --marks: keep each epoch until a line 'seen EPOCH' says that its outputs are stored";
+
+const AT: &str = "Take lines 'at EPOCH': an epoch is put on DISK where it is that one";
+
+const AT_LINES: &str = "Write 'at EPOCH' before each epoch, as 'td stream --at' takes it";
 
 /// The greatest epoch, and the greatest count of deliveries.
 pub(crate) const GREATEST: u64 = 9_223_372_036_854_775_807;
@@ -238,6 +242,8 @@ Writes: DISK, and, of all epochs that are closed and before it waits for more li
         --cut-every E, and in any case before the room for epochs on DISK is full;
         with --marks, 'done EPOCH' after the output lines of an epoch, also where it has none;
         with --refuse, 'no REQUEST LINE: WHAT' for an epoch with a fault, and '-' where it has no request number;
+        with --at, 'there EPOCH' for one that is on DISK already, as its line 'at EPOCH' says, and with --refuse
+        'gap EPOCH' where DISK lacks one before it;
         with --hold, no cut beyond the last EPOCH of a line 'seen EPOCH', and 'full EPOCH' where DISK is full up to EPOCH;
         with --progress, to standard error, 'acked EPOCH done EPOCH kept EPOCH': the last epoch on DISK, computed, and cut;
         with --room behind that 'cells COUNT of N states COUNT of K': the epochs after the cut, and its states;
@@ -246,11 +252,12 @@ Writes: DISK, and, of all epochs that are closed and before it waits for more li
 A cut keeps the states on DISK, and frees the room of the epochs up to it
 Common faults:
         'line 9: syntax': no record, or a 'cut' inside an epoch; what stands before it was fed
+        'line 9: gap': DISK lacks an epoch before the one that 'at EPOCH' names; what stands before it was fed
         'line 9: outputs not written yet', 'line 9: a later epoch was seen': EPOCH of 'seen EPOCH' is too great, or too small
         'too many keys: K is 3': at a cut there are more than K states; copy DISK to one with a larger K
         'file: DISK: locked by another process': another td has DISK open
         'another plan: DISK': DISK was formatted for another plan than PLAN
-        'too much work: epoch 5': with --most R, an epoch takes more than R deliveries, each of up to 64 records or of one
+        'too much work: epoch 5': with --most R, epochs take more than R deliveries on average, each of up to 64 records or one
         notification; see 'td copy --until'
 Exit status: 0; 3 the device failed; 4 an operator is wanted; 5 a line of the input; 6 standard input or output;
         7 a file; 8 too much work; 1 any other fault
@@ -374,7 +381,8 @@ fn dump_leaf<'a>(alloc: Global) -> Result<Command<'a>, AllocError>
     let leaf = new_leaf(alloc, "dump", DUMP, DUMP_MORE);
     let leaf = with_arg(leaf, word_arg(alloc, "disk", "DISK", DISK))?;
     let leaf = with_arg(leaf, word_arg(alloc, "plan", "PLAN", PLAN))?;
-    with_arg(leaf, flag_arg(alloc, "live", LIVE))
+    let leaf = with_arg(leaf, flag_arg(alloc, "live", LIVE))?;
+    with_arg(leaf, flag_arg(alloc, "at", AT_LINES))
 }
 
 /// `upgrade`.
@@ -444,6 +452,7 @@ fn stream_leaf<'a>(alloc: Global) -> Result<Command<'a>, AllocError>
     let leaf = with_arg(leaf, flag_arg(alloc, "progress", PROGRESS))?;
     let leaf = with_arg(leaf, flag_arg(alloc, "marks", MARKS))?;
     let leaf = with_arg(leaf, flag_arg(alloc, "refuse", REFUSE))?;
+    let leaf = with_arg(leaf, flag_arg(alloc, "at", AT))?;
     let leaf = with_arg(leaf, flag_arg(alloc, "hold", HOLD))?;
     let leaf = with_arg(leaf, flag_arg(alloc, "room", ROOM))?;
     with_arg(leaf, file_arg(alloc, "status", STATUS))

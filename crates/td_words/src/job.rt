@@ -41,11 +41,13 @@ pub enum Job<'a> {
         plan: &'a str,
         live: bool,
     },
-    /// To write the epochs after the checkpoint of the disk `disk` as lines that a feed takes, beside a process that writes it, if `live`.
+    /// To write the epochs after the checkpoint of the disk `disk` as lines that a feed takes, beside a process that writes it, if `live`; each
+    /// with its place, if `at`, as a stream with places takes it.
     Dump {
         disk: &'a str,
         plan: &'a str,
         live: bool,
+        at: bool,
     },
     /// To raise the disk `disk` to version 2 of the format, which has request numbers.
     Upgrade {
@@ -81,10 +83,10 @@ pub enum Job<'a> {
         closures: Option<&'a str>,
     },
     /// To feed the epochs of standard input to the disk `disk` as they come, by a hall of so many shards, with a cut after each
-    /// `cut_every` epochs, if there is such a number; to stop where an epoch takes more than `most` deliveries, if there is such
+    /// `cut_every` epochs, if there is such a number; to stop where epochs take more than `most` deliveries on average, if there is such
     /// a number; to tell how far it has come, if `progress`; to mark the end of each epoch, if `marks`; to refuse an epoch with a fault
-    /// and go on, if `refuse`; to hold the outputs until they were seen, if `hold`, which stands only with `marks`; to tell its room too, if
-    /// `room`; and to write that to the file `status` each second, if there is one.
+    /// and go on, if `refuse`; to take lines that name the places of epochs, if `at`; to hold the outputs until they were seen, if `hold`, which
+    /// stands only with `marks`; to tell its room too, if `room`; and to write that to the file `status` each second, if there is one.
     Stream {
         disk: &'a str,
         plan: &'a str,
@@ -94,6 +96,7 @@ pub enum Job<'a> {
         progress: bool,
         marks: bool,
         refuse: bool,
+        at: bool,
         hold: bool,
         room: bool,
         status: Option<&'a str>,

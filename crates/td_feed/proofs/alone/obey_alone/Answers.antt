@@ -1,7 +1,9 @@
 use Rattle.std.proofs.Common.{◌≡◌, refl, sym, ap, subst}
 use Rattle.std.specs.Prelude.{Ok, Err, OnOk}
+use Rattle.std.specs.Option.{IfSome}
 use Rattle.std.proofs.lemmas.Option.{IfSome_then}
 use Rattle.td_console.specs.declared.faults.Fault.TheVariants.{Memory}
+use Rattle.td_standing.specs.Standing.{last_epoch, last_request}
 use Rattle.td_keeper.specs.Keeping.{Keeping}
 use Rattle.td_feed.specs.Said.{IsAllOut}
 use Rattle.td_feed.specs.Session.{KeepsDisk, FeedsScript}
@@ -16,7 +18,7 @@ pub returns-then-is_at_last_number-clause-disk : goal.returns-then-is_at_last_nu
 returns-then-is_at_last_number-clause-disk g c = disk_same _ refl epochs_no_device
 
 pub returns-then-is_at_last_number-clause-fed : goal.returns-then-is_at_last_number-clause-fed
-returns-then-is_at_last_number-clause-fed g c = in_some_is (g.S.Asking.script c.args.orders) (λ s is. none_fed _ c.requires.whole)
+returns-then-is_at_last_number-clause-fed g c = in_some_is (g.S.Asking.script (last_epoch c.args.keeper.standing) (last_request c.args.keeper.standing) c.args.orders) (λ s is. none_fed _ c.requires.whole)
 
 pub returns-in-Err-clause-disk : goal.returns-in-Err-clause-disk
 returns-in-Err-clause-disk g c = disk_same _ (ap (λ (k : Keeping g.row.D.Denot). k.device) c.in-Err.ensures.refused.1) memory_no_device
@@ -24,7 +26,7 @@ returns-in-Err-clause-disk g c = disk_same _ (ap (λ (k : Keeping g.row.D.Denot)
 pub returns-in-Err-clause-fed : goal.returns-in-Err-clause-fed
 returns-in-Err-clause-fed g c =
     let w = g.W.Sink.contents c.args.writer.now in
-    in_some_is (g.S.Asking.script c.args.orders)
+    in_some_is (g.S.Asking.script (last_epoch c.args.keeper.standing) (last_request c.args.keeper.standing) c.args.orders)
     (λ s is. subst (λ (k : Keeping g.row.D.Denot). FeedsScript g.D.Disk.is_lawful g.D.Disk.state g.D.Disk.failures g.L.Law.answers g.W.Voice.marks (Err Memory) w w c.args.keeper k s) (sym c.in-Err.ensures.refused.1) (none_fed Memory c.requires.whole))
 
 pub returns-clause-disk : goal.returns-clause-disk
@@ -47,9 +49,10 @@ returns-clause-fed g c =
     let new = c.into_keeper-keeper.result.0 in
     let obeyed = c.obey_each-obeyed.result in
     let r = c.ended_as.result in
-    IfSome_then (g.S.Asking.script c.args.orders) c.obey_each-obeyed.ensures.fed
-    (λ s fed. subst (λ (k : Keeping g.row.D.Denot). FeedsScript is_lawful state failures answers marks r u v k new s) c.in-Ok.ensures.same
-    (subst (λ (k : Keeping g.row.D.Denot). FeedsScript is_lawful state failures answers marks r u v c.in-Ok.engine.keeping k s) (sym c.into_keeper-keeper.ensures)
+    let script = λ (k : Keeping g.row.D.Denot). g.S.Asking.script (last_epoch k.standing) (last_request k.standing) c.args.orders in
+    subst (λ (k : Keeping g.row.D.Denot). IfSome (script k) (λ s. FeedsScript is_lawful state failures answers marks r u v k new s)) c.in-Ok.ensures.same
+    (IfSome_then (script c.in-Ok.engine.keeping) c.obey_each-obeyed.ensures.fed
+    (λ s fed. subst (λ (k : Keeping g.row.D.Denot). FeedsScript is_lawful state failures answers marks r u v c.in-Ok.engine.keeping k s) (sym c.into_keeper-keeper.ensures)
     (fed_ended obeyed r c.worked_until.result c.ended_as.ensures.ok c.ended_as.ensures.err fed)))
 
 pub returns-clause-all_out : goal.returns-clause-all_out
@@ -60,11 +63,11 @@ returns-clause-all_out g c =
     (subst (λ (k : Keeping g.row.D.Denot). OnOk obeyed (IsAllOut k)) (sym c.into_keeper-keeper.ensures) (c.obey_each-obeyed.ensures.all_out refl))
 
 pub returns-then-is_at_last_number-clause-held : goal.returns-then-is_at_last_number-clause-held
-returns-then-is_at_last_number-clause-held g c = in_some_is (g.S.Asking.script c.args.orders) (λ s is. keeps_same (then_seen (seen_at c.args.feeding.pace c.args.keeper.standing.epoch) s.orders) (base_itself c.args.keeper))
+returns-then-is_at_last_number-clause-held g c = in_some_is (g.S.Asking.script (last_epoch c.args.keeper.standing) (last_request c.args.keeper.standing) c.args.orders) (λ s is. keeps_same (then_seen (seen_at c.args.feeding.pace c.args.keeper.standing.epoch) s.orders) (base_itself c.args.keeper))
 
 pub returns-in-Err-clause-held : goal.returns-in-Err-clause-held
 returns-in-Err-clause-held g c =
-    in_some_is (g.S.Asking.script c.args.orders)
+    in_some_is (g.S.Asking.script (last_epoch c.args.keeper.standing) (last_request c.args.keeper.standing) c.args.orders)
     (λ s is. subst (λ (k : Keeping g.row.D.Denot). KeepsTo (then_seen (seen_at c.args.feeding.pace c.args.keeper.standing.epoch) s.orders) c.args.keeper k) (sym c.in-Err.ensures.refused.1)
     (keeps_same (then_seen (seen_at c.args.feeding.pace c.args.keeper.standing.epoch) s.orders) (base_itself c.args.keeper)))
 
@@ -72,6 +75,7 @@ pub returns-clause-held : goal.returns-clause-held
 returns-clause-held g c =
     let pace = c.args.feeding.pace in
     let new = c.into_keeper-keeper.result.0 in
-    IfSome_then (g.S.Asking.script c.args.orders) c.obey_each-obeyed.ensures.held
-    (λ s held. subst (λ (k : Keeping g.row.D.Denot). KeepsTo (then_seen (seen_at pace k.standing.epoch) s.orders) k new) c.in-Ok.ensures.same
-    (subst (λ (k : Keeping g.row.D.Denot). KeepsTo (then_seen (seen_at pace c.in-Ok.engine.keeping.standing.epoch) s.orders) c.in-Ok.engine.keeping k) (sym c.into_keeper-keeper.ensures) held))
+    let script = λ (k : Keeping g.row.D.Denot). g.S.Asking.script (last_epoch k.standing) (last_request k.standing) c.args.orders in
+    subst (λ (k : Keeping g.row.D.Denot). IfSome (script k) (λ s. KeepsTo (then_seen (seen_at pace k.standing.epoch) s.orders) k new)) c.in-Ok.ensures.same
+    (IfSome_then (script c.in-Ok.engine.keeping) c.obey_each-obeyed.ensures.held
+    (λ s held. subst (λ (k : Keeping g.row.D.Denot). KeepsTo (then_seen (seen_at pace c.in-Ok.engine.keeping.standing.epoch) s.orders) c.in-Ok.engine.keeping k) (sym c.into_keeper-keeper.ensures) held))

@@ -1,11 +1,12 @@
-use Rattle.std.proofs.Common.{◌≡◌, ℕ, Option, ◌++◌, List, [], true, refl, sym, ap, ◌∙◌, subst, inr, None}
-use Rattle.std.specs.Prelude.{Err}
+use Rattle.std.proofs.Common.{◌≡◌, ℕ, ◌++◌, List, [], true, refl, sym, ap, ◌∙◌, subst, inr, None}
+use Rattle.std.specs.Prelude.{Option, Some, Err}
 use Rattle.td_console.specs.declared.faults.Fault.{Fault}
 use Rattle.td_console.specs.declared.faults.Fault.TheVariants.{Keeper}
 use Rattle.td_standing.specs.declared.error.KeeperError.TheVariants.{Device}
 use Rattle.td_feed.specs.declared.note.Note.{Note}
 use Rattle.td_feed.specs.Orders.{submissions, notes_in}
-use Rattle.td_feed.specs.Asked.{Asks, asked_for, notes_for, is_of_reader}
+use Rattle.td_feed.specs.Asked.{Script, Asks, asked_for, notes_for, is_of_reader}
+use Rattle.td_standing.specs.Standing.{last_epoch, last_request}
 use Rattle.td_keeper.specs.Keeping.{Keeping}
 use Rattle.td_feed.specs.Carried.{new_to, Carries, Leaves}
 use Rattle.td_feed.specs.Said.{Says, SaysBy}
@@ -15,7 +16,8 @@ use Rattle.td_feed.proofs.Held.{base_itself, keeps_same, keeps_on}
 use Rattle.td_feed.proofs.Carrying.{at_ok, at_err}
 use Rattle.td_feed.proofs.Counting.{as_err, other_fault, memory_no_device}
 use Rattle.td_feed.proofs.Lines.{says_nothing, some_of_all, some_of_more, by_refusal, handed_on}
-use Rattle.td_feed.proofs.Obeyed.{HasObeyed, none_obeyed, some_obeyed, some_held, held_there, some_refused, notes_left, notes_there, left_there, is_sound, at_end_carried, at_end_left, at_end_said, none_left, none_of}
+use Rattle.td_feed.proofs.Obeyed.{HasObeyed, none_obeyed, some_obeyed, some_refused, some_held, held_there, notes_left, notes_there, left_there, is_sound, at_end_carried, at_end_left, at_end_said, none_left, none_of}
+use Rattle.td_feed.proofs.Placed.{script_at, next_script, script_same, next_there, AsksFrom, asks_there}
 use Rattle.td_feed.proofs.Session.{done, known, in_some_is, disk_same, disk_then, disk_handed, none_fed, err_fed}
 use Rattle.td_feed.proofs.in_turn.obey_each.Goals as goal
 
@@ -26,7 +28,7 @@ pub returns-then-is_refused-clause-disk : goal.returns-then-is_refused-clause-di
 returns-then-is_refused-clause-disk g c = disk_same _ refl memory_no_device
 
 pub returns-then-is_refused-clause-fed : goal.returns-then-is_refused-clause-fed
-returns-then-is_refused-clause-fed g c = in_some_is (g.S.Asking.script c.args.orders.now) (λ s is. none_fed _ c.requires.whole)
+returns-then-is_refused-clause-fed g c = in_some_is (script_at g.S.Asking.script (g.E.Obey.keeping c.args.engine.now) c.args.orders.now) (λ s is. none_fed _ c.requires.whole)
 
 pub returns-in_err-begin-clause-disk : goal.returns-in_err-begin-clause-disk
 returns-in_err-begin-clause-disk g c =
@@ -45,7 +47,7 @@ returns-in_err-begin-clause-fed g c =
     let old = g.E.Obey.keeping c.args.engine.now in
     let new = g.E.Obey.keeping c.begin.new.engine in
     let fed = c.in_err-begin.ensures.fed in
-    in_some_is (g.S.Asking.script c.args.orders.now)
+    in_some_is (script_at g.S.Asking.script (g.E.Obey.keeping c.args.engine.now) c.args.orders.now)
     (λ s is. err_fed _ c.from_residual.result c.from_residual.ensures.1
     (none_left is_lawful state failures answers marks old new (new_to old (submissions s.orders)) c.requires.whole (subst (λ (k : Keeping g.row.D.Denot). Leaves is_lawful state answers k new []) c.allow.ensures fed.left))
     (handed_on is_lawful state failures answers marks c.from_residual.result c.in_err-begin.field-0.0 u u w old old new [] [] (new_to old (submissions s.orders)) [] [] (notes_in s.orders) (notes_in s.orders) refl c.from_residual.ensures.1 (says_nothing is_lawful state failures answers marks u old)
@@ -63,18 +65,20 @@ loop-asked-init g c =
     let new = g.E.Obey.keeping c.begin.new.engine in
     let same = c.allow.ensures in
     let fed = c.in_ok-begin.ensures.fed in
-    let script = g.S.Asking.script c.args.orders.now in
     let old = g.E.Obey.keeping c.args.engine.now in
+    let script = script_at g.S.Asking.script old c.args.orders.now in
+    let carried : Carries answers old new [] = subst (λ (k : Keeping g.row.D.Denot). Carries answers k new []) same fed.carried in
     let pace = c.args.feeding.pace in
     let first : Option ℕ = c.first_seen-seen.result in
     let is : first ≡ seen_at pace old.standing.epoch = c.first_seen-seen.ensures ∙ ap (λ (k : Keeping g.row.D.Denot). seen_at pace k.standing.epoch) c.keeper.ensures in
     record {
       obeyed =
-          subst (λ (f : Option ℕ). HasObeyed is_lawful state failures answers marks script script v w old new f first) is
+          subst (λ (left : Option Script). HasObeyed is_lawful state failures answers marks script left v w old new (seen_at pace old.standing.epoch) first) (script_same g.S.Asking.script answers old new c.args.orders.now carried)
+          (subst (λ (f : Option ℕ). HasObeyed is_lawful state failures answers marks script script v w old new f first) is
           (none_obeyed is_lawful state failures answers marks script v w old new first
           (subst (λ (k : Keeping g.row.D.Denot). Says is_lawful state failures answers marks v w k new [] []) same fed.said)
-          (subst (λ (k : Keeping g.row.D.Denot). Carries answers k new []) same fed.carried)
-          (subst (λ (k : Keeping g.row.D.Denot). KeepsTo first k new) same c.begin.ensures.held));
+          carried
+          (subst (λ (k : Keeping g.row.D.Denot). KeepsTo first k new) same c.begin.ensures.held)));
       disk = subst (λ (k : Keeping g.row.D.Denot). KeepsDisk g.D.Disk.capacity is_lawful failures done k.device new.device) same c.in_ok-begin.ensures.disk;
     }
 
@@ -91,8 +95,8 @@ returns-in_err-asked-clause-fed g c =
     let failures = g.D.Disk.failures in
     let answers = g.L.Law.answers in
     let marks = g.W.Voice.marks in
-    let script = g.S.Asking.script c.args.orders.now in
-    let left = g.S.Asking.script c.loop-asked.orders in
+    let script = script_at g.S.Asking.script (g.E.Obey.keeping c.args.engine.now) c.args.orders.now in
+    let left = script_at g.S.Asking.script (g.E.Obey.keeping c.loop-asked.engine) c.loop-asked.orders in
     let u = g.W.Sink.contents c.args.writer.now in
     let v = g.W.Sink.contents c.loop-asked.writer in
     let old = g.E.Obey.keeping c.args.engine.now in
@@ -110,8 +114,8 @@ returns-in_err-asked-clause-fed g c =
 pub returns-in_err-asked-clause-held : goal.returns-in_err-asked-clause-held
 returns-in_err-asked-clause-held g c =
     let first = seen_at c.args.feeding.pace (g.E.Obey.keeping c.args.engine.now).standing.epoch in
-    let script = g.S.Asking.script c.args.orders.now in
-    let left = g.S.Asking.script c.loop-asked.orders in
+    let script = script_at g.S.Asking.script (g.E.Obey.keeping c.args.engine.now) c.args.orders.now in
+    let left = script_at g.S.Asking.script (g.E.Obey.keeping c.loop-asked.engine) c.loop-asked.orders in
     let old = g.E.Obey.keeping c.args.engine.now in
     let there = g.E.Obey.keeping c.loop-asked.engine in
     held_there g.D.Disk.is_lawful g.D.Disk.state g.D.Disk.failures g.L.Law.answers g.W.Voice.marks script left left (g.W.Sink.contents c.args.writer.now) (g.W.Sink.contents c.loop-asked.writer) old there first c.loop-asked.seen c.loop-asked.invariant.obeyed there (base_itself there)
@@ -129,8 +133,8 @@ returns-in_err-next-clause-fed g c =
     let failures = g.D.Disk.failures in
     let answers = g.L.Law.answers in
     let marks = g.W.Voice.marks in
-    let script = g.S.Asking.script c.args.orders.now in
-    let left = g.S.Asking.script c.loop-asked.orders in
+    let script = script_at g.S.Asking.script (g.E.Obey.keeping c.args.engine.now) c.args.orders.now in
+    let left = script_at g.S.Asking.script (g.E.Obey.keeping c.loop-asked.engine) c.loop-asked.orders in
     let u = g.W.Sink.contents c.args.writer.now in
     let v = g.W.Sink.contents c.loop-asked.writer in
     let old = g.E.Obey.keeping c.args.engine.now in
@@ -148,8 +152,8 @@ returns-in_err-next-clause-fed g c =
 pub returns-in_err-next-clause-held : goal.returns-in_err-next-clause-held
 returns-in_err-next-clause-held g c =
     let first = seen_at c.args.feeding.pace (g.E.Obey.keeping c.args.engine.now).standing.epoch in
-    let script = g.S.Asking.script c.args.orders.now in
-    let left = g.S.Asking.script c.loop-asked.orders in
+    let script = script_at g.S.Asking.script (g.E.Obey.keeping c.args.engine.now) c.args.orders.now in
+    let left = script_at g.S.Asking.script (g.E.Obey.keeping c.loop-asked.engine) c.loop-asked.orders in
     let old = g.E.Obey.keeping c.args.engine.now in
     let there = g.E.Obey.keeping c.loop-asked.engine in
     held_there g.D.Disk.is_lawful g.D.Disk.state g.D.Disk.failures g.L.Law.answers g.W.Voice.marks script left left (g.W.Sink.contents c.args.writer.now) (g.W.Sink.contents c.loop-asked.writer) old there first c.loop-asked.seen c.loop-asked.invariant.obeyed there (base_itself there)
@@ -164,9 +168,8 @@ returns-in_default-clause-fed g c =
     let failures = g.D.Disk.failures in
     let answers = g.L.Law.answers in
     let marks = g.W.Voice.marks in
-    let script = g.S.Asking.script c.args.orders.now in
-    let left = g.S.Asking.script c.loop-asked.orders in
-    let next = g.S.Asking.script c.next_asked.new.self in
+    let script = script_at g.S.Asking.script (g.E.Obey.keeping c.args.engine.now) c.args.orders.now in
+    let left = script_at g.S.Asking.script (g.E.Obey.keeping c.loop-asked.engine) c.loop-asked.orders in
     let u = g.W.Sink.contents c.args.writer.now in
     let v = g.W.Sink.contents c.loop-asked.writer in
     let old = g.E.Obey.keeping c.args.engine.now in
@@ -174,10 +177,15 @@ returns-in_default-clause-fed g c =
     let first = seen_at c.args.feeding.pace (g.E.Obey.keeping c.args.engine.now).standing.epoch in
     let seen = c.loop-asked.seen in
     let so = c.loop-asked.invariant.obeyed in
+    let next = next_script g.S.Asking.script there None c.next_asked.new.self in
     let w = g.W.Sink.contents c.settle.new.writer in
     let new = g.E.Obey.keeping c.settle.new.engine in
     let r = c.settle.result in
-    let asks : Asks left next None = subst (Asks left next) (none_of c.in_ok-asked.field-0 c.in_default.not-Some) c.in_ok-asked.ensures.asked in
+    let none = none_of c.in_ok-asked.field-0 c.in_default.not-Some in
+    let asks : Asks left next None =
+    asks_there g.S.Asking.script there c.of-room.result.told c.of-room.result.last c.loop-asked.orders c.next_asked.new.self None
+    (c.of-room.ensures.told ∙ ap (λ (k : Keeping g.row.D.Denot). last_epoch k.standing) c.keeper-keeper.ensures) (c.of-room.ensures.last ∙ ap (λ (k : Keeping g.row.D.Denot). last_request k.standing) c.keeper-keeper.ensures)
+    (subst (AsksFrom g.S.Asking.script c.of-room.result.told c.of-room.result.last c.loop-asked.orders c.next_asked.new.self) none c.in_ok-asked.ensures.asked) in
     in_some_is script
     (λ s is. record {
       sound = at_ok r (known _ script s is (is_sound is_lawful state failures answers marks script left next u v old there first seen so asks));
@@ -195,9 +203,8 @@ loop-asked-preserved g c =
     let failures = g.D.Disk.failures in
     let answers = g.L.Law.answers in
     let marks = g.W.Voice.marks in
-    let script = g.S.Asking.script c.args.orders.now in
-    let left = g.S.Asking.script c.loop-asked.orders in
-    let next = g.S.Asking.script c.next_asked.new.self in
+    let script = script_at g.S.Asking.script (g.E.Obey.keeping c.args.engine.now) c.args.orders.now in
+    let left = script_at g.S.Asking.script (g.E.Obey.keeping c.loop-asked.engine) c.loop-asked.orders in
     let u = g.W.Sink.contents c.args.writer.now in
     let v = g.W.Sink.contents c.loop-asked.writer in
     let old = g.E.Obey.keeping c.args.engine.now in
@@ -208,14 +215,21 @@ loop-asked-preserved g c =
     let w = g.W.Sink.contents c.obey_at_pace.new.writer in
     let new = g.E.Obey.keeping c.obey_at_pace.new.engine in
     let asked = c.in-Some-2.asked in
+    let next = next_script g.S.Asking.script there (Some asked) c.next_asked.new.self in
+    let asks : Asks left next (Some asked) =
+    asks_there g.S.Asking.script there c.of-room.result.told c.of-room.result.last c.loop-asked.orders c.next_asked.new.self (Some asked)
+    (c.of-room.ensures.told ∙ ap (λ (k : Keeping g.row.D.Denot). last_epoch k.standing) c.keeper-keeper.ensures) (c.of-room.ensures.last ∙ ap (λ (k : Keeping g.row.D.Denot). last_request k.standing) c.keeper-keeper.ensures)
+    (subst (AsksFrom g.S.Asking.script c.of-room.result.told c.of-room.result.last c.loop-asked.orders c.next_asked.new.self) c.in-Some-2.is c.in_ok-asked.ensures.asked) in
     let same = c.allow-in-loop-asked.ensures in
     let fed = c.in_ok-obey_at_pace.ensures.fed in
+    let carried : Carries answers there new (new_to there (asked_for asked)) = subst (λ (k : Keeping g.row.D.Denot). Carries answers k new (new_to k (asked_for asked))) same fed.carried in
     record {
       obeyed =
-          some_obeyed is_lawful state failures answers marks script left next u v w old there new asked first seen so (subst (Asks left next) c.in-Some-2.is c.in_ok-asked.ensures.asked) c.in_ok-next.next c.in_ok-next.ensures.ok
+          subst (λ (more : Option Script). HasObeyed is_lawful state failures answers marks script more u w old new first c.in_ok-next.next) (next_there g.S.Asking.script answers there new asked c.next_asked.new.self carried)
+          (some_obeyed is_lawful state failures answers marks script left next u v w old there new asked first seen so asks c.in_ok-next.next c.in_ok-next.ensures.ok
           (subst (λ (k : Keeping g.row.D.Denot). KeepsTo c.in_ok-next.next k new) same c.obey_at_pace.ensures.held)
           (subst (λ (k : Keeping g.row.D.Denot). Says is_lawful state failures answers marks v w k new (new_to k (asked_for asked)) (notes_for asked)) same fed.said)
-          (subst (λ (k : Keeping g.row.D.Denot). Carries answers k new (new_to k (asked_for asked))) same fed.carried);
+          carried);
       disk = disk_then c.loop-asked.invariant.disk (subst (λ (k : Keeping g.row.D.Denot). KeepsDisk g.D.Disk.capacity is_lawful failures done k.device new.device) same c.in_ok-obey_at_pace.ensures.disk);
     }
 
@@ -232,9 +246,8 @@ returns-in_err-obey_at_pace-clause-fed g c =
     let failures = g.D.Disk.failures in
     let answers = g.L.Law.answers in
     let marks = g.W.Voice.marks in
-    let script = g.S.Asking.script c.args.orders.now in
-    let left = g.S.Asking.script c.loop-asked.orders in
-    let next = g.S.Asking.script c.next_asked.new.self in
+    let script = script_at g.S.Asking.script (g.E.Obey.keeping c.args.engine.now) c.args.orders.now in
+    let left = script_at g.S.Asking.script (g.E.Obey.keeping c.loop-asked.engine) c.loop-asked.orders in
     let u = g.W.Sink.contents c.args.writer.now in
     let v = g.W.Sink.contents c.loop-asked.writer in
     let old = g.E.Obey.keeping c.args.engine.now in
@@ -245,22 +258,27 @@ returns-in_err-obey_at_pace-clause-fed g c =
     let w = g.W.Sink.contents c.obey_at_pace.new.writer in
     let new = g.E.Obey.keeping c.obey_at_pace.new.engine in
     let asked = c.in-Some-2.asked in
+    let next = next_script g.S.Asking.script there (Some asked) c.next_asked.new.self in
+    let asks : Asks left next (Some asked) =
+    asks_there g.S.Asking.script there c.of-room.result.told c.of-room.result.last c.loop-asked.orders c.next_asked.new.self (Some asked)
+    (c.of-room.ensures.told ∙ ap (λ (k : Keeping g.row.D.Denot). last_epoch k.standing) c.keeper-keeper.ensures) (c.of-room.ensures.last ∙ ap (λ (k : Keeping g.row.D.Denot). last_request k.standing) c.keeper-keeper.ensures)
+    (subst (AsksFrom g.S.Asking.script c.of-room.result.told c.of-room.result.last c.loop-asked.orders c.next_asked.new.self) c.in-Some-2.is c.in_ok-asked.ensures.asked) in
     let same = c.allow-in-loop-asked.ensures in
     let r = c.from_residual-in_err-obey_at_pace.result in
     let e = c.in_err-obey_at_pace.field-0.0 in
     let fed = c.in_err-obey_at_pace.ensures.fed in
     in_some_is script
     (λ s is. err_fed _ r c.from_residual-in_err-obey_at_pace.ensures.1
-    (known _ script s is (some_refused is_lawful state failures answers marks script left next u v w old there new asked first seen so (subst (Asks left next) c.in-Some-2.is c.in_ok-asked.ensures.asked)
+    (known _ script s is (some_refused is_lawful state failures answers marks script left next u v w old there new asked first seen so asks
     (subst (λ (k : Keeping g.row.D.Denot). Leaves is_lawful state answers k new (new_to k (asked_for asked))) same fed.left)))
-    (let later : (m : List Note) × ((notes_in so.done ++ notes_for asked) ++ m ≡ notes_in s.orders) = known _ script s is (notes_left is_lawful state failures answers marks script left next u v w old there new asked first seen so (subst (Asks left next) c.in-Some-2.is c.in_ok-asked.ensures.asked)) in
+    (let later : (m : List Note) × ((notes_in so.done ++ notes_for asked) ++ m ≡ notes_in s.orders) = known _ script s is (notes_left is_lawful state failures answers marks script left next u v w old there new asked first seen so asks) in
     handed_on is_lawful state failures answers marks r e u v w old there new (new_to old (submissions so.done)) (new_to there (asked_for asked)) (new_to old (submissions s.orders)) (notes_in so.done) (notes_for asked) later.0 (notes_in s.orders) later.1 c.from_residual-in_err-obey_at_pace.ensures.1 so.said
     (subst (λ (k : Keeping g.row.D.Denot). SaysBy is_lawful state failures answers marks (Err e) v w k new (new_to k (asked_for asked)) (notes_for asked)) same fed.said)))
 
 pub returns-then-is_refused-clause-held : goal.returns-then-is_refused-clause-held
 returns-then-is_refused-clause-held g c =
     let k = g.E.Obey.keeping c.args.engine.now in
-    in_some_is (g.S.Asking.script c.args.orders.now) (λ s is. keeps_same (then_seen (seen_at c.args.feeding.pace k.standing.epoch) s.orders) (base_itself k))
+    in_some_is (script_at g.S.Asking.script (g.E.Obey.keeping c.args.engine.now) c.args.orders.now) (λ s is. keeps_same (then_seen (seen_at c.args.feeding.pace k.standing.epoch) s.orders) (base_itself k))
 
 pub returns-in_err-begin-clause-held : goal.returns-in_err-begin-clause-held
 returns-in_err-begin-clause-held g c =
@@ -270,25 +288,30 @@ returns-in_err-begin-clause-held g c =
     let first : Option ℕ = c.first_seen-seen.result in
     let is : first ≡ seen_at pace old.standing.epoch = c.first_seen-seen.ensures ∙ ap (λ (k : Keeping g.row.D.Denot). seen_at pace k.standing.epoch) c.keeper.ensures in
     let keeps : KeepsTo first old new = subst (λ (k : Keeping g.row.D.Denot). KeepsTo first k new) c.allow.ensures c.begin.ensures.held in
-    in_some_is (g.S.Asking.script c.args.orders.now) (λ s there. subst (λ (f : Option ℕ). KeepsTo (then_seen f s.orders) old new) is (keeps_on first s.orders old new keeps))
+    in_some_is (script_at g.S.Asking.script (g.E.Obey.keeping c.args.engine.now) c.args.orders.now) (λ s there. subst (λ (f : Option ℕ). KeepsTo (then_seen f s.orders) old new) is (keeps_on first s.orders old new keeps))
 
 pub returns-in_default-clause-held : goal.returns-in_default-clause-held
 returns-in_default-clause-held g c =
     let first = seen_at c.args.feeding.pace (g.E.Obey.keeping c.args.engine.now).standing.epoch in
-    let script = g.S.Asking.script c.args.orders.now in
-    let left = g.S.Asking.script c.loop-asked.orders in
+    let script = script_at g.S.Asking.script (g.E.Obey.keeping c.args.engine.now) c.args.orders.now in
+    let left = script_at g.S.Asking.script (g.E.Obey.keeping c.loop-asked.engine) c.loop-asked.orders in
     held_there g.D.Disk.is_lawful g.D.Disk.state g.D.Disk.failures g.L.Law.answers g.W.Voice.marks script left left (g.W.Sink.contents c.args.writer.now) (g.W.Sink.contents c.loop-asked.writer) (g.E.Obey.keeping c.args.engine.now) (g.E.Obey.keeping c.loop-asked.engine) first c.loop-asked.seen c.loop-asked.invariant.obeyed
     (g.E.Obey.keeping c.settle.new.engine) c.settle.ensures.base
 
 pub returns-in_err-obey_at_pace-clause-held : goal.returns-in_err-obey_at_pace-clause-held
 returns-in_err-obey_at_pace-clause-held g c =
-    let script = g.S.Asking.script c.args.orders.now in
-    let left = g.S.Asking.script c.loop-asked.orders in
-    let next = g.S.Asking.script c.next_asked.new.self in
+    let script = script_at g.S.Asking.script (g.E.Obey.keeping c.args.engine.now) c.args.orders.now in
+    let left = script_at g.S.Asking.script (g.E.Obey.keeping c.loop-asked.engine) c.loop-asked.orders in
     let old = g.E.Obey.keeping c.args.engine.now in
     let there = g.E.Obey.keeping c.loop-asked.engine in
     let new = g.E.Obey.keeping c.obey_at_pace.new.engine in
     let first = seen_at c.args.feeding.pace old.standing.epoch in
-    some_held g.D.Disk.is_lawful g.D.Disk.state g.D.Disk.failures g.L.Law.answers g.W.Voice.marks script left next (g.W.Sink.contents c.args.writer.now) (g.W.Sink.contents c.loop-asked.writer) (g.W.Sink.contents c.obey_at_pace.new.writer) old there new c.in-Some-2.asked first c.loop-asked.seen
-    c.loop-asked.invariant.obeyed (subst (Asks left next) c.in-Some-2.is c.in_ok-asked.ensures.asked) c.in_ok-next.next c.in_ok-next.ensures.ok
+    let asked = c.in-Some-2.asked in
+    let next = next_script g.S.Asking.script there (Some asked) c.next_asked.new.self in
+    let asks : Asks left next (Some asked) =
+    asks_there g.S.Asking.script there c.of-room.result.told c.of-room.result.last c.loop-asked.orders c.next_asked.new.self (Some asked)
+    (c.of-room.ensures.told ∙ ap (λ (k : Keeping g.row.D.Denot). last_epoch k.standing) c.keeper-keeper.ensures) (c.of-room.ensures.last ∙ ap (λ (k : Keeping g.row.D.Denot). last_request k.standing) c.keeper-keeper.ensures)
+    (subst (AsksFrom g.S.Asking.script c.of-room.result.told c.of-room.result.last c.loop-asked.orders c.next_asked.new.self) c.in-Some-2.is c.in_ok-asked.ensures.asked) in
+    some_held g.D.Disk.is_lawful g.D.Disk.state g.D.Disk.failures g.L.Law.answers g.W.Voice.marks script left next (g.W.Sink.contents c.args.writer.now) (g.W.Sink.contents c.loop-asked.writer) (g.W.Sink.contents c.obey_at_pace.new.writer) old there new asked first c.loop-asked.seen
+    c.loop-asked.invariant.obeyed asks c.in_ok-next.next c.in_ok-next.ensures.ok
     (subst (λ (k : Keeping g.row.D.Denot). KeepsTo c.in_ok-next.next k new) c.allow-in-loop-asked.ensures c.obey_at_pace.ensures.held)

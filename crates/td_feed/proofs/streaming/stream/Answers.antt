@@ -1,4 +1,4 @@
-use Rattle.std.proofs.Common.{◌≡◌, ◌==◌, eqb-true, Bool, true, false, ℕ, ◌≤◌, arith, List, ◌++◌, refl, sym, ap, ◌∙◌, subst, inl, inr, ⊎_elim}
+use Rattle.std.proofs.Common.{◌≡◌, ◌==◌, eqb-true, Bool, true, false, ℕ, ◌≤◌, arith, List, ◌++◌, length, refl, sym, ap, ◌∙◌, subst, inl, inr, ⊎_elim}
 use Rattle.std.specs.Prelude.{Option, IfSome, Ok}
 use Rattle.td_console.specs.Refusals.{keeper_fault}
 use Rattle.td_plan.specs.Lines.{Line}
@@ -11,19 +11,22 @@ use Rattle.td_standing.specs.Read.{Refused}
 use Rattle.td_standing.specs.Stops.{Stands}
 use Rattle.td_standing.specs.Advanced.{states_by, HeldWhere}
 use Rattle.td_journal.specs.Numbers.{greatest}
-use Rattle.td_keeper.specs.Keeping.{Keeping, IsKeeping, EachKeepsTo}
+use Rattle.td_keeper.specs.Keeping.{Keeping, IsKeeping, EachKeepsTo, EverKeepsTo, KeepsSince}
 use Rattle.td_feed.specs.declared.order.Order.{Order}
 use Rattle.td_feed.specs.Held.{seen_after, first_seen, then_seen, GoesUpTo, KeepsTo}
 use Rattle.td_feed.proofs.Held.{seen_on, seen_further}
-use Rattle.td_feed.specs.Orders.{submissions, new_after}
+use Rattle.td_feed.specs.Orders.{submissions, notes_in, new_after}
+use Rattle.td_standing.specs.Standing.{last_epoch, last_request}
 use Rattle.td_feed.specs.Asked.{Script, script_of}
+use Rattle.td_feed.specs.Placed.{placed}
 use Rattle.td_feed.specs.Fed.{EachTellsHistory, EachTellsSome}
 use Rattle.td_feed.specs.Carried.{new_to, Carries}
 use Rattle.td_feed.specs.Session.{limit_of, wanted_by, KeepsDisk, FeedsScript}
 use Rattle.td_feed.proofs.Newness.{last_of_history}
-use Rattle.td_feed.proofs.Carrying.{in_some, ended_some, ended_all, none_more, still_each, found}
+use Rattle.td_feed.proofs.Placed.{still_sound, seen_placed}
+use Rattle.td_feed.proofs.Carrying.{as_long, in_some, ended_some, ended_all, none_more, still_each, found}
 use Rattle.td_feed.proofs.Counting.{as_err, fault_of, keeper_device, lack_no_device}
-use Rattle.td_feed.proofs.Lines.{fed_says}
+use Rattle.td_feed.proofs.Lines.{fed_says, always_driven}
 use Rattle.td_feed.proofs.Refused.{refused}
 use Rattle.std.proofs.lemmas.Result.{on_ok_weaker}
 use Rattle.td_feed.proofs.Session.{known, in_some_is, left_of, disk_same, disk_then, disk_recovered}
@@ -40,6 +43,16 @@ beyond plan old new kept last safe counts on each c image s told =
     let from = safe.each c (counts c image) in
     let low = each from.0 from.1 s (subst (λ (i : List ℕ). Told plan i (Ok s)) from.2 told) in
     omega (arith, low, on)
+
+-- and so at each moment since, where nothing was written at first, and then nothing was kept beyond a base
+ever : (plan : List Line) (old mid new : DiskState) (kept base last : ℕ) → CrashSafe Unchanged old mid → KeepsSince plan base mid new → kept ≤ last → base ≤ last → EachKeepsTo plan kept old → EverKeepsTo plan last old.moment new
+ever plan old mid new kept base last safe short on most each c left s told = ⊎_elim
+    (λ was.
+    let from = safe.each c was in
+    let low = each from.0 from.1 s (subst (λ (i : List ℕ). Told plan i (Ok s)) from.2 told) in
+    omega (arith, low, on))
+    (λ keeps. let low = keeps s told in omega (arith, low, most))
+    (short old.moment c safe.later left)
 
 -- where outputs are held
 held_by : {D : Type 0} {old new : Keeping D} (hold : Bool) (kept : ℕ) (orders : List Order) → hold ≡ true → KeepsTo (then_seen (first_seen hold kept) orders) old new → GoesUpTo (seen_after kept orders) old new
@@ -76,6 +89,7 @@ returns-in-Err-recover-clause-fed g c = λ fits.
     record {
       records = 0;
       sound = tt;
+      no_gap = tt;
       fed = record {
         fed = tt;
         safe = λ lawful history told.
@@ -85,7 +99,7 @@ returns-in-Err-recover-clause-fed g c = λ fits.
             let new = c.in-Err-recover.disk in
             let plan = c.args.plan.now in
             let safe : CrashSafe Unchanged (state old) (state new) = c.in-Err-recover.ensures.crash_safe_back lawful in
-            none_more answers plan history (new_after (greatest 0 history) (submissions (script_of c.args.options.hold (limit_of c.args.options.refuse 0) plan input).orders)) (state new)
+            none_more answers plan history (new_after (greatest 0 history) (submissions (placed c.args.options.refuse (length history) (greatest 0 history) (script_of c.args.options.placing c.args.options.hold (limit_of c.args.options.refuse 0) plan input)).orders)) (state new)
             (still_each answers plan history (state old) (state new) safe
             (λ i image. g.met.D.Disk.counts_now new (state old).moment i (c.in-Err-recover.ensures.lawful_back.0 lawful) safe.later image) told);
         said = inl (record {
@@ -96,8 +110,12 @@ returns-in-Err-recover-clause-fed g c = λ fits.
       };
       held = λ hold lawful kept each.
           let safe : CrashSafe Unchanged (state c.args.disk) (state new) = recover.crash_safe_back lawful in
-          beyond c.args.plan.now (state c.args.disk) (state new) kept (seen_after kept (script_of c.args.options.hold (limit_of c.args.options.refuse 0) c.args.plan.now input).orders) safe
-          (λ i image. g.met.D.Disk.counts_now new (state c.args.disk).moment i (recover.lawful_back.0 lawful) safe.later image) (seen_on kept (script_of c.args.options.hold (limit_of c.args.options.refuse 0) c.args.plan.now input).orders) each;
+          let orders = (script_of c.args.options.placing c.args.options.hold (limit_of c.args.options.refuse 0) c.args.plan.now input).orders in
+          beyond c.args.plan.now (state c.args.disk) (state new) kept (seen_after kept orders) safe
+          (λ i image. g.met.D.Disk.counts_now new (state c.args.disk).moment i (recover.lawful_back.0 lawful) safe.later image) (seen_on kept orders) each;
+      ever_held = λ hold lawful kept each.
+          let orders = (script_of c.args.options.placing c.args.options.hold (limit_of c.args.options.refuse 0) c.args.plan.now input).orders in
+          ever c.args.plan.now (state c.args.disk) (state new) (state new) kept (seen_after kept orders) (seen_after kept orders) (recover.crash_safe_back lawful) (λ t i le left. inl left) (seen_on kept orders) (omega arith) each;
     })
 
 pub returns-clause-disk : goal.returns-clause-disk
@@ -125,19 +143,24 @@ returns-clause-fed g c = λ fits.
     let u = g.W.Sink.contents c.args.writer.now in
     let v = g.W.Sink.contents c.obey-keeper.new.writer in
     let held = c.into_disk.ensures.held in
-    let reads : ℕ → List ℕ → Script = λ m input. script_of c.args.options.hold (limit_of c.args.options.refuse m) plan input in
     let remaining = g.I.Source.remaining c.args.reader in
+    let refuse = c.args.options.refuse in
     in_some_is remaining
     (λ input is.
     let fed = known _ remaining input is c.obey-keeper.ensures.fed in
-    let keeps : KeepsTo (then_seen (first_seen c.args.options.hold keeper.standing.epoch) (reads keeper.head.shape.m input).orders) keeper new =
-    subst (λ (k : Keeping g.row.D.Denot). KeepsTo (then_seen (first_seen c.args.options.hold k.standing.epoch) (reads k.head.shape.m input).orders) k new) c.watched-keeper.ensures.aside.1 (known _ remaining input is c.obey-keeper.ensures.held) in
-    let limit : Option ℕ = limit_of c.args.options.refuse keeper.head.shape.m in
-    let asked : Script = script_of c.args.options.hold limit plan input in
+    let script_at : Keeping g.row.D.Denot → Script =
+    λ k. placed refuse (last_epoch k.standing) (last_request k.standing) (script_of c.args.options.placing c.args.options.hold (limit_of refuse k.head.shape.m) plan input) in
+    let keeps : KeepsTo (then_seen (first_seen c.args.options.hold keeper.standing.epoch) (script_at keeper).orders) keeper new =
+    subst (λ (k : Keeping g.row.D.Denot). KeepsTo (then_seen (first_seen c.args.options.hold k.standing.epoch) (script_at k).orders) k new) c.watched-keeper.ensures.aside.1 (known _ remaining input is c.obey-keeper.ensures.held) in
+    let limit : Option ℕ = limit_of refuse keeper.head.shape.m in
+    let told : ℕ = last_epoch keeper.standing in
+    let last : ℕ = last_request keeper.standing in
+    let raw : Script = script_of c.args.options.placing c.args.options.hold limit plan input in
+    let asked : Script = placed refuse told last raw in
     let wanted : List Submitted = submissions asked.orders in
     let more : List Submitted = new_to keeper wanted in
     let whole : FeedsScript is_lawful state failures answers marks r u v keeper new asked =
-    subst (λ (k : Keeping g.row.D.Denot). FeedsScript is_lawful state failures answers marks r u v k new (script_of c.args.options.hold (limit_of c.args.options.refuse k.head.shape.m) plan input)) c.watched-keeper.ensures.aside.1 fed in
+    subst (λ (k : Keeping g.row.D.Denot). FeedsScript is_lawful state failures answers marks r u v k new (script_at k)) c.watched-keeper.ensures.aside.1 fed in
     let feeds = whole.fed in
     let stands = λ (lawful : is_lawful old) (history : List Submitted) (told : EachTellsHistory answers plan history (state old)).
     let safe : CrashSafe Unchanged (state old) (state keeper.device) = c.in-Ok.ensures.crash_safe lawful in
@@ -146,12 +169,32 @@ returns-clause-fed g c = λ fits.
     c.told_in_parts.ensures.one_answer (g.met.D.Disk.reads_image keeper.device (c.in-Ok.ensures.lawful.0 lawful)) keeper.standing (c.in-Ok.ensures.told lawful) in
     let by_keeper = λ (history : List Submitted) (is : Stands (states_by answers plan) keeper.standing history).
     subst (λ (p : List Line). Stands (states_by answers p) keeper.standing history) (sym c.in-Ok.ensures.plan) is in
-    let also : (history : List Submitted) → Stands (states_by answers plan) keeper.standing history → more ≡ new_after (greatest 0 history) wanted =
-    λ history is. ap (λ (q : ℕ). new_after q wanted) (last_of_history answers plan keeper.standing history is) in
+    let also : (history : List Submitted) → Stands (states_by answers plan) keeper.standing history
+    → more ≡ new_after (greatest 0 history) (submissions (placed refuse (length history) (greatest 0 history) raw).orders) =
+    λ history is.
+    let first = last_of_history answers plan keeper.standing history is in
+    let long = sym (as_long answers plan keeper.standing history is) in
+    λ i. new_after (first i) (submissions (placed refuse (long i) (first i) raw).orders) in
     let left_lawful : is_lawful old → is_lawful new.device = λ lawful. c.obey-keeper.ensures.disk.lawful.0 (subst is_lawful (sym c.watched-keeper.ensures.device) (c.in-Ok.ensures.lawful.0 lawful)) in
+    let driven = always_driven is_lawful state failures answers marks r u v keeper new more (notes_in asked.orders) feeds.said in
+    let goes = λ (hold : c.args.options.hold ≡ true). held_by {old = keeper} {new = new} c.args.options.hold keeper.standing.epoch asked.orders hold keeps in
+    let most = λ (hold : c.args.options.hold ≡ true) (lawful : is_lawful old) (kept : ℕ) (each : EachKeepsTo plan kept (state old)).
+    let safe : CrashSafe Unchanged (state old) (state keeper.device) = c.in-Ok.ensures.crash_safe lawful in
+    let there : EachKeepsTo plan kept (state keeper.device) = beyond plan (state old) (state keeper.device) kept kept safe
+    (λ i image. g.met.D.Disk.counts_now keeper.device (state old).moment i (c.in-Ok.ensures.lawful.0 lawful) safe.later image) (omega arith) each in
+    let low : keeper.standing.epoch ≤ kept = there (state keeper.device).bytes (g.met.D.Disk.reads_image keeper.device (c.in-Ok.ensures.lawful.0 lawful)) keeper.standing (c.in-Ok.ensures.told lawful) in
+    let base : keeper.base ≡ keeper.standing.epoch = c.in-Ok.ensures.fresh.base in
+    let on = seen_on kept asked.orders in
+    let further = seen_further keeper.standing.epoch kept asked.orders low in
+    (goes hold).base (seen_after kept asked.orders) further (omega (arith, base, low, on)) in
     record {
       records = keeper.head.shape.m;
-      sound = whole.sound;
+      sound = on_ok_weaker r (λ (is : asked.is_sound ≡ true). still_sound raw.is_sound refuse told last raw.orders is) whole.sound;
+      no_gap = on_ok_weaker r (λ (is : asked.is_sound ≡ true) lawful history known.
+          let stood = stands lawful history known in
+          let first = sym (last_of_history answers plan keeper.standing history stood) in
+          let long = as_long answers plan keeper.standing history stood in
+          (λ i. (placed refuse (long i) (first i) raw).is_sound) ∙ is) whole.sound;
       fed = record {
         fed = on_ok_weaker r (λ (carries : Carries answers keeper new more) lawful history told.
             let is = stands lawful history told in
@@ -165,7 +208,7 @@ returns-clause-fed g c = λ fits.
             (subst (λ (d : g.row.D.Denot). EachTellsSome answers plan history more (state d)) (sym c.into_disk.ensures.disk)
             (subst (λ (p : List Line). EachTellsSome answers p history more (state new.device)) c.in-Ok.ensures.plan
             (ended_some is_lawful state answers c.told_in_parts.ensures.together keeper new history more (by_keeper history is) (left_of r feeds) held (left_lawful lawful))));
-        said = fed_says is_lawful state failures answers marks r plan (c.args.workers == 1) old c.into_disk.result u v (wanted_by limit asked)
+        said = fed_says is_lawful state failures answers marks r plan (c.args.workers == 1) old c.into_disk.result u v (wanted_by refuse limit raw)
             (record {
               keeper = c.in-Ok.keeper;
               fresh = c.in-Ok.ensures.fresh;
@@ -186,16 +229,17 @@ returns-clause-fed g c = λ fits.
             });
       };
       held = λ hold lawful kept each.
-          let safe : CrashSafe Unchanged (state old) (state keeper.device) = c.in-Ok.ensures.crash_safe lawful in
-          let there : EachKeepsTo plan kept (state keeper.device) = beyond plan (state old) (state keeper.device) kept kept safe
-          (λ i image. g.met.D.Disk.counts_now keeper.device (state old).moment i (c.in-Ok.ensures.lawful.0 lawful) safe.later image) (omega arith) each in
-          let low : keeper.standing.epoch ≤ kept = there (state keeper.device).bytes (g.met.D.Disk.reads_image keeper.device (c.in-Ok.ensures.lawful.0 lawful)) keeper.standing (c.in-Ok.ensures.told lawful) in
-          let base : keeper.base ≡ keeper.standing.epoch = c.in-Ok.ensures.fresh.base in
-          let on = seen_on kept asked.orders in
-          let goes : GoesUpTo (seen_after keeper.standing.epoch asked.orders) keeper new = held_by c.args.options.hold keeper.standing.epoch asked.orders hold keeps in
-          let further = seen_further keeper.standing.epoch kept asked.orders low in
-          let last : new.base ≤ seen_after kept asked.orders = goes.base (seen_after kept asked.orders) further (omega (arith, base, low, on)) in
-          subst (λ (d : g.row.D.Denot). EachKeepsTo plan (seen_after kept asked.orders) (state d)) (sym c.into_disk.ensures.disk)
-          (subst (λ (p : List Line). EachKeepsTo p (seen_after kept asked.orders) (state new.device)) (goes.plan ∙ c.in-Ok.ensures.plan)
-          (λ i image t told. let most = c.each_keeps_to_its_base.ensures (left_lawful lawful) i image t told in omega (arith, most, last)));
+          let at_most = most hold lawful kept each in
+          let said = seen_placed raw.is_sound refuse told last raw.orders kept in
+          subst (λ (d : g.row.D.Denot). EachKeepsTo plan (seen_after kept raw.orders) (state d)) (sym c.into_disk.ensures.disk)
+          (subst (λ (p : List Line). EachKeepsTo p (seen_after kept raw.orders) (state new.device)) ((goes hold).plan ∙ c.in-Ok.ensures.plan)
+          (λ i image t told. let low = c.each_keeps_to_its_base.ensures (left_lawful lawful) i image t told in omega (arith, low, at_most, said)));
+      ever_held = λ hold lawful kept each.
+          let short = (c.driven_keeps_to_its_base.ensures driven.commands driven.replies keeper new (c.in-Ok.ensures.lawful.0 lawful) driven.driven).1 in
+          let at_most = most hold lawful kept each in
+          let said = seen_placed raw.is_sound refuse told last raw.orders kept in
+          let far : new.base ≤ seen_after kept raw.orders = omega (arith, at_most, said) in
+          subst (λ (d : g.row.D.Denot). EverKeepsTo plan (seen_after kept raw.orders) (state old).moment (state d)) (sym c.into_disk.ensures.disk)
+          (ever plan (state old) (state keeper.device) (state new.device) kept new.base (seen_after kept raw.orders) (c.in-Ok.ensures.crash_safe lawful)
+          (subst (λ (p : List Line). KeepsSince p new.base (state keeper.device) (state new.device)) c.in-Ok.ensures.plan short) (seen_on kept raw.orders) far each);
     })

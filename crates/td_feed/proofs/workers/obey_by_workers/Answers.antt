@@ -1,5 +1,6 @@
 use Rattle.std.proofs.Common.{refl}
 use Rattle.td_feed.proofs.Counting.{memory_no_device}
+use Rattle.td_standing.specs.Standing.{last_epoch, last_request}
 use Rattle.td_feed.proofs.Session.{in_some_is, disk_same, none_fed}
 use Rattle.td_feed.specs.Held.{seen_at, then_seen}
 use Rattle.td_feed.proofs.Held.{base_itself, keeps_same}
@@ -9,7 +10,9 @@ pub returns-in-Err-clause-disk : goal.returns-in-Err-clause-disk
 returns-in-Err-clause-disk g c = disk_same _ refl memory_no_device
 
 pub returns-in-Err-clause-fed : goal.returns-in-Err-clause-fed
-returns-in-Err-clause-fed g c = in_some_is (g.S.Asking.script c.args.orders) (λ s is. none_fed _ c.requires.whole)
+returns-in-Err-clause-fed g c = in_some_is (g.S.Asking.script (last_epoch c.args.keeper.standing) (last_request c.args.keeper.standing) c.args.orders) (λ s is. none_fed _ c.requires.whole)
 
 pub returns-in-Err-clause-held : goal.returns-in-Err-clause-held
-returns-in-Err-clause-held g c = in_some_is (g.S.Asking.script c.args.orders) (λ s is. keeps_same (then_seen (seen_at c.args.feeding.pace c.args.keeper.standing.epoch) s.orders) (base_itself c.args.keeper))
+returns-in-Err-clause-held g c =
+    in_some_is (g.S.Asking.script (last_epoch c.args.keeper.standing) (last_request c.args.keeper.standing) c.args.orders)
+    (λ s is. keeps_same (then_seen (seen_at c.args.feeding.pace c.args.keeper.standing.epoch) s.orders) (base_itself c.args.keeper))

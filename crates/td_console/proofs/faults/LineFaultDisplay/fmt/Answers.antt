@@ -9,3 +9,6 @@ returns-in-NotOut-clause-writes g c = search rules
 
 pub returns-in-SeenBefore-clause-writes : goal.returns-in-SeenBefore-clause-writes
 returns-in-SeenBefore-clause-writes g c = search rules
+
+pub returns-in-Gap-clause-writes : goal.returns-in-Gap-clause-writes
+returns-in-Gap-clause-writes g c = search rules

@@ -8,4 +8,5 @@ loop-line-init g c = record {
   script = same_itself (script_left (unread (g.I.Source.remaining c.args.self.now.lines.reader) c.args.self.now.lines.unread) (place c.args.self.now.reading));
   ahead = refl;
   stopped = refl;
+  refuses = refl;
 }

@@ -10,4 +10,5 @@ invariant-loop-line g l = record {
       (script_left (unread (g.I.Source.remaining l.self.lines.reader) l.self.lines.unread) (place l.self.reading));
   ahead : l.self.ahead ≡ l.fn.self.ahead;
   stopped : l.self.stopped ≡ l.fn.self.stopped;
+  refuses : l.self.refuses ≡ l.fn.self.refuses;
 }

@@ -7,9 +7,9 @@ use Rattle.td_standing.specs.Stops.{Advance}
 use Rattle.td_standing.specs.Told.{ring_of}
 use Rattle.td_standing.specs.Advanced.{AdvancesSince, states_by}
 use Rattle.td_group.specs.Groups.{AreFree}
-use Rattle.td_keeper.specs.Keeping.{Keeping, FreeAreShut, keeping_of}
+use Rattle.td_keeper.specs.Keeping.{Keeping, KeepsSince, FreeAreShut, keeping_of}
 use Rattle.td_keeper.proofs.Kept.{elsewhere}
-use Rattle.td_keeper.proofs.Since.{from_start, held, by_further, told_further, either_told, keeps_to, none_beyond}
+use Rattle.td_keeper.proofs.Since.{from_start, held, by_further, told_further, either_told, keeps_to, keeps_since, none_beyond}
 use Rattle.td_keeper.proofs.Submitting.{keeps_of, held_of, free_in, shut_in, shut_out}
 use Rattle.td_keeper.proofs.keeper.Keeper.close_free.Goals as goal
 
@@ -158,3 +158,41 @@ invariant_of-self g c =
       c.self.invariant.3,
       λ l. none_beyond c.self.inside.broken plan k.base (state new) c.if-self.false,
     )
+
+pub returns-in-Ok-clause-short : goal.returns-in-Ok-clause-short
+returns-in-Ok-clause-short g c =
+    let state = g.D.Disk.state in
+    let answers = g.L.Law.answers in
+    let device = c.self.inside.device in
+    let plan = c.self.inside.plan in
+    let head = c.self.inside.head in
+    let side = c.self.inside.checkpoint.slot in
+    let s = standing_from c.self.inside.checkpoint c.self.inside.submitted.items in
+    let new = c.close_free.new.device in
+    let k = keeping_of device plan head c.self.inside.checkpoint c.self.inside.submitted.items c.self.inside.broken c.self.inside.taken c.self.inside.collected c.self.inside.queue.items c.self.inside.watch in
+    let free : AreFree head.shape s (c.last_epoch-first.result + 1) c.min-count.result = free_in answers {k = k} c.last_epoch-first.result c.args.most c.free.result c.min-count.result c.self.view_is c.last_epoch-first.ensures c.free.ensures c.min-count.ensures c.self.invariant.1 in
+    let ring : c.ring_of-journal.result ≡ ring_of head.shape s.epoch = c.ring_of-journal.ensures.ring in
+    let low = c.self.invariant.1.from_checkpoint in
+    subst (λ (z : Keeping g.row.D.Denot). g.D.Disk.is_lawful z.device → KeepsSince z.plan z.base (state z.device) (state new)) c.self.view_is
+    (λ old.
+    let keeps = keeps_of c.self.inside.broken answers plan head side s (state device) c.if-self.false (c.self.invariant.2 old) in
+    keeps_since plan c.told_in_parts.ensures.one_answer k.base c.told_in_parts.ensures.together head head side side s s (state device) (state new) low low (c.in-Ok.ensures.begun old plan head side s ring free keeps))
+
+pub returns-in-Err-Device-clause-short : goal.returns-in-Err-Device-clause-short
+returns-in-Err-Device-clause-short g c =
+    let state = g.D.Disk.state in
+    let answers = g.L.Law.answers in
+    let device = c.self.inside.device in
+    let plan = c.self.inside.plan in
+    let head = c.self.inside.head in
+    let side = c.self.inside.checkpoint.slot in
+    let s = standing_from c.self.inside.checkpoint c.self.inside.submitted.items in
+    let new = c.close_free.new.device in
+    let k = keeping_of device plan head c.self.inside.checkpoint c.self.inside.submitted.items c.self.inside.broken c.self.inside.taken c.self.inside.collected c.self.inside.queue.items c.self.inside.watch in
+    let free : AreFree head.shape s (c.last_epoch-first.result + 1) c.min-count.result = free_in answers {k = k} c.last_epoch-first.result c.args.most c.free.result c.min-count.result c.self.view_is c.last_epoch-first.ensures c.free.ensures c.min-count.ensures c.self.invariant.1 in
+    let ring : c.ring_of-journal.result ≡ ring_of head.shape s.epoch = c.ring_of-journal.ensures.ring in
+    let low = c.self.invariant.1.from_checkpoint in
+    subst (λ (z : Keeping g.row.D.Denot). g.D.Disk.is_lawful z.device → KeepsSince z.plan z.base (state z.device) (state new)) c.self.view_is
+    (λ old.
+    let keeps = keeps_of c.self.inside.broken answers plan head side s (state device) c.if-self.false (c.self.invariant.2 old) in
+    keeps_since plan c.told_in_parts.ensures.one_answer k.base c.told_in_parts.ensures.together head head side side s s (state device) (state new) low low (c.in-Err-Device.ensures.begun old plan head side s ring free keeps))

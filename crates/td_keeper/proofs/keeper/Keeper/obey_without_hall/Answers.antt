@@ -50,6 +50,7 @@ returns-in-Err-clause-obeyed g c =
               refused_in (λ (x : List Submitted). AdvancesSince g.L.Law.answers old.plan old.standing x (last_epoch old.standing) (state old.device) (state c.submit.new.self.device))
               (submission 0 c.in-Submit.batch ∷ []) c.in-Err.error (e.further lawful whole) (⊎_elim inl (λ none. inr (none lawful whole)) e.nothing);
         };
+        short = e.short;
       },
     )
 
@@ -66,6 +67,7 @@ returns-in-Ok-clause-obeyed g c =
           later = e.later lawful;
           since = λ whole. e.further lawful whole;
         };
+        short = e.short;
       },
     )
 
@@ -82,6 +84,7 @@ returns-in-Ok-write_cut-clause-obeyed g c =
           later = e.later lawful;
           since = λ whole. e.further lawful whole;
         };
+        short = e.short;
       },
     )
 
@@ -104,6 +107,7 @@ returns-in-Err-write_cut-clause-obeyed g c =
           later = e.later lawful;
           since = λ whole. e.further lawful whole;
         };
+        short = e.short;
       },
     )
 
@@ -121,6 +125,7 @@ returns-in-Ok-submit_as-clause-obeyed g c =
           since = λ whole.
               received_since g.D.Disk.state g.L.Law.answers c.in-SubmitAs.request c.in-SubmitAs.batch c.in-Ok-submit_as.receipt c.args.self.now c.submit_as.new.self e.received (e.further lawful whole);
         };
+        short = e.short;
       },
     )
 
@@ -144,6 +149,7 @@ returns-in-Err-submit_as-clause-obeyed g c =
               refused_in (λ (x : List Submitted). AdvancesSince g.L.Law.answers old.plan old.standing x (last_epoch old.standing) (state old.device) (state c.submit_as.new.self.device))
               (submission c.in-SubmitAs.request c.in-SubmitAs.batch ∷ []) c.in-Err-submit_as.error (e.further lawful whole) (⊎_elim inl (λ none. inr (none lawful whole)) e.nothing);
         };
+        short = e.short;
       },
     )
 
@@ -171,6 +177,7 @@ returns-in-Err-submit_all-clause-obeyed g c =
               none_in (λ (x : List Submitted). AdvancesSince g.L.Law.answers old.plan old.standing x (last_epoch old.standing) (state old.device) (state c.submit_all.new.self.device))
               c.in-SubmitAll.group c.in-Err-submit_all.error (e.further lawful whole) (⊎_elim inl (λ none. inr (none lawful whole)) e.nothing);
         };
+        short = e.short;
       },
     )
 
@@ -187,6 +194,7 @@ returns-in-Ok-close_free-clause-obeyed g c =
           later = e.later lawful;
           since = λ whole. e.further lawful whole;
         };
+        short = e.short;
       },
     )
 
@@ -208,6 +216,7 @@ returns-in-Err-close_free-clause-obeyed g c =
           later = e.later lawful;
           since = λ whole. e.further lawful whole;
         };
+        short = e.short;
       },
     )
 
@@ -220,6 +229,7 @@ returns-in-Ok-submit_all-clause-obeyed g c =
         counted = e.counted;
         stays = λ quiet. e.stays;
         advances = λ lawful. record { lawful = e.lawful.0 lawful; later = e.later lawful; since = λ whole. e.further lawful whole };
+        short = e.short;
       },
     )
 

@@ -17,9 +17,9 @@ use Rattle.td_group.specs.Groups.{HasRoomFor}
 use Rattle.td_standing.specs.Tells.{Keeps}
 use Rattle.td_standing.specs.Advanced.{AdvancesSince, HeldWhere, states_by}
 use Rattle.td_keeper.specs.Grouped.{AllOrNone}
-use Rattle.td_keeper.specs.Keeping.{Keeping, IsKeeping, keeping_of, words_at, published, IsBelow}
+use Rattle.td_keeper.specs.Keeping.{Keeping, IsKeeping, KeepsSince, keeping_of, words_at, published, IsBelow}
 use Rattle.td_keeper.proofs.Kept.{submitted, elsewhere}
-use Rattle.td_keeper.proofs.Since.{either, from_start, held, by_further, unwritten, either_told, keeps_to, none_beyond, one_or_other, none_since}
+use Rattle.td_keeper.proofs.Since.{either, from_start, held, by_further, unwritten, either_told, keeps_to, keeps_since, none_beyond, one_or_other, none_since}
 use Rattle.td_keeper.proofs.Submitting.{MayCome, may_come_in, keeps_of, held_of, greatest_more, has_room, below_more}
 use Rattle.td_keeper.proofs.keeper.Keeper.put_next.Goals as goal
 
@@ -435,3 +435,73 @@ returns-then-is_err-clause-all_or_none g c =
     (λ old whole i left.
     let keeps = keeps_of c.self.inside.broken g.L.Law.answers plan head side s (state device) whole (c.self.invariant.2 old) in
     inl (none_since plan c.told_in_parts.ensures.together head side s (state device) (λ d. g.met.D.Disk.only_now device d old) keeps i left))
+
+pub returns-then-is_err-clause-short : goal.returns-then-is_err-clause-short
+returns-then-is_err-clause-short g c =
+    let state = g.D.Disk.state in
+    let device = c.self.inside.device in
+    subst (λ (z : Keeping g.row.D.Denot). g.D.Disk.is_lawful z.device → KeepsSince z.plan z.base (state z.device) (state device)) c.self.view_is
+    (λ old t i le left. inl left)
+
+pub returns-in-Ok-clause-short : goal.returns-in-Ok-clause-short
+returns-in-Ok-clause-short g c =
+    let state = g.D.Disk.state in
+    let device = c.self.inside.device in
+    let plan = c.self.inside.plan in
+    let head = c.self.inside.head in
+    let s = standing_from c.self.inside.checkpoint c.self.inside.submitted.items in
+    let side = c.self.inside.checkpoint.slot in
+    let y : List Submitted = c.deref.result.now in
+    let k = keeping_of device plan head c.self.inside.checkpoint c.self.inside.submitted.items c.self.inside.broken c.self.inside.taken c.self.inside.collected c.self.inside.queue.items c.self.inside.watch in
+    let taken : MayCome k y = may_come_in c.self.view_is c.deref.ensures.value (record { some = c.requires.some; whole = c.requires.whole; lawful = c.requires.lawful; few = c.requires.few; small = c.requires.small; room = c.requires.room; fresh = c.requires.fresh }) in
+    let epoch : c.last_epoch-first.result + 1 ≡ last_epoch s + 1 = ap (λ (n : ℕ). n + 1) (c.last_epoch-first.ensures ∙ sym (ap (λ (z : Keeping g.row.D.Denot). last_epoch z.standing) c.self.view_is)) in
+    let ring : c.ring_of-journal.result ≡ ring_of head.shape s.epoch = c.ring_of-journal.ensures.ring in
+    let room : HasRoomFor head.shape s (c.last_epoch-first.result + 1) (length y) = has_room k y (c.last_epoch-first.result + 1) taken epoch in
+    let low = c.self.invariant.1.from_checkpoint in
+    subst (λ (z : Keeping g.row.D.Denot). g.D.Disk.is_lawful z.device → KeepsSince z.plan z.base (state z.device) (state c.submit_group.new.device)) c.self.view_is
+    (λ old.
+    let keeps = keeps_of c.self.inside.broken g.L.Law.answers plan head side s (state device) taken.whole (c.self.invariant.2 old) in
+    keeps_since plan c.told_in_parts.ensures.one_answer k.base c.told_in_parts.ensures.together head head side side s (with_more s y) (state device) (state c.submit_group.new.device) low low
+    (c.in-Ok.ensures.begun old plan head side s ring room taken.fresh taken.lawful keeps))
+
+pub returns-in-Device-clause-short : goal.returns-in-Device-clause-short
+returns-in-Device-clause-short g c =
+    let state = g.D.Disk.state in
+    let device = c.self.inside.device in
+    let plan = c.self.inside.plan in
+    let head = c.self.inside.head in
+    let s = standing_from c.self.inside.checkpoint c.self.inside.submitted.items in
+    let side = c.self.inside.checkpoint.slot in
+    let y : List Submitted = c.deref.result.now in
+    let k = keeping_of device plan head c.self.inside.checkpoint c.self.inside.submitted.items c.self.inside.broken c.self.inside.taken c.self.inside.collected c.self.inside.queue.items c.self.inside.watch in
+    let taken : MayCome k y = may_come_in c.self.view_is c.deref.ensures.value (record { some = c.requires.some; whole = c.requires.whole; lawful = c.requires.lawful; few = c.requires.few; small = c.requires.small; room = c.requires.room; fresh = c.requires.fresh }) in
+    let epoch : c.last_epoch-first.result + 1 ≡ last_epoch s + 1 = ap (λ (n : ℕ). n + 1) (c.last_epoch-first.ensures ∙ sym (ap (λ (z : Keeping g.row.D.Denot). last_epoch z.standing) c.self.view_is)) in
+    let ring : c.ring_of-journal.result ≡ ring_of head.shape s.epoch = c.ring_of-journal.ensures.ring in
+    let room : HasRoomFor head.shape s (c.last_epoch-first.result + 1) (length y) = has_room k y (c.last_epoch-first.result + 1) taken epoch in
+    let low = c.self.invariant.1.from_checkpoint in
+    subst (λ (z : Keeping g.row.D.Denot). g.D.Disk.is_lawful z.device → KeepsSince z.plan z.base (state z.device) (state c.submit_group.new.device)) c.self.view_is
+    (λ old.
+    let keeps = keeps_of c.self.inside.broken g.L.Law.answers plan head side s (state device) taken.whole (c.self.invariant.2 old) in
+    keeps_since plan c.told_in_parts.ensures.one_answer k.base c.told_in_parts.ensures.together head head side side s (with_more s y) (state device) (state c.submit_group.new.device) low low
+    (c.in-Err.ensures.begun old plan head side s ring room taken.fresh taken.lawful keeps))
+
+pub returns-in-Memory-clause-short : goal.returns-in-Memory-clause-short
+returns-in-Memory-clause-short g c =
+    let state = g.D.Disk.state in
+    let device = c.self.inside.device in
+    let plan = c.self.inside.plan in
+    let head = c.self.inside.head in
+    let s = standing_from c.self.inside.checkpoint c.self.inside.submitted.items in
+    let side = c.self.inside.checkpoint.slot in
+    let y : List Submitted = c.deref.result.now in
+    let k = keeping_of device plan head c.self.inside.checkpoint c.self.inside.submitted.items c.self.inside.broken c.self.inside.taken c.self.inside.collected c.self.inside.queue.items c.self.inside.watch in
+    let taken : MayCome k y = may_come_in c.self.view_is c.deref.ensures.value (record { some = c.requires.some; whole = c.requires.whole; lawful = c.requires.lawful; few = c.requires.few; small = c.requires.small; room = c.requires.room; fresh = c.requires.fresh }) in
+    let epoch : c.last_epoch-first.result + 1 ≡ last_epoch s + 1 = ap (λ (n : ℕ). n + 1) (c.last_epoch-first.ensures ∙ sym (ap (λ (z : Keeping g.row.D.Denot). last_epoch z.standing) c.self.view_is)) in
+    let ring : c.ring_of-journal.result ≡ ring_of head.shape s.epoch = c.ring_of-journal.ensures.ring in
+    let room : HasRoomFor head.shape s (c.last_epoch-first.result + 1) (length y) = has_room k y (c.last_epoch-first.result + 1) taken epoch in
+    let low = c.self.invariant.1.from_checkpoint in
+    subst (λ (z : Keeping g.row.D.Denot). g.D.Disk.is_lawful z.device → KeepsSince z.plan z.base (state z.device) (state c.submit_group.new.device)) c.self.view_is
+    (λ old.
+    let keeps = keeps_of c.self.inside.broken g.L.Law.answers plan head side s (state device) taken.whole (c.self.invariant.2 old) in
+    keeps_since plan c.told_in_parts.ensures.one_answer k.base c.told_in_parts.ensures.together head head side side s (with_more s y) (state device) (state c.submit_group.new.device) low low
+    (c.in-Err.ensures.begun old plan head side s ring room taken.fresh taken.lawful keeps))

@@ -13,11 +13,11 @@ use Rattle.td_standing.specs.Told.{folds_of, slots_of}
 use Rattle.td_standing.specs.Tells.{IsCut, side_after}
 use Rattle.td_standing.specs.Advanced.{AdvancesSince, HeldWhere, states_by}
 use Rattle.td_keeper.specs.declared.keeper.Taken.{Taken}
-use Rattle.td_keeper.specs.Keeping.{Keeping, IsKeeping, keeping_of, base_of, with_checkpoint, published}
+use Rattle.td_keeper.specs.Keeping.{Keeping, IsKeeping, KeepsSince, keeping_of, base_of, with_checkpoint, published}
 use Rattle.td_keeper.specs.Refused.{write_refusal, waits_after}
 use Rattle.td_keeper.proofs.Cutting.{lawful, cut_last, most, is_cut, advance, as_written, not_above, write_none}
 use Rattle.td_keeper.proofs.Kept.{written, set_down}
-use Rattle.td_keeper.proofs.Since.{either, from_start, held, by_further, either_told, keeps_to, none_beyond}
+use Rattle.td_keeper.proofs.Since.{either, from_start, held, by_further, either_told, keeps_to, keeps_since, none_beyond}
 use Rattle.td_keeper.proofs.Submitting.{keeps_of, held_of}
 use Rattle.td_keeper.proofs.keeper.Keeper.write_cut.Goals as goal
 
@@ -296,3 +296,92 @@ returns-in-Ok-clause-last_request g c =
     let n = c.in-Some.cut.epoch - checkpoint.epoch in
     (λ i. greatest ((c.checkpoint_of.ensures.last ∙ c.last_of_first-last.ensures) i) (c.drop_first.ensures i))
     ∙ (cut_last checkpoint.last n w ∙ ap (λ (z : Keeping g.row.D.Denot). last_request z.standing) c.self.view_is)
+
+pub returns-in_default-clause-short : goal.returns-in_default-clause-short
+returns-in_default-clause-short g c =
+    let state = g.D.Disk.state in
+    let device = c.self.inside.device in
+    subst (λ (z : Keeping g.row.D.Denot). g.D.Disk.is_lawful z.device → KeepsSince z.plan z.base (state z.device) (state device)) c.self.view_is
+    (λ old t i le left. inl left)
+
+pub returns-in-Ok-clause-short : goal.returns-in-Ok-clause-short
+returns-in-Ok-clause-short g c =
+    let state = g.D.Disk.state in
+    let answers = g.L.Law.answers in
+    let device = c.self.inside.device in
+    let plan = c.self.inside.plan in
+    let head = c.self.inside.head in
+    let checkpoint = c.self.inside.checkpoint in
+    let side = checkpoint.slot in
+    let w = c.self.inside.submitted.items in
+    let s = standing_from checkpoint w in
+    let new = c.write_states.new.device in
+    let cut = c.in-Some.cut in
+    let n = cut.epoch - checkpoint.epoch in
+    let at : c.self.inside.taken ≡ Some cut = c.in-Some.ensures.some.0 in
+    let k = keeping_of device plan head checkpoint w c.self.inside.broken (Some cut) c.self.inside.collected c.self.inside.queue.items c.self.inside.watch in
+    let is : IsKeeping k answers = subst (λ (t : Option Taken). IsKeeping (keeping_of device plan head checkpoint w c.self.inside.broken t c.self.inside.collected c.self.inside.queue.items c.self.inside.watch) answers) at c.self.invariant.1 in
+    let wide : head.shape.k ≤ 1048576 = subst (λ (z : Slots). z.k ≤ 1048576) c.slots_of-slots.ensures.slots c.slots_of-slots.ensures.limit in
+    let slots : c.slots_of-slots.result ≡ slots_of head.shape = c.slots_of-slots.ensures.slots in
+    let few : length cut.states ≤ head.shape.k = subst (λ (z : Slots). length cut.states ≤ z.k) slots (not_above c.slots_of-slots.result.k (length cut.states) (λ lt. let z = c.in-Ok.ensures.too_many.1 lt in absurd (cc z))) in
+    let of_folds : are_states (folds_of plan) cut.states ≡ true = lawful answers k is c.states_of_folds.ensures c.states_are_in_order.ensures.written c.states_are_in_order.ensures.named c.vertices-plan.ensures.lawful c.list-in_order.ensures.ordered in
+    let narrow : head.shape.k < 2 ^ 32 = omega arith in
+    let is_a_cut : IsCut plan head.shape s n cut.states = is_cut answers k is of_folds few narrow c.in-Ok.ensures.fits in
+    let epoch : cut.epoch ≡ s.epoch + n = omega (arith, is.from_checkpoint) in
+    let last : c.last_of_first-last.result ≡ greatest s.last (take n w) = c.last_of_first-last.ensures in
+    let base : base_of checkpoint c.self.inside.taken ≡ cut.epoch = ap (base_of checkpoint) at in
+    subst (λ (z : Keeping g.row.D.Denot). g.D.Disk.is_lawful z.device → KeepsSince z.plan z.base (state z.device) (state new)) c.self.view_is
+    (λ old.
+    let keeps = keeps_of c.self.inside.broken answers plan head side s (state device) c.if-self.false (c.self.invariant.2 old) in
+    keeps_since plan c.told_in_parts.ensures.one_answer (base_of checkpoint c.self.inside.taken) c.told_in_parts.ensures.together head head side (side_after side n) s (cut_at s n cut.states) (state device) (state new)
+    c.self.invariant.1.from_checkpoint (omega (arith, epoch, base)) (c.in-Ok.ensures.begun old plan head s n slots epoch last is_a_cut keeps))
+
+pub returns-in-Device-clause-short : goal.returns-in-Device-clause-short
+returns-in-Device-clause-short g c =
+    let state = g.D.Disk.state in
+    let answers = g.L.Law.answers in
+    let device = c.self.inside.device in
+    let plan = c.self.inside.plan in
+    let head = c.self.inside.head in
+    let checkpoint = c.self.inside.checkpoint in
+    let side = checkpoint.slot in
+    let w = c.self.inside.submitted.items in
+    let s = standing_from checkpoint w in
+    let new = c.write_states.new.device in
+    let cut = c.in-Some.cut in
+    let n = cut.epoch - checkpoint.epoch in
+    let at : c.self.inside.taken ≡ Some cut = c.in-Some.ensures.some.0 in
+    let k = keeping_of device plan head checkpoint w c.self.inside.broken (Some cut) c.self.inside.collected c.self.inside.queue.items c.self.inside.watch in
+    let is : IsKeeping k answers = subst (λ (t : Option Taken). IsKeeping (keeping_of device plan head checkpoint w c.self.inside.broken t c.self.inside.collected c.self.inside.queue.items c.self.inside.watch) answers) at c.self.invariant.1 in
+    let wide : head.shape.k ≤ 1048576 = subst (λ (z : Slots). z.k ≤ 1048576) c.slots_of-slots.ensures.slots c.slots_of-slots.ensures.limit in
+    let slots : c.slots_of-slots.result ≡ slots_of head.shape = c.slots_of-slots.ensures.slots in
+    let few : length cut.states ≤ head.shape.k = subst (λ (z : Slots). length cut.states ≤ z.k) slots (not_above c.slots_of-slots.result.k (length cut.states) (λ lt. let z = c.in-Err.ensures.too_many.1 lt in let d = c.in-Device.is in absurd (cc (z, d)))) in
+    let of_folds : are_states (folds_of plan) cut.states ≡ true = lawful answers k is c.states_of_folds.ensures c.states_are_in_order.ensures.written c.states_are_in_order.ensures.named c.vertices-plan.ensures.lawful c.list-in_order.ensures.ordered in
+    let narrow : head.shape.k < 2 ^ 32 = omega arith in
+    let is_a_cut : IsCut plan head.shape s n cut.states = is_cut answers k is of_folds few narrow (c.in-Err.ensures.fits_too (ap as_err c.in-Device.is)) in
+    let epoch : cut.epoch ≡ s.epoch + n = omega (arith, is.from_checkpoint) in
+    let last : c.last_of_first-last.result ≡ greatest s.last (take n w) = c.last_of_first-last.ensures in
+    let base : base_of checkpoint c.self.inside.taken ≡ cut.epoch = ap (base_of checkpoint) at in
+    subst (λ (z : Keeping g.row.D.Denot). g.D.Disk.is_lawful z.device → KeepsSince z.plan z.base (state z.device) (state new)) c.self.view_is
+    (λ old.
+    let keeps = keeps_of c.self.inside.broken answers plan head side s (state device) c.if-self.false (c.self.invariant.2 old) in
+    keeps_since plan c.told_in_parts.ensures.one_answer (base_of checkpoint c.self.inside.taken) c.told_in_parts.ensures.together head head side (side_after side n) s (cut_at s n cut.states) (state device) (state new)
+    c.self.invariant.1.from_checkpoint (omega (arith, epoch, base)) (c.in-Err.ensures.begun old plan head s n slots epoch last is_a_cut keeps))
+
+pub returns-in-TooManyKeys-clause-short : goal.returns-in-TooManyKeys-clause-short
+returns-in-TooManyKeys-clause-short g c =
+    let state = g.D.Disk.state in
+    let device = c.self.inside.device in
+    let new = c.write_states.new.device in
+    let same : new ≡ device = ⊎_elim (λ d. (let m = c.in-TooManyKeys.is in absurd (cc (d, m)))) (λ e. e) c.in-Err.ensures.untouched in
+    subst (λ (z : Keeping g.row.D.Denot). g.D.Disk.is_lawful z.device → KeepsSince z.plan z.base (state z.device) (state new)) c.self.view_is
+    (λ old t i le left. inl (subst (λ (d : g.row.D.Denot). (state d).since t i) same left))
+
+pub returns-in-Memory-clause-short : goal.returns-in-Memory-clause-short
+returns-in-Memory-clause-short g c =
+    let state = g.D.Disk.state in
+    let device = c.self.inside.device in
+    let new = c.write_states.new.device in
+    let same : new ≡ device = ⊎_elim (λ d. (let m = c.in-Memory.is in absurd (cc (d, m)))) (λ e. e) c.in-Err.ensures.untouched in
+    subst (λ (z : Keeping g.row.D.Denot). g.D.Disk.is_lawful z.device → KeepsSince z.plan z.base (state z.device) (state new)) c.self.view_is
+    (λ old t i le left. inl (subst (λ (d : g.row.D.Denot). (state d).since t i) same left))
