@@ -97,8 +97,8 @@ impl Plan {
     /// refusal leaves the states as they were.
     pub fn epoch(&self, states: &mut Vec<State>, records: &[Record]) -> Result<Vec<Record>, Refused> {
         let before = states.len();
-        let mut outputs = vec![Record::default(); records.len()];
-        states.resize(before + records.len(), State::default());
+        let mut outputs = Vec::with_capacity(records.len());
+        states.reserve(records.len());
         loop {
             let mut counts = Counts { states: before, outputs: 0 };
             let mut place = 0;
@@ -112,27 +112,27 @@ impl Plan {
                     records.as_ptr(),
                     records.len(),
                     states.as_mut_ptr(),
-                    states.len(),
+                    states.capacity(),
                     outputs.as_mut_ptr(),
-                    outputs.len(),
+                    outputs.capacity(),
                     &mut counts,
                     &mut place,
                 )
             };
             match number {
                 DONE => {
-                    states.truncate(counts.states);
-                    outputs.truncate(counts.outputs);
+                    // SAFETY: the library has written so many of each.
+                    unsafe {
+                        states.set_len(counts.states);
+                        outputs.set_len(counts.outputs);
+                    }
                     return Ok(outputs);
                 }
                 ROOM => {
-                    states.resize(counts.states.max(states.len()), State::default());
-                    outputs.resize(counts.outputs.max(outputs.len()), Record::default());
+                    states.reserve(counts.states.saturating_sub(before));
+                    outputs.reserve(counts.outputs);
                 }
-                _ => {
-                    states.truncate(before);
-                    return Err(Refused { number, place });
-                }
+                _ => return Err(Refused { number, place }),
             }
         }
     }
