@@ -281,8 +281,8 @@ matter. The closures' codes do. `td states` and `td load` take what its folds ke
     td: another plan: total.disk
 
 **`damaged: head`**, `damaged: no slot`, `damaged: slot I`, `damaged: cell I`: DISK has bytes that `td` never leaves
-there, wherever it is stopped. Something else wrote the file, cut it off, or lost what was synced. Put a copy back, and
-look for the cause: nothing on such a disk is believed. `docs/DISK.md` has the places.
+there, wherever it is stopped. Something else wrote the file, cut it off, or lost what was synced. Nothing on such a
+disk is believed, and no command reads it. `docs/OPERATING.md` has the steps; `docs/DISK.md` the places.
 
     $ td format total.disk total.plan 4 2 3; head -c 8700 total.disk > short.disk; td show short.disk total.plan
     td: damaged: head
