@@ -12,9 +12,10 @@ use td_disk::Disk;
 use td_keeper::laws;
 
 /// AN OUTPUT IS HELD UNTIL IT IS SEEN. Let any number of streams with `--marks --hold` stand on a disk, one after another, each stopped
-/// anywhere, in the middle of a write too: the checkpoint is of no epoch after the last one of which a line `seen` told. A disk that was
-/// just formatted keeps epoch 0. And a stream of one worker that then answers Ok has written the output lines, each epoch's with its mark, of
-/// each later epoch that the disk told at its start.
+/// anywhere, in the middle of a write too: the checkpoint is of no epoch after the last one of which a line `seen` of their inputs told.
+/// Each input counts whole, with the lines that its stream had not read yet when it was stopped. A disk that was just formatted keeps epoch
+/// 0. And a stream of one worker that then answers Ok has written the output lines, each epoch's with its mark, of each later epoch that the
+/// disk told at its start.
 pub fn outputs_are_held<D: Disk, L: Law>()
     ensures begins { (plan : List Line) (sizes : Sizes) (image : List ℕ) (disk : D) → Keeps plan (first_head sizes) 0 nothing_told (D.state disk)
         → (D.state disk).images image → HoldsBack L.answers plan 0 image }
