@@ -6,7 +6,8 @@
 TOTAL, one record an epoch, of one key, as many epochs as stand below, and some times as many. Between the two each command may take only so much
 more for each epoch, in bytes: `td stream --cut-every 1000`, with one shard and with four, next to nothing, since what a cut lets go is used again;
 `td feed` with a cut each 1,000 epochs, `td run` and `td batch` what they make of the input, which they read whole, and `td run`, which cuts
-each 65,536 records, no more than `td batch`, which has no hall. The greatest use is read of the system while the program runs, each two milliseconds."""
+each 65,536 records, no more than `td batch`, which has no hall. The greatest use is read of the system while the program runs, each two milliseconds.
+On a busy machine a reading may come so late that it misses the greatest use, so the greatest of some runs counts."""
 
 import os
 import pathlib
@@ -31,6 +32,7 @@ COMMANDS = {
 # And by how many bytes an epoch `td run` may be above `td batch`.
 HALL = 8
 SECONDS = 120
+RUNS = 4
 
 
 def greatest(td, words, given, folder):
@@ -59,8 +61,11 @@ def used_of(td, folder, name, epochs):
     text = {"epochs": EPOCH * epochs, "epochs and cuts": (EPOCH * CUT_EVERY + "cut\n") * (epochs // CUT_EVERY), "plan and epochs": f"{TOTAL}--\n" + EPOCH * epochs}
     (folder / "plan").write_text(TOTAL)
     (folder / given).write_text(text[given])
-    subprocess.run([td, "format", "disk", "plan", "1", str(CUT_EVERY), "3"], cwd=folder, check=True)
-    return greatest(td, words, folder / given, folder)
+    most = 0
+    for _ in range(RUNS):
+        subprocess.run([td, "format", "disk", "plan", "1", str(CUT_EVERY), "3"], cwd=folder, check=True)
+        most = max(most, greatest(td, words, folder / given, folder))
+    return most
 
 
 def main():
