@@ -13,8 +13,9 @@ static int is_refused(void)
     static long calls;
     const char *refused = getenv("REFUSED");
     long number = refused ? atol(refused) : 0;
-    calls++;
-    if (number == 0 || calls < number || (calls > number && !getenv("REFUSED_ON")))
+    /* Each call has a number of its own, also where two threads call at once. */
+    long call = __atomic_add_fetch(&calls, 1, __ATOMIC_SEQ_CST);
+    if (number == 0 || call < number || (call > number && !getenv("REFUSED_ON")))
         return 0;
     errno = ENOMEM;
     return 1;
