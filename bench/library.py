@@ -5,8 +5,9 @@
     bench/library.py [FOLDER]       needs crates/td/out/td, crates/td_c/out/libtd_c.a, cargo, a C compiler and the kit; the disk lies in FOLDER
 
 All take the same records, and the sums of their outputs must be equal. The stream syncs each epoch, and the others nothing; so a FOLDER in memory (/dev/shm,
-by default) is the harder one for the library. The library is handed all states in each epoch, so keys cost; the evaluator keeps them, and keeps the plan. It is
-a program of its own (bench/library.rattle), which is proved on the way. The best of three counts; what makes the keys first is taken off.
+by default) is the harder one for the library. By `epoch_of` the library is handed the states that an epoch asks for, so keys cost a look-up each; by `epoch`
+it is handed all states. The evaluator keeps them, and keeps the plan. It is a program of its own (bench/library.rattle), which is proved on the way. The best
+of three counts; what makes the keys first is taken off.
 
 Wanted, with 1,000 records an epoch: at most 1.1 times the evaluator, and at most the time of `td stream`."""
 
@@ -91,15 +92,21 @@ def evaluated(program):
     return found
 
 
+def by_library(program, way, case):
+    """The seconds of a case's epochs by the Rust client, and the sum of all outputs."""
+    seconds, total = subprocess.run([program, way, *map(str, case)], capture_output=True, text=True, check=True).stdout.split()
+    return float(seconds), int(total)
+
+
 def take_round(programs, place, met):
-    """Adds the seconds and the sum of each case, by each of the four."""
+    """Adds the seconds and the sum of each case, by each of the five."""
     program, evaluator = programs
     for case, run in evaluated(evaluator).items():
         met[case]["evaluator"].append(run)
     for case in CASES:
         text = epochs_of(*case)
-        seconds, total = subprocess.run([program, *map(str, case)], capture_output=True, text=True, check=True).stdout.split()
-        met[case]["library"].append((float(seconds), int(total)))
+        met[case]["library"].append(by_library(program, "kept", case))
+        met[case]["all states"].append(by_library(program, "all", case))
         met[case]["stream"].append(streamed(place, case[2], text))
         met[case]["batch"].append(batched(case[2], text))
 
@@ -108,7 +115,7 @@ def print_case(case, met):
     """Prints the best of each, in milliseconds an epoch; the sums must be equal."""
     if len({total for runs in met.values() for _, total in runs}) != 1:
         lib.fail(f"{case[0]} epochs of {case[1]} records: the sums differ: {met}")
-    best = (f"{1000 * min(met[who])[0] / case[0]:.3f}" if met[who] else "-" for who in ("library", "evaluator", "stream", "batch"))
+    best = (f"{1000 * min(met[who])[0] / case[0]:.3f}" if met[who] else "-" for who in ("library", "all states", "evaluator", "stream", "batch"))
     print(f"| {' | '.join([*map(str, case), *best])} |")
 
 
@@ -126,7 +133,8 @@ def main():
                 take_round(programs, place, met)
         finally:
             shutil.rmtree(place)
-    print("| Epochs | Records of one | Keys | by the library, ms | by the evaluator | by td stream | by td batch |\n|---|---|---|---|---|---|---|")
+    heads = "Epochs", "Records of one", "Keys", "by the library, ms", "of all states", "by the evaluator", "by td stream", "by td batch"
+    print(f"| {' | '.join(heads)} |\n{'|---' * len(heads)}|")
     for case in CASES:
         print_case(case, met[case])
 

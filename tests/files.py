@@ -12,7 +12,7 @@ TRACKED = re.compile(r"""
     |crates/\w+/(src/.+\.rt|(specs|proofs)/.+\.antt|must-fail/[^/]+\.(edit|md)|stdin|stdout|args|status|data/.+)
     |docs/([^/]+\.(md|svg|dot|txt)|draw\.py)|rows/([^/]+\.txt|README\.md)|(bench|tests)/[^/]+\.(py|rattle|rs|c)|bench/(all|history\.tsv)
     |examples/([^/]+\.(td|out)|README\.md|closures/[^/]+\.(td|closures|out))|tools/\w+
-    |clients/(README\.md|\w+\.py|c/\w+\.[ch]|python/\w+\.py|rust/(Cargo\.toml|build\.rs|(src|examples)/\w+\.rs))
+    |clients/(README\.md|\w+\.py|c/\w+\.[ch]|python/\w+\.py|rust/(Cargo\.toml|build\.rs|(src|examples|tests)/\w+\.rs))
     """, re.VERBOSE)
 BYTES_OF_A_FILE = 200_000
 BYTES_OF_ALL = 15_000_000

@@ -13,8 +13,10 @@ from lib import ROOT, fail
 SOURCES = ROOT / "crates/td_c"
 # What a type of an export is in C. A slice is a pointer, and its length after it; a `Global` is nothing.
 SCALARS = {"u64": "uint64_t", "i64": "int64_t", "u32": "uint32_t", "u8": "uint8_t", "usize": "size_t",
-           "TdRecord": "struct td_record", "TdState": "struct td_state", "TdCounts": "struct td_counts"}
-STRUCTS = {"TdRecord": "td_record", "TdState": "td_state", "TdCounts": "td_counts"}
+           "TdRecord": "struct td_record", "TdState": "struct td_state", "TdChange": "struct td_change", "TdCounts": "struct td_counts"}
+STRUCTS = {"TdRecord": "td_record", "TdState": "td_state", "TdChange": "td_change", "TdCounts": "td_counts"}
+# The structs as the clients name them.
+CLIENT_STRUCTS = [name.removeprefix("Td") for name in STRUCTS]
 
 
 def source():
@@ -106,7 +108,7 @@ def client_of_python():
 
 def fields_of_python(client):
     kinds = {ctypes.c_uint64: {"uint64_t", "size_t"}, ctypes.c_int64: {"int64_t"}, ctypes.c_size_t: {"uint64_t", "size_t"}}
-    return {f"td_{name.lower()}": [(kinds[kind], field) for field, kind in getattr(client, name)._fields_] for name in ("Record", "State", "Counts")}
+    return {f"td_{name.lower()}": [(kinds[kind], field) for field, kind in getattr(client, name)._fields_] for name in CLIENT_STRUCTS}
 
 
 def fields_of_rust():

@@ -4,10 +4,12 @@
     tests/library.py [COUNT [SEED]]     needs crates/td_c/out/libtd_c.a, crates/td/out/td and a C compiler; by default 300 plans
 
 Each epoch is one call of td_epoch by the Python client, with the states that the call before left: its outputs must be those of `td batch`, its states
-those of the reading. The states go in in random order; too little room must change nothing, and tell how much is wanted. As many plans have closures
+those of the reading. The states go in in random order; too little room must change nothing, and tell how much is wanted. The same epoch by td_changes, of
+all states and of a random part of them, must come to the same, with one change for each key of a fold at which records arrive. As many plans have closures
 in text: td_epoch_with beside `td batch --closures` and the reading of tests/random_closures.py. As many texts with mistakes must be refused by
 td_check as `td plan` refuses them, and some texts of closures by their numbers and lines. Then the example of C, and that of Rust where there
-is a cargo, must print what `td batch` prints, and valgrind, where there is one, must see nothing amiss in the example of C."""
+is a cargo, must print what `td batch` prints, the test of the Rust client must pass, and valgrind, where there is one, must see nothing amiss in the
+example of C."""
 
 import collections
 import contextlib
@@ -94,6 +96,76 @@ def too_little_room(client, plan, states, records, wanted):
     return answer == client.ROOM and place.value == 0 and (counts.states, counts.outputs) == wanted and same
 
 
+class Asked(dict):
+    """States of a reading, and those that an epoch has asked for."""
+
+    def __init__(self):
+        super().__init__()
+        self.places = set()
+
+    def pop(self, place, default):
+        self.places.add(place)
+        return super().pop(place, default)
+
+
+def states_of(rows):
+    """States by their places, (vertex, key)."""
+    return {(vertex, key): (a, b) for vertex, key, a, b in rows}
+
+
+def rows_of(kept):
+    """The rows of states, in order."""
+    return [(*place, *state) for place, state in sorted(kept.items())]
+
+
+def changed(rows, changes):
+    """The rows of states after changes, in order."""
+    kept = states_of(rows)
+    for vertex, key, state in changes:
+        kept[vertex, key] = state
+    return rows_of({place: state for place, state in kept.items() if state})
+
+
+def refusal(client, call, *given):
+    """The number and the place of a call's refusal; None where it has none."""
+    try:
+        call(*given)
+    except client.Refused as refused:
+        return refused.number, refused.place
+
+
+def too_little_room_for_changes(client, plan, rng, states, records, wanted):
+    """Whether a call of td_changes with random room tells how much is wanted, and changes nothing where it is too little."""
+    given, kept = client.array_of(client.Record, records), client.array_of(client.State, states)
+    room = tuple(rng.randrange(each + 1) for each in wanted)
+    before = [(9,) * 5] * room[0], [(9,) * 3] * room[1]
+    changes, outputs = client.array_of(client.Change, before[0]), client.array_of(client.Record, before[1])
+    counts, place = client.Counts(7, 7), ctypes.c_uint64(1)
+    answer = plan.call_changes(*plan.both_texts, given, len(records), kept, len(states), changes, room[0], outputs, room[1], counts, place)
+    told = place.value == 0 and (counts.states, counts.outputs) == wanted and client.rows_of(kept, len(states)) == states
+    same = (client.rows_of(changes, room[0]), client.rows_of(outputs, room[1])) == before
+    return told and (answer == client.DONE if room == wanted else answer == client.ROOM and same)
+
+
+def amiss_in_changes(client, plan, rng, rows, batch, wanted, places):
+    """What is amiss in the changes of an epoch that has these states and outputs, and asks for the states of these places; None where nothing is."""
+    changes, outputs = plan.changes(rows, batch)
+    if (changed(rows, changes), outputs) != wanted or [change[:2] for change in changes] != sorted(places):
+        return f"of all states it has the changes {changes} and outputs {outputs}"
+    for expected in (None, [row[:2] for row in rows if rng.random() < 0.5]):
+        kept = states_of(rows)
+        outputs = plan.epoch_of(kept, batch, expected)
+        if (rows_of(kept), outputs) != wanted:
+            return f"of some states, at first those of {expected}, it has {rows_of(kept)} and outputs {outputs}"
+    if not too_little_room_for_changes(client, plan, rng, rows, batch, (len(changes), len(outputs))):
+        return "with too little room for changes it does not answer as it must"
+    at = rng.randrange(len(rows) + 1)
+    mistakes = [([*rows[:at], (0, 7, 0, 0), *rows[at:]], (15, at)), *[([*rows, row], (16, len(rows))) for row in rows[at:at + 1]]]
+    for given, why in mistakes:
+        if refusal(client, plan.changes, given, batch) != why:
+            return f"the states {given} are not refused by {why}"
+
+
 def run_plan(client, library, rng, text, closures, met):
     """One random plan: epoch by epoch beside `td batch` and the reading."""
     file = library.with_name("closures")
@@ -111,18 +183,22 @@ def run_plan(client, library, rng, text, closures, met):
         return
     if fault is not None:
         lib.fail(f"{text!r}\n{closures!r}\ntd_check takes it\ntd batch: {fault}")
-    reading, rows, kept = inputs.read_plan(lines[:cut], True), [], {}
+    reading, rows, kept = inputs.read_plan(lines[:cut], True), [], Asked()
     for at, batch in enumerate(inputs.read_epochs(reading, lines[cut + 1:], cut + 2), 1):
         rng.shuffle(rows)
         epoch = inputs.Epoch(batch, kept)
         epoch.turn(reading.outermost, 0, None, {})
-        wanted = [(vertex, key, *state) for (vertex, key), state in sorted(kept.items())]
+        wanted = rows_of(kept)
         if not too_little_room(client, plan, rows, batch, (len(wanted), len(outputs[at]))):
             lib.fail(f"{text!r}\n{closures!r}\nepoch {at}: with too little room it does not answer as it must")
         got = plan.epoch(rows, batch)
         if got != (wanted, outputs[at]):
             lib.fail(f"{text!r}\n{closures!r}\nepoch {at} of {rows} and {batch}:\n   has {got}\nwanted {wanted, outputs[at]}")
+        if amiss := amiss_in_changes(client, plan, rng, rows, batch, got, kept.places):
+            lib.fail(f"{text!r}\n{closures!r}\nepoch {at} of {rows} and {batch}:\n{amiss}\nwanted {got}, with changes at {kept.places}")
         rows = got[0]
+        met["changes"] += len(kept.places)
+        kept.places.clear()
         met["epochs"] += 1
         met["states"] += len(rows)
     met["plans"] += 1
@@ -264,7 +340,7 @@ def run_examples(folder):
         ran.append(run_example("C under valgrind", ["valgrind", "-q", "--error-exitcode=9", "--leak-check=full", program], given, wanted))
     if shutil.which("cargo"):
         shutil.copytree(CLIENTS / "rust", folder / "rust", ignore=shutil.ignore_patterns("target"))
-        run(["cargo", "build", "--offline", "--quiet", "--examples"], cwd=folder / "rust", env={**os.environ, "TD_LIBRARY": str(folder)})
+        run(["cargo", "test", "--offline", "--quiet"], cwd=folder / "rust", env={**os.environ, "TD_LIBRARY": str(folder)})
         ran.append(run_example("Rust", [folder / "rust/target/debug/examples/totals"], given, wanted))
     return ran
 

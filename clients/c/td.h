@@ -1,8 +1,9 @@
 /* One epoch of a plan at a time, in the caller's process: libtd, made by ./build --library. docs/LIBRARY.md is its reference.
  *
- * The caller keeps the states of a plan's folds, in an array, a file or a database, and hands them in at each epoch. The library
- * keeps nothing between calls, opens no file, starts no thread and prints nothing. It allocates by malloc, and frees what it
- * took before it returns. Calls in several threads at once are apart, as long as no two of them are given the same array.
+ * The caller keeps the states of a plan's folds, in an array, a file or a database, and hands them in at each epoch: all of them to
+ * td_epoch, and to td_changes those of the keys that the epoch asks for. The library keeps nothing between calls, opens no file,
+ * starts no thread and prints nothing. It allocates by malloc, and frees what it took before it returns. Calls in several threads at
+ * once are apart, as long as no two of them are given the same array.
  *
  * No pointer may be null, also where its length is 0, and no two of the arrays may overlap. */
 #ifndef TD_H
@@ -30,7 +31,17 @@ struct td_state {
     int64_t b;
 };
 
-/* How many states and outputs there are. */
+/* What becomes of the state that the fold `vertex` keeps for a key: `is_kept` is 1 where it keeps a and b after the epoch, and 0 where
+ * it keeps none, and a and b are 0. */
+struct td_change {
+    uint64_t vertex;
+    uint64_t key;
+    uint64_t is_kept;
+    int64_t a;
+    int64_t b;
+};
+
+/* How many states, or changes of states, and outputs there are. */
 struct td_counts {
     size_t states;
     size_t outputs;
@@ -56,9 +67,9 @@ enum td_answer {
     TD_COUNT = 14,       /* counts->states is more than states_len; 0 */
     TD_FOLD = 15,        /* a state names no fold of the plan; its index */
     TD_DOUBLED = 16,     /* an earlier state has the same vertex and key; the index of the later one */
-    TD_ROOM = 17,        /* more states or outputs than the arrays have places: `counts` has how many there would be; 0 */
+    TD_ROOM = 17,        /* more states, changes or outputs than the arrays have places: `counts` has how many there would be; 0 */
 
-    /* Of closures in text, in td_check_with and td_epoch_with alone. They come before all others. */
+    /* Of closures in text, in td_check_with, td_epoch_with and td_changes alone. They come before all others. */
     TD_CLOSURES_SYNTAX = 18,   /* a line has none of the forms of a line, or does not stand in its place; the line */
     TD_CLOSURES_NAME = 19,     /* a name is unknown, or is not there on this line; the line */
     TD_CLOSURES_CODE = 20,     /* a code is not 10000 to 65535, or stands twice in its kind; the line */
@@ -90,6 +101,22 @@ uint32_t td_epoch_with(const uint8_t *text, size_t text_len, const uint8_t *clos
                        struct td_state *states, size_t states_len,
                        struct td_record *outputs, size_t outputs_len,
                        struct td_counts *counts, uint64_t *place);
+
+/* The changes of one epoch, by the same closures. `states` are some of the states before it, in any order, and stay as they are. After
+ * TD_DONE the first counts->states of `changes` say what becomes of each state that the epoch asks for, one for each key of a fold at
+ * which records arrive, sorted by (vertex, key). The first counts->outputs of `outputs` are its outputs, sorted by (vertex, key, val);
+ * other places are as they were. After any other answer both arrays are as they were, and `counts` too, but for TD_ROOM. What `counts`
+ * has before the call is not read, and TD_COUNT is never answered.
+ *
+ * The changes and outputs are those of all the caller's states as long as `states` has each one of them that stands where a change is.
+ * So hand in the states of the keys that you expect. Where a change has a (vertex, key) whose state you keep and did not hand in, add
+ * it, and call again. Such an epoch costs its records, whatever else is kept. */
+uint32_t td_changes(const uint8_t *text, size_t text_len, const uint8_t *closures, size_t closures_len,
+                    const struct td_record *records, size_t records_len,
+                    const struct td_state *states, size_t states_len,
+                    struct td_change *changes, size_t changes_len,
+                    struct td_record *outputs, size_t outputs_len,
+                    struct td_counts *counts, uint64_t *place);
 
 #ifdef __cplusplus
 }

@@ -13,10 +13,11 @@
 stop, and all requests be sent again that have no answer, in their order. Then the table `outputs` has the outputs of each request once, in the order of
 requests. They are those of the plan over all requests that are done, as `td batch` computes them. A refused request that is mended gets a new number.
 
-**Why.** A request is one epoch of the plan. One transaction of sqlite3 reads the states before it, and writes the states after it, its number and its
-outputs. So a stop leaves all three or none. Several services may stand on one database: a transaction begins when the one before it has ended.
+**Why.** A request is one epoch of the plan. One transaction of sqlite3 reads the states that it asks for, and writes what becomes of them, its number and
+its outputs. So a stop leaves all three or none. Several services may stand on one database: a transaction begins when the one before it has ended.
 
-**What the transaction costs.** It reads all states, and writes those that have changed. Each request waits for the device.
+**What the transaction costs.** It reads the state of each key of its records at each fold, and writes one for each key that arrives there, whatever else
+is kept. Each request waits for the device.
 
 In your own program `Service(DATABASE, PLAN TEXT, LIBRARY, emit)` takes a function `emit(base, request, outputs)`. What it does by the connection `base`, to
 tables of its own, is done once for each request, if it neither commits nor rolls back: it may add to a balance, too."""
@@ -71,19 +72,25 @@ class Service:
             (last,) = self.base.execute("select last from standing").fetchone()
             if request <= last:
                 return False
-            before = [(vertex, int(key), a, b) for vertex, key, a, b in self.base.execute("select * from states")]
-            after, outputs = self.plan.epoch(before, records)
-            self.write_states(before, after)
+            changes, outputs = self.plan.changes_from(self.states_at, records)
+            self.write_changes(changes)
             self.emit(self.base, request, outputs)
             self.base.execute("update standing set last = ?", (request,))
         return True
 
-    def write_states(self, before, after):
-        """Writes what has changed between two lists of states."""
-        gone = {state[:2] for state in before} - {state[:2] for state in after}
-        changed = set(after) - set(before)
-        self.base.executemany("delete from states where vertex = ? and key = ?", [(vertex, str(key)) for vertex, key in gone])
-        self.base.executemany("insert or replace into states values (?, ?, ?, ?)", [(vertex, str(key), a, b) for vertex, key, a, b in changed])
+    def states_at(self, places):
+        """The states of places, of those that have one."""
+        for vertex, key in places:
+            state = self.base.execute("select a, b from states where vertex = ? and key = ?", (vertex, str(key))).fetchone()
+            if state:
+                yield vertex, key, *state
+
+    def write_changes(self, changes):
+        """Writes what an epoch changes."""
+        kept = [(vertex, str(key), *state) for vertex, key, state in changes if state]
+        gone = [(vertex, str(key)) for vertex, key, state in changes if not state]
+        self.base.executemany("insert or replace into states values (?, ?, ?, ?)", kept)
+        self.base.executemany("delete from states where vertex = ? and key = ?", gone)
 
 
 def requests_in(lines):

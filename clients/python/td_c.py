@@ -7,6 +7,12 @@
 A record is (vertex, key, value): the input that it comes to, or the output. A state is (vertex, key, a, b). The caller keeps the states, and
 hands those before an epoch in. Nothing else is kept between calls.
 
+So an epoch costs all states. One over a dictionary costs its records alone, since only the states that it asks for are handed in:
+
+    kept = {}
+    outputs = plan.epoch_of(kept, [(0, 7, 5), (0, 7, 3)])
+    # kept {(1, 7): (8, 2)}, outputs [(2, 7, 8)]
+
 A plan may have closures in text (docs/CLOSURES.md) beside those of the catalogue:
 
     doubled = Plan("0 input\\n1 map 10000 0\\n2 output 1\\n", closures="map 10000\\n  send key, val * 2\\n")"""
@@ -24,6 +30,11 @@ class Record(ctypes.Structure):
 class State(ctypes.Structure):
     _fields_ = [("vertex", ctypes.c_uint64), ("key", ctypes.c_uint64), ("a", ctypes.c_int64), ("b", ctypes.c_int64)]
     ranges = (U64, U64, SIGNED_63, SIGNED_63)
+
+
+class Change(ctypes.Structure):
+    _fields_ = [("vertex", ctypes.c_uint64), ("key", ctypes.c_uint64), ("is_kept", ctypes.c_uint64), ("a", ctypes.c_int64), ("b", ctypes.c_int64)]
+    ranges = (U64, U64, U64, SIGNED_63, SIGNED_63)
 
 
 class Counts(ctypes.Structure):
@@ -66,6 +77,17 @@ def rows_of(array, count):
     return [tuple(getattr(row, name) for name, _ in row._fields_) for row in array[:count]]
 
 
+def changes_of(array, count):
+    """The first changes of an array."""
+    return [(row.vertex, row.key, (row.a, row.b) if row.is_kept else None) for row in array[:count]]
+
+
+def folds_of(text):
+    """The numbers of a plan's folds: its lines `N fold ..`."""
+    lines = (line.split() for line in text.split(b"\n"))
+    return [int(words[0]) for words in lines if words[1:2] == [b"fold"] and words[0].isdigit()]
+
+
 def bytes_of(text):
     return text.encode() if isinstance(text, str) else bytes(text)
 
@@ -74,20 +96,23 @@ class Plan:
     """A plan that the library has read, and found without a fault. `closures` is a text of closures that stand beside those of the catalogue."""
 
     def __init__(self, text, library="libtd.so", closures=""):
-        library, self.texts = ctypes.CDLL(str(library)), []
-        for each in map(bytes_of, [text, closures] if closures else [text]):
-            self.texts += [each, len(each)]
+        library, text, closures = ctypes.CDLL(str(library)), bytes_of(text), bytes_of(closures)
+        self.both_texts = [text, len(text), closures, len(closures)]
+        self.texts = self.both_texts[:4 if closures else 2]
         check, self.call = (library.td_check_with, library.td_epoch_with) if closures else (library.td_check, library.td_epoch)
-        size, place = ctypes.c_size_t, ctypes.POINTER(ctypes.c_uint64)
-        texts = [ctypes.c_char_p, size] * (len(self.texts) // 2)
-        check.argtypes = [*texts, place]
-        self.call.argtypes = [*texts, ctypes.POINTER(Record), size, ctypes.POINTER(State), size, ctypes.POINTER(Record), size,
-                              ctypes.POINTER(Counts), place]
-        check.restype = self.call.restype = ctypes.c_uint32
+        self.call_changes = library.td_changes
+        size, counts, place = ctypes.c_size_t, ctypes.POINTER(Counts), ctypes.POINTER(ctypes.c_uint64)
+        texts = [ctypes.c_char_p, size]
+        records, states, changes = ([ctypes.POINTER(kind), size] for kind in (Record, State, Change))
+        check.argtypes = [*texts * (len(self.texts) // 2), place]
+        self.call.argtypes = [*texts * (len(self.texts) // 2), *records, *states, *records, counts, place]
+        self.call_changes.argtypes = [*texts * 2, *records, *states, *changes, *records, counts, place]
+        check.restype = self.call.restype = self.call_changes.restype = ctypes.c_uint32
         place = ctypes.c_uint64(0)
         answer = check(*self.texts, place)
         if answer != DONE:
             raise Refused(answer, place.value)
+        self.folds = folds_of(text)
 
     def epoch(self, states, records):
         """One epoch: of the states before it, in any order, and its records, the states after it and its outputs, both sorted. A refusal
@@ -102,3 +127,45 @@ class Plan:
             if answer != ROOM:
                 raise Refused(answer, place.value)
             wanted = counts
+
+    def changes(self, given, records):
+        """What one epoch changes, and its outputs, both sorted. `given` are some of the states before it, in any order. A change is
+        (vertex, key, (a, b)), or (vertex, key, None) where the fold keeps nothing for the key after the epoch. Both are those of all states
+        that are kept, as long as `given` has each of them that stands where a change is."""
+        states, arrived, place = array_of(State, given), array_of(Record, records), ctypes.c_uint64(0)
+        wanted = Counts(len(records) * len(self.folds), len(records))
+        while True:
+            changes, outputs = (Change * max(wanted.states, 1))(), (Record * max(wanted.outputs, 1))()
+            counts = Counts(0, 0)
+            answer = self.call_changes(*self.both_texts, arrived, len(records), states, len(given), changes, len(changes), outputs, len(outputs),
+                                       counts, place)
+            if answer == DONE:
+                return changes_of(changes, counts.states), rows_of(outputs, counts.outputs)
+            if answer != ROOM:
+                raise Refused(answer, place.value)
+            wanted = counts
+
+    def changes_from(self, look, records, expected=None):
+        """The same, of all states that are kept. `look` answers the states of a set of places (vertex, key), of those that have one. It is asked
+        once for each place, and first for those that are `expected`: by default each fold with each key of the records."""
+        asked = {(fold, key) for _, key, _ in records for fold in self.folds} if expected is None else set(expected)
+        given = list(look(asked))
+        while True:
+            changes, outputs = self.changes(given, records)
+            more = {change[:2] for change in changes} - asked
+            found = list(look(more))
+            if not found:
+                return changes, outputs
+            asked |= more
+            given += found
+
+    def epoch_of(self, kept, records, expected=None):
+        """One epoch over a dictionary of states, (a, b) by (vertex, key), which become those after it: its outputs, sorted. It costs its records,
+        whatever is kept. A refusal changes nothing."""
+        changes, outputs = self.changes_from(lambda places: [(*place, *kept[place]) for place in places if place in kept], records, expected)
+        for vertex, key, state in changes:
+            if state is None:
+                kept.pop((vertex, key), None)
+            else:
+                kept[vertex, key] = state
+        return outputs

@@ -1,54 +1,26 @@
 -- An epoch from vertex to vertex.
-use Rattle.std.proofs.Common.{length-append, ◌≡◌, ℕ, ◌+◌, ◌<◌, Bool, true, false, List, [], ◌∷◌, ◌++◌, map, fold, length, None, refl, ap, sym, ◌∙◌, subst, arith}
-use Rattle.std.specs.List.{AllByRecursion}
-use Rattle.std.proofs.lemmas.List.{length_push, append_assoc, append-nil, get_or_append_left}
+use Rattle.std.proofs.Common.{length-append, ◌≡◌, ℕ, ◌+◌, Bool, true, false, List, [], ◌∷◌, ◌++◌, map, length, None, refl, ap, sym, ◌∙◌, subst, arith}
+use Rattle.std.proofs.lemmas.List.{length_push, append_assoc, append-nil}
 use Rattle.std.proofs.Math.Seq.{get_or-append_seam}
 use Rattle.td_stamp.specs.declared.values.Rec.{Rec}
-use Rattle.td_stamp.specs.declared.values.Item.{Item}
 use Rattle.td_stamp.specs.declared.values.Output.{Output as AnyOutput}
-use Rattle.td_stamp.specs.declared.values.Arrival.{Arrival}
-use Rattle.td_stamp.specs.Groups.{groups}
-use Rattle.td_stamp.specs.States.{StateList, state_of}
+use Rattle.td_stamp.specs.States.{state_of}
 use Rattle.td_plan.specs.declared.vertex.Kind.{Kind}
 use Rattle.td_plan.specs.declared.vertex.Kind.TheVariants.{Input, Map, Distinct, Group, Fold, Enter, Feedback, Leave, Output}
 use Rattle.td_plan.specs.Lines.{Vertex}
 use Rattle.td_plan.specs.Faults.{is_output}
 use Rattle.td_plan.specs.Tree.{Nodes, size}
 use Rattle.td_plan.specs.Tree.Nodes.{done, node, block}
-use Rattle.td_calls.specs.Callbacks.{arrivals, on_notification}
-use Rattle.td_batch.specs.declared.sent.Change.{Change}
-use Rattle.td_batch.specs.Meaning.{EpochInput, Bags, emitted, emission, turn, epoch_bags, outputs_at, outputs_in, with_kept, states_by, states_in}
+use Rattle.td_calls.specs.Callbacks.{arrivals}
+use Rattle.td_batch.specs.declared.changes.Change.{Change}
+use Rattle.td_batch.specs.Meaning.{EpochInput, Bags, emitted, emission, turn, epoch_bags, outputs_at, outputs_in}
 use Rattle.td_batch.specs.Quiet.{fed_back_by, fed_back}
 use Rattle.td_batch.specs.Steps.Epoch.{IsOuter}
-use Rattle.td_batch.specs.Steps.Sent.{changes_by, with_change}
+use Rattle.td_batch.specs.Changes.{changes_by, changes_from, epoch_changes}
 use Rattle.td_batch.specs.Steps.Tree.{read_by, reads, AreAlike}
 use Rattle.td_batch.proofs.Lists.{all_append, all_left, all_right, map_alike}
 use Rattle.td_batch.proofs.Turns.{turn_keeps, loop_bags, length-loop_bags}
 use Rattle.td_batch.proofs.Alike.{alike_then, alike_push, alike_same, emission_alike, turn_alike}
-
--- what is kept by changes one after the other
-fold_append : (states : StateList) (xs ys : List Change) → fold with_change states (xs ++ ys) ≡ fold with_change (fold with_change states xs) ys
-fold_append states [] ys = refl
-fold_append states (x ∷ xs) ys = fold_append (with_change states x) xs ys
-
--- the changes of a vertex are those that the definition makes
-changes_are : (epoch : EpochInput) (v : Vertex) (kind : Kind) (arrived : List Arrival) (states : StateList)
-    → fold with_change states (changes_by epoch.answers (state_of epoch.states v.number) v.number kind arrived) ≡ states_by epoch v kind arrived states
-changes_are epoch v (Fold code) arrived states = each (groups arrived) states
-  where
-    each : (gs : List (ℕ × List Item)) (kept : StateList)
-        → fold with_change kept (map (λ g. record { vertex = v.number; key = g.0; state = (epoch.answers.fold code g.0 (state_of epoch.states v.number g.0) g.1).0 }) gs)
-        ≡ fold (λ k g. with_kept k v.number g.0 (on_notification epoch.answers (Fold code) g.0 (state_of epoch.states v.number g.0) g.1).0) kept gs
-    each [] kept = refl
-    each (g ∷ gs) kept = each gs (with_kept kept v.number g.0 (epoch.answers.fold code g.0 (state_of epoch.states v.number g.0) g.1).0)
-changes_are epoch v Input arrived states = refl
-changes_are epoch v (Map code) arrived states = refl
-changes_are epoch v Distinct arrived states = refl
-changes_are epoch v (Group code) arrived states = refl
-changes_are epoch v Enter arrived states = refl
-changes_are epoch v Feedback arrived states = refl
-changes_are epoch v Leave arrived states = refl
-changes_are epoch v Output arrived states = refl
 
 -- an output has what its vertex emitted
 output_emitted : (v : Vertex) (kind : Kind) (bag other : ℕ → List Rec) → bag v.number ≡ other v.number → outputs_at bag v kind ≡ outputs_at other v kind
@@ -93,7 +65,7 @@ pub record Going (epoch : EpochInput) (maps groups folds : ℕ → Bool) (all le
   pub ends : turn epoch left None exact ≡ epoch_bags epoch all
   pub lawful : IsOuter maps groups folds (length bags) left
   pub outs : outputs ++ outputs_in (emitted (epoch_bags epoch all)) left ≡ outputs_in (emitted (epoch_bags epoch all)) all
-  pub states : states_in epoch (emitted (epoch_bags epoch all)) left (fold with_change epoch.states changes) ≡ states_in epoch (emitted (epoch_bags epoch all)) all epoch.states
+  pub changed : changes ++ changes_from epoch left exact ≡ epoch_changes epoch all
 
 pub begins : (epoch : EpochInput) (maps groups folds : ℕ → Bool) (all : Nodes) (bags : Bags) (outputs : List AnyOutput) (changes : List Change)
     → IsOuter maps groups folds 0 all → bags ≡ [] → outputs ≡ [] → changes ≡ [] → Going epoch maps groups folds all all bags outputs changes
@@ -104,7 +76,7 @@ begins epoch maps groups folds all bags outputs changes lawful none no_outputs n
   ends = refl;
   lawful = subst (λ (bs : Bags). IsOuter maps groups folds (length bs) all) (sym none) lawful;
   outs = ap (λ os. os ++ outputs_in (emitted (epoch_bags epoch all)) all) no_outputs;
-  states = ap (λ cs. states_in epoch (emitted (epoch_bags epoch all)) all (fold with_change epoch.states cs)) no_changes;
+  changed = ap (λ cs. cs ++ epoch_changes epoch all) no_changes;
 }
 
 module _ (epoch : EpochInput) (maps groups folds : ℕ → Bool) (all rest : Nodes) (v : Vertex) (bags more : Bags) (outputs now : List AnyOutput) (changes made : List Change) where
@@ -121,10 +93,8 @@ module _ (epoch : EpochInput) (maps groups folds : ℕ → Bool) (all rest : Nod
     lawful = subst (λ n. IsOuter maps groups folds n rest) (sym longer) g.lawful.2;
     outs = ap (λ os. os ++ outputs_in last rest) put ∙ append_assoc outputs (outputs_at (λ _. emission epoch None bags v) v v.kind) (outputs_in last rest)
         ∙ ap (λ os. outputs ++ (os ++ outputs_in last rest)) (sym (output_emitted v v.kind last (λ _. emission epoch None bags v) emitted_here)) ∙ g.outs;
-    states = ap (states_in epoch last rest) (ap (fold with_change epoch.states) changed ∙ fold_append epoch.states changes (changes_by epoch.answers (state_of epoch.states v.number) v.number v.kind (arrivals (map (emitted bags) v.sources)))
-        ∙ changes_are epoch v v.kind (arrivals (map (emitted bags) v.sources)) (fold with_change epoch.states changes)
-        ∙ states_alike v.kind (all_left P (read_by true v.kind v.sources) (reads true rest) g.alike))
-        ∙ g.states;
+    changed = ap (λ cs. cs ++ later) changed ∙ append_assoc changes (by (emitted bags)) later
+        ∙ ap (λ cs. changes ++ (cs ++ later)) (by_alike v.kind (all_left P (read_by true v.kind v.sources) (reads true rest) g.alike)) ∙ g.changed;
   }
     where
       P : ℕ → Type 0
@@ -151,28 +121,25 @@ module _ (epoch : EpochInput) (maps groups folds : ℕ → Bool) (all rest : Nod
           ∙ turn_keeps epoch rest None (g.exact ++ sent ∷ []) v.number (let l : length (g.exact ++ sent ∷ []) ≡ length g.exact + 1 = length_push g.exact sent in omega (arith, l, at))
           ∙ ap (emitted (g.exact ++ sent ∷ [])) at ∙ get_or-append_seam g.exact sent [] [] ∙ sym is
 
-      read_last : (sources : List ℕ) → AreAlike sources bags g.exact → AllByRecursion (λ s. s < length bags) sources → AllByRecursion (λ s. emitted bags s ≡ last s) sources
-      read_last [] a b = tt
-      read_last (s ∷ sources) a b =
-          let l : s < length bags = b.0 in
-          let long : length bags ≡ length g.exact = g.long in
-          let longer_exact : length (g.exact ++ sent ∷ []) ≡ length g.exact + 1 = length_push g.exact sent in
-          let stays : last s ≡ emitted g.exact s =
-          ap (λ bs. emitted bs s) (sym g.ends) ∙ turn_keeps epoch rest None (g.exact ++ sent ∷ []) s (omega (arith, l, long, longer_exact)) ∙ get_or_append_left g.exact (sent ∷ []) [] s (omega (arith, l, long)) in
-          (a.0 ∙ sym stays, read_last sources a.1 b.1)
+      by : (ℕ → List Rec) → List Change
+      by bag = changes_by epoch.answers (state_of epoch.states v.number) v.number v.kind (arrivals (map bag v.sources))
 
-      states_alike : (k : Kind) → AreAlike (read_by true k v.sources) bags g.exact
-          → states_by epoch v k (arrivals (map (emitted bags) v.sources)) (fold with_change epoch.states changes) ≡ states_by epoch v k (arrivals (map last v.sources)) (fold with_change epoch.states changes)
-      states_alike (Fold code) a =
-          ap (λ bs. states_by epoch v (Fold code) (arrivals bs) (fold with_change epoch.states changes)) (map_alike (emitted bags) last v.sources (read_last v.sources a g.lawful.1))
-      states_alike Input a = refl
-      states_alike (Map code) a = refl
-      states_alike Distinct a = refl
-      states_alike (Group code) a = refl
-      states_alike Enter a = refl
-      states_alike Feedback a = refl
-      states_alike Leave a = refl
-      states_alike Output a = refl
+      later : List Change
+      later = changes_from epoch rest (g.exact ++ sent ∷ [])
+
+      by_alike : (k : Kind) → AreAlike (read_by true k v.sources) bags g.exact
+          → changes_by epoch.answers (state_of epoch.states v.number) v.number k (arrivals (map (emitted bags) v.sources))
+          ≡ changes_by epoch.answers (state_of epoch.states v.number) v.number k (arrivals (map (emitted g.exact) v.sources))
+      by_alike (Fold code) a =
+          ap (λ bs. changes_by epoch.answers (state_of epoch.states v.number) v.number (Fold code) (arrivals bs)) (map_alike (emitted bags) (emitted g.exact) v.sources a)
+      by_alike Input a = refl
+      by_alike (Map code) a = refl
+      by_alike Distinct a = refl
+      by_alike (Group code) a = refl
+      by_alike Enter a = refl
+      by_alike Feedback a = refl
+      by_alike Leave a = refl
+      by_alike Output a = refl
 
 -- past a loop
 pub past_loop : (epoch : EpochInput) (maps groups folds : ℕ → Bool) (all body rest : Nodes) (bound : ℕ) (bags more : Bags) (outputs : List AnyOutput) (changes : List Change)
@@ -187,7 +154,7 @@ past_loop epoch maps groups folds all body rest bound bags more outputs changes 
   ends = g.ends;
   lawful = subst (λ n. IsOuter maps groups folds n rest) (sym longer) g.lawful.3;
   outs = g.outs;
-  states = g.states;
+  changed = g.changed;
 }
   where
     P : ℕ → Type 0
@@ -198,5 +165,5 @@ past_loop epoch maps groups folds all body rest bound bags more outputs changes 
 
 -- at the end
 pub ends : (epoch : EpochInput) (maps groups folds : ℕ → Bool) (all : Nodes) (bags : Bags) (outputs : List AnyOutput) (changes : List Change) → Going epoch maps groups folds all done bags outputs changes
-    → (outputs ≡ outputs_in (emitted (epoch_bags epoch all)) all) × (fold with_change epoch.states changes ≡ states_in epoch (emitted (epoch_bags epoch all)) all epoch.states)
-ends epoch maps groups folds all bags outputs changes g = (sym (append-nil outputs) ∙ g.outs, g.states)
+    → (outputs ≡ outputs_in (emitted (epoch_bags epoch all)) all) × (changes ≡ epoch_changes epoch all)
+ends epoch maps groups folds all bags outputs changes g = (sym (append-nil outputs) ∙ g.outs, sym (append-nil changes) ∙ g.changed)

@@ -12,7 +12,7 @@ use Rattle.td_stamp.specs.Groups.{arrival_of, groups}
 use Rattle.td_plan.specs.declared.vertex.Kind.{Kind}
 use Rattle.td_plan.specs.declared.vertex.Kind.TheVariants.{Fold}
 use Rattle.td_calls.specs.Answers.{Answers}
-use Rattle.td_batch.specs.Steps.Sent.{changes_by}
+use Rattle.td_batch.specs.Changes.{changes_by}
 
 -- records that arrive at one port are ordered as they are
 map-bag_insert : (x : Rec) (ys : List Rec) → map (arrival_of 0) (bag_insert rec_cmp x ys) ≡ bag_insert arrival_cmp (arrival_of 0 x) (map (arrival_of 0) ys)

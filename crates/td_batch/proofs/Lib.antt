@@ -13,6 +13,7 @@ pub mod Unique
 mod Alike
 mod Epochs
 mod InOrder
+mod Local
 mod Loops
 mod MoreEpochs
 mod Once

@@ -4,6 +4,7 @@ pub mod SameFlow
 pub mod BagAt
 pub mod Quiet
 pub mod Folds
+pub mod Changes
 pub mod Examples
 pub mod BagAtExamples
 pub mod Steps

@@ -11,32 +11,34 @@ ghost use Rattle.td_calls.specs.Fits.{lacking_code};
 ghost use Rattle.td_calls.specs.Callbacks.{arrivals};
 ghost use Rattle.td_batch.specs.Meaning.{emitted, bags_read, emission};
 ghost use Rattle.td_batch.specs.Steps.Emitted.{input_of};
-ghost use Rattle.td_batch.specs.Steps.Sent.{changes_by};
+ghost use Rattle.td_batch.specs.Changes.{changes_by};
 ghost use Rattle.td_batch.specs.Steps.Tree.{nodes_of, reads, AreAlike};
 
 use crate::arriving::{arriving, only_bag};
+use crate::changes::Change;
 use crate::emitted::{Before, Emitted};
 use crate::error::BatchError;
-use crate::sent::{Change, answer_one, answer_several};
+use crate::kept::KeptStates;
+use crate::sent::{answer_one, answer_several};
 use crate::tree::Tree;
 use std::alloc::Global;
 use td_calls::{Closures, Law};
 use td_plan::{Kind, Vertex};
-use td_stamp::{Batch, States};
+use td_stamp::Batch;
 
 /// What an epoch is computed from.
 #[derive(Drop)]
-pub(crate) struct Given<'g, C> {
+pub(crate) struct Given<'g, C, S> {
     pub calls: &'g C,
-    pub states: &'g States,
+    pub states: &'g S,
     pub batch: &'g Batch,
 }
 
 /// What a vertex emits, where somebody asks for it: else it emits nothing, and its closure is not called. Refusal: `Memory`.
 /// Closures answer a law, so nobody can see the difference.
-pub(crate) fn emission_if_asked<'b, 'a, L: Law, C: Closures<L>>(
+pub(crate) fn emission_if_asked<'b, 'a, L: Law, C: Closures<L>, S: KeptStates>(
     alloc: Global,
-    given: &Given<'a, C>,
+    given: &Given<'a, C, S>,
     before: &'b Before<'a>,
     bags: &'b [Emitted<'a>],
     vertex: &Vertex,
@@ -46,17 +48,17 @@ pub(crate) fn emission_if_asked<'b, 'a, L: Law, C: Closures<L>>(
 ) -> Result<Emitted<'a>, BatchError>
     requires stored { lacking_code (C.has_map given.now.calls.now) (C.has_group given.now.calls.now) (C.has_fold given.now.calls.now) vertex.now.vertex.kind ≡ None }
     ensures read { IfOk result (λ bag. list_any (λ s. s == vertex.now.vertex.number) (reads (is_none before.now) (nodes_of rest.now) ++ need.now) ≡ true
-        → bag ≡ emission (input_of L.answers given.now.states.now given.now.batch.now) before.now bags.now vertex.now.vertex) }
+        → bag ≡ emission (input_of L.answers (S.states given.now.states.now) given.now.batch.now) before.now bags.now vertex.now.vertex) }
     ensures put_out { IfOk result (λ bag. is_output vertex.now.vertex.kind ≡ true
-        → bag ≡ emission (input_of L.answers given.now.states.now given.now.batch.now) before.now bags.now vertex.now.vertex) }
+        → bag ≡ emission (input_of L.answers (S.states given.now.states.now) given.now.batch.now) before.now bags.now vertex.now.vertex) }
     ensures kept { OnOk result (changes.new.items ≡ changes.old.items
-        ++ changes_by L.answers (state_of given.now.states.now vertex.now.vertex.number) vertex.now.vertex.number vertex.now.vertex.kind
+        ++ changes_by L.answers (state_of (S.states given.now.states.now) vertex.now.vertex.number) vertex.now.vertex.number vertex.now.vertex.kind
         (arrivals (map (emitted (bags_read vertex.now.vertex.kind before.now bags.now)) vertex.now.vertex.sources))) }
 {
     if is_idle(vertex, rest, before.is_first(), need) {
         return Ok(Emitted::nothing(alloc));
     }
-    emission::<L, C>(alloc, given, before, bags, vertex, changes)
+    emission::<L, C, S>(alloc, given, before, bags, vertex, changes)
 }
 
 /// Whether nobody asks for what a vertex emits: neither is it read, nor put out, nor is a fold asked for its states.
@@ -76,18 +78,18 @@ fn is_idle(vertex: &Vertex, rest: &Tree, is_first: bool, need: &[usize]) -> bool
 
 /// What a vertex emits, from the bags so far in this turn of its block, and those of the turn before. What a fold is to
 /// keep comes after the `changes` so far. Refusal: `Memory`.
-fn emission<'b, 'a, L: Law, C: Closures<L>>(
+fn emission<'b, 'a, L: Law, C: Closures<L>, S: KeptStates>(
     alloc: Global,
-    given: &Given<'a, C>,
+    given: &Given<'a, C, S>,
     before: &'b Before<'a>,
     bags: &'b [Emitted<'a>],
     vertex: &Vertex,
     changes: &mut Vec<Change>,
 ) -> Result<Emitted<'a>, BatchError>
     requires stored { lacking_code (C.has_map given.now.calls.now) (C.has_group given.now.calls.now) (C.has_fold given.now.calls.now) vertex.now.vertex.kind ≡ None }
-    ensures sent { IfOk result (λ bag. bag ≡ emission (input_of L.answers given.now.states.now given.now.batch.now) before.now bags.now vertex.now.vertex) }
+    ensures sent { IfOk result (λ bag. bag ≡ emission (input_of L.answers (S.states given.now.states.now) given.now.batch.now) before.now bags.now vertex.now.vertex) }
     ensures kept { OnOk result (changes.new.items ≡ changes.old.items
-        ++ changes_by L.answers (state_of given.now.states.now vertex.now.vertex.number) vertex.now.vertex.number vertex.now.vertex.kind
+        ++ changes_by L.answers (state_of (S.states given.now.states.now) vertex.now.vertex.number) vertex.now.vertex.number vertex.now.vertex.kind
         (arrivals (map (emitted (bags_read vertex.now.vertex.kind before.now bags.now)) vertex.now.vertex.sources))) }
 {
     let kind = vertex.kind();
@@ -97,10 +99,10 @@ fn emission<'b, 'a, L: Law, C: Closures<L>>(
     }
     let (calls, states) = (given.calls, given.states);
     let sent = match only_bag(before, bags, vertex) {
-        Some(bag) => answer_one::<L, C>(alloc, calls, states, number, kind, bag, changes)?,
+        Some(bag) => answer_one::<L, C, S>(alloc, calls, states, number, kind, bag, changes)?,
         None => {
             let arrived = arriving(alloc, before, bags, vertex)?;
-            answer_several::<L, C>(alloc, calls, states, number, kind, arrived, changes)?
+            answer_several::<L, C, S>(alloc, calls, states, number, kind, arrived, changes)?
         }
     };
     Ok(Emitted::own(sent))

@@ -1,19 +1,20 @@
 //! One epoch.
-ghost use Rattle.std.specs.Prelude.{◌≡◌, ◌+◌, ◌∷◌, ◌++◌, [], None, true, IfOk, OnOk, fold, length, map};
+ghost use Rattle.std.specs.Prelude.{◌≡◌, ◌+◌, ◌∷◌, ◌++◌, [], None, true, IfOk, OnOk, length, map};
 ghost use Rattle.td_stamp.specs.States.{StateList, state_of};
 ghost use Rattle.td_plan.specs.Lines.{Vertex};
 ghost use Rattle.td_calls.specs.Callbacks.{arrivals};
-ghost use Rattle.td_batch.specs.Meaning.{emitted, emission, epoch_bags, outputs_at, outputs_in, states_in};
+ghost use Rattle.td_batch.specs.Meaning.{emitted, emission, epoch_bags, outputs_at, outputs_in};
 ghost use Rattle.td_batch.specs.Steps.Emitted.{input_of};
 ghost use Rattle.td_batch.specs.Steps.Epoch.{IsAt, IsOuter};
-ghost use Rattle.td_batch.specs.Steps.Sent.{changes_by, with_change};
+ghost use Rattle.td_batch.specs.Changes.{changes_by, epoch_changes};
 ghost use Rattle.td_batch.specs.Steps.Tree.{nodes_of, reads, AreAlike};
 
+use crate::changes::Change;
 use crate::emission::{Given, emission_if_asked, keep};
 use crate::emitted::{Before, Emitted};
 use crate::error::BatchError;
+use crate::kept::KeptStates;
 use crate::rounds::go_round;
-use crate::sent::Change;
 use crate::tree::Tree;
 use std::alloc::Global;
 use td_calls::{Closures, Law};
@@ -30,17 +31,16 @@ pub(crate) struct Brought {
 
 /// What an epoch brings. Each bag is let go when its last reader has had it, and none is made for which nobody asks.
 /// Refusal: `Memory`.
-pub(crate) fn bring<'a, L: Law, C: Closures<L>>(
+pub(crate) fn bring<'a, L: Law, C: Closures<L>, S: KeptStates>(
     alloc: Global,
-    given: &Given<'a, C>,
+    given: &Given<'a, C, S>,
     tree: &Tree,
 ) -> Result<Brought, BatchError>
     requires { IsOuter (C.has_map given.now.calls.now) (C.has_group given.now.calls.now) (C.has_fold given.now.calls.now) 0 (nodes_of tree.now) }
     ensures outs { IfOk result (λ brought. brought.outputs.items ≡
-        outputs_in (emitted (epoch_bags (input_of L.answers given.now.states.now given.now.batch.now) (nodes_of tree.now))) (nodes_of tree.now)) }
-    ensures states { IfOk result (λ brought. fold with_change given.now.states.now brought.changes.items ≡
-        states_in (input_of L.answers given.now.states.now given.now.batch.now)
-        (emitted (epoch_bags (input_of L.answers given.now.states.now given.now.batch.now) (nodes_of tree.now))) (nodes_of tree.now) given.now.states.now) }
+        outputs_in (emitted (epoch_bags (input_of L.answers (S.states given.now.states.now) given.now.batch.now) (nodes_of tree.now))) (nodes_of tree.now)) }
+    ensures changes { IfOk result (λ brought. brought.changes.items ≡
+        epoch_changes (input_of L.answers (S.states given.now.states.now) given.now.batch.now) (nodes_of tree.now)) }
 {
     let before = Before::first_turn(alloc);
     let mut brought = Brought {
@@ -53,11 +53,11 @@ pub(crate) fn bring<'a, L: Law, C: Closures<L>>(
         match left {
             Tree::Done => return Ok(brought),
             Tree::Then(vertex, rest) => {
-                step::<L, C>(alloc, given, &before, vertex, rest, &mut bags, &mut brought)?;
+                step::<L, C, S>(alloc, given, &before, vertex, rest, &mut bags, &mut brought)?;
                 left = rest;
             }
             Tree::Loop(bound, body, rest) => {
-                go_round::<L, C>(alloc, given, true, *bound, body, rest, &[], &mut bags)?;
+                go_round::<L, C, S>(alloc, given, true, *bound, body, rest, &[], &mut bags)?;
                 left = rest;
             }
         }
@@ -65,9 +65,9 @@ pub(crate) fn bring<'a, L: Law, C: Closures<L>>(
 }
 
 /// Has a vertex outside loops emit its bag. What it brings comes after what was brought so far. Refusal: `Memory`.
-fn step<'b, 'a, L: Law, C: Closures<L>>(
+fn step<'b, 'a, L: Law, C: Closures<L>, S: KeptStates>(
     alloc: Global,
-    given: &Given<'a, C>,
+    given: &Given<'a, C, S>,
     before: &'b Before<'a>,
     vertex: &Vertex,
     rest: &Tree,
@@ -78,14 +78,14 @@ fn step<'b, 'a, L: Law, C: Closures<L>>(
     requires here { IsAt (C.has_map given.now.calls.now) (C.has_group given.now.calls.now) (C.has_fold given.now.calls.now) (length bags.old.items) vertex.now.vertex }
     ensures length { OnOk result (length bags.new.items ≡ length bags.old.items + 1) }
     ensures alike { OnOk result (AreAlike (reads true (nodes_of rest.now)) bags.new.items
-        (bags.old.items ++ emission (input_of L.answers given.now.states.now given.now.batch.now) None bags.old.items vertex.now.vertex ∷ [])) }
+        (bags.old.items ++ emission (input_of L.answers (S.states given.now.states.now) given.now.batch.now) None bags.old.items vertex.now.vertex ∷ [])) }
     ensures outs { OnOk result (brought.new.outputs.items ≡ brought.old.outputs.items
-        ++ outputs_at (λ _. emission (input_of L.answers given.now.states.now given.now.batch.now) None bags.old.items vertex.now.vertex) vertex.now.vertex vertex.now.vertex.kind) }
-    ensures states { OnOk result (brought.new.changes.items ≡ brought.old.changes.items
-        ++ changes_by L.answers (state_of given.now.states.now vertex.now.vertex.number) vertex.now.vertex.number vertex.now.vertex.kind
+        ++ outputs_at (λ _. emission (input_of L.answers (S.states given.now.states.now) given.now.batch.now) None bags.old.items vertex.now.vertex) vertex.now.vertex vertex.now.vertex.kind) }
+    ensures changes { OnOk result (brought.new.changes.items ≡ brought.old.changes.items
+        ++ changes_by L.answers (state_of (S.states given.now.states.now) vertex.now.vertex.number) vertex.now.vertex.number vertex.now.vertex.kind
         (arrivals (map (emitted bags.old.items) vertex.now.vertex.sources))) }
 {
-    let bag = emission_if_asked::<L, C>(
+    let bag = emission_if_asked::<L, C, S>(
         alloc,
         given,
         before,

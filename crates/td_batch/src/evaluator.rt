@@ -4,26 +4,25 @@
 //! entry at a vertex that is no input goes nowhere.
 ghost use Rattle.std.specs.Prelude.{◌≡◌, ◌≤◌, ◌<◌, ◌+◌, ◌^◌, ◌++◌, None, IsTrue, IfOk, OnOk, All, length, fold};
 ghost use Rattle.std.specs.List.{list_all};
-ghost use Rattle.td_stamp.specs.Bag.{bag_of};
-ghost use Rattle.td_stamp.specs.Orders.{output_cmp};
 ghost use Rattle.td_plan.specs.Blocks.{vertices};
 ghost use Rattle.td_plan.specs.Inputs.{is_input_of};
 ghost use Rattle.td_plan.specs.Tree.{tree_of};
 ghost use Rattle.td_calls.specs.Fits.{first_lack};
 ghost use Rattle.td_batch.specs.Meaning.{run, numbered, epoch_result};
 ghost use Rattle.td_batch.specs.Steps.Emitted.{input_of};
-ghost use Rattle.td_batch.specs.Steps.Sent.{with_change};
+ghost use Rattle.td_batch.specs.Changes.{epoch_changes, with_change};
 
+use crate::changes::{Change, EpochChanges};
 use crate::emission::Given;
-use crate::epoch::bring;
+use crate::epoch::{Brought, bring};
 use crate::error::BatchError;
-use crate::sent::Change;
+use crate::kept::KeptStates;
 use crate::tree::Tree;
 use std::alloc::Global;
 use std::marker::Model;
 use td_calls::{Closures, Law};
 use td_plan::Plan;
-use td_stamp::{Bag, Batch, EpochOut, Output, States};
+use td_stamp::{Bag, Batch, EpochOut, States};
 
 /// A plan made ready for its epochs: what stands in which of its loops is found once, and not at each epoch. Contracts see the
 /// plan.
@@ -74,17 +73,38 @@ impl<'a> Evaluator<'a> {
         ensures out { IfOk result (λ out. out.recs ≡ (epoch_result (input_of L.answers states.old batch.now) (tree_of self.now)).outs) }
         ensures states { OnOk result (states.new ≡ (epoch_result (input_of L.answers states.old batch.now) (tree_of self.now)).states) }
     {
-        let brought = bring::<L, C>(
-            self.alloc,
-            &Given {
-                calls,
-                states,
-                batch,
-            },
-            &self.tree,
-        )?;
-        keep_all(states, brought.changes.as_slice())?;
-        Ok(output_of(self.alloc, epoch, brought.outputs))
+        let EpochChanges { outputs, changes } = self.changes::<L, C, States>(calls, states, batch)?;
+        keep_all(states, changes.as_slice())?;
+        Ok(EpochOut {
+            epoch,
+            recs: outputs,
+        })
+    }
+
+    /// What one epoch puts out, and what becomes of the states that it asks for, wherever they stand; nothing is kept. Each key of a
+    /// fold at which records arrive has one change. Refusal: `Memory`.
+    pub fn changes<L: Law, C: Closures<L>, S: KeptStates>(
+        &self,
+        calls: &C,
+        states: &S,
+        batch: &Batch,
+    ) -> Result<EpochChanges, BatchError>
+        requires fits { first_lack (C.has_map calls.now) (C.has_group calls.now) (C.has_fold calls.now) (vertices self.now) ≡ None }
+        requires accepted { IsTrue (list_all (λ e. is_input_of self.now e.input) batch.now) }
+        ensures outputs { IfOk result (λ all. all.outputs ≡ (epoch_result (input_of L.answers (S.states states.now) batch.now) (tree_of self.now)).outs) }
+        ensures changes { IfOk result (λ all. all.changes.items ≡ epoch_changes (input_of L.answers (S.states states.now) batch.now) (tree_of self.now)) }
+        ensures states { IfOk result (λ all. fold with_change (S.states states.now) all.changes.items ≡ (epoch_result (input_of L.answers (S.states states.now) batch.now) (tree_of self.now)).states) }
+    {
+        let given = Given {
+            calls,
+            states,
+            batch,
+        };
+        let Brought { outputs, changes } = bring::<L, C, S>(self.alloc, &given, &self.tree)?;
+        Ok(EpochChanges {
+            outputs: Bag::from_vec(self.alloc, outputs),
+            changes,
+        })
     }
 }
 
@@ -122,17 +142,6 @@ fn number_after(first: u64, outs: &[EpochOut]) -> u64
     ensures { result ≡ first + length outs.now }
 {
     first + outs.len() as u64
-}
-
-/// The output of an epoch: what it put out, in order.
-fn output_of(alloc: Global, epoch: u64, outputs: Vec<Output>) -> EpochOut
-    ensures epoch { result.epoch ≡ epoch }
-    ensures recs { result.recs ≡ bag_of output_cmp outputs.items }
-{
-    EpochOut {
-        epoch,
-        recs: Bag::from_vec(alloc, outputs),
-    }
 }
 
 /// Has the folds keep what they are to keep. Refusal: `Memory`, after which some keys have their new state.

@@ -1,5 +1,5 @@
 //! Laws of the definitions. Each is the contract of a function that does nothing, or calls the laws that it follows from.
-ghost use Rattle.std.specs.Prelude.{◌≡◌, ◌≤◌, true, [], ◌∷◌, ◌++◌, ℕ, List, Option, flat_map, length};
+ghost use Rattle.std.specs.Prelude.{◌≡◌, ◌≤◌, true, [], ◌∷◌, ◌++◌, ℕ, List, Option, flat_map, fold, length};
 ghost use Rattle.td_stamp.specs.declared.values.Arrival.{Arrival};
 ghost use Rattle.td_stamp.specs.declared.values.Entry.{Entry};
 ghost use Rattle.td_stamp.specs.Orders.{arrival_cmp, output_cmp};
@@ -16,6 +16,7 @@ ghost use Rattle.td_batch.specs.Flow.{Flow, Solves};
 ghost use Rattle.td_batch.specs.SameFlow.{ReadAlike};
 ghost use Rattle.td_batch.specs.BagAt.{bag_at};
 ghost use Rattle.td_batch.specs.Folds.{folds_of, are_kept_by};
+ghost use Rattle.td_batch.specs.Changes.{epoch_changes, with_change, from_states, AgreeAt};
 
 use td_calls::Law;
 use td_calls::laws::in_any_order;
@@ -102,4 +103,16 @@ pub fn states_of_folds<L: Law>()
         → are_kept_by (folds_of plan) (run L.answers (tree_of plan) states batches).states ≡ true }
 {
     td_plan::laws::trees();
+}
+
+/// An epoch asks for no state but those of its changes: from other states that agree there it puts out the same, and the same changes
+/// make of them what it leaves. So it is enough to hand it those of the keys that it touches.
+pub fn epochs_are_local()
+    ensures outs { (plan : List Line) (epoch : EpochInput) (others : StateList) → IsPlan plan → AgreeAt (epoch_changes epoch (tree_of plan)) epoch.states others →
+        (epoch_result (from_states epoch others) (tree_of plan)).outs ≡ (epoch_result epoch (tree_of plan)).outs }
+    ensures states { (plan : List Line) (epoch : EpochInput) (others : StateList) → IsPlan plan → AgreeAt (epoch_changes epoch (tree_of plan)) epoch.states others →
+        (epoch_result (from_states epoch others) (tree_of plan)).states ≡ fold with_change others (epoch_changes epoch (tree_of plan)) }
+{
+    td_plan::laws::well_placed();
+    td_plan::laws::stands_well();
 }

@@ -12,16 +12,20 @@
 
 mod arriving;
 mod built;
+mod changes;
 mod emission;
 mod emitted;
 mod epoch;
 mod error;
 mod evaluator;
 mod groups;
+mod kept;
 pub mod laws;
 mod rounds;
 mod sent;
 mod tree;
 
+pub use changes::{Change, EpochChanges};
 pub use error::BatchError;
 pub use evaluator::{Evaluator, evaluate};
+pub use kept::KeptStates;

@@ -15,6 +15,7 @@ ghost use Rattle.td_batch.specs.Steps.Tree.{nodes_of, reads, AreAlike};
 use crate::emission::{Given, emission_if_asked, is_needed, keep};
 use crate::emitted::{Before, Emitted};
 use crate::error::BatchError;
+use crate::kept::KeptStates;
 use crate::tree::Tree;
 use std::alloc::Global;
 use std::marker::Model;
@@ -40,9 +41,9 @@ impl Model for Collected {
 /// One turn of a block in a loop: after the bags so far come those of its vertices, of which the ones are kept that `need`
 /// has. Refusal: `Memory`.
 #[cycle(turns)]
-pub(crate) fn walk<'b, 'a, L: Law, C: Closures<L>>(
+pub(crate) fn walk<'b, 'a, L: Law, C: Closures<L>, S: KeptStates>(
     alloc: Global,
-    given: &Given<'a, C>,
+    given: &Given<'a, C, S>,
     before: &'b Before<'a>,
     nodes: &Tree,
     need: &[usize],
@@ -51,17 +52,17 @@ pub(crate) fn walk<'b, 'a, L: Law, C: Closures<L>>(
     requires { IsInner (C.has_map given.now.calls.now) (C.has_group given.now.calls.now) (C.has_fold given.now.calls.now) (length bags.old.items) (nodes_of nodes.now) }
     ensures length { OnOk result (length bags.new.items ≡ length bags.old.items + size (nodes_of nodes.now)) }
     ensures alike { OnOk result (AreAlike need.now bags.new.items
-        (turn (input_of L.answers given.now.states.now given.now.batch.now) (nodes_of nodes.now) before.now bags.old.items)) }
+        (turn (input_of L.answers (S.states given.now.states.now) given.now.batch.now) (nodes_of nodes.now) before.now bags.old.items)) }
 {
     match nodes {
         Tree::Done => Ok(()),
         Tree::Then(vertex, rest) => {
-            emit::<L, C>(alloc, given, before, vertex, rest, need, bags)?;
-            walk::<L, C>(alloc, given, before, rest, need, bags)?;
+            emit::<L, C, S>(alloc, given, before, vertex, rest, need, bags)?;
+            walk::<L, C, S>(alloc, given, before, rest, need, bags)?;
             Ok(())
         }
         Tree::Loop(bound, body, rest) => {
-            go_round::<L, C>(
+            go_round::<L, C, S>(
                 alloc,
                 given,
                 before.is_first(),
@@ -71,16 +72,16 @@ pub(crate) fn walk<'b, 'a, L: Law, C: Closures<L>>(
                 need,
                 bags,
             )?;
-            walk::<L, C>(alloc, given, before, rest, need, bags)?;
+            walk::<L, C, S>(alloc, given, before, rest, need, bags)?;
             Ok(())
         }
     }
 }
 
 /// Has a vertex of a loop emit its bag. Refusal: `Memory`.
-fn emit<'b, 'a, L: Law, C: Closures<L>>(
+fn emit<'b, 'a, L: Law, C: Closures<L>, S: KeptStates>(
     alloc: Global,
-    given: &Given<'a, C>,
+    given: &Given<'a, C, S>,
     before: &'b Before<'a>,
     vertex: &Vertex,
     rest: &Tree,
@@ -90,11 +91,11 @@ fn emit<'b, 'a, L: Law, C: Closures<L>>(
     requires { IsAt (C.has_map given.now.calls.now) (C.has_group given.now.calls.now) (C.has_fold given.now.calls.now) (length bags.old.items) vertex.now.vertex }
     ensures length { OnOk result (length bags.new.items ≡ length bags.old.items + 1) }
     ensures alike { OnOk result (AreAlike (reads (is_none before.now) (nodes_of rest.now) ++ need.now) bags.new.items
-        (bags.old.items ++ emission (input_of L.answers given.now.states.now given.now.batch.now) before.now bags.old.items vertex.now.vertex ∷ [])) }
+        (bags.old.items ++ emission (input_of L.answers (S.states given.now.states.now) given.now.batch.now) before.now bags.old.items vertex.now.vertex ∷ [])) }
 {
     // Folds stand outside loops: none of these is to keep a state.
     let mut none = Vec::new(alloc);
-    let bag = emission_if_asked::<L, C>(
+    let bag = emission_if_asked::<L, C, S>(
         alloc,
         given,
         &*before,
@@ -111,9 +112,9 @@ fn emit<'b, 'a, L: Law, C: Closures<L>>(
 /// All turns of a loop, until nothing comes back: after the bags so far come those of its vertices over all turns, of
 /// which the ones are kept that a later vertex of the block reads, or `need` has. Refusal: `Memory`.
 #[cycle(turns)]
-pub(crate) fn go_round<'a, L: Law, C: Closures<L>>(
+pub(crate) fn go_round<'a, L: Law, C: Closures<L>, S: KeptStates>(
     alloc: Global,
-    given: &Given<'a, C>,
+    given: &Given<'a, C, S>,
     is_first: bool,
     bound: u16,
     body: &Tree,
@@ -126,7 +127,7 @@ pub(crate) fn go_round<'a, L: Law, C: Closures<L>>(
     requires bound { 1 ≤ bound }
     ensures length { OnOk result (length bags.new.items ≡ length bags.old.items + size (nodes_of body.now)) }
     ensures alike { OnOk result (AreAlike (reads is_first (nodes_of rest.now) ++ need.now) bags.new.items
-        (bags.old.items ++ over_turns (turns (λ earlier. turn (input_of L.answers given.now.states.now given.now.batch.now) (nodes_of body.now) earlier bags.old.items) bound None)
+        (bags.old.items ++ over_turns (turns (λ earlier. turn (input_of L.answers (S.states given.now.states.now) given.now.batch.now) (nodes_of body.now) earlier bags.old.items) bound None)
         (length bags.old.items) (size (nodes_of body.now)))) }
 {
     let first = bags.len();
@@ -135,7 +136,7 @@ pub(crate) fn go_round<'a, L: Law, C: Closures<L>>(
     let mut collected = Vec::new(alloc);
     let mut left = bound;
     while left > 0 {
-        walk::<L, C>(alloc, given, &before, body, inside.as_slice(), bags)?;
+        walk::<L, C, S>(alloc, given, &before, body, inside.as_slice(), bags)?;
         let made = bags.split_off(first)?;
         collect(
             alloc,

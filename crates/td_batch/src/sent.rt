@@ -7,32 +7,27 @@ ghost use Rattle.td_stamp.specs.States.{state_of};
 ghost use Rattle.td_plan.specs.Faults.{is_input};
 ghost use Rattle.td_calls.specs.Fits.{lacking_code};
 ghost use Rattle.td_calls.specs.Callbacks.{sends, nothing_kept};
-ghost use Rattle.td_batch.specs.Steps.Sent.{changes_by, is_repeat};
+ghost use Rattle.td_batch.specs.Changes.{changes_by};
+ghost use Rattle.td_batch.specs.Steps.Sent.{is_repeat};
 
 use crate::arriving::Arrived;
+use crate::changes::Change;
 use crate::emitted::Emitted;
 use crate::error::BatchError;
 use crate::groups::Groups;
+use crate::kept::KeptStates;
 use std::alloc::Global;
 use td_calls::laws::in_any_order;
 use td_calls::{Closures, Law};
 use td_plan::Kind;
-use td_stamp::{Arrival, Bag, Rec, State, States, laws};
-
-/// What a fold is to keep for a key after the epoch: a state, or none.
-#[derive(Clone, Copy, Drop)]
-pub(crate) struct Change {
-    pub vertex: u8,
-    pub key: u64,
-    pub state: Option<State>,
-}
+use td_stamp::{Arrival, Bag, Rec, laws};
 
 /// What a vertex sends of the records of one bag, which arrive at its port 0, in an epoch before which these states are
 /// kept. They are read where they stand. What a fold is to keep comes after the `changes` so far. Refusal: `Memory`.
-pub(crate) fn answer_one<L: Law, C: Closures<L>>(
+pub(crate) fn answer_one<L: Law, C: Closures<L>, S: KeptStates>(
     alloc: Global,
     calls: &C,
-    states: &States,
+    states: &S,
     vertex: u8,
     kind: Kind,
     bag: &Emitted<'_>,
@@ -40,19 +35,19 @@ pub(crate) fn answer_one<L: Law, C: Closures<L>>(
 ) -> Result<Bag<Rec>, BatchError>
     requires stored { lacking_code (C.has_map calls.now) (C.has_group calls.now) (C.has_fold calls.now) kind ≡ None }
     requires other { is_input kind ≡ false }
-    ensures sent { IfOk result (λ sent. sent ≡ sends L.answers (state_of states.now vertex) kind nothing_kept (map (arrival_of 0) bag.now)) }
-    ensures kept { OnOk result (changes.new.items ≡ changes.old.items ++ changes_by L.answers (state_of states.now vertex) vertex kind (map (arrival_of 0) bag.now)) }
+    ensures sent { IfOk result (λ sent. sent ≡ sends L.answers (state_of (S.states states.now) vertex) kind nothing_kept (map (arrival_of 0) bag.now)) }
+    ensures kept { OnOk result (changes.new.items ≡ changes.old.items ++ changes_by L.answers (state_of (S.states states.now) vertex) vertex kind (map (arrival_of 0) bag.now)) }
 {
     let arrived = Arrived::one(bag);
-    answer::<L, C>(alloc, calls, states, vertex, kind, arrived, changes)
+    answer::<L, C, S>(alloc, calls, states, vertex, kind, arrived, changes)
 }
 
 /// What a vertex sends of records that arrive from several bags. What a fold is to keep comes after the `changes` so far.
 /// Refusal: `Memory`.
-pub(crate) fn answer_several<L: Law, C: Closures<L>>(
+pub(crate) fn answer_several<L: Law, C: Closures<L>, S: KeptStates>(
     alloc: Global,
     calls: &C,
-    states: &States,
+    states: &S,
     vertex: u8,
     kind: Kind,
     arrived: Vec<Arrival>,
@@ -60,22 +55,22 @@ pub(crate) fn answer_several<L: Law, C: Closures<L>>(
 ) -> Result<Bag<Rec>, BatchError>
     requires stored { lacking_code (C.has_map calls.now) (C.has_group calls.now) (C.has_fold calls.now) kind ≡ None }
     requires other { is_input kind ≡ false }
-    ensures sent { IfOk result (λ sent. sent ≡ sends L.answers (state_of states.now vertex) kind nothing_kept arrived.items) }
-    ensures kept { OnOk result (changes.new.items ≡ changes.old.items ++ changes_by L.answers (state_of states.now vertex) vertex kind arrived.items) }
+    ensures sent { IfOk result (λ sent. sent ≡ sends L.answers (state_of (S.states states.now) vertex) kind nothing_kept arrived.items) }
+    ensures kept { OnOk result (changes.new.items ≡ changes.old.items ++ changes_by L.answers (state_of (S.states states.now) vertex) vertex kind arrived.items) }
 {
     laws::bags::<Arrival>();
     laws::groups_of_a_bag();
     in_any_order();
     let in_order = Bag::from_vec(alloc, arrived);
     let arrived = Arrived::several(&in_order);
-    answer::<L, C>(alloc, calls, states, vertex, kind, arrived, changes)
+    answer::<L, C, S>(alloc, calls, states, vertex, kind, arrived, changes)
 }
 
 /// What a vertex sends of what arrives, in order. What a fold is to keep comes after the `changes` so far. Refusal: `Memory`.
-fn answer<L: Law, C: Closures<L>>(
+fn answer<L: Law, C: Closures<L>, S: KeptStates>(
     alloc: Global,
     calls: &C,
-    states: &States,
+    states: &S,
     vertex: u8,
     kind: Kind,
     arrived: Arrived<'_>,
@@ -84,8 +79,8 @@ fn answer<L: Law, C: Closures<L>>(
     requires stored { lacking_code (C.has_map calls.now) (C.has_group calls.now) (C.has_fold calls.now) kind ≡ None }
     requires other { is_input kind ≡ false }
     requires in_order { IsBag arrival_cmp arrived }
-    ensures sent { IfOk result (λ sent. sent ≡ sends L.answers (state_of states.now vertex) kind nothing_kept arrived.entry) }
-    ensures kept { OnOk result (changes.new.items ≡ changes.old.items ++ changes_by L.answers (state_of states.now vertex) vertex kind arrived.entry) }
+    ensures sent { IfOk result (λ sent. sent ≡ sends L.answers (state_of (S.states states.now) vertex) kind nothing_kept arrived.entry) }
+    ensures kept { OnOk result (changes.new.items ≡ changes.old.items ++ changes_by L.answers (state_of (S.states states.now) vertex) vertex kind arrived.entry) }
 {
     match kind {
         Kind::Map(code) => mapped::<L, C>(alloc, calls, code, arrived),
@@ -93,7 +88,7 @@ fn answer<L: Law, C: Closures<L>>(
         Kind::Group(code) => grouped::<L, C>(alloc, calls, code, Groups::of(arrived)),
         Kind::Fold(code) => {
             let keys = Groups::of(arrived);
-            folded::<L, C>(alloc, calls, states, vertex, code, keys, changes)
+            folded::<L, C, S>(alloc, calls, states, vertex, code, keys, changes)
         }
         _ => passed(alloc, arrived),
     }
@@ -189,24 +184,24 @@ fn grouped<L: Law, C: Closures<L>>(
 
 /// What a fold sends: each key is asked once, with its state before the epoch. What it is to keep comes after the
 /// `changes` so far. Refusal: `Memory`.
-fn folded<L: Law, C: Closures<L>>(
+fn folded<L: Law, C: Closures<L>, S: KeptStates>(
     alloc: Global,
     calls: &C,
-    states: &States,
+    states: &S,
     vertex: u8,
     code: u16,
     mut keys: Groups<'_>,
     changes: &mut Vec<Change>,
 ) -> Result<Bag<Rec>, BatchError>
     requires stored { IsTrue (C.has_fold calls.now code) }
-    ensures sent { IfOk result (λ sent. sent ≡ bag_of rec_cmp (flat_map (λ g. (L.answers.fold code g.0 (state_of states.now vertex g.0) g.1).1) keys.entry)) }
+    ensures sent { IfOk result (λ sent. sent ≡ bag_of rec_cmp (flat_map (λ g. (L.answers.fold code g.0 (state_of (S.states states.now) vertex g.0) g.1).1) keys.entry)) }
     ensures kept { OnOk result (changes.new.items ≡ changes.old.items
-        ++ map (λ g. record { vertex = vertex; key = g.0; state = (L.answers.fold code g.0 (state_of states.now vertex g.0) g.1).0 }) keys.entry) }
+        ++ map (λ g. record { vertex = vertex; key = g.0; state = (L.answers.fold code g.0 (state_of (S.states states.now) vertex g.0) g.1).0 }) keys.entry) }
 {
     let mut items = Vec::new(alloc);
     let mut sent = Vec::new(alloc);
     while let Some(key) = keys.next(&mut items)? {
-        let before = states.get(vertex, key);
+        let before = states.state(vertex, key);
         let Some((state, few)) = calls.fold(code, key, before, items.as_slice()) else {
             unreachable!();
         };

@@ -1,5 +1,6 @@
 pub mod Answered
 pub mod Beside
+pub mod Changes
 pub mod Epoch
 pub mod PlanRead
 pub mod Refusals

@@ -5,6 +5,7 @@
 ghost use Rattle.std.specs.Prelude.{◌≡◌, ◌≢◌, take};
 ghost use Rattle.td_c.specs.Answered.{Answered};
 ghost use Rattle.td_c.specs.Beside.{HasPlanBeside, PlanRefusedBeside, EpochWrittenBeside, EpochRefusedBeside};
+ghost use Rattle.td_c.specs.Changes.{ChangesWrittenBeside, ChangesRefusedBeside};
 ghost use Rattle.td_c.specs.Epoch.{EpochWritten, EpochRefused};
 ghost use Rattle.td_c.specs.PlanRead.{HasPlan, PlanRefused};
 ghost use Rattle.td_c.specs.Refusals.{number_of, place_of};
@@ -12,6 +13,7 @@ ghost use Rattle.td_c.specs.Stores.{stored_catalogue};
 
 mod advance;
 mod beside;
+mod changes;
 pub mod laws;
 mod reading;
 mod refusal;
@@ -19,12 +21,12 @@ mod values;
 mod writing;
 
 use crate::advance::advance;
-use crate::beside::{advance_beside, check_beside};
+use crate::beside::{advance_beside, check_beside, write_changes_beside};
 use crate::reading::plan_of;
 pub use refusal::Refusal;
 use std::alloc::Global;
 use td_catalogue::{Catalogue, Shelves};
-pub use values::{TdCounts, TdRecord, TdState};
+pub use values::{TdChange, TdCounts, TdRecord, TdState};
 
 /// Whether a text spells a plan whose closures are all in the catalogue. It answers 0, or a refusal's number with its place: a line of
 /// the text, a vertex, or 0.
@@ -95,6 +97,36 @@ pub extern "C" fn td_epoch_with(
     ensures same_outputs { result ≢ 0 → outputs.new ≡ outputs.old }
 {
     match advance_beside(alloc, text, closures, records, states, outputs, counts) {
+        Ok(()) => done(place),
+        Err(refusal) => refused(refusal, place),
+    }
+}
+
+/// The changes of one epoch, by the closures of the catalogue and those of a text beside it; an empty one has none. `states` are some of those
+/// before it, in any order, and stay as they are. What becomes of each that the epoch asks for stands in `changes`, and the outputs in
+/// `outputs`, in order; `counts` tells how many there are of both. They are those of all states as long as `states` has what is kept where
+/// `changes` are. Its answers are those of `td_epoch_with`.
+#[unsafe(no_mangle)]
+pub extern "C" fn td_changes(
+    alloc: Global,
+    text: &[u8],
+    closures: &[u8],
+    records: &[TdRecord],
+    states: &[TdState],
+    changes: &mut [TdChange],
+    outputs: &mut [TdRecord],
+    counts: &mut TdCounts,
+    place: &mut u64,
+) -> u32
+    ensures answer { Answered
+        (ChangesWrittenBeside closures.now text.now records.now states.now changes.old changes.new outputs.old outputs.new counts.new)
+        (ChangesRefusedBeside closures.now text.now records.now states.now changes.old outputs.old counts.old counts.new) result place.new }
+    ensures same_changes { result ≢ 0 → changes.new ≡ changes.old }
+    ensures same_outputs { result ≢ 0 → outputs.new ≡ outputs.old }
+{
+    match write_changes_beside(
+        alloc, text, closures, records, states, changes, outputs, counts,
+    ) {
         Ok(()) => done(place),
         Err(refusal) => refused(refusal, place),
     }

@@ -15,6 +15,7 @@ ghost use Rattle.td_c.specs.Rows.{batch_of, states_of, is_fold_of, RecordRefused
 use crate::refusal::Refusal;
 use crate::values::{TdRecord, TdState};
 use std::alloc::Global;
+use std::collections::BTreeMap;
 use std::str;
 use td_calls::{Closures, Law};
 use td_closures::read_closures;
@@ -105,6 +106,28 @@ pub(crate) fn states_of(alloc: Global, plan: &Plan, rows: &[TdState]) -> Result<
             return Err(Refusal::Doubled(index));
         }
         states.set(fold, row.key, State { a: row.a, b: row.b })?;
+    }
+    Ok(states)
+}
+
+/// The states that some rows tell, as a map for an epoch that asks for few of them.
+pub(crate) fn map_of(
+    alloc: Global,
+    plan: &Plan,
+    rows: &[TdState],
+) -> Result<BTreeMap<(u8, u64), State>, Refusal>
+    ensures ok { IfOk result (λ states. states.entries ≡ states_of rows.now) }
+    ensures err { IfErr result (λ e. StateRefused plan.now rows.now e) }
+{
+    let mut states = BTreeMap::new(alloc);
+    for (index, row) in rows.iter().enumerate() {
+        let Some(fold) = fold_of(plan, row.vertex) else {
+            return Err(Refusal::Fold(index));
+        };
+        let earlier = states.insert((fold, row.key), State { a: row.a, b: row.b })?;
+        if earlier.is_some() {
+            return Err(Refusal::Doubled(index));
+        }
     }
     Ok(states)
 }

@@ -19,7 +19,19 @@ pub struct TdState {
     pub b: i64,
 }
 
-/// How many states and outputs there are.
+/// What becomes of the state that a fold keeps for a key: `is_kept` is 1 where it keeps `a` and `b` after the epoch, and 0 where it keeps
+/// none, and they are 0.
+#[derive(Clone, Copy, Debug, PartialEq, Eq)]
+#[repr(C)]
+pub struct TdChange {
+    pub vertex: u64,
+    pub key: u64,
+    pub is_kept: u64,
+    pub a: i64,
+    pub b: i64,
+}
+
+/// How many states, or changes of states, and outputs there are.
 #[derive(Clone, Copy, Debug, PartialEq, Eq)]
 #[repr(C)]
 pub struct TdCounts {

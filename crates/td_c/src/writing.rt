@@ -1,9 +1,11 @@
-//! What C gets back: states and outputs in its arrays.
+//! What C gets back: states, changes and outputs in its arrays.
 ghost use Rattle.std.specs.Prelude.{◌≡◌, ◌≤◌, take, drop, length, map};
 ghost use Rattle.td_c.specs.Rows.{state_row, output_row};
+ghost use Rattle.td_c.specs.Changes.{change_row};
 
-use crate::values::{TdRecord, TdState};
-use td_stamp::{Bag, Output, States};
+use crate::values::{TdChange, TdRecord, TdState};
+use td_batch::Change;
+use td_stamp::{Bag, Output, State, States};
 
 /// Puts states into the first places of an array.
 pub(crate) fn put_states(rows: &mut [TdState], states: &States)
@@ -20,6 +22,41 @@ pub(crate) fn put_states(rows: &mut [TdState], states: &States)
             b: state.b,
         };
         at += 1;
+    }
+}
+
+/// Puts changes into the first places of an array.
+pub(crate) fn put_changes(rows: &mut [TdChange], changes: &[Change])
+    requires { length changes.now ≤ length rows.old }
+    ensures written { take (length changes.now) rows.new ≡ map change_row changes.now }
+    ensures others { drop (length changes.now) rows.new ≡ drop (length changes.now) rows.old }
+{
+    for (at, change) in changes.iter().enumerate() {
+        rows[at] = row_of(*change);
+    }
+}
+
+/// The row of a change.
+fn row_of(change: Change) -> TdChange
+    ensures { result ≡ change_row change }
+{
+    let Change { vertex, key, state } = change;
+    let vertex = u64::from(vertex);
+    match state {
+        Some(State { a, b }) => TdChange {
+            vertex,
+            key,
+            is_kept: 1,
+            a,
+            b,
+        },
+        None => TdChange {
+            vertex,
+            key,
+            is_kept: 0,
+            a: 0,
+            b: 0,
+        },
     }
 }
 

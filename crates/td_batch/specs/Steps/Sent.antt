@@ -1,18 +1,11 @@
--- Groups told while arrivals come in order, and the states that folds are to keep.
+-- Groups told while arrivals come in order.
 use Rattle.std.specs.Prelude.{ℕ, List, [], ◌∷◌, ◌++◌, map, ◌==◌, cond, Option, Some, None, Bool, false}
 use Rattle.std.specs.Ordering.{is_eq}
 use Rattle.td_stamp.specs.Orders.{rec_cmp}
 use Rattle.td_stamp.specs.declared.values.Item.{Item}
 use Rattle.td_stamp.specs.declared.values.Rec.{Rec}
-use Rattle.td_stamp.specs.declared.values.State.{State}
 use Rattle.td_stamp.specs.declared.values.Arrival.{Arrival}
-use Rattle.td_stamp.specs.Groups.{arrival_of, groups, runs}
-use Rattle.td_stamp.specs.States.{StateList}
-use Rattle.td_plan.specs.declared.vertex.Kind.{Kind}
-use Rattle.td_plan.specs.declared.vertex.Kind.TheVariants.{Fold}
-use Rattle.td_calls.specs.Answers.{Answers}
-use Rattle.td_batch.specs.declared.sent.Change.{Change}
-use Rattle.td_batch.specs.Meaning.{with_kept}
+use Rattle.td_stamp.specs.Groups.{arrival_of, runs}
 
 -- what is left of what arrives: the records of one bag, at port 0, where there is one, and else other arrivals, if any
 abbrev pub arrivals_left : Option (List Rec) → Option (List Arrival) → List Arrival
@@ -44,12 +37,3 @@ is_repeat (Some last) x = is_eq (rec_cmp x last)
 abbrev pub once_after : Option Rec → List Rec → List Rec
 once_after last [] = []
 once_after last (x ∷ xs) = cond (is_repeat last x) (once_after (Some x) xs) (x ∷ once_after (Some x) xs)
-
--- the states that a vertex is to keep after an epoch, key by key
-abbrev pub changes_by : Answers → (ℕ → Option State) → ℕ → Kind → List Arrival → List Change
-changes_by answers state v (Fold code) arrived = map (λ g. record { vertex = v; key = g.0; state = (answers.fold code g.0 (state g.0) g.1).0 }) (groups arrived)
-changes_by answers state v _ arrived = []
-
--- one such state kept
-abbrev pub with_change : StateList → Change → StateList
-with_change states change = with_kept states change.vertex change.key change.state

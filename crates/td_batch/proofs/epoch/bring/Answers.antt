@@ -3,7 +3,7 @@ use Rattle.std.specs.Prelude.{None}
 use Rattle.td_stamp.specs.declared.values.Output.{Output as AnyOutput}
 use Rattle.td_plan.specs.Tree.{Nodes, size}
 use Rattle.td_plan.specs.Tree.Nodes.{node, block}
-use Rattle.td_batch.specs.declared.sent.Change.{Change}
+use Rattle.td_batch.specs.declared.changes.Change.{Change}
 use Rattle.td_batch.specs.Meaning.{Bags, EpochInput, emission, turn, turns, over_turns}
 use Rattle.td_batch.specs.Steps.Emitted.{input_of}
 use Rattle.td_batch.specs.Steps.Tree.{nodes_of, reads, AreAlike}
@@ -12,7 +12,7 @@ use Rattle.td_batch.proofs.epoch.bring.Goals as goal
 
 pub loop-left-preserved-in-Then : goal.loop-left-preserved-in-Then
 loop-left-preserved-in-Then g c =
-    let epoch : EpochInput = input_of g.L.Law.answers c.args.given.now.states.now c.args.given.now.batch.now in
+    let epoch : EpochInput = input_of g.L.Law.answers (g.S.KeptStates.states c.args.given.now.states.now) c.args.given.now.batch.now in
     let maps = g.C.Closures.has_map c.args.given.now.calls.now in
     let groups = g.C.Closures.has_group c.args.given.now.calls.now in
     let folds = g.C.Closures.has_fold c.args.given.now.calls.now in
@@ -30,12 +30,12 @@ loop-left-preserved-in-Then g c =
     let made = c.in_ok-step-in-Then.ensures in (
       c.loop-left.invariant.0,
       subst (λ t. Going epoch maps groups folds all (nodes_of t) more c.step.new.brought.outputs.items c.step.new.brought.changes.items) (sym c.deref-left.ensures)
-          (past epoch maps groups folds all rest v bags more outputs c.step.new.brought.outputs.items changes c.step.new.brought.changes.items here made.length kept made.outs made.states),
+          (past epoch maps groups folds all rest v bags more outputs c.step.new.brought.outputs.items changes c.step.new.brought.changes.items here made.length kept made.outs made.changes),
     )
 
 pub loop-left-preserved : goal.loop-left-preserved
 loop-left-preserved g c =
-    let epoch : EpochInput = input_of g.L.Law.answers c.args.given.now.states.now c.args.given.now.batch.now in
+    let epoch : EpochInput = input_of g.L.Law.answers (g.S.KeptStates.states c.args.given.now.states.now) c.args.given.now.batch.now in
     let maps = g.C.Closures.has_map c.args.given.now.calls.now in
     let groups = g.C.Closures.has_group c.args.given.now.calls.now in
     let folds = g.C.Closures.has_fold c.args.given.now.calls.now in

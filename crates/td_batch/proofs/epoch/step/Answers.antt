@@ -13,7 +13,7 @@ use Rattle.td_batch.proofs.epoch.step.Goals.{then-is_output+in_ok-put_out, else-
 
 pub returns-clause-alike : goal.returns-clause-alike
 returns-clause-alike g c =
-    let epoch : EpochInput = input_of g.L.Law.answers c.args.given.now.states.now c.args.given.now.batch.now in
+    let epoch : EpochInput = input_of g.L.Law.answers (g.S.KeptStates.states c.args.given.now.states.now) c.args.given.now.batch.now in
     let bags : Bags = c.args.bags.now.items in
     let v = c.args.vertex.now.vertex in
     let want : List ℕ = reads true (nodes_of c.args.rest.now) in
@@ -29,7 +29,7 @@ returns-clause-alike g c =
 
 pub returns-clause-outs : goal.returns-clause-outs
 returns-clause-outs g c =
-    let epoch : EpochInput = input_of g.L.Law.answers c.args.given.now.states.now c.args.given.now.batch.now in
+    let epoch : EpochInput = input_of g.L.Law.answers (g.S.KeptStates.states c.args.given.now.states.now) c.args.given.now.batch.now in
     let bags : Bags = c.args.bags.now.items in
     let v = c.args.vertex.now.vertex in
     let outputs : List AnyOutput = c.args.brought.now.outputs.items in

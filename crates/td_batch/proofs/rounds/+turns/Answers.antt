@@ -17,7 +17,7 @@ use Rattle.td_batch.proofs.rounds.+turns.Goals.{go_round-then-is_quiet, go_round
 
 pub go_round-loop-left-preserved : goal.go_round-loop-left-preserved
 go_round-loop-left-preserved g t c =
-    let epoch : EpochInput = input_of g.L.Law.answers c.args.given.now.states.now c.args.given.now.batch.now in
+    let epoch : EpochInput = input_of g.L.Law.answers (g.S.KeptStates.states c.args.given.now.states.now) c.args.given.now.batch.now in
     let body : Nodes = nodes_of c.args.body.now in
     let want : List ℕ = reads c.args.is_first (nodes_of c.args.rest.now) ++ c.args.need.now in
     let start : Bags = c.args.bags.now.items in
@@ -43,7 +43,7 @@ go_round-loop-left-preserved g t c =
 
 pub go_round-returns-clause-alike : goal.go_round-returns-clause-alike
 go_round-returns-clause-alike g t c =
-    let epoch : EpochInput = input_of g.L.Law.answers c.args.given.now.states.now c.args.given.now.batch.now in
+    let epoch : EpochInput = input_of g.L.Law.answers (g.S.KeptStates.states c.args.given.now.states.now) c.args.given.now.batch.now in
     let body : Nodes = nodes_of c.args.body.now in
     let want : List ℕ = reads c.args.is_first (nodes_of c.args.rest.now) ++ c.args.need.now in
     let start : Bags = c.args.bags.now.items in
@@ -57,7 +57,7 @@ go_round-returns-clause-alike g t c =
 
 pub go_round-returns-clause-length : goal.go_round-returns-clause-length
 go_round-returns-clause-length g t c =
-    let epoch : EpochInput = input_of g.L.Law.answers c.args.given.now.states.now c.args.given.now.batch.now in
+    let epoch : EpochInput = input_of g.L.Law.answers (g.S.KeptStates.states c.args.given.now.states.now) c.args.given.now.batch.now in
     let body : Nodes = nodes_of c.args.body.now in
     let want : List ℕ = reads c.args.is_first (nodes_of c.args.rest.now) ++ c.args.need.now in
     let start : Bags = c.args.bags.now.items in
@@ -81,18 +81,18 @@ walk-go_round-requires g t c κs within =
       (let d : 2 * weight (nodes_of c.args.nodes.now) ≡ t = c.decreases in let e : weight (nodes_of c.args.nodes.now) ≡ 1 + weight body + weight rest = ap (λ x. weight (nodes_of x)) c.in-Loop.is in
           let b : weight (nodes_of c.deref-in-Loop.result.now) ≡ weight body = ap weight is in
           let f : 2 * weight (nodes_of c.deref-in-Loop.result.now) + 1 < t = omega (arith, d, e, b) in f),
-      (search rules, (search rules, ((here.1.0, subst (IsLoopBody here.1.0 n) (sym is) here.1.1), (subst (IsInner maps groups folds n) (sym is) here.2, here.0)))),
+      (search rules, (search rules, (search rules, ((here.1.0, subst (IsLoopBody here.1.0 n) (sym is) here.1.1), (subst (IsInner maps groups folds n) (sym is) here.2, here.0))))),
     )
 
 pub walk-returns-in-Done-clause-alike : goal.walk-returns-in-Done-clause-alike
 walk-returns-in-Done-clause-alike g t c =
-    let epoch : EpochInput = input_of g.L.Law.answers c.args.given.now.states.now c.args.given.now.batch.now in
+    let epoch : EpochInput = input_of g.L.Law.answers (g.S.KeptStates.states c.args.given.now.states.now) c.args.given.now.batch.now in
     let bags : Bags = c.args.bags.now.items in
     alike_same c.args.need.now bags (turn epoch (nodes_of c.args.nodes.now) c.args.before.now bags) (sym (ap (λ n. turn epoch (nodes_of n) c.args.before.now bags) c.in-Done.is))
 
 pub walk-returns-in_ok-walk-in-Then-clause-alike : goal.walk-returns-in_ok-walk-in-Then-clause-alike
 walk-returns-in_ok-walk-in-Then-clause-alike g t c =
-    let epoch : EpochInput = input_of g.L.Law.answers c.args.given.now.states.now c.args.given.now.batch.now in
+    let epoch : EpochInput = input_of g.L.Law.answers (g.S.KeptStates.states c.args.given.now.states.now) c.args.given.now.batch.now in
     let bags : Bags = c.args.bags.now.items in
     let need = c.args.need.now in
     let before = c.args.before.now in
@@ -109,7 +109,7 @@ walk-returns-in_ok-walk-in-Then-clause-alike g t c =
 
 pub walk-returns-in_ok-walk-in-Loop-clause-alike : goal.walk-returns-in_ok-walk-in-Loop-clause-alike
 walk-returns-in_ok-walk-in-Loop-clause-alike g t c =
-    let epoch : EpochInput = input_of g.L.Law.answers c.args.given.now.states.now c.args.given.now.batch.now in
+    let epoch : EpochInput = input_of g.L.Law.answers (g.S.KeptStates.states c.args.given.now.states.now) c.args.given.now.batch.now in
     let bags : Bags = c.args.bags.now.items in
     let need = c.args.need.now in
     let before = c.args.before.now in

@@ -9,7 +9,7 @@ use Rattle.td_batch.proofs.rounds.emit.Goals as goal
 
 pub returns-clause-alike : goal.returns-clause-alike
 returns-clause-alike g c =
-    let epoch : EpochInput = input_of g.L.Law.answers c.args.given.now.states.now c.args.given.now.batch.now in
+    let epoch : EpochInput = input_of g.L.Law.answers (g.S.KeptStates.states c.args.given.now.states.now) c.args.given.now.batch.now in
     let bags : Bags = c.args.bags.now.items in
     let v = c.args.vertex.now.vertex in
     let want : List ℕ = reads (is_none c.args.before.now) (nodes_of c.args.rest.now) ++ c.args.need.now in

@@ -1,6 +1,7 @@
-use Rattle.std.proofs.Common.{arith}
-use Rattle.std.proofs.lemmas.Grind.{common_steps}
+use Rattle.std.proofs.Common.{◌∙◌, ap, fold}
+use Rattle.td_batch.specs.Changes.{with_change}
 use Rattle.td_batch.proofs.evaluator.Evaluator.epoch.Goals as goal
 
-pub returns-clause-out : goal.returns-clause-out
-returns-clause-out g c = grind (arith, common_steps)
+pub returns-clause-states : goal.returns-clause-states
+returns-clause-states g c =
+    c.in_ok-keep_all.ensures ∙ ap (fold with_change c.args.states.now) c.as_slice.ensures.value ∙ c.in_ok-outputs.ensures.states
