@@ -7,7 +7,7 @@
 All take the same records, and the sums of their outputs must be equal. The stream syncs each epoch, and the others nothing; so a FOLDER in memory (/dev/shm,
 by default) is the harder one for the library. By `epoch_of` the library is handed the states that an epoch asks for, so keys cost a look-up each; by `epoch`
 it is handed all states. The evaluator keeps them, and keeps the plan. It is a program of its own (bench/library.rattle), which is proved on the way. The best
-of three counts; what makes the keys first is taken off.
+of three counts, and that of what makes the keys first is taken off.
 
 Wanted, with 1,000 records an epoch: at most 1.1 times the evaluator, and at most the time of `td stream`."""
 
@@ -65,7 +65,7 @@ def piped(words, text):
 
 
 def streamed(folder, keys, text):
-    """The seconds of the epochs in `td stream` on a new disk that has the keys, and the sum of all outputs."""
+    """The seconds of `td stream` with the epochs, on a new disk that has the keys, and with none; and the sum of all outputs."""
     disk, plan = folder / "disk", folder / "plan"
     disk.unlink(missing_ok=True)
     plan.write_text(TOTAL)
@@ -73,14 +73,15 @@ def streamed(folder, keys, text):
     _, sum_of_first = piped(["feed", disk, plan], first_of(keys) + "cut\n")
     none, _ = piped(["stream", disk, plan], "")
     seconds, more = piped(["stream", disk, plan], text)
-    return seconds - none, sum_of_first + more
+    return seconds, none, sum_of_first + more
 
 
 def batched(keys, text):
+    """The seconds of `td batch` with the keys and the epochs, and with the keys alone; and the sum of all outputs."""
     head = f"{TOTAL}--\n{first_of(keys)}"
     none, _ = piped(["batch"], head)
     seconds, total = piped(["batch"], head + text)
-    return seconds - none, total
+    return seconds, none, total
 
 
 def evaluated(program):
@@ -88,14 +89,14 @@ def evaluated(program):
     found = {}
     for line in subprocess.run([program], capture_output=True, text=True, check=True).stdout.splitlines():
         epochs, count, keys, nanoseconds, total = map(int, line.split())
-        found[epochs, count, keys] = nanoseconds / 1e9, total
+        found[epochs, count, keys] = nanoseconds / 1e9, 0, total
     return found
 
 
 def by_library(program, way, case):
     """The seconds of a case's epochs by the Rust client, and the sum of all outputs."""
     seconds, total = subprocess.run([program, way, *map(str, case)], capture_output=True, text=True, check=True).stdout.split()
-    return float(seconds), int(total)
+    return float(seconds), 0, int(total)
 
 
 def take_round(programs, place, met):
@@ -111,11 +112,19 @@ def take_round(programs, place, met):
         met[case]["batch"].append(batched(case[2], text))
 
 
+def best_of(runs, epochs):
+    """The milliseconds of an epoch: the least of all runs with the epochs, and that without them taken off."""
+    if not runs:
+        return "-"
+    whole, without, _ = map(min, zip(*runs))
+    return f"{1000 * (whole - without) / epochs:.3f}"
+
+
 def print_case(case, met):
     """Prints the best of each, in milliseconds an epoch; the sums must be equal."""
-    if len({total for runs in met.values() for _, total in runs}) != 1:
+    if len({total for runs in met.values() for _, _, total in runs}) != 1:
         lib.fail(f"{case[0]} epochs of {case[1]} records: the sums differ: {met}")
-    best = (f"{1000 * min(met[who])[0] / case[0]:.3f}" if met[who] else "-" for who in ("library", "all states", "evaluator", "stream", "batch"))
+    best = (best_of(met[who], case[0]) for who in ("library", "all states", "evaluator", "stream", "batch"))
     print(f"| {' | '.join([*map(str, case), *best])} |")
 
 
