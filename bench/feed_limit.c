@@ -4,8 +4,9 @@
 
    It makes the file at its whole size, and then puts EPOCHS cells and, each CUT_EVERY epochs and at the end, a slot: a gate
    that is open is closed and synced, the payload is written and synced, the gate is opened and synced. It prints the seconds
-   of that part. `group G`: G epochs at once, up to the next cut: where the first one's gate is open it is closed and synced, the others
-   are written, gates and all, and synced, and then the first one's payload and gate, as before. `plain`: it reads the file from end to end in pieces of 64 KiB, and prints the seconds of that. */
+   of that part. `group G`: G epochs at once, up to the next cut: where the first one's gate is open it is closed and synced, its
+   payload is written and the others, gates and all, neighbours by one write, and synced. Then the first one's gate is opened,
+   that of the epoch behind the group is closed, if it is open and free, and both are synced. `plain`: it reads the file from end to end in pieces of 64 KiB, and prints the seconds of that. */
 #include <fcntl.h>
 #include <stdio.h>
 #include <stdlib.h>
@@ -42,15 +43,28 @@ static void put(off_t at, size_t length, int is_open) {
     write_synced(&open, 1, at + (off_t)length);
 }
 
-/* Puts a group of cells from this epoch on, of which the first is opened last. */
-static void put_group(off_t cells, size_t cell, long n, long first, long count) {
-    const unsigned char closed = 0;
+/* Writes so many cells from the one with this number on, which are neighbours, by one write. */
+static void write_run(off_t cells, size_t cell, long from, long count) {
+    size_t length = (size_t)count * (cell + 1);
+    if (count > 0 && pwrite(file, payload, length, cells + from * (off_t)(cell + 1)) != (ssize_t)length) die("write");
+}
+
+/* Puts a group of cells from this epoch on, of which the first is opened last. The epochs up to a kept one may be written over. */
+static void put_group(off_t cells, size_t cell, long n, long kept, long first, long count) {
+    static long closed_ahead = 0;
+    const unsigned char closed = 0, open = 0xA5;
     off_t at = cells + first % n * (off_t)(cell + 1);
-    if (first >= n) write_synced(&closed, 1, at + (off_t)cell);
-    for (long epoch = first + 1; epoch < first + count; epoch++)
-        if (pwrite(file, payload, cell + 1, cells + epoch % n * (off_t)(cell + 1)) != (ssize_t)(cell + 1)) die("write");
-    if (count > 1 && SYNC(file) != 0) die("sync");
-    put(at, cell, 0);
+    long others = count - 1, to_end = n - (first + 1) % n, here = others < to_end ? others : to_end, next = first + count;
+    if (first > n && first != closed_ahead) write_synced(&closed, 1, at + (off_t)cell);
+    if (pwrite(file, payload, cell, at) != (ssize_t)cell) die("write");
+    write_run(cells, cell, (first + 1) % n, here);
+    write_run(cells, cell, 0, others - here);
+    if (SYNC(file) != 0) die("sync");
+    if (count > 1 && next > n && next <= kept + n) {
+        if (pwrite(file, &closed, 1, cells + next % n * (off_t)(cell + 1) + (off_t)cell) != 1) die("write");
+        closed_ahead = next;
+    }
+    write_synced(&open, 1, at + (off_t)cell);
 }
 
 static void read_all(const char *name) {
@@ -73,7 +87,8 @@ int main(int count, char **words) {
     off_t slots = HEADS, cells = HEADS + 2 * (off_t)(slot + 1), size = cells + n * (off_t)(cell + 1);
     int slot_open[2] = {1, 0}, newest = 0;
     file = open(words[1], O_RDWR | O_CREAT | O_TRUNC, 0644);
-    payload = calloc(1, (cell > slot ? cell : slot) + 1);
+    size_t run = (size_t)group * (cell + 1), widest = run > slot + 1 ? run : slot + 1;
+    payload = calloc(1, widest);
     if (file < 0 || payload == NULL) die(words[1]);
     if (ftruncate(file, size) != 0) die("size");
     /* A format writes zeros over all bytes. */
@@ -87,7 +102,7 @@ int main(int count, char **words) {
     for (long epoch = 0; epoch < epochs;) {
         long left = every - epoch % every < epochs - epoch ? every - epoch % every : epochs - epoch;
         long many = group < left ? group : left;
-        put_group(cells, cell, n, epoch + 1, many);
+        put_group(cells, cell, n, epoch - epoch % every, epoch + 1, many);
         epoch += many;
         if (epoch % every == 0) {
             int side = 1 - newest;

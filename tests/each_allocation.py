@@ -363,6 +363,9 @@ class Played:
         begin = max(index for index, step in enumerate(self.steps[:done]) if step.startswith(OTHER_DISK))
         if begin == done - 1:
             return True
+        # The disk in memory failed in the last recovery of all, and the one before it told what is there.
+        if lines[at:] == [FAILED] and self.steps[done - 2:] == [b"recover\n"] * 2:
+            return True
         recovery = next((index for index, line in enumerate(lines) if index >= at and line.startswith(b"kept ")), len(lines))
         if self.steps[done - 1].startswith(FEEDINGS) and not self.is_fed(lines[self.counts[done - 1]:], done):
             # (or it was the command before that failed, which says nothing otherwise, and the feed found no disk to write on)

@@ -50,9 +50,9 @@ SPACE, CODE, PIECE, GROUP, POWER = "the code of a blank", "the code of a closure
 PLACES = {
     LIMIT: [
         "td_copy/src/epochs.rt: 65536, 4",
-        "td_group/src/cells.rt: 65536, 4",
+        "td_group/src/cells.rt: 65536, 5",
         "td_group/src/free.rt: 65536, 3",
-        "td_group/src/group.rt: 65536, 4",
+        "td_group/src/group.rt: 65536, 5",
         "td_journal/src/journal.rt: 65536, 11",
         "td_journal/src/parse.rt: 65536, 1",
         "td_journal/src/payload.rt: 65536, 1",

@@ -1,8 +1,8 @@
 //! What a stream puts on its disk, counted as it goes by.
 //!
 //! The watch of a keeper has epochs alone, and nothing that a feed is told has the count of records or of states. A cell and a slot
-//! begin with the count of what they hold, so it is read where they are written. It shows once the gate before which it was written was
-//! opened and that was synced. What is read and what is written stay as they are.
+//! begin with the count of what they hold, so it is read where they are written; neighbouring cells come in one write. It shows once the
+//! gate before which it was written was opened and that was synced. What is read and what is written stay as they are.
 
 use std::alloc::Global;
 use std::io::Result as IoResult;
@@ -63,6 +63,7 @@ struct Meter {
     gauge: Arc<Gauge, Global>,
     slots_at: u64,
     cells_at: u64,
+    cell_size: usize,
     newest: Option<u64>,
     counts: Counts,
     is_opened: bool,
@@ -95,18 +96,25 @@ impl Meter {
     fn note_write(&mut self, at: u64, bytes: &[u8]) {
         if bytes.len() < FRONT_LEN {
             self.is_opened = bytes.starts_with(&[OPEN]);
-            return;
-        }
-        let count = u64::from(Front::read(bytes).count);
-        if self.is_of_slots(at) {
-            self.counts.states = count;
+        } else if self.is_of_slots(at) {
+            self.counts.states = u64::from(Front::read(bytes).count);
         } else {
-            self.counts.epochs = self.counts.epochs.saturating_add(1);
-            self.counts.records = self.counts.records.saturating_add(count);
+            self.note_cells(bytes);
         }
     }
 
-    /// All that was written was synced. The cells of a group are written first, and the gate that is opened last is over all of them.
+    /// A payload of a cell was written, or cells with their gates, one after another.
+    fn note_cells(&mut self, bytes: &[u8]) {
+        for cell in bytes.chunks(self.cell_size.max(1)) {
+            if FRONT_LEN <= cell.len() {
+                let count = u64::from(Front::read(cell).count);
+                self.counts.epochs = self.counts.epochs.saturating_add(1);
+                self.counts.records = self.counts.records.saturating_add(count);
+            }
+        }
+    }
+
+    /// All that was written was synced. The gate of a group that is opened last is over all of its cells.
     fn note_sync(&mut self) {
         if self.is_opened {
             self.is_opened = false;
@@ -127,6 +135,12 @@ impl Meter {
     }
 }
 
+/// How many bytes a cell of a disk of this shape has, its gate too.
+fn cell_size(shape: &Shape) -> usize {
+    let cells = shape.bytes().saturating_sub(shape.cells_at());
+    (cells / u64::from(shape.cells()).max(1)) as usize
+}
+
 /// A disk, with what counts its calls.
 #[derive(Drop)]
 pub(crate) struct Metered<D: Disk> {
@@ -137,9 +151,9 @@ pub(crate) struct Metered<D: Disk> {
 impl<D: Disk> Metered<D> {
     /// A disk of this shape whose calls are counted from now on. Without a shape what is counted means nothing.
     pub(crate) fn new(inner: D, gauge: Arc<Gauge, Global>, shape: Option<Shape>) -> Metered<D> {
-        let (slots_at, cells_at) = match shape {
-            Some(shape) => (shape.slots_at(), shape.cells_at()),
-            None => (0, 0),
+        let (slots_at, cells_at, cell_size) = match shape {
+            Some(shape) => (shape.slots_at(), shape.cells_at(), cell_size(&shape)),
+            None => (0, 0, 0),
         };
         Metered {
             inner,
@@ -147,6 +161,7 @@ impl<D: Disk> Metered<D> {
                 gauge,
                 slots_at,
                 cells_at,
+                cell_size,
                 newest: None,
                 counts: Counts {
                     states: 0,

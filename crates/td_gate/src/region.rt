@@ -82,25 +82,6 @@ fn fill_payload<D: Disk>(region: Region, device: &mut D, payload: &[u8]) -> Resu
     write_and_sync(device, region.at, payload)
 }
 
-/// Opens the gate.
-fn open_gate<D: Disk>(region: Region, device: &mut D) -> Result<(), Fault>
-    requires room { region.at + region.len + 1 ≤ D.capacity device.old }
-    ensures size { D.capacity device.new ≡ D.capacity device.old }
-    ensures cause { CountsFailures result (D.failures device.old) (D.failures device.new) }
-    ensures lawful { D.is_lawful device.old ↔ D.is_lawful device.new }
-    ensures crash_safe { D.is_lawful device.old → (payload : List ℕ)
-        → IsFilled region payload (D.state device.old)
-        → CrashSafe (Opens region payload) (D.state device.old) (D.state device.new) }
-    ensures open { OnOk result (D.is_lawful device.old → (payload : List ℕ)
-        → IsFilled region payload (D.state device.old)
-        → IsOpen region payload (D.state device.new)) }
-    ensures durable { OnOk result (D.is_lawful device.old → IsDurable (D.state device.new)) }
-{
-    // The answer fits a u64, and so does the place of the gate.
-    let _size = device.size();
-    write_and_sync(device, region.at + region.len, &[OPEN])
-}
-
 impl Region {
     /// Closes the gate where it reads open, by a write and a sync. A gate that reads closed is not
     /// written: torn, that write could read open over a torn payload. It refuses `Device` alone,
@@ -149,6 +130,26 @@ impl Region {
         ensures durable { OnOk result (D.is_lawful device.old → IsDurable (D.state device.old) → IsDurable (D.state device.new)) }
     {
         close_gate(*self, device)
+    }
+
+    /// Opens the gate, by a write and a sync, so that what stands before it counts: where every image has the gate closed and this
+    /// payload before it, a crash leaves the region closed or open with the payload. It refuses `Device` alone.
+    pub fn uncover<D: Disk>(&self, device: &mut D) -> Result<(), Fault>
+        requires room { self.now.at + self.now.len + 1 ≤ D.capacity device.old }
+        ensures size { D.capacity device.new ≡ D.capacity device.old }
+        ensures cause { CountsFailures result (D.failures device.old) (D.failures device.new) }
+        ensures lawful { D.is_lawful device.old ↔ D.is_lawful device.new }
+        ensures crash_safe { D.is_lawful device.old → (payload : List ℕ)
+            → IsFilled self.now payload (D.state device.old)
+            → CrashSafe (Opens self.now payload) (D.state device.old) (D.state device.new) }
+        ensures open { OnOk result (D.is_lawful device.old → (payload : List ℕ)
+            → IsFilled self.now payload (D.state device.old)
+            → IsOpen self.now payload (D.state device.new)) }
+        ensures durable { OnOk result (D.is_lawful device.old → IsDurable (D.state device.new)) }
+    {
+        // The answer fits a u64, and so does the place of the gate.
+        let _size = device.size();
+        write_and_sync(device, self.at + self.len, &[OPEN])
     }
 
     /// Puts a payload in the place of the one that is there: six writes and syncs into an open
@@ -273,7 +274,7 @@ impl<'a, D: Disk> Filled<'a, D> {
         ensures durable { IfOk result (λ back. D.is_lawful (filled_disk self.entry).now → IsDurable (D.state back.now)) }
     {
         let Filled { region, device } = self;
-        match open_gate(region, device) {
+        match region.uncover(device) {
             Ok(()) => Ok(device),
             Err(fault) => Err((fault, device)),
         }

@@ -31,3 +31,7 @@ as_err e = Err e
 pub at_ok : {T E : Type 0} (r : Result T E) (P Q : Type 0) → (P → Q) → OnOk r P → OnOk r Q
 at_ok (Ok x) P Q step p = step p
 at_ok (Err e) P Q step p = tt
+
+pub at_ok_both : {T E : Type 0} (r : Result T E) (P Q R : Type 0) → (P → Q → R) → OnOk r P → OnOk r Q → OnOk r R
+at_ok_both (Ok x) P Q R step p q = step p q
+at_ok_both (Err e) P Q R step p q = tt

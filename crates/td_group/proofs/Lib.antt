@@ -1,6 +1,7 @@
 pub mod Closing
 pub mod Kept
 pub mod Moments
+pub mod Neighbours
 pub mod Pieces
 pub mod Places
 pub mod Ready

@@ -1,11 +1,10 @@
 -- What is written into the cells of a group, piece by piece.
-use Rattle.std.proofs.Common.{◌≡◌, inl, inr, ℕ, zero, suc, ◌+◌, ◌*◌, ◌<◌, ◌≤◌, ◌^◌, List, [], ◌∷◌, ◌++◌, length, take, drop, get_or, Some, refl, sym, ap, ◌∙◌, subst, arith}
+use Rattle.std.proofs.Common.{◌≡◌, ℕ, zero, suc, ◌+◌, ◌*◌, ◌<◌, ◌≤◌, ◌^◌, List, [], ◌∷◌, ◌++◌, length, take, drop, get_or, Some, refl, sym, ap, ◌∙◌, subst, arith}
 use Rattle.std.proofs.Math.Nat.{suc-mul}
-use Rattle.std.proofs.lemmas.Bool.{cases_lt}
 use Rattle.std.proofs.lemmas.Bool.Decides.{nat_tests}
 use Rattle.std.proofs.lemmas.List.{append-nil, append_assoc, drop_at, take_at, drop-drop, length-append, get_or-take, get_or-drop}
 use Rattle.std.proofs.lemmas.Grind.{common_steps}
-use Rattle.td_disk.specs.Disk.{bytes_at, SameOutside}
+use Rattle.td_disk.specs.Disk.{bytes_at}
 use Rattle.td_gate.specs.declared.region.Region.{Region}
 use Rattle.td_gate.specs.Region.{gate_of, opened}
 use Rattle.td_gate.specs.Reading.{Each}
@@ -13,7 +12,6 @@ use Rattle.td_journal.specs.declared.journal.Journal.{Journal}
 use Rattle.td_journal.specs.declared.submitted.Submitted.{Submitted}
 use Rattle.td_journal.specs.Cell.{cell_of, cell_len, cell_bytes, FitsEntry}
 use Rattle.td_group.specs.Groups.{payloads, gated, AllFew, AllFit, HasPieces, Hold}
-use Rattle.td_group.proofs.Places.{CellsApart, epochs_apart_too, range_same}
 
 -- one epoch more
 pub gated_more : (m e : ℕ) (xs : List Submitted) (x : Submitted) → gated m e (xs ++ x ∷ []) ≡ gated m e xs ++ (cell_bytes m (e + length xs) x.request x.batch ++ 165 ∷ [])
@@ -33,18 +31,6 @@ pub few_at : (m : ℕ) (xs : List Submitted) (i : ℕ) (x : Submitted) → i < l
 few_at m [] i x lt all = absurd (omega (arith, lt))
 few_at m (y ∷ ys) zero x lt all = all.0
 few_at m (y ∷ ys) (suc i) x lt all = few_at m ys i x (omega (arith, lt)) all.1
-
--- one cell more is written
-pub pieces_more : CellsApart → (j : Journal) (e k : ℕ) (d c bytes : List ℕ) → k < j.n → HasPieces j d e k bytes
-    → SameOutside (cell_of j (e + k)).at (cell_len j.m + 1) d c
-    → bytes_at (cell_of j (e + k)).at (cell_len j.m + 1) c ≡ bytes_at (k * (cell_len j.m + 1)) (cell_len j.m + 1) bytes
-    → HasPieces j c e (k + 1) bytes
-pieces_more apart j e k d c bytes room before others written i lt = elim (cases_lt i k) [
-  | inl below ↦ range_same (cell_of j (e + k)) (cell_of j (e + i)) d c (epochs_apart_too apart j (e + i) (e + k) (omega (arith, below)) (omega (arith, below, room))) others ∙ before i below
-  | inr le ↦
-      let same : k ≡ i = omega (arith, lt, le) in
-      subst (λ (z : ℕ). bytes_at (cell_of j (e + z)).at (cell_len j.m + 1) c ≡ bytes_at (z * (cell_len j.m + 1)) (cell_len j.m + 1) bytes) same written
-]
 
 -- a cell with an open gate behind its payload
 last_byte : (payload : List ℕ) → get_or (payload ++ 165 ∷ []) (length payload) 0 ≡ 165

@@ -19,11 +19,6 @@ bytes_same at n c d size same = ext_get_or 0 (bytes_at at n d) (bytes_at at n c)
     get_or-take n (drop at d) i 0 lt ∙ get_or-drop at d i 0 ∙ same (at + i) (omega arith) (omega arith)
     ∙ sym (get_or-drop at c i 0) ∙ sym (get_or-take n (drop at c) i 0 lt))
 
--- a region apart from the one that was written, gate and all
-pub range_same : (r s : Region) (d c : List ℕ) → Apart r s → SameOutside r.at (r.len + 1) d c → bytes_at s.at (s.len + 1) c ≡ bytes_at s.at (s.len + 1) d
-range_same r s d c apart f = bytes_same s.at (s.len + 1) d c f.size
-    (λ i low high. ⊎_elim (λ before. f.after i (omega (arith, before, low))) (λ after. f.before i (omega (arith, after, high))) apart)
-
 -- the same bytes in a region
 pub opened_same : (s : Region) (d c : List ℕ) → length c ≡ length d → ((i : ℕ) → s.at ≤ i → i < s.at + s.len + 1 → get_or c i 0 ≡ get_or d i 0) → opened s c ≡ opened s d
 opened_same s d c size same =
@@ -35,6 +30,10 @@ opened_same s d c size same =
 pub opened_beside : (j : Journal) (e n : ℕ) (s : Region) (d c : List ℕ) → ChangesCells j e n d c → ((k : ℕ) → k < n → Apart (cell_of j (e + k)) s) → opened s c ≡ opened s d
 opened_beside j e n s d c changes apart = opened_same s d c changes.size
     (λ i low high. changes.each i (λ k lt. ⊎_elim (λ before. inr (omega (arith, before, low))) (λ after. inl (omega (arith, after, high))) (apart k lt)))
+
+pub range_beside : (j : Journal) (e n : ℕ) (s : Region) (m : ℕ) (d c : List ℕ) → m ≤ s.len + 1 → ChangesCells j e n d c → ((k : ℕ) → k < n → Apart (cell_of j (e + k)) s) → bytes_at s.at m c ≡ bytes_at s.at m d
+range_beside j e n s m d c le changes apart = bytes_same s.at m d c changes.size
+    (λ i low high. changes.each i (λ k lt. ⊎_elim (λ before. inr (omega (arith, before, low))) (λ after. inl (omega (arith, after, high, le))) (apart k lt)))
 
 -- one cell changed
 pub one_cell : (j : Journal) (e n k : ℕ) (d c : List ℕ) → k < n → SameOutside (cell_of j (e + k)).at ((cell_of j (e + k)).len + 1) d c → ChangesCells j e n d c

@@ -1,9 +1,9 @@
 -- A group of epochs that is put on a ring at once.
 use Rattle.std.specs.Prelude.{◌≡◌, ◌⊎◌, ℕ, suc, ◌+◌, ◌*◌, ◌^◌, ◌<◌, ◌≤◌, Bool, true, false, ◌&&◌, if◌then◌else◌, List, [], ◌∷◌, ◌++◌, length, slice_index, Option, Some, None}
-use Rattle.td_disk.specs.Disk.{bytes_at}
+use Rattle.td_disk.specs.Disk.{DiskState, bytes_at}
 use Rattle.td_gate.specs.Reading.{Each}
 use Rattle.td_gate.specs.declared.region.Region.{Region}
-use Rattle.td_gate.specs.Region.{opened}
+use Rattle.td_gate.specs.Region.{opened, Closes}
 use Rattle.td_head.specs.Layout.{Sizes}
 use Rattle.td_journal.specs.declared.journal.Journal.{Journal}
 use Rattle.td_journal.specs.declared.submitted.Submitted.{Submitted}
@@ -100,8 +100,16 @@ pub record AreFree (sizes : Sizes) (s : Standing) (e n : ℕ) : Type 0 where
 abbrev pub touched : Bool → ℕ → ℕ
 touched is_full k = if is_full then k else suc k
 
+-- The cell behind a group of k is closed, where the ring has one that no epoch of before uses, and no other byte changes; or nothing does.
+abbrev pub ClosesNext : Journal → ℕ → ℕ → Bool → List ℕ → List ℕ → Type 0
+ClosesNext j e k is_full old new = (new ≡ old) ⊎ ((is_full ≡ false) × Closes (cell_of j (e + k)) old new)
+
 -- A disk on which a group waits for its first cell to be opened: that is closed, the others are open, and nothing follows them.
 pub record IsReady (j : Journal) (e : ℕ) (xs : List Submitted) (is_full : Bool) (image : List ℕ) : Type 0 where
   pub closed : opened (cell_of j e) image ≡ None
   pub others : Hold j image (suc e) (payloads j.m (suc e) xs)
   pub nothing : is_full ≡ false → IsBorne j image (suc e + length xs) → ⊥
+
+-- Each image of a disk is such.
+abbrev pub EachReady : Journal → ℕ → List Submitted → Bool → DiskState → Type 0
+EachReady j e xs is_full state = (c : List ℕ) → state.images c → IsReady j e xs is_full c

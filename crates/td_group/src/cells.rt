@@ -1,18 +1,30 @@
-//! Cells that are written behind a closed one.
+//! The cells of a group, all but the first gate: they are written, and synced once.
 //!
-//! Such a cell may be torn and open, as long as the first is closed. That no payload is written over an open gate holds for each
-//! cell that may count: the first one, and one that is put alone.
-ghost use Rattle.std.specs.Prelude.{◌≡◌, ◌⊎◌, ◌↔◌, ◌+◌, ◌*◌, ◌^◌, ◌<◌, ◌≤◌, ◌++◌, length, OnOk, IfOk, IfErr};
-ghost use Rattle.td_disk.specs.Disk.{bytes_at, CountsFailures, IsDurable, SameOutside};
+//! A cell behind the first may be torn and open, as long as the first is closed. That no payload is written over an open gate
+//! holds for each cell that may count: the first one, and one that is put alone.
+//!
+//! Epochs that follow one another stand in neighbouring cells, up to the ring's end, and one write does for such a run. The first
+//! payload has a write of its own: one that goes on into the next cell goes over the first gate, and torn it could open that.
+ghost use Rattle.std.specs.Prelude.{◌≡◌, ◌⊎◌, ◌↔◌, ◌+◌, ◌-◌, ◌*◌, ◌%◌, ◌^◌, ◌<◌, ◌≤◌, ◌++◌, length, OnOk, IfOk, IfErr};
+ghost use Rattle.td_disk.specs.Disk.{CountsFailures, IsDurable};
 ghost use Rattle.td_gate.specs.CrashSafe.{CrashSafe};
+ghost use Rattle.td_gate.specs.Region.{IsClosed, IsFilled};
 ghost use Rattle.td_journal.specs.Cell.{cell_of, cell_len, ring_len};
-ghost use Rattle.td_group.specs.Groups.{gated, AllFew, AllFit, HasPieces, ChangesCells};
+ghost use Rattle.td_group.specs.Groups.{gated, AllFew, AllFit, HasPieces, ChangesCells, Spares};
 ghost use Rattle.td_journal.specs.declared.error.JournalError.TheVariants.{Memory};
 
 use std::alloc::Global;
 use td_disk::{Disk, Fault};
 use td_gate::OPEN;
 use td_journal::{Journal, JournalError, Submitted};
+
+/// What is written for a group: the payload of its first epoch, and the cells of the others, one after another.
+#[derive(Clone, Copy, Drop)]
+pub(crate) struct Written<'a> {
+    pub payload: &'a [u8],
+    /// Each payload with its open gate behind it.
+    pub others: &'a [u8],
+}
 
 /// What is written into the cells of a group's epochs from `first` on, each payload with its open gate behind it. It refuses `Memory` alone.
 pub(crate) fn gated(
@@ -39,41 +51,55 @@ pub(crate) fn gated(
     Ok(bytes)
 }
 
-/// Writes the cell of an epoch, its gate too, with no sync.
-fn write_cell<D: Disk>(
+/// How many bytes a cell has, its gate too.
+fn cell_size(journal: &Journal) -> usize
+    requires cells { 0 < journal.now.n }
+    requires records { journal.now.m ≤ 65536 }
+    requires room { journal.now.at + ring_len journal.now.m journal.now.n < 2 ^ 64 }
+    ensures { result ≡ cell_len journal.now.m + 1 }
+{
+    journal.cell_of(0).len as usize + 1
+}
+
+/// How many cells there are from that of an epoch up to the ring's end.
+fn cells_to_end(journal: &Journal, epoch: u64) -> usize
+    requires { 0 < journal.now.n }
+    ensures { result + epoch % journal.now.n ≡ journal.now.n }
+{
+    let n = u64::from(journal.n);
+    (n - epoch % n) as usize
+}
+
+/// Writes the cells of `count` epochs from `first` on, of which none lies beyond the ring's end, by one write and no sync: of `bytes` a piece for
+/// each, its gate too.
+fn write_run<D: Disk>(
     journal: &Journal,
     device: &mut D,
-    epoch: u64,
+    first: u64,
+    count: usize,
     bytes: &[u8],
 ) -> Result<(), Fault>
     requires cells { 0 < journal.now.n }
     requires records { journal.now.m ≤ 65536 }
     requires room { journal.now.at + ring_len journal.now.m journal.now.n ≤ D.capacity device.old }
-    requires whole { length bytes.now ≡ cell_len journal.now.m + 1 }
+    requires run { first % journal.now.n + count ≤ journal.now.n }
+    requires whole { count * (cell_len journal.now.m + 1) ≤ length bytes.now }
     ensures size { D.capacity device.new ≡ D.capacity device.old }
     ensures cause { CountsFailures result (D.failures device.old) (D.failures device.new) }
     ensures lawful { D.is_lawful device.old ↔ D.is_lawful device.new }
     ensures crash_safe { D.is_lawful device.old
-        → CrashSafe (SameOutside (cell_of journal.now epoch).at (cell_len journal.now.m + 1)) (D.state device.old) (D.state device.new) }
+        → CrashSafe (ChangesCells journal.now first count) (D.state device.old) (D.state device.new) }
     ensures others { D.is_lawful device.old
-        → SameOutside (cell_of journal.now epoch).at (cell_len journal.now.m + 1) (D.state device.old).bytes (D.state device.new).bytes }
-    ensures written { OnOk result (D.is_lawful device.old
-        → bytes_at (cell_of journal.now epoch).at (cell_len journal.now.m + 1) (D.state device.new).bytes ≡ bytes.now) }
+        → ChangesCells journal.now first count (D.state device.old).bytes (D.state device.new).bytes }
+    ensures written { OnOk result (D.is_lawful device.old → HasPieces journal.now (D.state device.new).bytes first count bytes.now) }
 {
     let _size = device.size();
-    device.write(journal.cell_of(epoch).at, bytes)
+    let len = count * cell_size(journal);
+    device.write(journal.cell_of(first).at, &bytes[..len])
 }
 
-/// The piece of number `k`, from 0, of pieces of this size.
-fn piece(bytes: &[u8], size: usize, k: usize) -> &[u8]
-    requires { k * size + size ≤ length bytes.now }
-    ensures { result.now ≡ bytes_at (k * size) size bytes.now }
-{
-    let from = k * size;
-    &bytes[from..from + size]
-}
-
-/// Writes the cells of `count` epochs from `first` on, with no sync: of `bytes` a piece for each, its gate too.
+/// Writes the cells of `count` epochs from `first` on, with no sync: of `bytes` a piece for each, its gate too. It takes one write, and two where
+/// the ring's end lies between them.
 fn write_cells<D: Disk>(
     journal: &Journal,
     device: &mut D,
@@ -92,40 +118,55 @@ fn write_cells<D: Disk>(
     ensures lawful { D.is_lawful device.old ↔ D.is_lawful device.new }
     ensures crash_safe { D.is_lawful device.old
         → CrashSafe (ChangesCells journal.now first count) (D.state device.old) (D.state device.new) }
+    ensures others { D.is_lawful device.old
+        → ChangesCells journal.now first count (D.state device.old).bytes (D.state device.new).bytes }
     ensures written { OnOk result (D.is_lawful device.old → HasPieces journal.now (D.state device.new).bytes first count bytes.now) }
 {
     td_journal::laws::cells();
-    td_gate::laws::unchanged::<D>();
     let _size = device.size();
-    let size = journal.cell_of(first).len as usize + 1;
-    for k in 0..count {
-        write_cell(journal, device, first + k as u64, piece(bytes, size, k))?;
+    let before_end = count.min(cells_to_end(journal, first));
+    write_run(journal, device, first, before_end, bytes)?;
+    if before_end == count {
+        return Ok(());
     }
-    Ok(())
+    let rest = &bytes[before_end * cell_size(journal)..];
+    write_run(
+        journal,
+        device,
+        first + before_end as u64,
+        count - before_end,
+        rest,
+    )
 }
 
-/// Writes the cells of `count` epochs from `first` on, and syncs once.
-pub(crate) fn put_cells<D: Disk>(
+/// Fills the closed cell of a group's first epoch, and writes the cells of the `count` epochs behind it, with one sync for all.
+pub(crate) fn fill_cells<D: Disk>(
     journal: &Journal,
     device: &mut D,
     first: u64,
     count: usize,
-    bytes: &[u8],
+    written: Written<'_>,
 ) -> Result<(), Fault>
     requires cells { 0 < journal.now.n }
     requires records { journal.now.m ≤ 65536 }
     requires room { journal.now.at + ring_len journal.now.m journal.now.n ≤ D.capacity device.old }
-    requires few { count ≤ journal.now.n }
-    requires whole { length bytes.now ≡ count * (cell_len journal.now.m + 1) }
-    requires small { first + count < 2 ^ 64 }
+    requires few { count + 1 ≤ journal.now.n }
+    requires payload { length written.payload.now ≡ cell_len journal.now.m }
+    requires whole { length written.others.now ≡ count * (cell_len journal.now.m + 1) }
+    requires small { first + count + 1 < 2 ^ 64 }
     ensures size { D.capacity device.new ≡ D.capacity device.old }
     ensures cause { CountsFailures result (D.failures device.old) (D.failures device.new) }
     ensures lawful { D.is_lawful device.old ↔ D.is_lawful device.new }
-    ensures crash_safe { D.is_lawful device.old
-        → CrashSafe (ChangesCells journal.now first count) (D.state device.old) (D.state device.new) }
+    ensures crash_safe { D.is_lawful device.old → IsClosed (cell_of journal.now first) (D.state device.old)
+        → CrashSafe (Spares journal.now first (count + 1)) (D.state device.old) (D.state device.new) }
     ensures durable { OnOk result (D.is_lawful device.old → IsDurable (D.state device.new)) }
-    ensures written { OnOk result (D.is_lawful device.old → HasPieces journal.now (D.state device.new).bytes first count bytes.now) }
+    ensures filled { OnOk result (D.is_lawful device.old → IsClosed (cell_of journal.now first) (D.state device.old)
+        → IsFilled (cell_of journal.now first) written.entry.payload.now (D.state device.new)) }
+    ensures written { OnOk result (D.is_lawful device.old → HasPieces journal.now (D.state device.new).bytes (first + 1) count written.entry.others.now) }
 {
-    write_cells(journal, device, first, count, bytes)?;
+    td_journal::laws::cells();
+    let _size = device.size();
+    device.write(journal.cell_of(first).at, written.payload)?;
+    write_cells(journal, device, first + 1, count, written.others)?;
     device.sync()
 }

@@ -29,7 +29,7 @@ const CLOSED: u8 = 0;
 
 /// Closes the gate of a region where it reads open, with no sync, and answers whether it did. A gate that reads closed is not written: torn,
 /// that write could read open.
-fn close_gate<D: Disk>(region: Region, device: &mut D) -> Result<bool, Fault>
+pub(crate) fn close_gate<D: Disk>(region: Region, device: &mut D) -> Result<bool, Fault>
     requires { region.at + region.len + 1 ≤ D.capacity device.old }
     ensures size { D.capacity device.new ≡ D.capacity device.old }
     ensures cause { CountsFailures result (D.failures device.old) (D.failures device.new) }

@@ -1,11 +1,13 @@
 //! Putting a group of epochs on a ring.
 //!
 //! The cell behind the group is cleared first, unless the group fills the ring. That cell is then of an epoch that counts, or of
-//! the group, and bears another number. The first payload is written after the sync of the other cells. It could go with them,
-//! since its gate is closed, for one sync less.
+//! the group, and bears another number. The first cell is closed before its payload is written, which then goes with the other
+//! cells into one sync. Its gate is opened last, by a sync of its own, and with that the gate of the next epoch's cell is closed,
+//! where the ring has one that is free: so what is put next finds its first cell closed.
 ghost use Rattle.std.specs.Prelude.{◌≡◌, ◌⊎◌, ◌↔◌, ◌+◌, ◌-◌, ◌^◌, ◌<◌, ◌≤◌, ◌==◌, ◌∷◌, nat_le, ℕ, suc, List, length, false, true, OnOk, IfErr, IsErrOf};
-ghost use Rattle.td_disk.specs.Disk.{IsDurable, Rises};
+ghost use Rattle.td_disk.specs.Disk.{CountsFailures, IsDurable, Rises};
 ghost use Rattle.td_gate.specs.CrashSafe.{CrashSafe, Unchanged};
+ghost use Rattle.td_gate.specs.Region.{IsFilled};
 ghost use Rattle.td_journal.specs.Cell.{cell_of, cell_len, ring_len};
 ghost use Rattle.td_journal.specs.Images.{IsBorne};
 ghost use Rattle.td_plan.specs.Lines.{Line};
@@ -13,12 +15,13 @@ ghost use Rattle.td_head.specs.declared.head.Head.{Head as AnyHead};
 ghost use Rattle.td_standing.specs.Standing.{Standing, with_more};
 ghost use Rattle.td_standing.specs.Told.{inputs_of, ring_of};
 ghost use Rattle.td_standing.specs.Tells.{Tells, Keeps, TellsSince};
-ghost use Rattle.td_group.specs.Groups.{gated, AllFew, AreBatches, AreFresh, HasRoomFor, Spares, IsReady, touched};
+ghost use Rattle.td_group.specs.Groups.{gated, AllFew, AreBatches, AreFresh, HasRoomFor, Spares, EachReady, ClosesNext, touched};
 
-use crate::cells::{gated, put_cells};
+use crate::cells::{Written, fill_cells, gated};
+use crate::free::close_gate;
 use crate::laws;
 use std::alloc::Global;
-use td_disk::Disk;
+use td_disk::{Disk, Fault};
 use td_journal::{Journal, JournalError, Submitted};
 use td_standing::submit_batch;
 
@@ -65,15 +68,44 @@ fn clear_behind<D: Disk>(
     Ok(())
 }
 
-/// Gets a ring ready for a group of epochs, all but its first: closes the cell behind the group, as `clear_behind`, and the first cell of the
-/// group; and puts the others, `bytes`, with one sync for all. It refuses `Memory`, and then has written nothing; then `Device`.
+/// Closes the cell behind a group of `count` epochs where it is open, with no sync, unless the ring is full with the group.
+fn close_ahead<D: Disk>(
+    journal: &Journal,
+    device: &mut D,
+    first: u64,
+    count: u64,
+    is_full: bool,
+) -> Result<(), Fault>
+    requires cells { 0 < journal.now.n }
+    requires records { journal.now.m ≤ 65536 }
+    requires room { journal.now.at + ring_len journal.now.m journal.now.n ≤ D.capacity device.old }
+    requires small { first + count < 2 ^ 64 }
+    ensures size { D.capacity device.new ≡ D.capacity device.old }
+    ensures cause { CountsFailures result (D.failures device.old) (D.failures device.new) }
+    ensures lawful { D.is_lawful device.old ↔ D.is_lawful device.new }
+    ensures crash_safe { D.is_lawful device.old → IsDurable (D.state device.old)
+        → CrashSafe (ClosesNext journal.now first count is_full) (D.state device.old) (D.state device.new) }
+{
+    td_gate::laws::durable_is_settled::<D>();
+    td_gate::laws::unchanged::<D>();
+    if is_full {
+        return Ok(());
+    }
+    let _size = device.size();
+    close_gate(journal.cell_of(first + count), device)?;
+    Ok(())
+}
+
+/// Gets a ring ready for a group of epochs, all but its first gate. It closes the cell behind the group, as `clear_behind`, and the first cell
+/// of the group. It fills all cells of the group, with one sync, and then closes the one behind, as `close_ahead`, with none. It refuses
+/// `Memory`, and then has written nothing; then `Device`.
 pub(crate) fn get_ready<D: Disk>(
     alloc: Global,
     journal: &Journal,
     device: &mut D,
     first: u64,
     others: &[Submitted],
-    bytes: &[u8],
+    written: Written<'_>,
     is_full: bool,
 ) -> Result<(), JournalError>
     requires cells { 0 < journal.now.n }
@@ -81,7 +113,8 @@ pub(crate) fn get_ready<D: Disk>(
     requires room { journal.now.at + ring_len journal.now.m journal.now.n ≤ D.capacity device.old }
     requires few { touched is_full (length others.now + 1) ≤ journal.now.n }
     requires small { first + length others.now + 1 ≤ 2 ^ 63 }
-    requires bytes { bytes.now ≡ gated journal.now.m (first + 1) others.now }
+    requires payload { length written.payload.now ≡ cell_len journal.now.m }
+    requires bytes { written.others.now ≡ gated journal.now.m (first + 1) others.now }
     requires batches { AllFew journal.now.m others.now }
     ensures refusals { IfErr result (λ e. (e ≡ JournalError.Memory) ⊎ (e ≡ JournalError.Device)) }
     ensures device { IsErrOf result JournalError.Device → Rises (D.failures device.old) (D.failures device.new) }
@@ -95,10 +128,12 @@ pub(crate) fn get_ready<D: Disk>(
         → (D.state device.new).bytes ≡ (D.state device.old).bytes }
     ensures crash_safe { D.is_lawful device.old → IsDurable (D.state device.old)
         → CrashSafe (Spares journal.now first (touched is_full (length others.now + 1))) (D.state device.old) (D.state device.new) }
-    ensures durable { IfErr result (λ e. e ≡ JournalError.Memory) → D.is_lawful device.old
+    ensures durable { IsErrOf result JournalError.Memory → D.is_lawful device.old
         → IsDurable (D.state device.old) → IsDurable (D.state device.new) }
     ensures ready { OnOk result (D.is_lawful device.old → IsDurable (D.state device.old)
-        → IsReady journal.now first others.now is_full (D.state device.new).bytes) }
+        → EachReady journal.now first others.now is_full (D.state device.new)) }
+    ensures filled { OnOk result (D.is_lawful device.old → IsDurable (D.state device.old)
+        → IsFilled (cell_of journal.now first) written.entry.payload.now (D.state device.new)) }
 {
     td_journal::laws::cells();
     td_journal::laws::cells_read_back();
@@ -113,7 +148,8 @@ pub(crate) fn get_ready<D: Disk>(
     )?;
     let _size = device.size();
     journal.cell_of(first).shut(device)?;
-    put_cells(journal, device, first + 1, others.len(), bytes)?;
+    fill_cells(journal, device, first, others.len(), written)?;
+    close_ahead(journal, device, first, others.len() as u64 + 1, is_full)?;
     Ok(())
 }
 
@@ -126,7 +162,7 @@ fn is_full(journal: &Journal, last: u64) -> bool
 }
 
 /// Puts a group of epochs on a ring, of which `first` is the number of the first, so that no stop leaves a part of it. A group of one is put as
-/// `submit_batch` puts it; a greater one takes three to five syncs, whatever its size. It refuses `Memory`, and then has written nothing; then
+/// `submit_batch` puts it; a greater one takes two to four syncs, whatever its size. It refuses `Memory`, and then has written nothing; then
 /// `Device`.
 pub fn submit_group<D: Disk>(
     alloc: Global,
@@ -184,7 +220,7 @@ pub fn submit_group<D: Disk>(
     put_group(alloc, journal, device, first, head, others)
 }
 
-/// Puts a group of epochs, its first one apart: that one's cell is opened last of all, over the others.
+/// Puts a group of epochs, its first one apart: that one's gate is opened last of all, over the others.
 fn put_group<D: Disk>(
     alloc: Global,
     journal: &Journal,
@@ -233,13 +269,18 @@ fn put_group<D: Disk>(
     laws::group_is_safe::<D>();
     td_standing::laws::recovered::<D>();
     td_gate::laws::durable_is_settled::<D>();
+    td_gate::laws::steps_are_puts::<D>();
     td_gate::laws::unchanged::<D>();
     td_journal::laws::cells_read_back();
     let _size = device.size();
     let payload = journal.payload(alloc, first, head.request, &head.batch)?;
     let bytes = gated(alloc, journal, first + 1, others)?;
+    let written = Written {
+        payload: &payload,
+        others: &bytes,
+    };
     let is_full = is_full(journal, first + others.len() as u64);
-    get_ready(alloc, journal, device, first, others, &bytes, is_full)?;
-    journal.cell_of(first).put(device, &payload)?;
+    get_ready(alloc, journal, device, first, others, written, is_full)?;
+    journal.cell_of(first).uncover(device)?;
     Ok(())
 }

@@ -1,7 +1,6 @@
 //! Laws of the definitions. Each is the contract of a function that does nothing.
 ghost use Rattle.std.specs.Prelude.{◌≡◌, ◌⊎◌, ◌+◌, ◌^◌, ◌<◌, ◌≤◌, ◌++◌, ◌∷◌, ℕ, suc, Bool, true, false, List, length, Option, None, Ok};
 ghost use Rattle.td_plan.specs.Lines.{Line};
-ghost use Rattle.td_disk.specs.Disk.{IsDurable};
 ghost use Rattle.td_gate.specs.CrashSafe.{CrashSafe};
 ghost use Rattle.td_gate.specs.Region.{opened, IsOpen, Puts};
 ghost use Rattle.td_head.specs.declared.head.Head.{Head as AnyHead};
@@ -14,7 +13,7 @@ ghost use Rattle.td_journal.specs.Cell.{cell_of, cell_bytes};
 ghost use Rattle.td_journal.specs.Images.{IsBorne, IsNext};
 ghost use Rattle.td_journal.specs.Numbers.{floor_after};
 ghost use Rattle.td_journal.specs.Ring.{told_after};
-ghost use Rattle.td_group.specs.Groups.{payloads, Hold, AreCellBatches, may_follow, AreFresh, HasRoomFor, Spares, IsReady, ClosesSome, AreFree, touched};
+ghost use Rattle.td_group.specs.Groups.{payloads, Hold, AreCellBatches, may_follow, AreFresh, HasRoomFor, Spares, EachReady, ClosesSome, AreFree, touched};
 
 use td_disk::Disk;
 
@@ -48,18 +47,18 @@ pub fn group_is_safe<D: Disk>()
         → HasRoomFor head.shape s e (suc (length xs)) → 0 < touched is_full (suc (length xs)) → length s.submitted + touched is_full (suc (length xs)) ≤ head.shape.n
         → (length s.submitted + suc (length xs) < head.shape.n → is_full ≡ false)
         → AreFresh head.version s (x ∷ xs) → AreCellBatches (inputs_of plan) head.shape.m (x ∷ xs)
-        → EachTells plan head side s (D.state old) → D.is_lawful mid → IsDurable (D.state mid)
+        → EachTells plan head side s (D.state old) → D.is_lawful mid
         → CrashSafe (Spares (ring_of head.shape s.epoch) e (touched is_full (suc (length xs)))) (D.state old) (D.state mid)
-        → IsReady (ring_of head.shape s.epoch) e xs is_full (D.state mid).bytes
+        → EachReady (ring_of head.shape s.epoch) e xs is_full (D.state mid)
         → CrashSafe (Puts (cell_of (ring_of head.shape s.epoch) e) (cell_bytes head.shape.m e x.request x.batch)) (D.state mid) (D.state new)
         → TellsSince (Tells plan head side s) (Tells plan head side (with_more s (x ∷ xs))) (D.state old) (D.state new) }
     ensures done { (plan : List Line) (head : AnyHead) (side : ℕ) (s : Standing) (e : ℕ) (x : AnySubmitted) (xs : List AnySubmitted) (is_full : Bool) (old mid new : D)
         → HasRoomFor head.shape s e (suc (length xs)) → 0 < touched is_full (suc (length xs)) → length s.submitted + touched is_full (suc (length xs)) ≤ head.shape.n
         → (length s.submitted + suc (length xs) < head.shape.n → is_full ≡ false)
         → AreFresh head.version s (x ∷ xs) → AreCellBatches (inputs_of plan) head.shape.m (x ∷ xs)
-        → EachTells plan head side s (D.state old) → D.is_lawful mid → D.is_lawful new → IsDurable (D.state mid)
+        → EachTells plan head side s (D.state old) → D.is_lawful mid → D.is_lawful new
         → CrashSafe (Spares (ring_of head.shape s.epoch) e (touched is_full (suc (length xs)))) (D.state old) (D.state mid)
-        → IsReady (ring_of head.shape s.epoch) e xs is_full (D.state mid).bytes
+        → EachReady (ring_of head.shape s.epoch) e xs is_full (D.state mid)
         → CrashSafe (Puts (cell_of (ring_of head.shape s.epoch) e) (cell_bytes head.shape.m e x.request x.batch)) (D.state mid) (D.state new)
         → IsOpen (cell_of (ring_of head.shape s.epoch) e) (cell_bytes head.shape.m e x.request x.batch) (D.state new)
         → EachTells plan head side (with_more s (x ∷ xs)) (D.state new) }

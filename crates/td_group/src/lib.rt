@@ -6,8 +6,9 @@
 //! opened before one sync a stop could leave any beginning of the group. All or nothing leaves less to think of, and its syncs do
 //! not grow with its size.
 //!
-//! Of three epochs, for example, the second and third are written with their gates and synced once. Then the first is put as any
-//! epoch is.
+//! Of three epochs, for example, the first payload is written, and then the second and third cell with their gates by one write;
+//! one sync does for all. Then the first gate is opened, and synced; with the same sync the cell of the next epoch is closed, where
+//! it is open and no told epoch uses it.
 #![tactic(auto)]
 
 mod cells;

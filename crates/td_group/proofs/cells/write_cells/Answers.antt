@@ -1,57 +1,103 @@
-use Rattle.std.proofs.Common.{◌≡◌, ◌+◌, ◌*◌, ◌≤◌, suc, length, sym, ap, ◌∙◌, subst, arith}
-use Rattle.std.proofs.Math.Nat.{mul-le-mul_right, suc-mul}
-use Rattle.td_disk.specs.Disk.{SameOutside, bytes_at}
-use Rattle.td_gate.specs.declared.region.Region.{Region}
-use Rattle.td_journal.specs.Cell.{cell_of, cell_len}
-use Rattle.td_group.specs.Groups.{ChangesCells}
-use Rattle.td_group.proofs.Moments.{in_turn}
-use Rattle.td_group.proofs.Pieces.{pieces_more}
-use Rattle.td_group.proofs.Places.{one_cell, then_change}
+use Rattle.std.proofs.Common.{◌≡◌, ◌+◌, ◌-◌, ◌*◌, ◌≤◌, ℕ, List, drop, subst, arith}
+use Rattle.std.proofs.lemmas.List.{take_rest}
+use Rattle.td_journal.specs.Cell.{cell_len}
+use Rattle.td_group.specs.Groups.{ChangesCells, HasPieces}
+use Rattle.td_group.proofs.Kept.{at_ok}
+use Rattle.td_group.proofs.Moments.{HasClock, weaker_step}
+use Rattle.td_group.proofs.Neighbours.{both_runs, both_safe, runs_joined, to_the_end, behind_the_end, short_enough, rest_long}
+use Rattle.td_group.proofs.Ready.{wider}
 use Rattle.td_group.proofs.cells.write_cells.Goals as goal
 
-pub piece-requires : goal.piece-requires
-piece-requires g c =
-    let j = c.args.journal.now in
-    let k = c.loop-k.k in
-    let size : c.cell_of.result.len + 1 ≡ cell_len j.m + 1 = ap (λ (r : Region). r.len + 1) c.cell_of.ensures.region in
-    let step : suc k * (cell_len j.m + 1) ≤ c.args.count * (cell_len j.m + 1) = mul-le-mul_right (cell_len j.m + 1) c.loop-k-test.true in
-    let more : suc k * (cell_len j.m + 1) ≡ k * (cell_len j.m + 1) + (cell_len j.m + 1) = suc-mul k (cell_len j.m + 1) in
-    subst (λ n. k * n + n ≤ length c.args.bytes.now) (sym size) (omega (arith, step, more, c.requires.whole))
+pub write_run-requires-clause-run : goal.write_run-requires-clause-run
+write_run-requires-clause-run g c =
+    to_the_end c.args.first c.args.journal.now.n c.cells_to_end.result c.args.count c.min-before_end.result c.cells_to_end.ensures c.min-before_end.ensures
 
-pub returns-in_err-write_cell-clause-crash_safe : goal.returns-in_err-write_cell-clause-crash_safe
-returns-in_err-write_cell-clause-crash_safe g c lawful =
+pub write_run-requires-clause-whole : goal.write_run-requires-clause-whole
+write_run-requires-clause-whole g c =
+    let size = cell_len c.args.journal.now.m + 1 in
+    let le : c.min-before_end.result ≤ c.args.count = omega (arith, c.min-before_end.ensures) in
+    let same : size ≡ size = omega arith in
+    short_enough c.min-before_end.result c.args.count size size _ le same c.requires.whole
+
+pub returns-in_err-write_run-clause-crash_safe : goal.returns-in_err-write_run-clause-crash_safe
+returns-in_err-write_run-clause-crash_safe g c lawful =
+    let state = g.D.Disk.state in
+    let j = c.args.journal.now in
+    let here = c.min-before_end.result in
+    let le : here ≤ c.args.count = omega (arith, c.min-before_end.ensures) in
+    weaker_step (ChangesCells j c.args.first here) (ChangesCells j c.args.first c.args.count) (state c.args.device.now) (state c.write_run.new.device) (c.in_err-write_run.ensures.crash_safe lawful)
+    (λ d f changes. wider j c.args.first here c.args.count d f le changes)
+
+pub returns-in_err-write_run-clause-others : goal.returns-in_err-write_run-clause-others
+returns-in_err-write_run-clause-others g c lawful =
+    let state = g.D.Disk.state in
+    let here = c.min-before_end.result in
+    let le : here ≤ c.args.count = omega (arith, c.min-before_end.ensures) in
+    wider c.args.journal.now c.args.first here c.args.count (state c.args.device.now).bytes (state c.write_run.new.device).bytes le (c.in_err-write_run.ensures.others lawful)
+
+pub returns-then-before_end-count-clause-crash_safe : goal.returns-then-before_end-count-clause-crash_safe
+returns-then-before_end-count-clause-crash_safe g c lawful =
+    let state = g.D.Disk.state in
+    let j = c.args.journal.now in
+    let here = c.min-before_end.result in
+    let le : here ≤ c.args.count = omega (arith, c.min-before_end.ensures) in
+    weaker_step (ChangesCells j c.args.first here) (ChangesCells j c.args.first c.args.count) (state c.args.device.now) (state c.write_run.new.device) (c.in_ok-write_run.ensures.crash_safe lawful)
+    (λ d f changes. wider j c.args.first here c.args.count d f le changes)
+
+pub returns-then-before_end-count-clause-others : goal.returns-then-before_end-count-clause-others
+returns-then-before_end-count-clause-others g c lawful =
+    let state = g.D.Disk.state in
+    let here = c.min-before_end.result in
+    let le : here ≤ c.args.count = omega (arith, c.min-before_end.ensures) in
+    wider c.args.journal.now c.args.first here c.args.count (state c.args.device.now).bytes (state c.write_run.new.device).bytes le (c.in_ok-write_run.ensures.others lawful)
+
+pub returns-then-before_end-count-clause-written : goal.returns-then-before_end-count-clause-written
+returns-then-before_end-count-clause-written g c lawful =
+    subst (λ (n : ℕ). HasPieces c.args.journal.now (g.D.Disk.state c.write_run.new.device).bytes c.args.first n c.args.bytes.now) c.if-before_end-count.true (c.in_ok-write_run.ensures.written lawful)
+
+pub write_run-requires-2-clause-run : goal.write_run-requires-2-clause-run
+write_run-requires-2-clause-run g c =
+    behind_the_end c.args.first c.args.journal.now.n c.cells_to_end.result c.args.count c.min-before_end.result c.requires.cells c.cells_to_end.ensures c.min-before_end.ensures c.if-before_end-count.false c.requires.few
+
+pub write_run-requires-2-clause-whole : goal.write_run-requires-2-clause-whole
+write_run-requires-2-clause-whole g c =
+    let le : c.min-before_end.result ≤ c.args.count = omega (arith, c.min-before_end.ensures) in
+    rest_long c.min-before_end.result c.args.count (cell_len c.args.journal.now.m + 1) c.cell_size.result c.args.bytes.now le c.cell_size.ensures c.requires.whole
+
+pub returns-clause-crash_safe : goal.returns-clause-crash_safe
+returns-clause-crash_safe g c lawful =
     let state = g.D.Disk.state in
     let laws = g.met.D.Disk in
-    let j = c.args.journal.now in
-    let mid = c.loop-k.device in
-    let still = c.loop-k.invariant.2.0 lawful in
-    in_turn (ChangesCells j c.args.first c.args.count) (SameOutside (cell_of j (c.args.first + c.loop-k.k)).at (cell_len j.m + 1)) (ChangesCells j c.args.first c.args.count)
-    (state c.args.device.now) (state mid) (state c.write_cell.new.device)
-    (record { counts_now = λ t f. laws.counts_now mid t f still; only_now = λ f. laws.only_now mid f still })
-    (c.loop-k.invariant.3 lawful) (c.write_cell.ensures.crash_safe still) (λ d f step. step)
-    (λ d m f one two. then_change j c.args.first c.args.count d m f one (one_cell j c.args.first c.args.count c.loop-k.k m f c.loop-k-test.true two))
+    let here = c.min-before_end.result in
+    let n = c.args.count in
+    let sum : here + (n - here) ≡ n = omega (arith, c.min-before_end.ensures) in
+    let mid = c.write_run.new.device in
+    let lawful1 = c.in_ok-write_run.ensures.lawful.0 lawful in
+    let clock : HasClock (state mid) = record { counts_now = λ t f. laws.counts_now mid t f lawful1; only_now = λ f. laws.only_now mid f lawful1 } in
+    both_safe c.args.journal.now c.args.first here (n - here) n (state c.args.device.now) (state mid) (state c.write_run-2.new.device) sum clock (c.in_ok-write_run.ensures.crash_safe lawful) (c.write_run-2.ensures.crash_safe lawful1)
 
-pub loop-k-preserved : goal.loop-k-preserved
-loop-k-preserved g c =
+pub returns-clause-others : goal.returns-clause-others
+returns-clause-others g c lawful =
     let state = g.D.Disk.state in
-    let laws = g.met.D.Disk in
+    let here = c.min-before_end.result in
+    let n = c.args.count in
+    let sum : here + (n - here) ≡ n = omega (arith, c.min-before_end.ensures) in
+    let lawful1 = c.in_ok-write_run.ensures.lawful.0 lawful in
+    both_runs c.args.journal.now c.args.first here (n - here) n (state c.args.device.now).bytes (state c.write_run.new.device).bytes (state c.write_run-2.new.device).bytes sum
+    (c.in_ok-write_run.ensures.others lawful) (c.write_run-2.ensures.others lawful1)
+
+pub returns-clause-written : goal.returns-clause-written
+returns-clause-written g c = at_ok c.write_run-2.result _ _
+    (λ written lawful.
+    let state = g.D.Disk.state in
     let j = c.args.journal.now in
-    let mid = c.loop-k.device in
-    let before = c.loop-k.invariant in
-    let wrote = c.in_ok-write_cell.ensures in (
-      wrote.size ∙ before.0,
-      wrote.cause.stays ∙ before.1,
-      (λ l. wrote.lawful.0 (before.2.0 l), λ l. before.2.1 (wrote.lawful.1 l)),
-      λ lawful.
-          let still = before.2.0 lawful in
-          in_turn (ChangesCells j c.args.first c.args.count) (SameOutside (cell_of j (c.args.first + c.loop-k.k)).at (cell_len j.m + 1)) (ChangesCells j c.args.first c.args.count)
-          (state c.args.device.now) (state mid) (state c.write_cell.new.device)
-          (record { counts_now = λ t f. laws.counts_now mid t f still; only_now = λ f. laws.only_now mid f still })
-          (before.3 lawful) (wrote.crash_safe still) (λ d f step. step)
-          (λ d m f one two. then_change j c.args.first c.args.count d m f one (one_cell j c.args.first c.args.count c.loop-k.k m f c.loop-k-test.true two)),
-      λ lawful.
-          let still = before.2.0 lawful in
-          let size : c.cell_of.result.len + 1 ≡ cell_len j.m + 1 = ap (λ (r : Region). r.len + 1) c.cell_of.ensures.region in
-          pieces_more c.cells.ensures.apart j c.args.first c.loop-k.k (state mid).bytes (state c.write_cell.new.device).bytes c.args.bytes.now (omega (arith, c.loop-k-test.true, c.requires.few)) (before.4 lawful)
-          (wrote.others still) (wrote.written still ∙ c.piece.ensures ∙ ap (λ n. bytes_at (c.loop-k.k * n) n c.args.bytes.now) size),
-    )
+    let here = c.min-before_end.result in
+    let n = c.args.count in
+    let sum : here + (n - here) ≡ n = omega (arith, c.min-before_end.ensures) in
+    let lawful1 = c.in_ok-write_run.ensures.lawful.0 lawful in
+    let m2 = c.write_run-2.new.device in
+    runs_joined c.cells.ensures.apart j c.args.first here (n - here) n (state c.write_run.new.device).bytes (state m2).bytes c.args.bytes.now sum c.requires.few
+    (c.in_ok-write_run.ensures.written lawful) (c.write_run-2.ensures.others lawful1)
+    (subst (λ (k : ℕ). HasPieces j (state m2).bytes (c.args.first + here) (n - here) (drop (here * k) c.args.bytes.now)) c.cell_size.ensures
+    (subst (λ (l : List ℕ). HasPieces j (state m2).bytes (c.args.first + here) (n - here) l) (take_rest c.args.bytes.now (here * c.cell_size.result)) (written lawful1))))
+    c.write_run-2.ensures.written

@@ -1,14 +1,13 @@
 use Rattle.std.proofs.Common.{◌≡◌, ℕ, suc, ◌+◌, List, length, ap, ◌∙◌, subst, arith}
-use Rattle.std.specs.Prelude.{None}
 use Rattle.td_gate.specs.CrashSafe.{CrashSafe}
 use Rattle.td_gate.specs.declared.region.Region.{Region}
-use Rattle.td_gate.specs.Region.{opened, Closes}
+use Rattle.td_gate.specs.Region.{Closes, IsClosed}
 use Rattle.td_journal.specs.Cell.{cell_of}
 use Rattle.td_journal.specs.Images.{IsBorne}
-use Rattle.td_group.specs.Groups.{ChangesCells, HasPieces, Hold, gated, payloads, touched}
+use Rattle.td_group.specs.Groups.{ChangesCells, HasPieces, Hold, Spares, gated, payloads, touched}
 use Rattle.td_group.proofs.Moments.{HasClock}
 use Rattle.td_group.proofs.Pieces.{held, gated_size}
-use Rattle.td_group.proofs.Ready.{bytes_step, touched_wide, touched_more, two_steps, shut_step, put_step, shut_none, first_stays, behind_stays, borne_before, later_cell}
+use Rattle.td_group.proofs.Ready.{bytes_step, touched_wide, touched_more, two_steps, shut_step, wider_step, next_step, each_ready, still_filled, shut_none, behind_stays, borne_before, later_cell}
 use Rattle.td_group.proofs.group.get_ready.Goals as goal
 
 pub returns-in_err-shut-clause-crash_safe : goal.returns-in_err-shut-clause-crash_safe
@@ -31,13 +30,13 @@ returns-in_err-shut-clause-crash_safe g c lawful durable =
     let safe1 = c.in_ok-clear_behind.ensures.crash_safe lawful durable in
     two_steps j e n (state old) (state m1) (state m2) clock1 safe1 (shut_step j e n c.cell_of.result (state m1) (state m2) c.cell_of.ensures.region (omega (arith, wide)) (c.in_err-shut.ensures.crash_safe lawful1 settled))
 
-pub put_cells-requires-clause-whole : goal.put_cells-requires-clause-whole
-put_cells-requires-clause-whole g c =
+pub fill_cells-requires-clause-whole : goal.fill_cells-requires-clause-whole
+fill_cells-requires-clause-whole g c =
     let m = c.args.journal.now.m in
     ap length c.requires.bytes ∙ gated_size m (c.args.first + 1) c.args.others.now c.requires.batches (λ x f few. c.cells_read_back.ensures.size m f x.request x.batch few)
 
-pub returns-in_err-put_cells-clause-crash_safe : goal.returns-in_err-put_cells-clause-crash_safe
-returns-in_err-put_cells-clause-crash_safe g c lawful durable =
+pub returns-in_err-fill_cells-clause-crash_safe : goal.returns-in_err-fill_cells-clause-crash_safe
+returns-in_err-fill_cells-clause-crash_safe g c lawful durable =
     let state = g.D.Disk.state in
     let laws = g.met.D.Disk in
     let j = c.args.journal.now in
@@ -54,11 +53,41 @@ returns-in_err-put_cells-clause-crash_safe g c lawful durable =
     let settled = c.durable_is_settled.ensures m1 c.cell_of.result durable1 in
     let clock1 : HasClock (state m1) = record { counts_now = λ t f. laws.counts_now m1 t f lawful1; only_now = λ f. laws.only_now m1 f lawful1 } in
     let safe1 = c.in_ok-clear_behind.ensures.crash_safe lawful durable in
-    let m3 = c.put_cells.new.device in
+    let m3 = c.fill_cells.new.device in
     let lawful2 = c.in_ok-shut.ensures.lawful.0 lawful1 in
     let clock2 : HasClock (state m2) = record { counts_now = λ t f. laws.counts_now m2 t f lawful2; only_now = λ f. laws.only_now m2 f lawful2 } in
+    let closed : IsClosed (cell_of j e) (state m2) = subst (λ (r : Region). IsClosed r (state m2)) c.cell_of.ensures.region (c.in_ok-shut.ensures.closed lawful1 settled) in
     let safe2 = two_steps j e n (state old) (state m1) (state m2) clock1 safe1 (shut_step j e n c.cell_of.result (state m1) (state m2) c.cell_of.ensures.region (omega (arith, wide)) (c.in_ok-shut.ensures.crash_safe lawful1 settled)) in
-    two_steps j e n (state old) (state m2) (state m3) clock2 safe2 (put_step c.cells.ensures.apart j e l n (state m2) (state m3) (omega (arith, wide)) (omega (arith, wide, c.requires.few)) (c.in_err-put_cells.ensures.crash_safe lawful2))
+    two_steps j e n (state old) (state m2) (state m3) clock2 safe2 (wider_step j e (l + 1) n (state m2) (state m3) wide (c.in_err-fill_cells.ensures.crash_safe lawful2 closed))
+
+pub returns-in_err-close_ahead-clause-crash_safe : goal.returns-in_err-close_ahead-clause-crash_safe
+returns-in_err-close_ahead-clause-crash_safe g c lawful durable =
+    let state = g.D.Disk.state in
+    let laws = g.met.D.Disk in
+    let j = c.args.journal.now in
+    let e = c.args.first in
+    let l = length c.args.others.now in
+    let t = c.args.is_full in
+    let n = touched t (l + 1) in
+    let wide = touched_wide t (l + 1) in
+    let old = c.args.device.now in
+    let m1 = c.clear_behind.new.device in
+    let m2 = c.shut.new.device in
+    let lawful1 = c.in_ok-clear_behind.ensures.lawful.0 lawful in
+    let durable1 = c.in_ok-clear_behind.ensures.durable tt lawful durable in
+    let settled = c.durable_is_settled.ensures m1 c.cell_of.result durable1 in
+    let clock1 : HasClock (state m1) = record { counts_now = λ t f. laws.counts_now m1 t f lawful1; only_now = λ f. laws.only_now m1 f lawful1 } in
+    let safe1 = c.in_ok-clear_behind.ensures.crash_safe lawful durable in
+    let m3 = c.fill_cells.new.device in
+    let lawful2 = c.in_ok-shut.ensures.lawful.0 lawful1 in
+    let clock2 : HasClock (state m2) = record { counts_now = λ t f. laws.counts_now m2 t f lawful2; only_now = λ f. laws.only_now m2 f lawful2 } in
+    let closed : IsClosed (cell_of j e) (state m2) = subst (λ (r : Region). IsClosed r (state m2)) c.cell_of.ensures.region (c.in_ok-shut.ensures.closed lawful1 settled) in
+    let safe2 = two_steps j e n (state old) (state m1) (state m2) clock1 safe1 (shut_step j e n c.cell_of.result (state m1) (state m2) c.cell_of.ensures.region (omega (arith, wide)) (c.in_ok-shut.ensures.crash_safe lawful1 settled)) in
+    let lawful3 = c.in_ok-fill_cells.ensures.lawful.0 lawful2 in
+    let clock3 : HasClock (state m3) = record { counts_now = λ t f. laws.counts_now m3 t f lawful3; only_now = λ f. laws.only_now m3 f lawful3 } in
+    let m4 = c.close_ahead.new.device in
+    let safe3 = two_steps j e n (state old) (state m2) (state m3) clock2 safe2 (wider_step j e (l + 1) n (state m2) (state m3) wide (c.in_ok-fill_cells.ensures.crash_safe lawful2 closed)) in
+    two_steps j e n (state old) (state m3) (state m4) clock3 safe3 (next_step c.cells.ensures.apart j e (l + 1) t (state m3) (state m4) (omega arith) c.requires.few (c.in_err-close_ahead.ensures.crash_safe lawful3 (c.in_ok-fill_cells.ensures.durable lawful2)))
 
 pub returns-clause-crash_safe : goal.returns-clause-crash_safe
 returns-clause-crash_safe g c lawful durable =
@@ -78,11 +107,16 @@ returns-clause-crash_safe g c lawful durable =
     let settled = c.durable_is_settled.ensures m1 c.cell_of.result durable1 in
     let clock1 : HasClock (state m1) = record { counts_now = λ t f. laws.counts_now m1 t f lawful1; only_now = λ f. laws.only_now m1 f lawful1 } in
     let safe1 = c.in_ok-clear_behind.ensures.crash_safe lawful durable in
-    let m3 = c.put_cells.new.device in
+    let m3 = c.fill_cells.new.device in
     let lawful2 = c.in_ok-shut.ensures.lawful.0 lawful1 in
     let clock2 : HasClock (state m2) = record { counts_now = λ t f. laws.counts_now m2 t f lawful2; only_now = λ f. laws.only_now m2 f lawful2 } in
+    let closed : IsClosed (cell_of j e) (state m2) = subst (λ (r : Region). IsClosed r (state m2)) c.cell_of.ensures.region (c.in_ok-shut.ensures.closed lawful1 settled) in
     let safe2 = two_steps j e n (state old) (state m1) (state m2) clock1 safe1 (shut_step j e n c.cell_of.result (state m1) (state m2) c.cell_of.ensures.region (omega (arith, wide)) (c.in_ok-shut.ensures.crash_safe lawful1 settled)) in
-    two_steps j e n (state old) (state m2) (state m3) clock2 safe2 (put_step c.cells.ensures.apart j e l n (state m2) (state m3) (omega (arith, wide)) (omega (arith, wide, c.requires.few)) (c.in_ok-put_cells.ensures.crash_safe lawful2))
+    let lawful3 = c.in_ok-fill_cells.ensures.lawful.0 lawful2 in
+    let clock3 : HasClock (state m3) = record { counts_now = λ t f. laws.counts_now m3 t f lawful3; only_now = λ f. laws.only_now m3 f lawful3 } in
+    let m4 = c.close_ahead.new.device in
+    let safe3 = two_steps j e n (state old) (state m2) (state m3) clock2 safe2 (wider_step j e (l + 1) n (state m2) (state m3) wide (c.in_ok-fill_cells.ensures.crash_safe lawful2 closed)) in
+    two_steps j e n (state old) (state m3) (state m4) clock3 safe3 (next_step c.cells.ensures.apart j e (l + 1) t (state m3) (state m4) (omega arith) c.requires.few (c.in_ok-close_ahead.ensures.crash_safe lawful3 (c.in_ok-fill_cells.ensures.durable lawful2)))
 
 pub returns-clause-ready : goal.returns-clause-ready
 returns-clause-ready g c lawful durable =
@@ -102,32 +136,56 @@ returns-clause-ready g c lawful durable =
     let settled = c.durable_is_settled.ensures m1 c.cell_of.result durable1 in
     let clock1 : HasClock (state m1) = record { counts_now = λ t f. laws.counts_now m1 t f lawful1; only_now = λ f. laws.only_now m1 f lawful1 } in
     let safe1 = c.in_ok-clear_behind.ensures.crash_safe lawful durable in
-    let m3 = c.put_cells.new.device in
+    let m3 = c.fill_cells.new.device in
     let lawful2 = c.in_ok-shut.ensures.lawful.0 lawful1 in
     let clock2 : HasClock (state m2) = record { counts_now = λ t f. laws.counts_now m2 t f lawful2; only_now = λ f. laws.only_now m2 f lawful2 } in
+    let closed : IsClosed (cell_of j e) (state m2) = subst (λ (r : Region). IsClosed r (state m2)) c.cell_of.ensures.region (c.in_ok-shut.ensures.closed lawful1 settled) in
     let safe2 = two_steps j e n (state old) (state m1) (state m2) clock1 safe1 (shut_step j e n c.cell_of.result (state m1) (state m2) c.cell_of.ensures.region (omega (arith, wide)) (c.in_ok-shut.ensures.crash_safe lawful1 settled)) in
-    let lawful3 = c.in_ok-put_cells.ensures.lawful.0 lawful2 in
+    let lawful3 = c.in_ok-fill_cells.ensures.lawful.0 lawful2 in
     let clock3 : HasClock (state m3) = record { counts_now = λ t f. laws.counts_now m3 t f lawful3; only_now = λ f. laws.only_now m3 f lawful3 } in
     let durable2 = c.in_ok-shut.ensures.durable lawful1 durable1 in
     let m = j.m in
     let few = c.requires.few in
     let closes : Closes (cell_of j e) (state m1).bytes (state m2).bytes =
     bytes_step (Closes (cell_of j e)) (state m1) (state m2) clock2 (laws.reads_image m2 lawful2) durable1 (subst (λ (r : Region). CrashSafe (Closes r) (state m1) (state m2)) c.cell_of.ensures.region (c.in_ok-shut.ensures.crash_safe lawful1 settled)) in
-    let changes : ChangesCells j (e + 1) l (state m2).bytes (state m3).bytes =
-    bytes_step (ChangesCells j (e + 1) l) (state m2) (state m3) clock3 (laws.reads_image m3 lawful3) durable2 (c.in_ok-put_cells.ensures.crash_safe lawful2) in
-    let closed : opened (cell_of j e) (state m2).bytes ≡ None =
-    subst (λ (r : Region). opened r (state m2).bytes ≡ None) c.cell_of.ensures.region (shut_none c.cell_of.result (state m2).bytes (c.in_ok-shut.ensures.closed lawful1 settled (state m2).bytes (laws.reads_image m2 lawful2))) in
+    let changes : ChangesCells j e (l + 1) (state m2).bytes (state m3).bytes =
+    (bytes_step (Spares j e (l + 1)) (state m2) (state m3) clock3 (laws.reads_image m3 lawful3) durable2 (c.in_ok-fill_cells.ensures.crash_safe lawful2 closed)).cells in
+    let filled = c.in_ok-fill_cells.ensures.filled lawful2 closed (state m3).bytes (laws.reads_image m3 lawful3) in
     let pieces : HasPieces j (state m3).bytes (e + 1) l (gated m (e + 1) c.args.others.now) =
-    subst (λ (b : List ℕ). HasPieces j (state m3).bytes (e + 1) l b) c.requires.bytes (c.in_ok-put_cells.ensures.written lawful2) in
+    subst (λ (b : List ℕ). HasPieces j (state m3).bytes (e + 1) l b) c.requires.bytes (c.in_ok-fill_cells.ensures.written lawful2) in
     let next : e + 1 ≡ suc e = omega arith in
-    let behind : suc e + l ≡ e + (l + 1) = omega arith in record {
-      closed = first_stays c.cells.ensures.apart j e l (state m2).bytes (state m3).bytes (omega (arith, wide, few)) changes ∙ closed;
+    let behind : suc e + l ≡ e + (l + 1) = omega arith in
+    let m4 = c.close_ahead.new.device in
+    let lawful4 = c.in_ok-close_ahead.ensures.lawful.0 lawful3 in
+    let clock4 : HasClock (state m4) = record { counts_now = λ t f. laws.counts_now m4 t f lawful4; only_now = λ f. laws.only_now m4 f lawful4 } in
+    let durable3 = c.in_ok-fill_cells.ensures.durable lawful2 in
+    each_ready c.cells.ensures.apart j e (l + 1) c.args.others.now t (state m3) (state m4) clock4 (omega arith) few durable3 (record {
+      closed = shut_none (cell_of j e) (state m3).bytes filled.0;
       others = subst (λ (f : ℕ). Hold j (state m3).bytes f (payloads m f c.args.others.now)) next
           (held j (state m3).bytes (e + 1) c.args.others.now c.requires.batches (λ x f few. c.cells_read_back.ensures.size m f x.request x.batch few) pieces);
       nothing = λ is borne.
           let more = touched_more t (l + 1) j.n is few in
           c.in_ok-clear_behind.ensures.gone lawful durable is
-          (subst (λ (f : ℕ). IsBorne j (state m1).bytes f) behind
-          (borne_before j (state m1).bytes (state m2).bytes (suc e + l) (later_cell c.cells.ensures.apart j e (suc e + l) (state m1).bytes (state m2).bytes (omega arith) (omega (arith, more)) closes.others)
-          (borne_before j (state m2).bytes (state m3).bytes (suc e + l) (behind_stays c.cells.ensures.apart j e l (state m2).bytes (state m3).bytes (omega (arith, more)) changes) borne)));
-    }
+          (borne_before j (state m1).bytes (state m2).bytes (e + (l + 1)) (later_cell c.cells.ensures.apart j e (e + (l + 1)) (state m1).bytes (state m2).bytes (omega arith) (omega (arith, more)) closes.others)
+          (borne_before j (state m2).bytes (state m3).bytes (e + (l + 1)) (behind_stays c.cells.ensures.apart j e (l + 1) (state m2).bytes (state m3).bytes more changes)
+          (subst (λ (f : ℕ). IsBorne j (state m3).bytes f) behind borne)));
+    }) (c.in_ok-close_ahead.ensures.crash_safe lawful3 durable3)
+
+pub returns-clause-filled : goal.returns-clause-filled
+returns-clause-filled g c lawful durable =
+    let state = g.D.Disk.state in
+    let j = c.args.journal.now in
+    let m1 = c.clear_behind.new.device in
+    let m2 = c.shut.new.device in
+    let lawful1 = c.in_ok-clear_behind.ensures.lawful.0 lawful in
+    let durable1 = c.in_ok-clear_behind.ensures.durable tt lawful durable in
+    let settled = c.durable_is_settled.ensures m1 c.cell_of.result durable1 in
+    let closed : IsClosed (cell_of j c.args.first) (state m2) = subst (λ (r : Region). IsClosed r (state m2)) c.cell_of.ensures.region (c.in_ok-shut.ensures.closed lawful1 settled) in
+    let laws = g.met.D.Disk in
+    let m4 = c.close_ahead.new.device in
+    let lawful2 = c.in_ok-shut.ensures.lawful.0 lawful1 in
+    let lawful3 = c.in_ok-fill_cells.ensures.lawful.0 lawful2 in
+    let lawful4 = c.in_ok-close_ahead.ensures.lawful.0 lawful3 in
+    let clock4 : HasClock (state m4) = record { counts_now = λ t f. laws.counts_now m4 t f lawful4; only_now = λ f. laws.only_now m4 f lawful4 } in
+    still_filled c.cells.ensures.apart j c.args.first (length c.args.others.now + 1) c.args.is_full c.args.written.payload.now (state c.fill_cells.new.device) (state m4) clock4 (omega arith) c.requires.few
+    (c.in_ok-fill_cells.ensures.filled lawful2 closed) (c.in_ok-close_ahead.ensures.crash_safe lawful3 (c.in_ok-fill_cells.ensures.durable lawful2))

@@ -1,12 +1,12 @@
 use Rattle.std.proofs.Common.{◌≡◌, inl, inr, ⊎_elim, ℕ, suc, ◌+◌, ◌<◌, ◌≤◌, ◌^◌, Bool, false, List, ◌∷◌, length, refl, sym, ap, ◌∙◌, subst, arith, rules}
 use Rattle.td_gate.specs.CrashSafe.{CrashSafe}
 use Rattle.td_gate.specs.declared.region.Region.{Region}
-use Rattle.td_gate.specs.Region.{IsOpen, Puts}
+use Rattle.td_gate.specs.Region.{IsFilled, IsOpen, Puts}
 use Rattle.td_journal.specs.declared.journal.Journal.{Journal}
 use Rattle.td_journal.specs.declared.error.JournalError.TheVariants as JournalError
 use Rattle.td_journal.specs.Cell.{cell_of, cell_bytes}
 use Rattle.td_standing.specs.Told.{inputs_of, ring_of}
-use Rattle.td_group.specs.Groups.{AreCellBatches, IsReady, Spares, touched}
+use Rattle.td_group.specs.Groups.{AreCellBatches, EachReady, Spares, touched}
 use Rattle.td_group.proofs.Kept.{each_keeps, keeps_after, cell_batches, as_err}
 use Rattle.td_group.proofs.Ready.{room_by, not_full, touched_wide}
 use Rattle.td_group.proofs.group.put_group.Goals as goal
@@ -43,10 +43,10 @@ returns-in_err-get_ready-clause-kept g c is lawful plan h side s keeps =
     let state = g.D.Disk.state in
     let was : c.in_err-get_ready.field-0.0 ≡ JournalError.Memory = search (rules, is) in
     keeps_after plan h side s (state c.args.device.now) (state c.get_ready.new.device) keeps
-    (c.in_err-get_ready.ensures.durable was lawful keeps.durable) (c.in_err-get_ready.ensures.same (ap as_err was) lawful)
+    (c.in_err-get_ready.ensures.durable (ap as_err was) lawful keeps.durable) (c.in_err-get_ready.ensures.same (ap as_err was) lawful)
 
-pub returns-in_err-put-clause-begun : goal.returns-in_err-put-clause-begun
-returns-in_err-put-clause-begun g c lawful plan h side s ring room fresh valid keeps t0 f le left =
+pub returns-in_err-uncover-clause-begun : goal.returns-in_err-uncover-clause-begun
+returns-in_err-uncover-clause-begun g c lawful plan h side s ring room fresh valid keeps t0 f le left =
     let state = g.D.Disk.state in
     let laws = g.met.D.Disk in
     let j = c.args.journal.now in
@@ -69,25 +69,26 @@ returns-in_err-put-clause-begun g c lawful plan h side s ring room fresh valid k
     let count : l + 1 ≡ suc l = omega arith in
     let full : w + suc l < n → t ≡ false = λ left. c.is_full-is_full.ensures ∙ not_full (j.kept + j.n) (e + l) w l n s.epoch e full_at refl place left in
     let still = c.in_ok-get_ready.ensures.lawful.0 lawful in
-    let durable = c.in_ok-get_ready.ensures.durable tt lawful keeps.durable in
     let safe : CrashSafe (Spares (ring_of h.shape s.epoch) e (touched t (suc l))) (state old) (state mid) =
     subst (λ (k : Journal). CrashSafe (Spares k e (touched t (suc l))) (state old) (state mid)) ring
     (subst (λ (k : ℕ). CrashSafe (Spares j e (touched t k)) (state old) (state mid)) count (c.in_ok-get_ready.ensures.crash_safe lawful keeps.durable)) in
-    let ready : IsReady (ring_of h.shape s.epoch) e xs t (state mid).bytes =
-    subst (λ (k : Journal). IsReady k e xs t (state mid).bytes) ring (c.in_ok-get_ready.ensures.ready lawful keeps.durable) in
-    let settled = c.durable_is_settled.ensures mid c.cell_of.result durable in
-    let payload = c.deref-2.ensures.value ∙ c.in_ok-payload.ensures.ok in
-    let new = c.put.new.device in
+    let ready : EachReady (ring_of h.shape s.epoch) e xs t (state mid) =
+    subst (λ (k : Journal). EachReady k e xs t (state mid)) ring (c.in_ok-get_ready.ensures.ready lawful keeps.durable) in
+    let payload : c.deref.result.now ≡ cell_bytes j.m e x.request x.batch = c.deref.ensures.value ∙ c.in_ok-payload.ensures.ok in
+    let filled : IsFilled c.cell_of.result (cell_bytes j.m e x.request x.batch) (state mid) =
+    subst (λ (a : Region). IsFilled a (cell_bytes j.m e x.request x.batch) (state mid)) (sym c.cell_of.ensures.region)
+    (subst (λ (p : List ℕ). IsFilled (cell_of j e) p (state mid)) payload (c.in_ok-get_ready.ensures.filled lawful keeps.durable)) in
+    let new = c.uncover.new.device in
     let puts : CrashSafe (Puts (cell_of (ring_of h.shape s.epoch) e) (cell_bytes h.shape.m e x.request x.batch)) (state mid) (state new) =
     subst (λ (k : Journal). CrashSafe (Puts (cell_of k e) (cell_bytes k.m e x.request x.batch)) (state mid) (state new)) ring
     (subst (λ (a : Region). CrashSafe (Puts a (cell_bytes j.m e x.request x.batch)) (state mid) (state new)) c.cell_of.ensures.region
-    (subst (λ (p : List ℕ). CrashSafe (Puts c.cell_of.result p) (state mid) (state new)) payload (c.in_err-put.ensures.crash_safe still settled))) in
+    (c.steps_are_puts.ensures.open c.cell_of.result (cell_bytes j.m e x.request x.batch) mid new (c.in_err-uncover.ensures.crash_safe still (cell_bytes j.m e x.request x.batch) filled))) in
     let small : j.m < 2 ^ 32 = omega (arith, c.requires.records) in
     let one : x.request < 2 ^ 64 = omega arith in
     let ok : AreCellBatches (inputs_of plan) h.shape.m (x ∷ xs) =
     subst (λ (k : Journal). AreCellBatches (inputs_of plan) k.m (x ∷ xs)) ring
     (cell_batches (inputs_of plan) j.m (x ∷ xs) small c.requires.few valid ((c.in_ok-payload.ensures.fits, one), c.in_ok-bytes.ensures.fits)) in
-    c.group_is_safe.ensures.begun plan h side s e x xs t old mid new room some wide full fresh ok each still durable safe ready puts t0 f le left
+    c.group_is_safe.ensures.begun plan h side s e x xs t old mid new room some wide full fresh ok each still safe ready puts t0 f le left
 
 pub returns-clause-begun : goal.returns-clause-begun
 returns-clause-begun g c lawful plan h side s ring room fresh valid keeps t0 f le left =
@@ -113,25 +114,26 @@ returns-clause-begun g c lawful plan h side s ring room fresh valid keeps t0 f l
     let count : l + 1 ≡ suc l = omega arith in
     let full : w + suc l < n → t ≡ false = λ left. c.is_full-is_full.ensures ∙ not_full (j.kept + j.n) (e + l) w l n s.epoch e full_at refl place left in
     let still = c.in_ok-get_ready.ensures.lawful.0 lawful in
-    let durable = c.in_ok-get_ready.ensures.durable tt lawful keeps.durable in
     let safe : CrashSafe (Spares (ring_of h.shape s.epoch) e (touched t (suc l))) (state old) (state mid) =
     subst (λ (k : Journal). CrashSafe (Spares k e (touched t (suc l))) (state old) (state mid)) ring
     (subst (λ (k : ℕ). CrashSafe (Spares j e (touched t k)) (state old) (state mid)) count (c.in_ok-get_ready.ensures.crash_safe lawful keeps.durable)) in
-    let ready : IsReady (ring_of h.shape s.epoch) e xs t (state mid).bytes =
-    subst (λ (k : Journal). IsReady k e xs t (state mid).bytes) ring (c.in_ok-get_ready.ensures.ready lawful keeps.durable) in
-    let settled = c.durable_is_settled.ensures mid c.cell_of.result durable in
-    let payload = c.deref-2.ensures.value ∙ c.in_ok-payload.ensures.ok in
-    let new = c.put.new.device in
+    let ready : EachReady (ring_of h.shape s.epoch) e xs t (state mid) =
+    subst (λ (k : Journal). EachReady k e xs t (state mid)) ring (c.in_ok-get_ready.ensures.ready lawful keeps.durable) in
+    let payload : c.deref.result.now ≡ cell_bytes j.m e x.request x.batch = c.deref.ensures.value ∙ c.in_ok-payload.ensures.ok in
+    let filled : IsFilled c.cell_of.result (cell_bytes j.m e x.request x.batch) (state mid) =
+    subst (λ (a : Region). IsFilled a (cell_bytes j.m e x.request x.batch) (state mid)) (sym c.cell_of.ensures.region)
+    (subst (λ (p : List ℕ). IsFilled (cell_of j e) p (state mid)) payload (c.in_ok-get_ready.ensures.filled lawful keeps.durable)) in
+    let new = c.uncover.new.device in
     let puts : CrashSafe (Puts (cell_of (ring_of h.shape s.epoch) e) (cell_bytes h.shape.m e x.request x.batch)) (state mid) (state new) =
     subst (λ (k : Journal). CrashSafe (Puts (cell_of k e) (cell_bytes k.m e x.request x.batch)) (state mid) (state new)) ring
     (subst (λ (a : Region). CrashSafe (Puts a (cell_bytes j.m e x.request x.batch)) (state mid) (state new)) c.cell_of.ensures.region
-    (subst (λ (p : List ℕ). CrashSafe (Puts c.cell_of.result p) (state mid) (state new)) payload (c.in_ok-put.ensures.crash_safe still settled))) in
+    (c.steps_are_puts.ensures.open c.cell_of.result (cell_bytes j.m e x.request x.batch) mid new (c.in_ok-uncover.ensures.crash_safe still (cell_bytes j.m e x.request x.batch) filled))) in
     let small : j.m < 2 ^ 32 = omega (arith, c.requires.records) in
     let one : x.request < 2 ^ 64 = omega arith in
     let ok : AreCellBatches (inputs_of plan) h.shape.m (x ∷ xs) =
     subst (λ (k : Journal). AreCellBatches (inputs_of plan) k.m (x ∷ xs)) ring
     (cell_batches (inputs_of plan) j.m (x ∷ xs) small c.requires.few valid ((c.in_ok-payload.ensures.fits, one), c.in_ok-bytes.ensures.fits)) in
-    c.group_is_safe.ensures.begun plan h side s e x xs t old mid new room some wide full fresh ok each still durable safe ready puts t0 f le left
+    c.group_is_safe.ensures.begun plan h side s e x xs t old mid new room some wide full fresh ok each still safe ready puts t0 f le left
 
 pub returns-clause-done : goal.returns-clause-done
 returns-clause-done g c lawful plan h side s ring room fresh valid keeps =
@@ -157,48 +159,49 @@ returns-clause-done g c lawful plan h side s ring room fresh valid keeps =
     let count : l + 1 ≡ suc l = omega arith in
     let full : w + suc l < n → t ≡ false = λ left. c.is_full-is_full.ensures ∙ not_full (j.kept + j.n) (e + l) w l n s.epoch e full_at refl place left in
     let still = c.in_ok-get_ready.ensures.lawful.0 lawful in
-    let durable = c.in_ok-get_ready.ensures.durable tt lawful keeps.durable in
     let safe : CrashSafe (Spares (ring_of h.shape s.epoch) e (touched t (suc l))) (state old) (state mid) =
     subst (λ (k : Journal). CrashSafe (Spares k e (touched t (suc l))) (state old) (state mid)) ring
     (subst (λ (k : ℕ). CrashSafe (Spares j e (touched t k)) (state old) (state mid)) count (c.in_ok-get_ready.ensures.crash_safe lawful keeps.durable)) in
-    let ready : IsReady (ring_of h.shape s.epoch) e xs t (state mid).bytes =
-    subst (λ (k : Journal). IsReady k e xs t (state mid).bytes) ring (c.in_ok-get_ready.ensures.ready lawful keeps.durable) in
-    let settled = c.durable_is_settled.ensures mid c.cell_of.result durable in
-    let payload = c.deref-2.ensures.value ∙ c.in_ok-payload.ensures.ok in
-    let new = c.put.new.device in
+    let ready : EachReady (ring_of h.shape s.epoch) e xs t (state mid) =
+    subst (λ (k : Journal). EachReady k e xs t (state mid)) ring (c.in_ok-get_ready.ensures.ready lawful keeps.durable) in
+    let payload : c.deref.result.now ≡ cell_bytes j.m e x.request x.batch = c.deref.ensures.value ∙ c.in_ok-payload.ensures.ok in
+    let filled : IsFilled c.cell_of.result (cell_bytes j.m e x.request x.batch) (state mid) =
+    subst (λ (a : Region). IsFilled a (cell_bytes j.m e x.request x.batch) (state mid)) (sym c.cell_of.ensures.region)
+    (subst (λ (p : List ℕ). IsFilled (cell_of j e) p (state mid)) payload (c.in_ok-get_ready.ensures.filled lawful keeps.durable)) in
+    let new = c.uncover.new.device in
     let puts : CrashSafe (Puts (cell_of (ring_of h.shape s.epoch) e) (cell_bytes h.shape.m e x.request x.batch)) (state mid) (state new) =
     subst (λ (k : Journal). CrashSafe (Puts (cell_of k e) (cell_bytes k.m e x.request x.batch)) (state mid) (state new)) ring
     (subst (λ (a : Region). CrashSafe (Puts a (cell_bytes j.m e x.request x.batch)) (state mid) (state new)) c.cell_of.ensures.region
-    (subst (λ (p : List ℕ). CrashSafe (Puts c.cell_of.result p) (state mid) (state new)) payload (c.in_ok-put.ensures.crash_safe still settled))) in
+    (c.steps_are_puts.ensures.open c.cell_of.result (cell_bytes j.m e x.request x.batch) mid new (c.in_ok-uncover.ensures.crash_safe still (cell_bytes j.m e x.request x.batch) filled))) in
     let small : j.m < 2 ^ 32 = omega (arith, c.requires.records) in
     let one : x.request < 2 ^ 64 = omega arith in
     let ok : AreCellBatches (inputs_of plan) h.shape.m (x ∷ xs) =
     subst (λ (k : Journal). AreCellBatches (inputs_of plan) k.m (x ∷ xs)) ring
     (cell_batches (inputs_of plan) j.m (x ∷ xs) small c.requires.few valid ((c.in_ok-payload.ensures.fits, one), c.in_ok-bytes.ensures.fits)) in
-    let also = c.in_ok-put.ensures.lawful.0 still in
+    let also = c.in_ok-uncover.ensures.lawful.0 still in
     let is_open : IsOpen (cell_of (ring_of h.shape s.epoch) e) (cell_bytes h.shape.m e x.request x.batch) (state new) =
     subst (λ (k : Journal). IsOpen (cell_of k e) (cell_bytes k.m e x.request x.batch) (state new)) ring
     (subst (λ (a : Region). IsOpen a (cell_bytes j.m e x.request x.batch) (state new)) c.cell_of.ensures.region
-    (subst (λ (p : List ℕ). IsOpen c.cell_of.result p (state new)) payload (c.in_ok-put.ensures.open still settled))) in record {
-      durable = c.in_ok-put.ensures.durable still;
-      tells = c.group_is_safe.ensures.done plan h side s e x xs t old mid new room some wide full fresh ok each still also durable safe ready puts is_open (state new).bytes (laws.reads_image new also);
+    (c.in_ok-uncover.ensures.open still (cell_bytes j.m e x.request x.batch) filled)) in record {
+      durable = c.in_ok-uncover.ensures.durable still;
+      tells = c.group_is_safe.ensures.done plan h side s e x xs t old mid new room some wide full fresh ok each still also safe ready puts is_open (state new).bytes (laws.reads_image new also);
     }
 
 pub returns-in_err-get_ready-clause-later : goal.returns-in_err-get_ready-clause-later
 returns-in_err-get_ready-clause-later g c lawful durable = (c.in_err-get_ready.ensures.crash_safe lawful durable).later
 
-pub returns-in_err-put-clause-later : goal.returns-in_err-put-clause-later
-returns-in_err-put-clause-later g c lawful durable =
+pub returns-in_err-uncover-clause-later : goal.returns-in_err-uncover-clause-later
+returns-in_err-uncover-clause-later g c lawful durable =
     let ready = (c.in_ok-get_ready.ensures.crash_safe lawful durable).later in
     let still = c.in_ok-get_ready.ensures.lawful.0 lawful in
-    let after = c.in_ok-get_ready.ensures.durable tt lawful durable in
-    let puts = (c.in_err-put.ensures.crash_safe still (c.durable_is_settled.ensures c.get_ready.new.device c.cell_of.result after)).later in
+    let filled = subst (λ (a : Region). IsFilled a c.deref.result.now (g.D.Disk.state c.get_ready.new.device)) (sym c.cell_of.ensures.region) (c.in_ok-get_ready.ensures.filled lawful durable) in
+    let puts = (c.in_err-uncover.ensures.crash_safe still c.deref.result.now filled).later in
     omega (arith, ready, puts)
 
 pub returns-clause-later : goal.returns-clause-later
 returns-clause-later g c lawful durable =
     let ready = (c.in_ok-get_ready.ensures.crash_safe lawful durable).later in
     let still = c.in_ok-get_ready.ensures.lawful.0 lawful in
-    let after = c.in_ok-get_ready.ensures.durable tt lawful durable in
-    let puts = (c.in_ok-put.ensures.crash_safe still (c.durable_is_settled.ensures c.get_ready.new.device c.cell_of.result after)).later in
+    let filled = subst (λ (a : Region). IsFilled a c.deref.result.now (g.D.Disk.state c.get_ready.new.device)) (sym c.cell_of.ensures.region) (c.in_ok-get_ready.ensures.filled lawful durable) in
+    let puts = (c.in_ok-uncover.ensures.crash_safe still c.deref.result.now filled).later in
     omega (arith, ready, puts)

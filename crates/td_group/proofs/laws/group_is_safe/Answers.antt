@@ -1,7 +1,4 @@
-use Rattle.std.proofs.Common.{inl, inr, ⊎_elim, ℕ, ◌≤◌, List, length, suc, subst, arith}
-use Rattle.td_gate.specs.Region.{Puts}
-use Rattle.td_journal.specs.Cell.{cell_of, cell_bytes}
-use Rattle.td_standing.specs.Told.{ring_of}
+use Rattle.std.proofs.Common.{inl, inr, ⊎_elim, ℕ, ◌≤◌, List, length, suc, arith}
 use Rattle.td_group.proofs.Standing.{Laws, ready_since, tells_ready, put_first, opened_first, changed}
 use Rattle.td_group.proofs.laws.group_is_safe.Goals as goal
 
@@ -21,7 +18,7 @@ returns-clause-ready g c plan head side s e k is_full old mid room some wide eac
     ready_since laws plan head side s e k is_full room some wide (state old) (state mid) each safe t f le left
 
 pub returns-clause-begun : goal.returns-clause-begun
-returns-clause-begun g c plan head side s e x xs is_full old mid new room some wide full fresh ok each lawful durable safe ready puts t f le left =
+returns-clause-begun g c plan head side s e x xs is_full old mid new room some wide full fresh ok each lawful safe ready puts t f le left =
     let state = g.D.Disk.state in
     let met = g.met.D.Disk in
     let laws : Laws = record {
@@ -38,13 +35,11 @@ returns-clause-begun g c plan head side s e x xs is_full old mid new room some w
     let told = tells_ready laws plan head side s e (suc (length xs)) is_full room some wide (state old) (state mid) counts each safe in
     ⊎_elim
     (λ was. ⊎_elim (λ before. inl before) (λ tells. inr (inl tells)) (ready_since laws plan head side s e (suc (length xs)) is_full room some wide (state old) (state mid) each safe t f le was))
-    (λ now. let is = durable now.0 now.1 in
-    inr (put_first laws plan head side s e x xs is_full room fresh ok full (state mid).bytes f (told (state mid).bytes (met.reads_image mid lawful)) ready
-    (subst (λ (d : List ℕ). Puts (cell_of (ring_of head.shape s.epoch) e) (cell_bytes head.shape.m e x.request x.batch) d f) is now.2)))
+    (λ now. inr (put_first laws plan head side s e x xs is_full room fresh ok full now.0 f (told now.0 now.1) (ready now.0 now.1) now.2))
     (puts.before t f (omega (arith, le, safe.later)) left)
 
 pub returns-clause-done : goal.returns-clause-done
-returns-clause-done g c plan head side s e x xs is_full old mid new room some wide full fresh ok each lawful still durable safe ready puts is_open f image =
+returns-clause-done g c plan head side s e x xs is_full old mid new room some wide full fresh ok each lawful still safe ready puts is_open f image =
     let state = g.D.Disk.state in
     let met = g.met.D.Disk in
     let laws : Laws = record {
@@ -60,7 +55,5 @@ returns-clause-done g c plan head side s e x xs is_full old mid new room some wi
     let counts : (t : ℕ) (d : List ℕ) → t ≤ (state mid).moment → (state mid).images d → (state mid).since t d = λ t d. met.counts_now mid t d lawful in
     let told = tells_ready laws plan head side s e (suc (length xs)) is_full room some wide (state old) (state mid) counts each safe in
     let from = puts.each f (met.counts_now new (state mid).moment f still puts.later image) in
-    let is = durable from.0 from.1 in
-    let step = subst (λ (d : List ℕ). Puts (cell_of (ring_of head.shape s.epoch) e) (cell_bytes head.shape.m e x.request x.batch) d f) is from.2 in
-    opened_first laws plan head side s e x xs is_full room fresh ok full (state mid).bytes f (told (state mid).bytes (met.reads_image mid lawful)) ready
-    (changed laws plan head side s e x xs is_full room fresh ok full (state mid).bytes f (told (state mid).bytes (met.reads_image mid lawful)) ready step.others) (is_open.each f image)
+    opened_first laws plan head side s e x xs is_full room fresh ok full from.0 f (told from.0 from.1) (ready from.0 from.1)
+    (changed laws plan head side s e x xs is_full room fresh ok full from.0 f (told from.0 from.1) (ready from.0 from.1) from.2.others) (is_open.each f image)

@@ -1,0 +1,48 @@
+use Rattle.std.proofs.Common.{◌+◌, ◌*◌, ◌≤◌, length, take, sym, subst, arith}
+use Rattle.td_gate.specs.declared.region.Region.{Region}
+use Rattle.td_journal.specs.Cell.{cell_len}
+use Rattle.td_group.proofs.Kept.{at_ok}
+use Rattle.td_group.proofs.Moments.{HasClock}
+use Rattle.td_group.proofs.Neighbours.{run_room, run_long, run_step, run_safe, run_written}
+use Rattle.td_group.proofs.cells.write_run.Goals as goal
+
+pub write-requires : goal.write-requires
+write-requires g c =
+    let j = c.args.journal.now in
+    let e = c.args.first in
+    let n = c.args.count in
+    let long = run_long n (cell_len j.m + 1) c.cell_size.result c.args.bytes.now c.cell_size.ensures c.requires.whole in
+    let room = run_room j e n c.requires.run in
+    subst (λ (r : Region). r.at + length (take (n * c.cell_size.result) c.args.bytes.now) ≤ g.D.Disk.capacity c.args.device.now) (sym c.cell_of.ensures.region)
+    (omega (arith, long, room, c.requires.room))
+
+pub returns-clause-crash_safe : goal.returns-clause-crash_safe
+returns-clause-crash_safe g c lawful =
+    let state = g.D.Disk.state in
+    let laws = g.met.D.Disk in
+    let j = c.args.journal.now in
+    let n = c.args.count in
+    let old = c.args.device.now in
+    let clock : HasClock (state old) = record { counts_now = λ t f. laws.counts_now old t f lawful; only_now = λ f. laws.only_now old f lawful } in
+    let long = run_long n (cell_len j.m + 1) c.cell_size.result c.args.bytes.now c.cell_size.ensures c.requires.whole in
+    run_safe j c.args.first n c.cell_of.result (length (take (n * c.cell_size.result) c.args.bytes.now)) (state old) (state c.write.new.self) c.requires.run c.cell_of.ensures.region long
+    clock (c.write.ensures.time lawful) (c.write.ensures.images lawful)
+
+pub returns-clause-others : goal.returns-clause-others
+returns-clause-others g c lawful =
+    let state = g.D.Disk.state in
+    let j = c.args.journal.now in
+    let n = c.args.count in
+    let long = run_long n (cell_len j.m + 1) c.cell_size.result c.args.bytes.now c.cell_size.ensures c.requires.whole in
+    run_step j c.args.first n c.cell_of.result (length (take (n * c.cell_size.result) c.args.bytes.now)) (state c.args.device.now).bytes (state c.write.new.self).bytes c.requires.run c.cell_of.ensures.region long
+    (c.write.ensures.others lawful)
+
+pub returns-clause-written : goal.returns-clause-written
+returns-clause-written g c = at_ok c.write.result _ _
+    (λ written lawful.
+    let j = c.args.journal.now in
+    let n = c.args.count in
+    let long = run_long n (cell_len j.m + 1) c.cell_size.result c.args.bytes.now c.cell_size.ensures c.requires.whole in
+    run_written j c.args.first n c.cell_of.result (length (take (n * c.cell_size.result) c.args.bytes.now)) c.cell_size.result (g.D.Disk.state c.write.new.self).bytes c.args.bytes.now
+    c.requires.run c.cell_of.ensures.region long c.cell_size.ensures (written lawful))
+    c.write.ensures.written
