@@ -18,6 +18,8 @@ each batch of the source is on the disk once, and all outputs of each epoch are 
 - `refused(number, why)`, where a batch with a fault is to be passed over: it is called for each, with what the stream says of it. It may be called again
   after a stop. Without it such a batch ends the client.
 
+**What it may be asked.** With `--ask` among the options, `Client.ask` answers a question about what folds keep (docs/QUESTIONS.md), while `run` goes on.
+
 **Why nothing is lost.** A stream begins with the outputs of all epochs since the last cut. So an epoch that is not stored comes again, as long as no cut was
 taken after it. The client sends `cut` only where all that was sent, and all that was on the disk, is stored. A stream cuts by itself only where N epochs
 stand since the last cut; the client lets at most N - 1 stand there.
@@ -25,6 +27,7 @@ stand since the last cut; the client lets at most N - 1 stand there.
 **Why nothing is doubled.** The client begins after the greatest request number on the disk, which `td dump` tells. What was sent before and is not there
 is sent again. A client and its stream have a lock, the file DISK.lock; the next client waits until both have ended."""
 
+import collections
 import fcntl
 import re
 import sqlite3
@@ -60,19 +63,49 @@ class Client:
         self.disk, self.plan, self.source, self.store = disk, plan, source, store
         self.td, self.window, self.tries, self.refused = td, window, tries, refused
         self.options = (*options, "--refuse") if refused else options
+        # The stream that runs, and whether no other comes.
+        self.stream, self.is_over, self.streams = None, False, threading.Condition()
+
+    def ask(self, question):
+        """What answers a question, as `top 1 10`: the epoch, and the states in order, each (vertex, key, a, b). It is called from other threads than that of `run`,
+        any number of them. It waits for the answer, of the next stream where one ends before. Raises `Stopped` where `run` ends before."""
+        stream = None
+        while True:
+            with self.streams:
+                self.streams.wait_for(lambda: self.is_over or self.stream not in (None, stream))
+                if self.is_over:
+                    raise Stopped(f"no stream answers {question!r}", 1)
+                stream = self.stream
+            answer = stream.ask(question)
+            if answer:
+                return answer
+
+    def begin(self, stream):
+        with self.streams:
+            self.stream = stream
+            self.streams.notify_all()
+        return stream
+
+    def end(self):
+        with self.streams:
+            self.is_over = True
+            self.streams.notify_all()
 
     def run(self):
         """Returns when the source has ended, and all is stored and cut. Raises `Stopped`, and what `source` and `store` raise."""
         with open(f"{self.disk}.lock", "w") as lock:
             fcntl.flock(lock, fcntl.LOCK_EX)
-            self.run_locked(lock)
+            try:
+                self.run_locked(lock)
+            finally:
+                self.end()
 
     def run_locked(self, lock):
         before, in_vain = None, 0
         while in_vain < self.tries:
             status, standing = self.look()
             if standing:
-                status, is_all = Stream(self, lock, *standing).run()
+                status, is_all = self.begin(Stream(self, lock, *standing)).run()
                 if is_all:
                     return
             if status in FINAL:
@@ -102,6 +135,8 @@ class Stream:
             raise Stopped(f"{told - kept} epochs stand since the last cut, and N is {cells}")
         self.outputs, self.error, self.is_all, self.is_over = [], None, False, False
         self.changed = threading.Condition()
+        # What is written to the stream is written by one thread at a time; questions wait in the order in which they were written.
+        self.writing, self.asked, self.states = threading.Lock(), collections.deque(), []
         words = [client.td, "stream", client.disk, client.plan, "--marks", *client.options]
         self.child = subprocess.Popen(words, stdin=subprocess.PIPE, stdout=subprocess.PIPE, text=True, pass_fds=[lock.fileno()])
 
@@ -122,6 +157,9 @@ class Stream:
             with self.changed:
                 self.is_over = True
                 self.changed.notify()
+            with self.writing:
+                for answer in self.asked:
+                    answer.give(None)
         if self.error:
             raise self.error
         return status, self.is_all and status == 0
@@ -138,8 +176,28 @@ class Stream:
             with self.changed:
                 self.stored = number
                 self.changed.notify()
-        elif word not in ("cut", "full"):
+        elif word == "state":
+            self.states.append(tuple(numbers))
+        elif word == "asked":
+            self.asked.popleft().give((number, self.states))
+            self.states = []
+        elif word not in ("cut", "full", "none"):
             self.outputs.append((number, *numbers))
+
+    def ask(self, question):
+        """What answers a question; None where the stream has ended before."""
+        answer = Answer()
+        try:
+            with self.writing:
+                if self.is_over:
+                    return None
+                self.asked.append(answer)
+                self.child.stdin.write(f"{question}\n")
+                self.child.stdin.flush()
+        except (BrokenPipeError, ValueError):
+            # The stream has ended, or all was sent to it.
+            pass
+        return answer.wait()
 
     def refuse(self, number, why):
         """Passes over a batch that the stream refused: it is no epoch."""
@@ -199,8 +257,24 @@ class Stream:
             raise BrokenPipeError
 
     def send(self, *lines):
-        self.child.stdin.write("".join(f"{line}\n" for line in lines))
-        self.child.stdin.flush()
+        with self.writing:
+            self.child.stdin.write("".join(f"{line}\n" for line in lines))
+            self.child.stdin.flush()
+
+
+class Answer:
+    """What one thread waits for, and another gives."""
+
+    def __init__(self):
+        self.is_there, self.said = threading.Event(), None
+
+    def give(self, said):
+        self.said = said
+        self.is_there.set()
+
+    def wait(self):
+        self.is_there.wait()
+        return self.said
 
 
 # An example: the batches of a file, and a table.

@@ -15,7 +15,7 @@ vertex and key. Disks have few cells, so that cuts are many. It is required that
 What comes when is another thing in each run, also for the same seed.
 
 Before that the client is given a program in place of `td`, to see what it stores, and whether it starts a stream again, where a line has come in part,
-after each status, and where somebody else feeds the disk. No cut may be sent there before a store has returned."""
+after each status, and where somebody else feeds the disk. No cut may be sent there before a store has returned. And it is asked while it sends."""
 
 import contextlib
 import importlib.util
@@ -28,6 +28,7 @@ import signal
 import sqlite3
 import subprocess
 import sys
+import threading
 import time
 
 import lib
@@ -141,6 +142,39 @@ def play_refused(folder):
     except client.Stopped as stop:
         if stop.status != 5:
             lib.fail(f"a batch with a fault ended the client with status {stop.status}: {stop}")
+
+
+def play_asked(folder):
+    """Asks a client's stream while it sends; the script ends where an answer is not that of the epochs up to its own."""
+    (folder / "plan").write_text(lib.TOTAL)
+    td("format", folder / "asked", folder / "plan", RECORDS, 4, STATES)
+    answers, is_asked, client = [], threading.Event(), client_module()
+
+    def source(first):
+        for number in range(first, EPOCHS):
+            # (the last ones wait for some answers)
+            is_asked.wait(SECONDS if number > EPOCHS // 2 else 0)
+            yield number, [(0, number % KEYS, 1)]
+
+    asked = client.Client(folder / "asked", folder / "plan", source, lambda *epoch: None, TD, options=("--ask",))
+
+    def ask():
+        with contextlib.suppress(client.Stopped):
+            while True:
+                answers.append(asked.ask("list 1"))
+                if len(answers) > KEYS:
+                    is_asked.set()
+
+    asker = threading.Thread(target=ask)
+    asker.start()
+    asked.run()
+    asker.join()
+    for epoch, states in answers:
+        counts = [len([number for number in range(1, epoch + 1) if number % KEYS == key]) for key in range(KEYS)]
+        if states != [(1, key, count, count) for key, count in enumerate(counts) if count]:
+            lib.fail(f"list 1 was answered after epoch {epoch} by {states}")
+    if len(answers) <= KEYS or [epoch for epoch, _ in answers] != sorted(epoch for epoch, _ in answers):
+        lib.fail(f"the client answered {len(answers)} questions, of the epochs {[epoch for epoch, _ in answers]}")
 
 
 def play_cases(folder):
@@ -305,6 +339,7 @@ def main():
     with lib.folder() as folder:
         play_cases(folder)
         play_refused(folder)
+        play_asked(folder)
     print(f"{len(CASES)} cases with a program in place of td, and batches with a fault: as they should be")
     made = random.Random(SEED)
     for which in PLANS:

@@ -109,6 +109,8 @@ ON_FILES = [
     ("stream disk plan --marks", b"req 3\n0 9 4\n.\nreq 4\n.\nreq 4\n.\ncut\nreq 5\n0 7 1\n0 8 1\n.\nreq 6\n.\n", MADE),
     ("stream disk plan --refuse --at", b"at 2\n0 7 5\n.\nat 3\nreq 3\n0 9 4\n.\nat 5\n.\n0 8 1\n.\nat 5\n.\n", MADE),
     ("stream disk plan --marks --hold", b"seen 2\ncut\nreq 3\n0 9 4\n.\nseen 3\nreq 5\n0 7 1\n0 8 1\n.\ncut\n", MADE),
+    ("stream disk plan --ask", b"get 1 7\nlist 1\n0 9 4\n.\ntop 1 2\nleast 1 9\ncut\n0 7 1\n.\nlist 1 8 1\nrank 1 50\nget 1 1\n", MADE),
+    ("stream disk plan --ask --workers 2", b"list 1\n0 9 4\n.\ntop 1 1\nget 1 9\n", MADE),
 ]
 # Those of them that may change the disk though they are refused, but not what it tells, but to what they would make of it.
 WRITE = ("format", "upgrade")

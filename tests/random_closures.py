@@ -377,7 +377,7 @@ def with_mistake(some, lines):
         other = some.randrange(len(line))
         line[at], line[other] = line[other], line[at]
     else:
-        line[at] = some.choice([*RESERVED, *NAMES, "x", "nobody", "9x", "01", "10000", "70000", "18446744073709551616", "$", "n"])
+        line[at] = some.choice([*sorted(RESERVED), *sorted(NAMES), "x", "nobody", "9x", "01", "10000", "70000", "18446744073709551616", "$", "n"])
     return lines
 
 

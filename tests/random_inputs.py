@@ -13,7 +13,7 @@ With --feeds (docs/COMMANDS.md) a disk is made for one input in ten more, of ran
 times, by epochs some of which have request numbers, new, repeated or lower ones, with cuts and with mistakes between them; it may be
 raised to version 2; and after each command `td show` must tell what the reading says, and `td dump` write it; what is dumped at the end is
 fed to a fresh disk. What `td states` writes (docs/STATES.md) is loaded to another one, to which the dump is fed then; and once more with mistakes, with
-vertices by other numbers, and with less room."""
+vertices by other numbers, and with less room. Between epochs of `td stream --ask` random questions are asked, some without a form (docs/QUESTIONS.md)."""
 
 import collections
 import random
@@ -34,6 +34,14 @@ PICKS = [0, 0, 1, 2, 3, 5, 8, 100, 2**64 - 1]
 
 class Fault(Exception):
     """The text of an input's first fault."""
+
+
+class TooManyKeys(Fault):
+    """At a cut there are more states than find room."""
+
+    def __init__(self, most):
+        super().__init__("too many keys")
+        self.numbers = f": K is {most}"
 
 
 class TooLarge(Exception):
@@ -474,6 +482,22 @@ class Disk:
         self.epochs.append((request, batch))
         return f"ack {self.told()}"
 
+    def stream(self, orders, written):
+        """Obeys orders as `td stream` does: writes outputs at once, and cuts where the journal is full. Between two epochs stands a question."""
+        done = self.pace(self.kept, written)
+        for order in orders:
+            if callable(order):
+                written += order(self.meaning()[0], self.told())
+            else:
+                written.append(self.submit(*order))
+            done = self.pace(done, written)
+
+    def pace(self, done, written):
+        done = self.settle(done, written)
+        if len(self.epochs) == self.shape[1]:
+            self.cut(written)
+        return done
+
     def settle(self, done, written):
         """Writes the output lines of the epochs after one, and answers the last epoch."""
         written += [line for lines in self.meaning()[1][done - self.kept:] for line in lines]
@@ -482,9 +506,50 @@ class Disk:
     def cut(self, written):
         states = self.meaning()[0]
         if len(states) > self.shape[2]:
-            raise Fault("too many keys")
+            raise TooManyKeys(self.shape[2])
         self.kept, self.states, self.kept_last, self.epochs = self.told(), states, self.last(), []
         written.append(f"cut {self.kept}")
+
+
+# Questions
+
+
+def answered_by(vertex, line, listed):
+    """The lines for states of a fold, which are listed from those of all its keys, (key, a, b) in the order of keys."""
+
+    def lines(states, told):
+        kept = sorted((key, a, b) for (at, key), (a, b) in states.items() if at == vertex)
+        found = [f"state {told} {vertex} {key} {a} {b}" for key, a, b in listed(kept)]
+        return (found or [f"{word} {told} {vertex} {key}" for word, key in line]) + [f"asked {told}"]
+
+    return lines
+
+
+def read_question(plan, at, line):
+    """What answers a line: a function of the states after an epoch, and that epoch."""
+    word, *numbers = [it.decode("latin-1") for it in words(line)] if is_printable(line) else [""]
+    numbers = [natural(number.encode("latin-1")) for number in numbers]
+    few, many = {"list": (1, 3)}.get(word, (2, 2))
+    if word not in ("get", "list", "top", "least", "rank") or None in numbers or not few <= len(numbers) <= many or word == "rank" and numbers[1] > 100:
+        raise Fault(f"line {at}: syntax")
+    vertex, *numbers = numbers
+    if vertex not in {it.number for it in plan.vertices if it.kind == "fold"}:
+        raise Fault(f"line {at}: no such fold")
+
+    def up_from(kept):
+        return sorted(kept, key=lambda it: (it[1], it[0]))
+
+    if word == "get":
+        return answered_by(vertex, [("none", numbers[0])], lambda kept: [it for it in kept if it[0] == numbers[0]])
+    if word == "list":
+        start, count = (*numbers, *(0, None)[len(numbers):])
+        return answered_by(vertex, [], lambda kept: [it for it in kept if start <= it[0]][:count])
+    if word == "top":
+        return answered_by(vertex, [], lambda kept: sorted(kept, key=lambda it: (-it[1], it[0]))[:numbers[0]])
+    if word == "least":
+        return answered_by(vertex, [], lambda kept: up_from(kept)[:numbers[0]])
+    # The first up to which so many of 100 stand.
+    return answered_by(vertex, [], lambda kept: [it for n, it in enumerate(up_from(kept), 1) if 100 * n >= numbers[0] * len(kept)][:1])
 
 
 # Random inputs
@@ -651,6 +716,46 @@ def random_feed(rng, inputs, disk):
     return text + rng.choice([b"\n", b""])
 
 
+ODD_QUESTIONS = [b"get", b"get 1", b"list 1 2 3 4", b"rank 1 101", b"top 1 -1", b"Get 1 1", b"get 1 1 \xff", b"least 1\t1", b"list 300", b"get 0 0", b"state 1 1"]
+
+
+def random_question(rng, plan):
+    vertex = rng.choice([it.number for it in plan.vertices if it.kind == "fold"] * 9 or [0])
+    if rng.randrange(30) == 0:
+        return rng.choice(ODD_QUESTIONS)
+    word = rng.choice(["get", "list", "list", "top", "least", "rank"])
+    number = rng.choice([0, 1, 2, 3, 50, 51, 100, *[2**64 - 1] * (word != "rank")])
+    numbers = [vertex, number, rng.choice([0, 1, 2, 9])][:rng.randrange(1, 4) if word == "list" else 2]
+    return f"{word} {' '.join(map(str, numbers))}".encode()
+
+
+def ask_random_disk(inputs, disk, plan, folder, met):
+    """Asks a stream of a disk, with an epoch or none between two questions."""
+    rng = random.Random("\n".join(disk.show()))
+    lines, orders, fault = [], [], None
+    for _ in range(rng.randrange(9)):
+        if rng.randrange(2) == 0:
+            records = [(rng.choice(inputs), rng.randrange(4), rng.randrange(-9, 10)) for _ in range(rng.randrange(min(3, disk.shape[0]) + 1))]
+            lines += [f"{n} {key} {val}".encode() for n, key, val in records] + [b"."]
+            orders.append((0, records))
+        lines.append(random_question(rng, disk.plan))
+        try:
+            orders.append(read_question(disk.plan, len(lines), lines[-1]))
+        except Fault as first:
+            fault = first
+            break
+    written, status, numbers = [], 5 if fault else 0, ""
+    try:
+        disk.stream(orders, written)
+    except TooManyKeys as many:
+        fault, status, numbers = many, 4, many.numbers
+    text = b"".join(line + b"\n" for line in lines)
+    said = ["stream", folder / "disk", plan, "--ask", "--workers", str(rng.choice(WORKERS))]
+    expect(said, text, (status, "".join(f"{line}\n" for line in written).encode(), f"td: {fault}{numbers}\n".encode() if fault else b""))
+    expect(["show", folder / "disk", plan], b"", lines_as(disk.show()))
+    met["answers to questions"] += sum(line.startswith("asked ") for line in written)
+
+
 def random_disk(rng, every_plan):
     """The text of a plan without faults, its inputs, and an empty disk for it."""
     while True:
@@ -700,6 +805,7 @@ def feed_random_disk(rng, every_plan, folder, met):
         what = re.sub(r"\d+", "N", f"td: {fault}") if fault else "no fault"
         met[f"a feed, {what}"] += 1
         met["epochs that were there already"] += sum(line.startswith("again ") for line in written)
+    ask_random_disk(inputs, disk, plan, folder, met)
     feed_dumped(disk, plan, folder)
     load_and_feed(disk, plan, folder)
     for _ in range(3):

@@ -7,6 +7,7 @@ use crate::lines::print_entries;
 use crate::worker::Replies;
 use td_keeper::Reply;
 use td_pool::PoolError;
+use td_questions::Entry;
 use td_stamp::Batch;
 use td_standing::KeeperError;
 
@@ -33,11 +34,21 @@ fn print_reply(rt: &impl Print, reply: Reply) -> Result<(), StepError> {
         Reply::Collected(count) => print_number(rt, "collected", count),
         Reply::Out(out) => print_next_out(rt, out),
         Reply::CutTaken(epoch) => print_number(rt, "cut", epoch),
+        Reply::Answered { epoch, entries } => print_answered(rt, epoch, entries.as_slice()),
         Reply::Written(epoch) => print_written(rt, epoch),
         Reply::Closed => Ok(println!(rt; "closed")?),
         Reply::Refused { error, batch } => print_refused(rt, error, batch),
         Reply::RefusedAll { error, group } => print_group_back(rt, error, &group),
     }
+}
+
+/// `answered of EPOCH:` and each entry.
+fn print_answered(rt: &impl Print, epoch: u64, entries: &[Entry]) -> Result<(), StepError> {
+    print!(rt; "answered of {epoch}:")?;
+    for (place, state) in entries {
+        print!(rt; " ({} {} {} {})", place.0, place.1, state.a, state.b)?;
+    }
+    Ok(println!(rt; "")?)
 }
 
 /// Why a command was refused, for want of memory too, and the entries that come back.

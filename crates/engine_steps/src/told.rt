@@ -4,6 +4,7 @@ use crate::gate::Passage;
 use crate::words::{batch_of, group_of, numbered};
 use std::alloc::Global;
 use td_keeper::Command;
+use td_questions::read_question;
 
 /// The passage of the words `open`, `sleep MILLISECONDS` or `meet`.
 pub(crate) fn passage_of(text: &str) -> Option<Passage> {
@@ -41,10 +42,20 @@ fn command_of(alloc: Global, line: &str) -> Result<Command, StepError> {
         ("collect", "") => Ok(Command::Collect),
         ("next_out", "") => Ok(Command::NextOut),
         ("cut", "") => Ok(Command::Cut),
+        ("answer", question) => answer_to(question),
         ("write_cut", "") => Ok(Command::WriteCut),
         ("close_free", most) => Ok(Command::CloseFree(
             most.parse().map_err(|_| StepError::Syntax)?,
         )),
         _ => Err(StepError::Syntax),
+    }
+}
+
+/// The command to answer a question.
+fn answer_to(question: &str) -> Result<Command, StepError> {
+    let question = read_question(question).ok_or(StepError::Syntax)?;
+    match u8::try_from(question.vertex) {
+        Ok(vertex) => Ok(Command::Answer(vertex, question.wanted)),
+        Err(_) => Err(StepError::Syntax),
     }
 }

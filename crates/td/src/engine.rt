@@ -18,7 +18,8 @@ pub(crate) enum Engine<'a> {
 }
 
 /// After how many epochs a stream cuts, how many tasks each of its epochs may take, whether it marks them, whether it refuses those with
-/// a fault and goes on, whether lines name their places, and whether it holds their outputs until they were seen.
+/// a fault and goes on, whether lines name their places, whether it holds their outputs until they were seen, and whether it answers
+/// questions.
 #[derive(Clone, Copy, Debug, Drop)]
 pub(crate) struct StreamOptions {
     pub cut_every: Option<u32>,
@@ -27,6 +28,7 @@ pub(crate) struct StreamOptions {
     pub refuse: bool,
     pub at: bool,
     pub hold: bool,
+    pub ask: bool,
 }
 
 /// What is told of a stream: lines on standard error of how far it has come, and of its room too; and a status file.

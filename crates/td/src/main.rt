@@ -153,6 +153,7 @@ fn done<
             at,
             hold,
             room,
+            ask,
             status,
         } => {
             let (disk, plan) = open_disk_or_tell(rt, path, plan, wait)?;
@@ -170,6 +171,7 @@ fn done<
                 refuse,
                 at,
                 hold,
+                ask,
             };
             run_engine(
                 rt,

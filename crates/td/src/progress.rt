@@ -119,6 +119,7 @@ pub(crate) fn stream_told<
             refuse: options.refuse,
             placing: options.at,
             hold: options.hold,
+            questions: options.ask,
         },
         reader,
         writer,

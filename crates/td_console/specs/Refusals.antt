@@ -8,7 +8,7 @@ use Rattle.td_standing.specs.declared.error.KeeperError.{KeeperError}
 use Rattle.td_standing.specs.declared.error.KeeperError.TheVariants as keeper
 use Rattle.td_standing.specs.Refusals.{refusal_text as keeper_text}
 use Rattle.td_console.specs.declared.faults.LineFault.{LineFault}
-use Rattle.td_console.specs.declared.faults.LineFault.TheVariants.{Syntax, NoSuchInput, NotClosed, NotOut, SeenBefore, Gap}
+use Rattle.td_console.specs.declared.faults.LineFault.TheVariants.{Syntax, NoSuchInput, NotClosed, NotOut, SeenBefore, Gap, NoSuchFold}
 use Rattle.td_console.specs.declared.faults.Fault.{Fault}
 use Rattle.td_console.specs.declared.faults.Fault.TheVariants.{Plan, NoCall, Line, Input, Output, Memory, Picks, File, Shape, Keeper, Spent}
 
@@ -34,6 +34,7 @@ line_fault_text NotClosed = codes "epoch not closed"
 line_fault_text NotOut = codes "outputs not written yet"
 line_fault_text SeenBefore = codes "a later epoch was seen"
 line_fault_text Gap = codes "gap"
+line_fault_text NoSuchFold = codes "no such fold"
 
 -- the text of a fault
 abbrev pub fault_text : Fault → List ℕ

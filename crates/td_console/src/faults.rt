@@ -30,6 +30,8 @@ pub enum LineFault {
     SeenBefore,
     /// The disk lacks an epoch before the one that a line names.
     Gap,
+    /// A question is to a vertex that is no fold of the plan.
+    NoSuchFold,
 }
 
 impl fmt::Display for LineFault {
@@ -43,6 +45,7 @@ impl fmt::Display for LineFault {
             LineFault::NotOut => write!(f, "outputs not written yet"),
             LineFault::SeenBefore => write!(f, "a later epoch was seen"),
             LineFault::Gap => write!(f, "gap"),
+            LineFault::NoSuchFold => write!(f, "no such fold"),
         }
     }
 }

@@ -6,6 +6,7 @@ pub mod CloseSteps
 pub mod Unpassed
 pub mod CutSteps
 pub mod Meant
+pub mod Reading
 pub mod Opening
 pub mod Loads
 pub mod NotifyLists

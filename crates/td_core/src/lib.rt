@@ -30,6 +30,7 @@ mod posting;
 mod raising;
 mod release;
 mod sites;
+mod states;
 mod take;
 
 pub use cut::Cut;

@@ -13,14 +13,14 @@ use Rattle.td_plan.specs.Lines.{Line as PlanLine}
 use Rattle.std.specs.Char.{is_ascii}
 use Rattle.td_plan.specs.Text.{text_lines, words}
 use Rattle.td_plan.specs.Inputs.{is_input_of}
-use Rattle.td_console.specs.Data.{data_line_of}
 use Rattle.td_console.specs.declared.data_line.DataLine.{DataLine}
 use Rattle.td_console.specs.declared.data_line.DataLine.TheVariants.{PassedOver, Record, Close}
+use Rattle.td_console.specs.Data.{data_line_of}
 use Rattle.td_console.specs.declared.faults.LineFault.TheVariants.{NoSuchInput}
 use Rattle.td_console.specs.declared.faults.Fault.{Fault}
 use Rattle.td_console.specs.declared.faults.Fault.TheVariants.{Line}
 use Rattle.td_feed.specs.declared.order.FeedLine.{FeedLine}
-use Rattle.td_feed.specs.declared.order.FeedLine.TheVariants.{Data, Request, At, Cut, Seen}
+use Rattle.td_feed.specs.declared.order.FeedLine.TheVariants.{Data, Request, At, Cut, Seen, Ask}
 use Rattle.td_feed.specs.declared.order.Order.{Order}
 use Rattle.td_feed.specs.declared.order.Order.TheVariants as order
 use Rattle.td_feed.specs.Orders.{Orders, IsAccepted, is_cut, request_of, seen_of, or_data, or_feed_line, has_no_number, is_between, order_for, with_cut, with_request, with_seen, with_line, and_then, ended, orders_from, orders_of, feed_line_of, held_line_of, notes_in}
@@ -61,9 +61,10 @@ submits : (plan : List PlanLine) (request : ℕ) (batch : List Entry) → AreInp
 submits plan zero batch inputs = inputs
 submits plan (suc q) batch inputs = inputs
 
--- a line of a feed has no place
+-- a line of a feed has no place and asks nothing
 abbrev pub IsOfFeed : Option FeedLine → Type 0
 IsOfFeed (Some (At epoch)) = ⊥
+IsOfFeed (Some (Ask question)) = ⊥
 IsOfFeed _ = Unit {0}
 
 pub of_feed : (line : List ℕ) → IsOfFeed (feed_line_of line)
@@ -79,7 +80,7 @@ of_feed line = by (list_all is_ascii line) (is_cut (words line)) (request_of (wo
     by true false (Some q) = tt
     by true false None = of_data (data_line_of line)
 
--- nor has one of a stream where epochs have no places
+-- nor does one of a stream where epochs have no places and nothing is answered
 pub of_held : (hold : Bool) (line : List ℕ) → IsOfFeed (held_line_of hold line)
 of_held false line = of_feed line
 of_held true line = by (list_all is_ascii line) (seen_of (words line))
@@ -99,6 +100,7 @@ step : (plan : List PlanLine) (n : ℕ) (orders : List Order) (request : ℕ) (c
     (o : Option FeedLine) → IsOfFeed o → All (IsAccepted plan) orders → AreInputs plan current →
     and_then next (with_line plan n (begun orders request current) o) ≡ Ok os → All (IsAccepted plan) os
 step plan n orders request current os next more None of h k e = cc
+step plan n orders request current os next more (Some (Ask question)) of h k e = absurd of
 step plan n orders request current os next more (Some Cut) of h k e = by (is_between (begun orders request current)) e
   where
     by : (between : Bool) → and_then next (with_cut n (begun orders request current) between) ≡ Ok os → All (IsAccepted plan) os
@@ -140,7 +142,7 @@ from plan n orders request current (line ∷ lines) os h k e =
 pub accepted : (plan : List PlanLine) (input : List ℕ) (os : List Order) → orders_of plan input ≡ Ok os → All (IsAccepted plan) os
 accepted plan input os e = from plan 1 [] 0 [] (text_lines input) os (All-nil (IsAccepted plan)) refl e
 
--- they have no notes
+-- they have no notes and no questions
 unnoted : (plan : List PlanLine) (os : List Order) → All (IsAccepted plan) os → notes_in os ≡ []
 unnoted plan [] is = refl
 unnoted plan (order.Submit batch ∷ os) is = unnoted plan os (All-tail (IsAccepted plan) (order.Submit batch) os is)
@@ -148,6 +150,7 @@ unnoted plan (order.SubmitAs request batch ∷ os) is = unnoted plan os (All-tai
 unnoted plan (order.SubmitAt place request batch ∷ os) is = absurd (All-head (IsAccepted plan) (order.SubmitAt place request batch) os is)
 unnoted plan (order.Cut ∷ os) is = unnoted plan os (All-tail (IsAccepted plan) order.Cut os is)
 unnoted plan (order.Seen line epoch ∷ os) is = unnoted plan os (All-tail (IsAccepted plan) (order.Seen line epoch) os is)
+unnoted plan (order.Answer vertex wanted ∷ os) is = absurd (All-head (IsAccepted plan) (order.Answer vertex wanted) os is)
 unnoted plan (order.Say note ∷ os) is = absurd (All-head (IsAccepted plan) (order.Say note) os is)
 
 pub none_noted : (plan : List PlanLine) (input : List ℕ) (os : List Order) → orders_of plan input ≡ Ok os → notes_in os ≡ []

@@ -9,7 +9,7 @@ use Rattle.td_standing.specs.Standing.{Standing, last_epoch}
 use Rattle.td_standing.specs.Told.{Told}
 use Rattle.td_standing.specs.Advanced.{HeldWhere}
 use Rattle.td_keeper.specs.declared.command.Reply.{Reply}
-use Rattle.td_keeper.specs.declared.command.Reply.TheVariants.{Submitted, SubmittedAs, SubmittedAll, Released, Settled, Collected, Out, CutTaken, Written, Closed, Refused, RefusedAll}
+use Rattle.td_keeper.specs.declared.command.Reply.TheVariants.{Submitted, SubmittedAs, SubmittedAll, Released, Settled, Collected, Out, CutTaken, Answered, Written, Closed, Refused, RefusedAll}
 use Rattle.td_keeper.specs.declared.receipt.Receipt.TheVariants.{New, Already}
 use Rattle.td_keeper.specs.Driven.{AcknowledgesUpTo}
 use Rattle.td_feed.specs.Said.{TellsAcknowledged}
@@ -27,6 +27,7 @@ further a b far (Collected n) up = up
 further a b far (Out o) up = up
 further a b far (CutTaken n) up = up
 further a b far (Written w) up = up
+further a b far (Answered m ys) up = up
 further a b far Closed up = up
 further a b far (Refused e back) up = up
 further a b far (RefusedAll e back) up = up

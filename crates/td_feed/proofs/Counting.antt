@@ -6,7 +6,7 @@ use Rattle.td_disk.specs.Disk.{Rises, CountsDevice}
 use Rattle.td_standing.specs.declared.error.KeeperError.{KeeperError}
 use Rattle.td_standing.specs.declared.error.KeeperError.TheVariants as error
 use Rattle.td_keeper.specs.declared.command.Reply.{Reply}
-use Rattle.td_keeper.specs.declared.command.Reply.TheVariants.{Submitted, SubmittedAs, SubmittedAll, Released, Settled, Collected, Out, CutTaken, Written, Closed, Refused, RefusedAll}
+use Rattle.td_keeper.specs.declared.command.Reply.TheVariants.{Submitted, SubmittedAs, SubmittedAll, Released, Settled, Collected, Out, CutTaken, Answered, Written, Closed, Refused, RefusedAll}
 use Rattle.td_keeper.specs.declared.group.GroupError.TheVariants as group
 use Rattle.td_keeper.specs.Driven.{is_device, some_failed}
 use Rattle.td_core.specs.declared.error.HallError.TheVariants as hall
@@ -99,6 +99,7 @@ counts_told (Err f) (Collected k) n m ok err later rose same = absurd (let not_s
 counts_told (Err f) (Out o) n m ok err later rose same = absurd (let not_so = err.0 in cc)
 counts_told (Err f) (CutTaken k) n m ok err later rose same = absurd (let not_so = err.0 in cc)
 counts_told (Err f) (Written w) n m ok err later rose same = absurd (let not_so = err.0 in cc)
+counts_told (Err f) (Answered k ys) n m ok err later rose same = absurd (let not_so = err.0 in cc)
 counts_told (Err f) Closed n m ok err later rose same = absurd (let not_so = err.0 in cc)
 counts_told (Ok r) (Refused e b) n m ok err later rose same = absurd (let not_so = ok.1 in cc)
 counts_told (Ok r) (RefusedAll e b) n m ok err later rose same = absurd (let not_so = ok.1 in cc)
@@ -111,6 +112,7 @@ counts_told (Ok r) (Collected k) n m ok err later rose same = record { later = l
 counts_told (Ok r) (Out o) n m ok err later rose same = record { later = later; rises = λ device. absurd (let not_so = device in cc); stays = inr (same refl) }
 counts_told (Ok r) (CutTaken k) n m ok err later rose same = record { later = later; rises = λ device. absurd (let not_so = device in cc); stays = inr (same refl) }
 counts_told (Ok r) (Written w) n m ok err later rose same = record { later = later; rises = λ device. absurd (let not_so = device in cc); stays = inr (same refl) }
+counts_told (Ok r) (Answered k ys) n m ok err later rose same = record { later = later; rises = λ device. absurd (let not_so = device in cc); stays = inr (same refl) }
 counts_told (Ok r) Closed n m ok err later rose same = record { later = later; rises = λ device. absurd (let not_so = device in cc); stays = inr (same refl) }
 
 -- a worker's refusal is none of the device's

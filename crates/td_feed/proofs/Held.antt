@@ -7,16 +7,17 @@ use Rattle.td_stamp.specs.declared.values.Entry.{Entry}
 use Rattle.td_calls.specs.Answers.{Answers}
 use Rattle.td_disk.specs.Disk.{DiskState}
 use Rattle.td_journal.specs.declared.submitted.Submitted.{Submitted as AnySubmitted}
+use Rattle.td_questions.specs.declared.question.Wanted.{Wanted}
 use Rattle.td_keeper.specs.declared.command.Command.{Command}
-use Rattle.td_keeper.specs.declared.command.Command.TheVariants.{Submit, SubmitAs, SubmitAll, Release, Settle, Collect, NextOut, Cut, CutUpTo, WriteCut, CloseFree}
+use Rattle.td_keeper.specs.declared.command.Command.TheVariants.{Submit, SubmitAs, SubmitAll, Release, Settle, Collect, NextOut, Cut, CutUpTo, Answer, WriteCut, CloseFree}
 use Rattle.td_keeper.specs.declared.command.Reply.{Reply}
-use Rattle.td_keeper.specs.declared.command.Reply.TheVariants.{Submitted, SubmittedAs, SubmittedAll, Released, Settled, Collected, Out, CutTaken, Written, Closed, Refused, RefusedAll}
+use Rattle.td_keeper.specs.declared.command.Reply.TheVariants.{Submitted, SubmittedAs, SubmittedAll, Released, Settled, Collected, Out, CutTaken, Answered, Written, Closed, Refused, RefusedAll}
 use Rattle.td_keeper.specs.declared.receipt.Receipt.{Receipt}
 use Rattle.td_keeper.specs.declared.receipt.Receipt.TheVariants.{New, Already}
 use Rattle.td_keeper.specs.Received.{IsReceived}
 use Rattle.td_keeper.specs.Keeping.{Keeping, with_group}
 use Rattle.td_keeper.specs.Halls.{last_passed}
-use Rattle.td_keeper.specs.Driven.{Submits, SubmitsAs, SubmitsAll, Releases, Settles, Collects, HandsOut, Cuts, Writes, ClosesFree, Obeys}
+use Rattle.td_keeper.specs.Driven.{Submits, SubmitsAs, SubmitsAll, Releases, Settles, Collects, HandsOut, Cuts, Asks, Writes, ClosesFree, Obeys}
 use Rattle.td_feed.specs.declared.order.Order.{Order}
 use Rattle.td_feed.specs.declared.order.Order.TheVariants as order
 use Rattle.td_feed.specs.Carried.{batch_in, is_resting}
@@ -42,6 +43,7 @@ seen_more a b (order.SubmitAs request batch) less = less
 seen_more a b (order.SubmitAt place request batch) less = less
 seen_more a b order.Cut less = less
 seen_more a b (order.Say note) less = less
+seen_more a b (order.Answer vertex wanted) less = less
 
 pub seen_further : (a b : ℕ) (orders : List Order) → a ≤ b → seen_after a orders ≤ seen_after b orders
 seen_further a b [] less = less
@@ -54,6 +56,7 @@ seen_one a (order.SubmitAs request batch) = omega arith
 seen_one a (order.SubmitAt place request batch) = omega arith
 seen_one a order.Cut = omega arith
 seen_one a (order.Say note) = omega arith
+seen_one a (order.Answer vertex wanted) = omega arith
 
 pub seen_on : (a : ℕ) (orders : List Order) → a ≤ seen_after a orders
 seen_on a [] = omega arith
@@ -106,6 +109,7 @@ module _ {D : Type 0} where
   moves_then Settle a b c first next = base_then first next
   moves_then Collect a b c first next = base_then first next
   moves_then NextOut a b c first next = base_then first next
+  moves_then (Answer vertex wanted) a b c first next = base_then first next
   moves_then WriteCut a b c first next = base_then first next
   moves_then (CloseFree most) a b c first next = base_then first next
 
@@ -179,6 +183,13 @@ module _ {D : Type 0} (is_lawful : D → Type 0) (state : D → DiskState) (fail
   hands_out (Out (Some out)) old new r = by r.1 (record { plan = refl; base = refl })
   hands_out other old new r = absurd r
 
+  asks : (vertex : ℕ) (wanted : Wanted) (reply : Reply) (old new : Keeping D) → Asks is_lawful state failures answers vertex wanted reply old new → SameBase old new
+  asks vertex wanted (Answered m ys) old new r = by r.same (base_itself old)
+  asks vertex wanted (Refused e b) old new r =
+      ⊎_elim (λ foreign. by foreign.1.same (base_itself old))
+      (λ other. ⊎_elim (λ memory. by memory.1.same (base_itself old)) (λ unpassed. by unpassed.2.same (base_itself old)) other) r.1
+  asks vertex wanted other old new r = absurd r
+
   writes : (reply : Reply) (old new : Keeping D) → Writes is_lawful state failures answers reply old new → SameBase old new
   writes (Written w) old new r = ⊎_elim (λ none. by none.2 (base_itself old)) (λ some. by some.1 (record { plan = refl; base = refl })) r.cut
   writes (Refused e b) old new r =
@@ -218,6 +229,7 @@ module _ {D : Type 0} (is_lawful : D → Type 0) (state : D → DiskState) (fail
   moves Collect reply old new obeys = collects reply old new obeys
   moves NextOut reply old new obeys = hands_out reply old new obeys
   moves Cut reply old new obeys = tt
+  moves (Answer vertex wanted) reply old new obeys = asks vertex wanted reply old new obeys
   moves (CutUpTo most) reply old new obeys = cuts most reply old new obeys
   moves WriteCut reply old new obeys = writes reply old new obeys.0
   moves (CloseFree most) reply old new obeys = closes most reply old new obeys.0

@@ -12,20 +12,22 @@ use Rattle.td_disk.specs.Disk.{DiskState}
 use Rattle.td_journal.specs.declared.submitted.Submitted.{Submitted as AnySubmitted}
 use Rattle.td_standing.specs.declared.error.KeeperError.TheVariants as error
 use Rattle.td_keeper.specs.declared.command.Command.{Command}
-use Rattle.td_keeper.specs.declared.command.Command.TheVariants.{Submit, SubmitAs, SubmitAll, Release, Settle, Collect, NextOut, Cut, CutUpTo, WriteCut, CloseFree}
+use Rattle.td_keeper.specs.declared.command.Command.TheVariants.{Submit, SubmitAs, SubmitAll, Release, Settle, Collect, NextOut, Cut, CutUpTo, Answer, WriteCut, CloseFree}
 use Rattle.td_keeper.specs.declared.command.Reply.{Reply}
-use Rattle.td_keeper.specs.declared.command.Reply.TheVariants.{Submitted, SubmittedAs, SubmittedAll, Released, Settled, Collected, Out, CutTaken, Written, Closed, Refused, RefusedAll}
+use Rattle.td_keeper.specs.declared.command.Reply.TheVariants.{Submitted, SubmittedAs, SubmittedAll, Released, Settled, Collected, Out, CutTaken, Answered, Written, Closed, Refused, RefusedAll}
 use Rattle.td_keeper.specs.Keeping.{Keeping}
 use Rattle.td_keeper.specs.Driven.{submitted_in, submitted_by, Obeys, Driven}
 use Rattle.td_pool.specs.declared.error.PoolError.{PoolError}
 use Rattle.td_console.specs.declared.faults.Fault.{Fault}
 use Rattle.td_console.specs.declared.faults.Fault.TheVariants.{Output, Memory, Keeper}
 use Rattle.td_feed.specs.declared.note.Note.{Note}
-use Rattle.td_feed.specs.Noted.{note_line}
+use Rattle.td_questions.specs.declared.question.Wanted.{Wanted as Of}
+use Rattle.td_feed.specs.Noted.{Aside, note_line}
+use Rattle.td_feed.specs.Noted.Aside.{to_say, to_answer}
 use Rattle.td_feed.specs.Carried.{is_refused}
 use Rattle.td_feed.specs.Fed.{pool_fault}
-use Rattle.td_feed.specs.Said.{request_in, line_of, full_line, Saying, commands_in, replies_in, notes_among, lines_of, Wanted, Says, SaysSome, SaysUnheard, SaysBy, SaysFrom, SaysFed, Refuses}
-use Rattle.td_feed.specs.Said.Saying.{replied, aside, full}
+use Rattle.td_feed.specs.Said.{request_in, line_of, answer_text, full_line, Saying, commands_in, replies_in, notes_among, lines_of, Wanted, Says, SaysSome, SaysUnheard, SaysBy, SaysFrom, SaysFed, Refuses}
+use Rattle.td_feed.specs.Said.Saying.{replied, aside, full, answered}
 
 -- whether a command's reply has no line
 abbrev pub is_quiet : Command → Bool
@@ -37,12 +39,13 @@ is_quiet (CutUpTo epoch) = true
 is_quiet (CloseFree most) = true
 is_quiet _ = false
 
--- notes, and then others
+-- notes and answers, and then others
 pub notes-append : (ss ts : List Saying) → notes_among (ss ++ ts) ≡ notes_among ss ++ notes_among ts
 notes-append [] ts = refl
 notes-append (replied x r ∷ ss) ts = notes-append ss ts
-notes-append (aside n ∷ ss) ts = ap (λ (l : List Note). n ∷ l) (notes-append ss ts)
+notes-append (aside n ∷ ss) ts = ap (λ (l : List Aside). to_say n ∷ l) (notes-append ss ts)
 notes-append (full e ∷ ss) ts = notes-append ss ts
+notes-append (answered v q r ∷ ss) ts = ap (λ (l : List Aside). to_answer v q ∷ l) (notes-append ss ts)
 
 module _ {D : Type 0} (is_lawful : D → Type 0) (state : D → DiskState) (failures : D → ℕ) (answers : Answers) (marks : Bool) where
   -- what is said, as commands and their replies
@@ -54,6 +57,7 @@ module _ {D : Type 0} (is_lawful : D → Type 0) (state : D → DiskState) (fail
   told-append (replied x r ∷ ss) ts a b c first rest = (first.0, first.1, first.2, told-append ss ts first.0 b c first.3 rest)
   told-append (aside n ∷ ss) ts a b c first rest = told-append ss ts a b c first rest
   told-append (full e ∷ ss) ts a b c first rest = told-append ss ts a b c first rest
+  told-append (answered v q r ∷ ss) ts a b c first rest = (first.0, first.1, first.2, told-append ss ts first.0 b c first.3 rest)
 
   submitted-append : (ss ts : List Saying) → submitted_by (commands_in (ss ++ ts)) (replies_in (ss ++ ts)) ≡ submitted_by (commands_in ss) (replies_in ss) ++ submitted_by (commands_in ts) (replies_in ts)
   submitted-append [] ts = refl
@@ -62,6 +66,9 @@ module _ {D : Type 0} (is_lawful : D → Type 0) (state : D → DiskState) (fail
       ∙ sym (append_assoc (submitted_in x r) (submitted_by (commands_in ss) (replies_in ss)) (submitted_by (commands_in ts) (replies_in ts)))
   submitted-append (aside n ∷ ss) ts = submitted-append ss ts
   submitted-append (full e ∷ ss) ts = submitted-append ss ts
+  submitted-append (answered v q r ∷ ss) ts =
+      ap (λ (l : List AnySubmitted). submitted_in (Answer v q) r ++ l) (submitted-append ss ts)
+      ∙ sym (append_assoc (submitted_in (Answer v q) r) (submitted_by (commands_in ss) (replies_in ss)) (submitted_by (commands_in ts) (replies_in ts)))
 
   -- lines of what is said, one after another
   lines-append : (ss ts : List Saying) → lines_of marks (ss ++ ts) ≡ lines_of marks ss ++ lines_of marks ts
@@ -69,12 +76,14 @@ module _ {D : Type 0} (is_lawful : D → Type 0) (state : D → DiskState) (fail
   lines-append (replied x r ∷ ss) ts =
       ap (λ (l : List ℕ). line_of marks (request_in x) r ++ l) (lines-append ss ts) ∙ sym (append_assoc (line_of marks (request_in x) r) (lines_of marks ss) (lines_of marks ts))
   lines-append (aside n ∷ ss) ts = ap (λ (l : List ℕ). note_line n ++ l) (lines-append ss ts) ∙ sym (append_assoc (note_line n) (lines_of marks ss) (lines_of marks ts))
+  lines-append (answered v q r ∷ ss) ts =
+      ap (λ (l : List ℕ). answer_text v q r ++ l) (lines-append ss ts) ∙ sym (append_assoc (answer_text v q r) (lines_of marks ss) (lines_of marks ts))
   lines-append (full e ∷ ss) ts = ap (λ (l : List ℕ). full_line e ++ l) (lines-append ss ts) ∙ sym (append_assoc (full_line e) (lines_of marks ss) (lines_of marks ts))
 
   -- the notes of two, where the second has only the first of them
-  some_noted : (ss ts : List Saying) (later ns ms : List Note) → notes_among ss ≡ ns → notes_among ts ++ later ≡ ms → notes_among (ss ++ ts) ++ later ≡ ns ++ ms
+  some_noted : (ss ts : List Saying) (later ns ms : List Aside) → notes_among ss ≡ ns → notes_among ts ++ later ≡ ms → notes_among (ss ++ ts) ++ later ≡ ns ++ ms
   some_noted ss ts later ns ms first rest =
-      ap (λ (l : List Note). l ++ later) (notes-append ss ts) ∙ append_assoc (notes_among ss) (notes_among ts) later ∙ (λ i. first i ++ rest i)
+      ap (λ (l : List Aside). l ++ later) (notes-append ss ts) ∙ append_assoc (notes_among ss) (notes_among ts) later ∙ (λ i. first i ++ rest i)
 
   -- nothing was told
   pub says_nothing : (w : Option (List ℕ)) (k : Keeping D) → Says is_lawful state failures answers marks w w k k [] []
@@ -92,13 +101,24 @@ module _ {D : Type 0} (is_lawful : D → Type 0) (state : D → DiskState) (fail
   }
 
   -- a note was written
-  pub says_note : (before after : Option (List ℕ)) (n : Note) (k : Keeping D) → Appends before after (note_line n) → Says is_lawful state failures answers marks before after k k [] (n ∷ [])
+  pub says_note : (before after : Option (List ℕ)) (n : Note) (k : Keeping D) → Appends before after (note_line n) → Says is_lawful state failures answers marks before after k k [] (to_say n ∷ [])
   says_note before after n k said = record {
     sayings = aside n ∷ [];
     driven = refl;
     submitted = refl;
     noted = refl;
     said = subst (λ (l : List ℕ). Appends before after l) (sym (append-nil (note_line n))) said;
+  }
+
+  -- a question was answered
+  pub says_answer : (before after : Option (List ℕ)) (v : ℕ) (q : Of) (r : Reply) (old new : Keeping D) → Driven is_lawful state failures answers (Answer v q ∷ []) (r ∷ []) old new
+      → Appends before after (answer_text v q r) → Says is_lawful state failures answers marks before after old new [] (to_answer v q ∷ [])
+  says_answer before after v q r old new driven said = record {
+    sayings = answered v q r ∷ [];
+    driven = driven;
+    submitted = refl;
+    noted = refl;
+    said = subst (λ (l : List ℕ). Appends before after l) (sym (append-nil (answer_text v q r))) said;
   }
 
   -- that the journal is full was written
@@ -112,7 +132,7 @@ module _ {D : Type 0} (is_lawful : D → Type 0) (state : D → DiskState) (fail
   }
 
   -- one after the other
-  pub says_then : (u v w : Option (List ℕ)) (a b c : Keeping D) (x y : List AnySubmitted) (ns ms : List Note) → Says is_lawful state failures answers marks u v a b x ns
+  pub says_then : (u v w : Option (List ℕ)) (a b c : Keeping D) (x y : List AnySubmitted) (ns ms : List Aside) → Says is_lawful state failures answers marks u v a b x ns
       → Says is_lawful state failures answers marks v w b c y ms → Says is_lawful state failures answers marks u w a c (x ++ y) (ns ++ ms)
   says_then u v w a b c x y ns ms first rest = record {
     sayings = first.sayings ++ rest.sayings;
@@ -122,7 +142,7 @@ module _ {D : Type 0} (is_lawful : D → Type 0) (state : D → DiskState) (fail
     said = subst (λ (l : List ℕ). Appends u w l) (sym (lines-append first.sayings rest.sayings)) (Appends-trans u v w (lines_of marks first.sayings) (lines_of marks rest.sayings) first.said rest.said);
   }
 
-  pub then_some : (u v w : Option (List ℕ)) (a b c : Keeping D) (x : List AnySubmitted) (ns ms : List Note) → Says is_lawful state failures answers marks u v a b x ns
+  pub then_some : (u v w : Option (List ℕ)) (a b c : Keeping D) (x : List AnySubmitted) (ns ms : List Aside) → Says is_lawful state failures answers marks u v a b x ns
       → SaysSome is_lawful state failures answers marks v w b c ms → SaysSome is_lawful state failures answers marks u w a c (ns ++ ms)
   then_some u v w a b c x ns ms first rest = record {
     sayings = first.sayings ++ rest.sayings;
@@ -136,7 +156,7 @@ module _ {D : Type 0} (is_lawful : D → Type 0) (state : D → DiskState) (fail
   }
 
   -- all is some
-  pub some_of_all : (u v : Option (List ℕ)) (a b : Keeping D) (x : List AnySubmitted) (ns : List Note) → Says is_lawful state failures answers marks u v a b x ns
+  pub some_of_all : (u v : Option (List ℕ)) (a b : Keeping D) (x : List AnySubmitted) (ns : List Aside) → Says is_lawful state failures answers marks u v a b x ns
       → SaysSome is_lawful state failures answers marks u v a b ns
   some_of_all u v a b x ns all = record {
     sayings = all.sayings;
@@ -150,13 +170,13 @@ module _ {D : Type 0} (is_lawful : D → Type 0) (state : D → DiskState) (fail
   }
 
   -- of more notes
-  pub some_of_more : (u v : Option (List ℕ)) (a b : Keeping D) (ns more ms : List Note) → ns ++ more ≡ ms → SaysSome is_lawful state failures answers marks u v a b ns
+  pub some_of_more : (u v : Option (List ℕ)) (a b : Keeping D) (ns more ms : List Aside) → ns ++ more ≡ ms → SaysSome is_lawful state failures answers marks u v a b ns
       → SaysSome is_lawful state failures answers marks u v a b ms
   some_of_more u v a b ns more ms is some = record {
     sayings = some.sayings;
     driven = some.driven;
     later = some.later ++ more;
-    noted = sym (append_assoc (notes_among some.sayings) some.later more) ∙ ap (λ (l : List Note). l ++ more) some.noted ∙ is;
+    noted = sym (append_assoc (notes_among some.sayings) some.later more) ∙ ap (λ (l : List Aside). l ++ more) some.noted ∙ is;
     text = some.text;
     unsaid = some.unsaid;
     lines = some.lines;
@@ -169,7 +189,7 @@ module _ {D : Type 0} (is_lawful : D → Type 0) (state : D → DiskState) (fail
   unsaid_one w c r old new driven =
       record { sayings = replied c r ∷ []; driven = driven; later = []; noted = refl; text = []; unsaid = lines_of marks (replied c r ∷ []); lines = refl; said = Appends-nil w }
 
-  pub unsaid_none : (w : Option (List ℕ)) (k : Keeping D) (ns : List Note) → SaysSome is_lawful state failures answers marks w w k k ns
+  pub unsaid_none : (w : Option (List ℕ)) (k : Keeping D) (ns : List Aside) → SaysSome is_lawful state failures answers marks w w k k ns
   unsaid_none w k ns = record { sayings = []; driven = refl; later = ns; noted = refl; text = []; unsaid = []; lines = refl; said = Appends-nil w }
 
   -- a refused command writes nothing
@@ -178,11 +198,11 @@ module _ {D : Type 0} (is_lawful : D → Type 0) (state : D → DiskState) (fail
   refused_some w c old new (inr told) = unsaid_one w c told.0 old new told.2
 
   -- whatever was written, the keeper was told
-  pub unheard : (u v : Option (List ℕ)) (a b : Keeping D) (ns : List Note) → SaysSome is_lawful state failures answers marks u v a b ns → SaysUnheard is_lawful state failures answers marks a b
+  pub unheard : (u v : Option (List ℕ)) (a b : Keeping D) (ns : List Aside) → SaysSome is_lawful state failures answers marks u v a b ns → SaysUnheard is_lawful state failures answers marks a b
   unheard u v a b ns some = record { commands = commands_in some.sayings; replies = replies_in some.sayings; driven = some.driven }
 
   -- whatever came of it, the keeper was told commands
-  pub always_driven : (result : Result (Unit {0}) Fault) (u v : Option (List ℕ)) (a b : Keeping D) (x : List AnySubmitted) (ns : List Note) → SaysBy is_lawful state failures answers marks result u v a b x ns
+  pub always_driven : (result : Result (Unit {0}) Fault) (u v : Option (List ℕ)) (a b : Keeping D) (x : List AnySubmitted) (ns : List Aside) → SaysBy is_lawful state failures answers marks result u v a b x ns
       → SaysUnheard is_lawful state failures answers marks a b
   always_driven (Ok done) u v a b x ns all = unheard u v a b ns (some_of_all u v a b x ns all)
   always_driven (Err fault) u v a b x ns said = ⊎_elim (λ output. output.1) (λ some. unheard u v a b ns some) said
@@ -194,7 +214,7 @@ module _ {D : Type 0} (is_lawful : D → Type 0) (state : D → DiskState) (fail
   driven-append (x ∷ cs) [] ds ss a b c none rest = absurd none
   driven-append (x ∷ cs) (r ∷ rs) ds ss a b c first rest = (first.0, first.1, first.2, driven-append cs rs ds ss first.0 b c first.3 rest)
 
-  pub then_unheard : (u v : Option (List ℕ)) (a b c : Keeping D) (x : List AnySubmitted) (ns : List Note) → Says is_lawful state failures answers marks u v a b x ns
+  pub then_unheard : (u v : Option (List ℕ)) (a b c : Keeping D) (x : List AnySubmitted) (ns : List Aside) → Says is_lawful state failures answers marks u v a b x ns
       → SaysUnheard is_lawful state failures answers marks b c → SaysUnheard is_lawful state failures answers marks a c
   then_unheard u v a b c x ns first rest = record {
     commands = commands_in first.sayings ++ rest.commands;
@@ -203,23 +223,23 @@ module _ {D : Type 0} (is_lawful : D → Type 0) (state : D → DiskState) (fail
   }
 
   -- AT AN ANSWER
-  pub then_by : (result : Result (Unit {0}) Fault) (u v w : Option (List ℕ)) (a b c : Keeping D) (x y : List AnySubmitted) (ns ms : List Note) → Says is_lawful state failures answers marks u v a b x ns
+  pub then_by : (result : Result (Unit {0}) Fault) (u v w : Option (List ℕ)) (a b c : Keeping D) (x y : List AnySubmitted) (ns ms : List Aside) → Says is_lawful state failures answers marks u v a b x ns
       → SaysBy is_lawful state failures answers marks result v w b c y ms → SaysBy is_lawful state failures answers marks result u w a c (x ++ y) (ns ++ ms)
   then_by (Ok done) u v w a b c x y ns ms first rest = says_then u v w a b c x y ns ms first rest
   then_by (Err fault) u v w a b c x y ns ms first rest = ⊎_elim (λ output. inl (output.0, then_unheard u v a b c x ns first output.1)) (λ some. inr (then_some u v w a b c x ns ms first some)) rest
 
-  pub by_ok : (result : Result (Unit {0}) Fault) (u v : Option (List ℕ)) (a b : Keeping D) (x : List AnySubmitted) (ns : List Note) → result ≡ Ok tt
+  pub by_ok : (result : Result (Unit {0}) Fault) (u v : Option (List ℕ)) (a b : Keeping D) (x : List AnySubmitted) (ns : List Aside) → result ≡ Ok tt
       → Says is_lawful state failures answers marks u v a b x ns → SaysBy is_lawful state failures answers marks result u v a b x ns
   by_ok result u v a b x ns is says = subst (λ (r : Result (Unit {0}) Fault). SaysBy is_lawful state failures answers marks r u v a b x ns) (sym is) says
 
-  pub by_refusal : (result : Result (Unit {0}) Fault) (P : Fault → Type 0) (u v : Option (List ℕ)) (a b : Keeping D) (x : List AnySubmitted) (ns : List Note) → IsErrAnd result P
+  pub by_refusal : (result : Result (Unit {0}) Fault) (P : Fault → Type 0) (u v : Option (List ℕ)) (a b : Keeping D) (x : List AnySubmitted) (ns : List Aside) → IsErrAnd result P
       → ((f : Fault) → P f → ((f ≡ Output) × SaysUnheard is_lawful state failures answers marks a b) ⊎ SaysSome is_lawful state failures answers marks u v a b ns)
       → SaysBy is_lawful state failures answers marks result u v a b x ns
   by_refusal (Ok done) P u v a b x ns none step = absurd none
   by_refusal (Err fault) P u v a b x ns is step = step fault is
 
   -- the same fault is handed on, with more that was asked for
-  pub handed_on : (result : Result (Unit {0}) Fault) (e : Fault) (u v w : Option (List ℕ)) (a b c : Keeping D) (x y z : List AnySubmitted) (ns ms more all : List Note) → (ns ++ ms) ++ more ≡ all
+  pub handed_on : (result : Result (Unit {0}) Fault) (e : Fault) (u v w : Option (List ℕ)) (a b c : Keeping D) (x y z : List AnySubmitted) (ns ms more all : List Aside) → (ns ++ ms) ++ more ≡ all
       → IsErrAnd result (λ f. f ≡ e) → Says is_lawful state failures answers marks u v a b x ns → SaysBy is_lawful state failures answers marks (Err e) v w b c y ms
       → SaysBy is_lawful state failures answers marks result u w a c z all
   handed_on (Ok done) e u v w a b c x y z ns ms more all whole none first rest = absurd none
@@ -242,6 +262,7 @@ module _ {D : Type 0} (is_lawful : D → Type 0) (state : D → DiskState) (fail
   quiet_release (Collected n) old new is = refl
   quiet_release (Out o) old new not_so = absurd not_so
   quiet_release (CutTaken n) old new is = refl
+  quiet_release (Answered m ys) old new is = refl
   quiet_release Closed old new is = refl
   quiet_release (Written w) old new not_so = absurd not_so
   quiet_release (Refused e b) old new is = refl
@@ -256,6 +277,7 @@ module _ {D : Type 0} (is_lawful : D → Type 0) (state : D → DiskState) (fail
   quiet_settle (Collected n) old new is = refl
   quiet_settle (Out o) old new not_so = absurd not_so
   quiet_settle (CutTaken n) old new is = refl
+  quiet_settle (Answered m ys) old new is = refl
   quiet_settle Closed old new is = refl
   quiet_settle (Written w) old new not_so = absurd not_so
   quiet_settle (Refused e b) old new is = refl
@@ -270,6 +292,7 @@ module _ {D : Type 0} (is_lawful : D → Type 0) (state : D → DiskState) (fail
   quiet_collect (Collected n) old new is = refl
   quiet_collect (Out o) old new not_so = absurd not_so
   quiet_collect (CutTaken n) old new is = refl
+  quiet_collect (Answered m ys) old new is = refl
   quiet_collect Closed old new is = refl
   quiet_collect (Written w) old new not_so = absurd not_so
   quiet_collect (Refused e b) old new is = refl
@@ -284,6 +307,7 @@ module _ {D : Type 0} (is_lawful : D → Type 0) (state : D → DiskState) (fail
   quiet_cut (Collected n) old new is = refl
   quiet_cut (Out o) old new not_so = absurd not_so
   quiet_cut (CutTaken n) old new is = refl
+  quiet_cut (Answered m ys) old new is = refl
   quiet_cut Closed old new is = refl
   quiet_cut (Written w) old new not_so = absurd not_so
   quiet_cut (Refused e b) old new is = refl
@@ -298,6 +322,7 @@ module _ {D : Type 0} (is_lawful : D → Type 0) (state : D → DiskState) (fail
   quiet_cut_up_to most (Collected n) old new is = refl
   quiet_cut_up_to most (Out o) old new not_so = absurd not_so
   quiet_cut_up_to most (CutTaken n) old new is = refl
+  quiet_cut_up_to most (Answered m ys) old new is = refl
   quiet_cut_up_to most Closed old new is = refl
   quiet_cut_up_to most (Written w) old new not_so = absurd not_so
   quiet_cut_up_to most (Refused e b) old new is = refl
@@ -308,6 +333,7 @@ module _ {D : Type 0} (is_lawful : D → Type 0) (state : D → DiskState) (fail
   quiet_close most (SubmittedAll n m) old new not_so = absurd not_so.0
   quiet_close most (RefusedAll e xs) old new not_so = absurd not_so.0
   quiet_close most (Out o) old new not_so = absurd not_so.0
+  quiet_close most (Answered m ys) old new not_so = absurd not_so.0
   quiet_close most (Written w) old new not_so = absurd not_so.0
   quiet_close most (Released n) old new is = refl
   quiet_close most Settled old new is = refl
@@ -327,6 +353,7 @@ module _ {D : Type 0} (is_lawful : D → Type 0) (state : D → DiskState) (fail
   quietly w (Submit batch) r old new not_so is driven = absurd (let is = not_so in cc)
   quietly w (SubmitAs request batch) r old new not_so is driven = absurd (let is = not_so in cc)
   quietly w (SubmitAll group) r old new not_so is driven = absurd (let is = not_so in cc)
+  quietly w (Answer v q) r old new not_so is driven = absurd (let is = not_so in cc)
   quietly w NextOut r old new not_so is driven = absurd (let is = not_so in cc)
   quietly w WriteCut r old new not_so is driven = absurd (let is = not_so in cc)
   quietly w (CloseFree most) r old new quiet is driven = says_silent w (CloseFree most) r old new driven (quiet_close most r old new is)
@@ -342,11 +369,38 @@ module _ {D : Type 0} (is_lawful : D → Type 0) (state : D → DiskState) (fail
 
   -- the line of a note, where it was to be written
   pub noted_by : (result : Result (Unit {0}) Fault) (w v : Option (List ℕ)) (n : Note) (k : Keeping D) (P : Type 0) → OnOk result (Appends w v (note_line n))
-      → IfErr result (λ f. (f ≡ Output) ⊎ ((f ≡ Memory) × P)) → (P → v ≡ w) → SaysBy is_lawful state failures answers marks result w v k k [] (n ∷ [])
+      → IfErr result (λ f. (f ≡ Output) ⊎ ((f ≡ Memory) × P)) → (P → v ≡ w) → SaysBy is_lawful state failures answers marks result w v k k [] (to_say n ∷ [])
   noted_by (Ok done) w v n k P said none same = says_note w v n k said
   noted_by (Err f) w v n k P said why same =
-      ⊎_elim (λ output. inl (output, unheard w w k k (n ∷ []) (unsaid_none w k (n ∷ []))))
-      (λ memory. inr (subst (λ (u : Option (List ℕ)). SaysSome is_lawful state failures answers marks w u k k (n ∷ [])) (sym (same memory.1)) (unsaid_none w k (n ∷ [])))) why
+      ⊎_elim (λ output. inl (output, unheard w w k k (to_say n ∷ []) (unsaid_none w k (to_say n ∷ []))))
+      (λ memory. inr (subst (λ (u : Option (List ℕ)). SaysSome is_lawful state failures answers marks w u k k (to_say n ∷ [])) (sym (same memory.1)) (unsaid_none w k (to_say n ∷ [])))) why
+
+  -- an answer, of which nothing was written
+  unsaid_answer : (w : Option (List ℕ)) (v : ℕ) (q : Of) (r : Reply) (old new : Keeping D) → Driven is_lawful state failures answers (Answer v q ∷ []) (r ∷ []) old new
+      → SaysSome is_lawful state failures answers marks w w old new (to_answer v q ∷ [])
+  unsaid_answer w v q r old new driven = record {
+    sayings = answered v q r ∷ [];
+    driven = driven;
+    later = [];
+    noted = refl;
+    text = [];
+    unsaid = lines_of marks (answered v q r ∷ []);
+    lines = refl;
+    said = Appends-nil w;
+  }
+
+  -- the lines of an answer, where they were to be written
+  pub answered_by : (result : Result (Unit {0}) Fault) (w u : Option (List ℕ)) (v : ℕ) (q : Of) (r : Reply) (old new : Keeping D) (P : Type 0)
+      → Driven is_lawful state failures answers (Answer v q ∷ []) (r ∷ []) old new → OnOk result (Appends w u (answer_text v q r))
+      → IfErr result (λ f. (f ≡ Output) ⊎ ((f ≡ Memory) × P)) → (P → u ≡ w) → SaysBy is_lawful state failures answers marks result w u old new [] (to_answer v q ∷ [])
+  answered_by (Ok done) w u v q r old new P driven said none same = says_answer w u v q r old new driven said
+  answered_by (Err f) w u v q r old new P driven said why same =
+      ⊎_elim (λ output. inl (output, unheard w w old new (to_answer v q ∷ []) (unsaid_answer w v q r old new driven)))
+      (λ memory. inr (subst (λ (t : Option (List ℕ)). SaysSome is_lawful state failures answers marks w t old new (to_answer v q ∷ [])) (sym (same memory.1)) (unsaid_answer w v q r old new driven))) why
+
+  -- a question that was not answered
+  pub unanswered : (w : Option (List ℕ)) (c : Command) (old new : Keeping D) (ns : List Aside) → Refuses is_lawful state failures answers c old new → SaysSome is_lawful state failures answers marks w w old new ns
+  unanswered w c old new ns refuses = some_of_more w w old new [] ns ns refl (refused_some w c old new refuses)
 
   -- the line that the journal is full, where it was to be written
   pub full_by : (result : Result (Unit {0}) Fault) (w v : Option (List ℕ)) (e : ℕ) (k : Keeping D) (P : Type 0) → OnOk result (Appends w v (full_line e))
@@ -357,11 +411,11 @@ module _ {D : Type 0} (is_lawful : D → Type 0) (state : D → DiskState) (fail
       (λ memory. inr (subst (λ (u : Option (List ℕ)). SaysSome is_lawful state failures answers marks w u k k []) (sym (same memory.1)) (unsaid_none w k []))) why
 
   -- after what was said
-  pub then_quiet : (result : Result (Unit {0}) Fault) (u v w : Option (List ℕ)) (a b c : Keeping D) (x : List AnySubmitted) (ns : List Note) → Says is_lawful state failures answers marks u v a b x ns
+  pub then_quiet : (result : Result (Unit {0}) Fault) (u v w : Option (List ℕ)) (a b c : Keeping D) (x : List AnySubmitted) (ns : List Aside) → Says is_lawful state failures answers marks u v a b x ns
       → SaysBy is_lawful state failures answers marks result v w b c [] [] → SaysBy is_lawful state failures answers marks result u w a c x ns
   then_quiet result u v w a b c x ns first rest =
       subst (λ (l : List AnySubmitted). SaysBy is_lawful state failures answers marks result u w a c l ns) (append-nil x)
-      (subst (λ (l : List Note). SaysBy is_lawful state failures answers marks result u w a c (x ++ []) l) (append-nil ns) (then_by result u v w a b c x [] ns [] first rest))
+      (subst (λ (l : List Aside). SaysBy is_lawful state failures answers marks result u w a c (x ++ []) l) (append-nil ns) (then_by result u v w a b c x [] ns [] first rest))
 
   -- and a command that was refused
   pub then_refused : (result : Result (Unit {0}) Fault) (P : Fault → Type 0) (u v : Option (List ℕ)) (command : Command) (a b c : Keeping D) (x y : List AnySubmitted) → IsErrAnd result P
@@ -393,7 +447,7 @@ module _ {D : Type 0} (is_lawful : D → Type 0) (state : D → DiskState) (fail
           sayings = s.sayings ++ one;
           driven = told-append s.sayings one a b c s.driven driven;
           later = s.later;
-          noted = ap (λ (l : List Note). l ++ s.later) (notes-append s.sayings one ∙ append-nil (notes_among s.sayings)) ∙ s.noted;
+          noted = ap (λ (l : List Aside). l ++ s.later) (notes-append s.sayings one ∙ append-nil (notes_among s.sayings)) ∙ s.noted;
           text = s.text;
           unsaid = more;
           lines = lines-append s.sayings one
@@ -424,6 +478,7 @@ module _ {D : Type 0} (is_lawful : D → Type 0) (state : D → DiskState) (fail
   quiet_refused (Out o) is = absurd (let no : false ≡ true = is in cc)
   quiet_refused (CutTaken n) is = absurd (let no : false ≡ true = is in cc)
   quiet_refused (Written w) is = absurd (let no : false ≡ true = is in cc)
+  quiet_refused (Answered m ys) is = absurd (let no : false ≡ true = is in cc)
   quiet_refused Closed is = absurd (let no : false ≡ true = is in cc)
 
   -- and a command that is refused
@@ -438,7 +493,7 @@ module _ {D : Type 0} (is_lawful : D → Type 0) (state : D → DiskState) (fail
         sayings = s.sayings ++ one;
         driven = told-append s.sayings one a b c s.driven told.2;
         later = s.later;
-        noted = ap (λ (l : List Note). l ++ s.later) (notes-append s.sayings one ∙ append-nil (notes_among s.sayings)) ∙ s.noted;
+        noted = ap (λ (l : List Aside). l ++ s.later) (notes-append s.sayings one ∙ append-nil (notes_among s.sayings)) ∙ s.noted;
         text = s.text;
         unsaid = s.unsaid;
         lines = lines-append s.sayings one ∙ (ap (λ (l : List ℕ). lines_of marks s.sayings ++ l) nothing ∙ (append-nil (lines_of marks s.sayings) ∙ s.lines));
@@ -473,7 +528,7 @@ module _ {D : Type 0} (is_lawful : D → Type 0) (state : D → DiskState) (fail
       subst (λ (l : List ℕ). Holding u (contents w) a b l) (ap bytes (sym same.1)) (subst (λ x. Holding u (contents x) a b (bytes held)) (sym same.0) so_far)
 
   -- nothing is held any more
-  no_notes : (ns later : List Note) → ns ++ later ≡ [] → ns ≡ []
+  no_notes : (ns later : List Aside) → ns ++ later ≡ [] → ns ≡ []
   no_notes [] later is = refl
   no_notes (n ∷ ns) later is = absurd (let no = is in cc)
 
@@ -507,7 +562,7 @@ output_no_device (Err f) why is = absurd (let not_so = is in let other = why in 
 abbrev pub EndedAs : Result (Unit {0}) Fault → Result (Unit {0}) PoolError → Fault → Type 0
 EndedAs obeyed worked f = (obeyed ≡ Err f) ⊎ (((obeyed ≡ Ok tt) ⊎ ((e : ℕ) × (obeyed ≡ Err (Keeper (error.NotPassed e))))) × ((r : PoolError) × (worked ≡ Err r) × (f ≡ pool_fault r)))
 
-module _ {D : Type 0} (is_lawful : D → Type 0) (state : D → DiskState) (failures : D → ℕ) (answers : Answers) (marks : Bool) (u v : Option (List ℕ)) (a b : Keeping D) (x : List AnySubmitted) (ns : List Note) where
+module _ {D : Type 0} (is_lawful : D → Type 0) (state : D → DiskState) (failures : D → ℕ) (answers : Answers) (marks : Bool) (u v : Option (List ℕ)) (a b : Keeping D) (x : List AnySubmitted) (ns : List Aside) where
   some_by : (obeyed : Result (Unit {0}) Fault) → SaysBy is_lawful state failures answers marks obeyed u v a b x ns → (obeyed ≡ Ok tt) ⊎ ((e : ℕ) × (obeyed ≡ Err (Keeper (error.NotPassed e))))
       → SaysSome is_lawful state failures answers marks u v a b ns
   some_by (Ok done) says why = some_of_all is_lawful state failures answers marks u v a b x ns says

@@ -13,7 +13,7 @@ use Rattle.td_keeper.specs.Keeping.{Keeping}
 use Rattle.td_feed.specs.declared.order.Order.{Order}
 use Rattle.td_feed.specs.declared.at_once.Asked.{Asked}
 use Rattle.td_feed.specs.declared.at_once.Asked.TheVariants.{One, Epochs}
-use Rattle.td_feed.specs.declared.note.Note.{Note}
+use Rattle.td_feed.specs.Noted.{Aside}
 use Rattle.td_feed.specs.Orders.{submissions, notes_in, order_for, new_after}
 use Rattle.td_feed.specs.Asked.{Script, Asks, IsOf, asked_for, notes_for}
 use Rattle.td_feed.specs.Held.{seen_then, seen_after, then_seen, asked_seen, seen_with, SameBase, GoesUpTo, KeepsTo}
@@ -154,7 +154,7 @@ module _ {D : Type 0} (is_lawful : D → Type 0) (state : D → DiskState) (fail
     abbrev more : List Submitted
     more = asked_for asked
 
-    abbrev noted : List Note
+    abbrev noted : List Aside
     noted = notes_for asked
 
     -- the orders that were asked for
@@ -175,7 +175,7 @@ module _ {D : Type 0} (is_lawful : D → Type 0) (state : D → DiskState) (fail
         ∙ new_on answers old there (submissions so.done) more so.carried
 
     noted_so_far : notes_in (so.done ++ orders.0) ≡ notes_in so.done ++ noted
-    noted_so_far = notes-append so.done orders.0 ∙ ap (λ (l : List Note). notes_in so.done ++ l) orders.3
+    noted_so_far = notes-append so.done orders.0 ∙ ap (λ (l : List Aside). notes_in so.done ++ l) orders.3
 
     pub some_obeyed : (later : Option ℕ) → later ≡ seen_with seen asked → KeepsTo later there new → Says is_lawful state failures answers marks v w there new (new_to there more) noted
         → Carries answers there new (new_to there more) → HasObeyed all next u w old new first later
@@ -183,7 +183,7 @@ module _ {D : Type 0} (is_lawful : D → Type 0) (state : D → DiskState) (fail
       done = so.done ++ orders.0;
       known = orders.2;
       said = subst (λ (x : List Submitted). Says is_lawful state failures answers marks u w old new x (notes_in (so.done ++ orders.0))) (sym also_new)
-          (subst (λ (ns : List Note). Says is_lawful state failures answers marks u w old new (new_to old (submissions so.done) ++ new_to there more) ns) (sym noted_so_far)
+          (subst (λ (ns : List Aside). Says is_lawful state failures answers marks u w old new (new_to old (submissions so.done) ++ new_to there more) ns) (sym noted_so_far)
           (says_then is_lawful state failures answers marks u v w old there new (new_to old (submissions so.done)) (new_to there more) (notes_in so.done) noted so.said said));
       carried = subst (λ (x : List Submitted). Carries answers old new x) (sym also_new) (then_carries answers old there new (new_to old (submissions so.done)) (new_to there more) so.carried carried);
       held = seen_asked first seen later so.done orders.0 asked old there new orders.4 so.held is keeps;
@@ -219,20 +219,20 @@ module _ {D : Type 0} (is_lawful : D → Type 0) (state : D → DiskState) (fail
             (whole s n.orders is.0) so.carried leaves
 
     -- the notes so far are a beginning of the script's
-    pub notes_left : IfSome all (λ s. (later : List Note) × ((notes_in so.done ++ noted) ++ later ≡ notes_in s.orders))
+    pub notes_left : IfSome all (λ s. (later : List Aside) × ((notes_in so.done ++ noted) ++ later ≡ notes_in s.orders))
     notes_left = by all next orders.2
       where
-        by : (all next : Option Script) → IsPart all (so.done ++ orders.0) next → IfSome all (λ s. (later : List Note) × ((notes_in so.done ++ noted) ++ later ≡ notes_in s.orders))
+        by : (all next : Option Script) → IsPart all (so.done ++ orders.0) next → IfSome all (λ s. (later : List Aside) × ((notes_in so.done ++ noted) ++ later ≡ notes_in s.orders))
         by None next is = tt
         by (Some s) None is = absurd is
         by (Some s) (Some n) is =
-            (notes_in n.orders, ap (λ (l : List Note). l ++ notes_in n.orders) (sym noted_so_far) ∙ sym (notes-append (so.done ++ orders.0) n.orders) ∙ sym (ap notes_in is.0))
+            (notes_in n.orders, ap (λ (l : List Aside). l ++ notes_in n.orders) (sym noted_so_far) ∙ sym (notes-append (so.done ++ orders.0) n.orders) ∙ sym (ap notes_in is.0))
 
   module _ (all left next : Option Script) (u v : Option (List ℕ)) (old there : Keeping D) (first seen : Option ℕ) (so : HasObeyed all left u v old there first seen) where
-    pub notes_there : IfSome all (λ s. (later : List Note) × (notes_in so.done ++ later ≡ notes_in s.orders))
+    pub notes_there : IfSome all (λ s. (later : List Aside) × (notes_in so.done ++ later ≡ notes_in s.orders))
     notes_there = by all left so.known
       where
-        by : (all left : Option Script) → IsPart all so.done left → IfSome all (λ s. (later : List Note) × (notes_in so.done ++ later ≡ notes_in s.orders))
+        by : (all left : Option Script) → IsPart all so.done left → IfSome all (λ s. (later : List Aside) × (notes_in so.done ++ later ≡ notes_in s.orders))
         by None left is = tt
         by (Some s) None is = absurd is
         by (Some s) (Some l) is = (notes_in l.orders, sym (notes-append so.done l.orders) ∙ sym (ap notes_in is.0))

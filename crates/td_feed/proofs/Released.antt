@@ -10,7 +10,8 @@ use Rattle.td_machine.specs.Steps.{ends, release_by, release_step, cut_at_by}
 use Rattle.td_keeper.specs.Halls.{with_released, cut_hall, last_passed}
 use Rattle.td_feed.specs.declared.order.Order.{Order}
 use Rattle.td_feed.specs.declared.order.Order.TheVariants as order
-use Rattle.td_feed.specs.declared.note.Note.{Note}
+use Rattle.td_feed.specs.Noted.{Aside}
+use Rattle.td_feed.specs.Noted.Aside.{to_say, to_answer}
 use Rattle.td_feed.specs.Orders.{submissions, notes_in}
 
 release_by-plan : (S : HallState) (closed at_end : Bool) (batch : List Entry) → (release_by S closed at_end batch).1.plan ≡ S.plan
@@ -38,9 +39,10 @@ submissions-append (order.SubmitAs request batch ∷ xs) ys = ap (λ (l : List S
 submissions-append (order.SubmitAt place request batch ∷ xs) ys = ap (λ (l : List Submitted). submission request batch ∷ l) (submissions-append xs ys)
 submissions-append (order.Cut ∷ xs) ys = submissions-append xs ys
 submissions-append (order.Seen line epoch ∷ xs) ys = submissions-append xs ys
+submissions-append (order.Answer vertex wanted ∷ xs) ys = submissions-append xs ys
 submissions-append (order.Say note ∷ xs) ys = submissions-append xs ys
 
--- and their notes
+-- and their notes and answers
 pub notes-append : (xs ys : List Order) → notes_in (xs ++ ys) ≡ notes_in xs ++ notes_in ys
 notes-append [] ys = refl
 notes-append (order.Submit batch ∷ xs) ys = notes-append xs ys
@@ -48,7 +50,8 @@ notes-append (order.SubmitAs request batch ∷ xs) ys = notes-append xs ys
 notes-append (order.SubmitAt place request batch ∷ xs) ys = notes-append xs ys
 notes-append (order.Cut ∷ xs) ys = notes-append xs ys
 notes-append (order.Seen line epoch ∷ xs) ys = notes-append xs ys
-notes-append (order.Say note ∷ xs) ys = ap (λ (l : List Note). note ∷ l) (notes-append xs ys)
+notes-append (order.Answer vertex wanted ∷ xs) ys = ap (λ (l : List Aside). to_answer vertex wanted ∷ l) (notes-append xs ys)
+notes-append (order.Say note ∷ xs) ys = ap (λ (l : List Aside). to_say note ∷ l) (notes-append xs ys)
 
 -- a list at the place that a loop has come to
 pub at_place : {A : Type 0} (all yielded : List A) (x : A) → yielded ≡ take (length yielded) all → length yielded < length all → x ≡ get_or all (length yielded) x

@@ -11,9 +11,9 @@ use Rattle.td_machine.specs.Active.{unpassed}
 use Rattle.td_standing.specs.declared.error.KeeperError.TheVariants as error
 use Rattle.td_standing.specs.Standing.{last_epoch}
 use Rattle.td_keeper.specs.declared.command.Command.{Command}
-use Rattle.td_keeper.specs.declared.command.Command.TheVariants.{Release, Settle, Collect}
+use Rattle.td_keeper.specs.declared.command.Command.TheVariants.{Release, Settle, Collect, Answer}
 use Rattle.td_keeper.specs.declared.command.Reply.{Reply}
-use Rattle.td_keeper.specs.declared.command.Reply.TheVariants.{Submitted as AsSubmitted, SubmittedAs, SubmittedAll, Released, Settled, Collected, Out, CutTaken, Written, Closed, Refused, RefusedAll}
+use Rattle.td_keeper.specs.declared.command.Reply.TheVariants.{Submitted as AsSubmitted, SubmittedAs, SubmittedAll, Released, Settled, Collected, Out, CutTaken, Answered, Written, Closed, Refused, RefusedAll}
 use Rattle.td_keeper.specs.Keeping.{Keeping, since_base}
 use Rattle.td_keeper.specs.Driven.{ComesOf}
 use Rattle.td_pool.specs.declared.error.PoolError.{PoolError}
@@ -22,14 +22,17 @@ use Rattle.std.specs.Io.KnownBytes.{Appends}
 use Rattle.td_console.specs.declared.faults.Fault.TheVariants.{Keeper, Output, Memory}
 use Rattle.td_feed.specs.Noted.{note_line}
 use Rattle.td_feed.specs.Carried.{batch_in, new_to, Carries, Leaves}
-use Rattle.td_feed.specs.Said.{full_line, SaysBy}
+use Rattle.td_feed.specs.Said.{answer_text, full_line, SaysBy, Refuses}
 use Rattle.td_feed.specs.declared.note.Note.{Note}
+use Rattle.td_questions.specs.declared.question.Wanted.{Wanted as Of}
+use Rattle.td_feed.specs.Noted.{Aside}
+use Rattle.td_feed.specs.Noted.Aside.{to_say, to_answer}
 use Rattle.td_feed.specs.Orders.{submissions, notes_in}
 use Rattle.td_feed.specs.Asked.{Script}
 use Rattle.td_feed.specs.Session.{KeepsDisk, FeedsNoting, Feeds, FeedsScript, IsObeyed, IsNotObeyed}
 use Rattle.td_feed.proofs.Carrying.{at_err, at_ok, ok_only, ended_ok, ended_err, unmoved, then_carries, carries_then, carries_after, leaves_none, leaves_all, leaves_then, leaves_after}
 use Rattle.td_feed.proofs.Counting.{counts_same, counts_handed, counts_after, same_count, ended_counts}
-use Rattle.td_feed.proofs.Lines.{EndedAs, is_quiet, says_nothing, then_quiet, then_by, quietly, noted_by, full_by, unsaid_none, refused_some, ended_says}
+use Rattle.td_feed.proofs.Lines.{EndedAs, is_quiet, says_nothing, then_quiet, then_by, quietly, noted_by, answered_by, unanswered, full_by, unsaid_none, refused_some, ended_says}
 
 -- what holds of the value, where it is known
 pub known : {A : Type 0} (P : A → Type 0) (o : Option A) (a : A) → o ≡ Some a → IfSome o P → P a
@@ -97,7 +100,7 @@ module _ {D : Type 0} {is_lawful : D → Type 0} {state : D → DiskState} {fail
   fed_nothing {w = w} {k = k} whole = record { carried = unmoved answers k k refl refl whole; left = tt; said = says_nothing is_lawful state failures answers marks w k }
 
   -- and then nothing more
-  pub fed_then : {d : Unit {0}} {r : Result (Unit {0}) Fault} {u v w : Option (List ℕ)} {a b c : Keeping D} {x : List Submitted} {ns : List Note} → FeedsNoting is_lawful state failures answers marks (Ok d) u v a b x ns
+  pub fed_then : {d : Unit {0}} {r : Result (Unit {0}) Fault} {u v w : Option (List ℕ)} {a b c : Keeping D} {x : List Submitted} {ns : List Aside} → FeedsNoting is_lawful state failures answers marks (Ok d) u v a b x ns
       → Feeds is_lawful state failures answers marks r v w b c [] → FeedsNoting is_lawful state failures answers marks r u w a c x ns
   fed_then {r = r} {u = u} {v = v} {w = w} {a = a} {b = b} {c = c} {x = x} {ns = ns} first next = record {
     carried = on_ok_weaker r (λ more. carries_then is_lawful state answers a b c x first.carried more) next.carried;
@@ -115,7 +118,7 @@ module _ {D : Type 0} {is_lawful : D → Type 0} {state : D → DiskState} {fail
   }
 
   -- the same fault is handed on
-  pub fed_handed : {e : Fault} {u v : Option (List ℕ)} {a b : Keeping D} {x : List Submitted} {ns : List Note} (r : Result (Unit {0}) Fault) → IsErrAnd r (λ f. f ≡ e)
+  pub fed_handed : {e : Fault} {u v : Option (List ℕ)} {a b : Keeping D} {x : List Submitted} {ns : List Aside} (r : Result (Unit {0}) Fault) → IsErrAnd r (λ f. f ≡ e)
       → FeedsNoting is_lawful state failures answers marks (Err e) u v a b x ns → FeedsNoting is_lawful state failures answers marks r u v a b x ns
   fed_handed (Ok d) none fed = absurd none
   fed_handed {u = u} {v = v} {a = a} {b = b} {x = x} {ns = ns} (Err f) is fed =
@@ -144,11 +147,31 @@ module _ {D : Type 0} {is_lawful : D → Type 0} {state : D → DiskState} {fail
 
   -- a note was to be written
   pub fed_note : {u v : Option (List ℕ)} {k : Keeping D} {P : Type 0} (r : Result (Unit {0}) Fault) (note : Note) → k.broken ≡ false → OnOk r (Appends u v (note_line note))
-      → IfErr r (λ f. (f ≡ Output) ⊎ ((f ≡ Memory) × P)) → (P → v ≡ u) → FeedsNoting is_lawful state failures answers marks r u v k k [] (note ∷ [])
+      → IfErr r (λ f. (f ≡ Output) ⊎ ((f ≡ Memory) × P)) → (P → v ≡ u) → FeedsNoting is_lawful state failures answers marks r u v k k [] (to_say note ∷ [])
   fed_note {u = u} {v = v} {k = k} {P = P} r note whole said unsaid same = record {
     carried = at_ok r (unmoved answers k k refl refl whole);
     left = at_err r (leaves_none is_lawful state answers k k [] (unmoved answers k k refl refl whole));
     said = noted_by is_lawful state failures answers marks r u v note k P said unsaid same;
+  }
+
+  -- a question was answered, and the answer was to be written
+  pub fed_answer : {u v : Option (List ℕ)} {a b : Keeping D} {P : Type 0} (r : Result (Unit {0}) Fault) (vertex : ℕ) (wanted : Of) (reply : Reply) → IsObeyed is_lawful state failures answers (Answer vertex wanted) reply a b
+      → Carries answers a b [] → OnOk r (Appends u v (answer_text vertex wanted reply)) → IfErr r (λ f. (f ≡ Output) ⊎ ((f ≡ Memory) × P)) → (P → v ≡ u)
+      → FeedsNoting is_lawful state failures answers marks r u v a b [] (to_answer vertex wanted ∷ [])
+  fed_answer {u = u} {v = v} {a = a} {b = b} {P = P} r vertex wanted reply is carried said unsaid same = record {
+    carried = at_ok r carried;
+    left = at_err r (leaves_none is_lawful state answers a b [] carried);
+    said = answered_by is_lawful state failures answers marks r u v vertex wanted reply a b P is.driven said unsaid same;
+  }
+
+  -- or it was not
+  pub fed_unanswered : {w : Option (List ℕ)} {a b : Keeping D} {ns : List Aside} (P : Fault → Type 0) (r : Result (Unit {0}) Fault) (command : Command) → IsErrAnd r P → Carries answers a b []
+      → Refuses is_lawful state failures answers command a b → FeedsNoting is_lawful state failures answers marks r w w a b [] ns
+  fed_unanswered P (Ok d) command none carried refused = absurd none
+  fed_unanswered {w = w} {a = a} {b = b} {ns = ns} P (Err f) command holds carried refused = record {
+    carried = tt;
+    left = leaves_none is_lawful state answers a b [] carried;
+    said = inr (unanswered is_lawful state failures answers marks w command a b ns refused);
   }
 
   -- it was to be written that the journal is full
@@ -161,7 +184,7 @@ module _ {D : Type 0} {is_lawful : D → Type 0} {state : D → DiskState} {fail
   }
 
   -- nothing was done
-  pub unfed : {w : Option (List ℕ)} {k : Keeping D} {x : List Submitted} {ns : List Note} (f : Fault) → k.broken ≡ false → FeedsNoting is_lawful state failures answers marks (Err f) w w k k x ns
+  pub unfed : {w : Option (List ℕ)} {k : Keeping D} {x : List Submitted} {ns : List Aside} (f : Fault) → k.broken ≡ false → FeedsNoting is_lawful state failures answers marks (Err f) w w k k x ns
   unfed {w = w} {k = k} {x = x} {ns = ns} f whole = record {
     carried = tt;
     left = leaves_none is_lawful state answers k k x (unmoved answers k k refl refl whole);
@@ -172,7 +195,7 @@ module _ {D : Type 0} {is_lawful : D → Type 0} {state : D → DiskState} {fail
   none_fed f whole = record { sound = tt; fed = unfed f whole }
 
   -- what is left at any answer
-  pub left_of : {u v : Option (List ℕ)} {a b : Keeping D} {x : List Submitted} {ns : List Note} (r : Result (Unit {0}) Fault) → FeedsNoting is_lawful state failures answers marks r u v a b x ns → Leaves is_lawful state answers a b x
+  pub left_of : {u v : Option (List ℕ)} {a b : Keeping D} {x : List Submitted} {ns : List Aside} (r : Result (Unit {0}) Fault) → FeedsNoting is_lawful state failures answers marks r u v a b x ns → Leaves is_lawful state answers a b x
   left_of {a = a} {b = b} {x = x} (Ok d) fed = leaves_all is_lawful state answers a b x fed.carried
   left_of (Err f) fed = fed.left
 
@@ -210,6 +233,7 @@ module _ {D : Type 0} {is_lawful : D → Type 0} {state : D → DiskState} {fail
   all_released (Out o) S T released comes = absurd released.obeyed
   all_released (CutTaken n) S T released comes = absurd released.obeyed
   all_released (Written w) S T released comes = absurd released.obeyed
+  all_released (Answered m ys) S T released comes = absurd released.obeyed
   all_released Closed S T released comes = absurd released.obeyed
 
   -- it was settled, and collected: all is
@@ -226,6 +250,7 @@ module _ {D : Type 0} {is_lawful : D → Type 0} {state : D → DiskState} {fail
   all_collected (Out o) S T all passed collected comes = absurd collected.obeyed
   all_collected (CutTaken n) S T all passed collected comes = absurd collected.obeyed
   all_collected (Written w) S T all passed collected comes = absurd collected.obeyed
+  all_collected (Answered m ys) S T all passed collected comes = absurd collected.obeyed
   all_collected Closed S T all passed collected comes = absurd collected.obeyed
 
   pub to_the_end : {a b c : Keeping D} (r s : Reply) (S T U : HallState) → S.batches ≡ since_base a → IsObeyed is_lawful state failures answers Settle r a b → ComesOf Settle r a S b T
@@ -242,4 +267,5 @@ module _ {D : Type 0} {is_lawful : D → Type 0} {state : D → DiskState} {fail
   to_the_end (Out o) s S T U all settled passed collected comes = absurd settled.obeyed
   to_the_end (CutTaken n) s S T U all settled passed collected comes = absurd settled.obeyed
   to_the_end (Written w) s S T U all settled passed collected comes = absurd settled.obeyed
+  to_the_end (Answered m ys) s S T U all settled passed collected comes = absurd settled.obeyed
   to_the_end Closed s S T U all settled passed collected comes = absurd settled.obeyed

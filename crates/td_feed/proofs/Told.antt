@@ -12,9 +12,9 @@ use Rattle.td_standing.specs.declared.error.KeeperError.TheVariants as error
 use Rattle.td_keeper.specs.declared.group.GroupError.{GroupError}
 use Rattle.td_keeper.specs.declared.group.GroupError.TheVariants.{Repeated, Keeper}
 use Rattle.td_keeper.specs.declared.command.Command.{Command}
-use Rattle.td_keeper.specs.declared.command.Command.TheVariants.{Submit, SubmitAs, SubmitAll, Release, Settle, Collect, NextOut, Cut, CutUpTo, WriteCut, CloseFree}
+use Rattle.td_keeper.specs.declared.command.Command.TheVariants.{Submit, SubmitAs, SubmitAll, Release, Settle, Collect, NextOut, Cut, CutUpTo, Answer, WriteCut, CloseFree}
 use Rattle.td_keeper.specs.declared.command.Reply.{Reply}
-use Rattle.td_keeper.specs.declared.command.Reply.TheVariants.{Submitted, SubmittedAs, SubmittedAll, Released, Settled, Collected, Out, CutTaken, Written, Closed, Refused, RefusedAll}
+use Rattle.td_keeper.specs.declared.command.Reply.TheVariants.{Submitted, SubmittedAs, SubmittedAll, Released, Settled, Collected, Out, CutTaken, Answered, Written, Closed, Refused, RefusedAll}
 use Rattle.td_keeper.specs.declared.receipt.Receipt.{Receipt}
 use Rattle.td_keeper.specs.declared.receipt.Receipt.TheVariants.{New, Already}
 use Rattle.td_keeper.specs.Received.{IsReceived, received_in}
@@ -39,6 +39,7 @@ none_refused (Collected n) none none_of_group = refl
 none_refused (Out o) none none_of_group = refl
 none_refused (CutTaken n) none none_of_group = refl
 none_refused (Written w) none none_of_group = refl
+none_refused (Answered m ys) none none_of_group = refl
 none_refused Closed none none_of_group = refl
 
 -- a group whose numbers rise is not refused as one that repeats some
@@ -94,6 +95,7 @@ module _ {D : Type 0} (is_lawful : D → Type 0) (state : D → DiskState) (fail
   submitted_is (SubmitAll group) (Out o) old new obeys done rises = absurd obeys.0
   submitted_is (SubmitAll group) (CutTaken n) old new obeys done rises = absurd obeys.0
   submitted_is (SubmitAll group) (Written w) old new obeys done rises = absurd obeys.0
+  submitted_is (SubmitAll group) (Answered m ys) old new obeys done rises = absurd obeys.0
   submitted_is (SubmitAll group) Closed old new obeys done rises = absurd obeys.0
   submitted_is (SubmitAll group) (Refused e b) old new obeys done rises = absurd obeys.0
   submitted_is (SubmitAll group) (RefusedAll e xs) old new obeys done rises = absurd (let no : true ≡ false = done in cc)
@@ -108,6 +110,7 @@ module _ {D : Type 0} (is_lawful : D → Type 0) (state : D → DiskState) (fail
   submitted_is (SubmitAs request batch) (Out o) old new obeys done rises = absurd obeys.0
   submitted_is (SubmitAs request batch) (CutTaken n) old new obeys done rises = absurd obeys.0
   submitted_is (SubmitAs request batch) (Written w) old new obeys done rises = absurd obeys.0
+  submitted_is (SubmitAs request batch) (Answered m ys) old new obeys done rises = absurd obeys.0
   submitted_is (SubmitAs request batch) Closed old new obeys done rises = absurd obeys.0
   submitted_is (Submit batch) (SubmittedAs n) old new obeys done rises = absurd obeys.0
   submitted_is (Submit batch) (SubmittedAll n m) old new obeys done rises = absurd obeys.0
@@ -118,12 +121,14 @@ module _ {D : Type 0} (is_lawful : D → Type 0) (state : D → DiskState) (fail
   submitted_is (Submit batch) (Out o) old new obeys done rises = absurd obeys.0
   submitted_is (Submit batch) (CutTaken n) old new obeys done rises = absurd obeys.0
   submitted_is (Submit batch) (Written w) old new obeys done rises = absurd obeys.0
+  submitted_is (Submit batch) (Answered m ys) old new obeys done rises = absurd obeys.0
   submitted_is (Submit batch) Closed old new obeys done rises = absurd obeys.0
   submitted_is Release r old new obeys done rises = refl
   submitted_is Settle r old new obeys done rises = refl
   submitted_is Collect r old new obeys done rises = refl
   submitted_is NextOut r old new obeys done rises = refl
   submitted_is Cut r old new obeys done rises = refl
+  submitted_is (Answer v w) r old new obeys done rises = refl
   submitted_is (CutUpTo m) r old new obeys done rises = refl
   submitted_is WriteCut r old new obeys done rises = refl
   submitted_is (CloseFree most) r old new obeys done rises = refl
@@ -141,6 +146,7 @@ module _ {D : Type 0} (is_lawful : D → Type 0) (state : D → DiskState) (fail
   rest others Collect r old new obeys whole is = rests_carry old new (others Collect r old new refl obeys) whole
   rest others NextOut r old new obeys whole is = rests_carry old new (others NextOut r old new refl obeys) whole
   rest others Cut r old new obeys whole is = rests_carry old new (others Cut r old new refl obeys) whole
+  rest others (Answer v w) r old new obeys whole is = rests_carry old new (others (Answer v w) r old new refl obeys) whole
   rest others (CutUpTo m) r old new obeys whole is = rests_carry old new (others (CutUpTo m) r old new refl obeys) whole
   rest others WriteCut r old new obeys whole is = absurd (let no : false ≡ true = is in cc)
   rest others (CloseFree most) r old new obeys whole is = absurd (let no : false ≡ true = is in cc)
@@ -163,6 +169,7 @@ module _ {D : Type 0} (is_lawful : D → Type 0) (state : D → DiskState) (fail
   carry others stands_on cuts_on (SubmitAll group) (Out o) old new kept obeys whole done = absurd obeys.0
   carry others stands_on cuts_on (SubmitAll group) (CutTaken n) old new kept obeys whole done = absurd obeys.0
   carry others stands_on cuts_on (SubmitAll group) (Written w) old new kept obeys whole done = absurd obeys.0
+  carry others stands_on cuts_on (SubmitAll group) (Answered m ys) old new kept obeys whole done = absurd obeys.0
   carry others stands_on cuts_on (SubmitAll group) Closed old new kept obeys whole done = absurd obeys.0
   carry others stands_on cuts_on (SubmitAll group) (Refused e b) old new kept obeys whole done = absurd obeys.0
   carry others stands_on cuts_on (SubmitAll group) (RefusedAll e xs) old new kept obeys whole done = absurd (let no : true ≡ false = done in cc)
@@ -177,6 +184,7 @@ module _ {D : Type 0} (is_lawful : D → Type 0) (state : D → DiskState) (fail
   carry others stands_on cuts_on (SubmitAs request batch) (Out o) old new kept obeys whole done = absurd obeys.0
   carry others stands_on cuts_on (SubmitAs request batch) (CutTaken n) old new kept obeys whole done = absurd obeys.0
   carry others stands_on cuts_on (SubmitAs request batch) (Written w) old new kept obeys whole done = absurd obeys.0
+  carry others stands_on cuts_on (SubmitAs request batch) (Answered m ys) old new kept obeys whole done = absurd obeys.0
   carry others stands_on cuts_on (SubmitAs request batch) Closed old new kept obeys whole done = absurd obeys.0
   carry others stands_on cuts_on (Submit batch) (SubmittedAs n) old new kept obeys whole done = absurd obeys.0
   carry others stands_on cuts_on (Submit batch) (SubmittedAll n m) old new kept obeys whole done = absurd obeys.0
@@ -187,12 +195,14 @@ module _ {D : Type 0} (is_lawful : D → Type 0) (state : D → DiskState) (fail
   carry others stands_on cuts_on (Submit batch) (Out o) old new kept obeys whole done = absurd obeys.0
   carry others stands_on cuts_on (Submit batch) (CutTaken n) old new kept obeys whole done = absurd obeys.0
   carry others stands_on cuts_on (Submit batch) (Written w) old new kept obeys whole done = absurd obeys.0
+  carry others stands_on cuts_on (Submit batch) (Answered m ys) old new kept obeys whole done = absurd obeys.0
   carry others stands_on cuts_on (Submit batch) Closed old new kept obeys whole done = absurd obeys.0
   carry others stands_on cuts_on Release r old new kept obeys whole done = rests_carry old new (others Release r old new refl obeys) whole
   carry others stands_on cuts_on Settle r old new kept obeys whole done = rests_carry old new (others Settle r old new refl obeys) whole
   carry others stands_on cuts_on Collect r old new kept obeys whole done = rests_carry old new (others Collect r old new refl obeys) whole
   carry others stands_on cuts_on NextOut r old new kept obeys whole done = rests_carry old new (others NextOut r old new refl obeys) whole
   carry others stands_on cuts_on Cut r old new kept obeys whole done = rests_carry old new (others Cut r old new refl obeys) whole
+  carry others stands_on cuts_on (Answer v w) r old new kept obeys whole done = rests_carry old new (others (Answer v w) r old new refl obeys) whole
   carry others stands_on cuts_on (CutUpTo m) r old new kept obeys whole done = rests_carry old new (others (CutUpTo m) r old new refl obeys) whole
   carry others stands_on cuts_on WriteCut (Written w) old new kept obeys whole done =
       ⊎_elim
@@ -209,6 +219,7 @@ module _ {D : Type 0} (is_lawful : D → Type 0) (state : D → DiskState) (fail
   carry others stands_on cuts_on WriteCut (Collected n) old new kept obeys whole done = absurd obeys.0
   carry others stands_on cuts_on WriteCut (Out o) old new kept obeys whole done = absurd obeys.0
   carry others stands_on cuts_on WriteCut (CutTaken n) old new kept obeys whole done = absurd obeys.0
+  carry others stands_on cuts_on WriteCut (Answered m ys) old new kept obeys whole done = absurd obeys.0
   carry others stands_on cuts_on WriteCut Closed old new kept obeys whole done = absurd obeys.0
   carry others stands_on cuts_on (CloseFree most) Closed old new kept obeys whole done =
       let same = obeys.0.same in unmoved answers old new (ap (λ (k : Keeping D). k.plan) same) (ap (λ (k : Keeping D). k.standing) same) (ap (λ (k : Keeping D). k.broken) same ∙ whole)
@@ -222,6 +233,7 @@ module _ {D : Type 0} (is_lawful : D → Type 0) (state : D → DiskState) (fail
   carry others stands_on cuts_on (CloseFree most) (Collected n) old new kept obeys whole done = absurd obeys.0
   carry others stands_on cuts_on (CloseFree most) (Out o) old new kept obeys whole done = absurd obeys.0
   carry others stands_on cuts_on (CloseFree most) (CutTaken n) old new kept obeys whole done = absurd obeys.0
+  carry others stands_on cuts_on (CloseFree most) (Answered m ys) old new kept obeys whole done = absurd obeys.0
   carry others stands_on cuts_on (CloseFree most) (Written w) old new kept obeys whole done = absurd obeys.0
 
 module _ {D : Type 0} (is_lawful : D → Type 0) (state : D → DiskState) (failures : D → ℕ) (answers : Answers) (stands_on : Stands-on answers) (old new : Keeping D) (whole : old.broken ≡ false)
@@ -287,6 +299,7 @@ module _ {D : Type 0} (is_lawful : D → Type 0) (state : D → DiskState) (fail
   refused others Collect e b obeys since = rests_left [] (others Collect (Refused e b) old new refl obeys)
   refused others NextOut e b obeys since = rests_left [] (others NextOut (Refused e b) old new refl obeys)
   refused others Cut e b obeys since = rests_left [] (others Cut (Refused e b) old new refl obeys)
+  refused others (Answer v w) e b obeys since = rests_left [] (others (Answer v w) (Refused e b) old new refl obeys)
   refused others (CutUpTo m) e b obeys since = rests_left [] (others (CutUpTo m) (Refused e b) old new refl obeys)
   refused others WriteCut e b obeys since =
       ⊎_elim
@@ -339,6 +352,7 @@ module _ {D : Type 0} (is_lawful : D → Type 0) (state : D → DiskState) (fail
   none_of_group Collect e b obeys rises = absurd obeys
   none_of_group NextOut e b obeys rises = absurd obeys
   none_of_group Cut e b obeys rises = absurd obeys
+  none_of_group (Answer v w) e b obeys rises = absurd obeys
   none_of_group (CutUpTo m) e b obeys rises = absurd obeys
   none_of_group WriteCut e b obeys rises = absurd obeys.0
   none_of_group (CloseFree most) e b obeys rises = absurd obeys.0
@@ -358,6 +372,7 @@ module _ {D : Type 0} (is_lawful : D → Type 0) (state : D → DiskState) (fail
   refused_any others c (Out o) is obeys rises since = absurd (let no : false ≡ true = is in cc)
   refused_any others c (CutTaken n) is obeys rises since = absurd (let no : false ≡ true = is in cc)
   refused_any others c (Written w) is obeys rises since = absurd (let no : false ≡ true = is in cc)
+  refused_any others c (Answered m ys) is obeys rises since = absurd (let no : false ≡ true = is in cc)
   refused_any others c Closed is obeys rises since = absurd (let no : false ≡ true = is in cc)
 
 module _ {D : Type 0} (is_lawful : D → Type 0) (state : D → DiskState) (failures : D → ℕ) (answers : Answers) where
@@ -375,6 +390,7 @@ module _ {D : Type 0} (is_lawful : D → Type 0) (state : D → DiskState) (fail
   repeats Collect b old new obeys rises = obeys
   repeats NextOut b old new obeys rises = obeys
   repeats Cut b old new obeys rises = obeys
+  repeats (Answer v w) b old new obeys rises = obeys
   repeats (CutUpTo m) b old new obeys rises = obeys
   repeats WriteCut b old new obeys rises = obeys.0
   repeats (CloseFree most) b old new obeys rises = obeys.0
@@ -393,4 +409,5 @@ module _ {D : Type 0} (is_lawful : D → Type 0) (state : D → DiskState) (fail
   not_repeated c (Out o) old new obeys rises = refl
   not_repeated c (CutTaken n) old new obeys rises = refl
   not_repeated c (Written w) old new obeys rises = refl
+  not_repeated c (Answered m ys) old new obeys rises = refl
   not_repeated c Closed old new obeys rises = refl

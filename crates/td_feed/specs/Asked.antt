@@ -23,8 +23,8 @@ use Rattle.td_feed.specs.declared.order.Order.TheVariants as order
 use Rattle.td_feed.specs.declared.reading.Reading.{Reading as AnyReading}
 use Rattle.td_feed.specs.declared.at_once.Asked.{Asked}
 use Rattle.td_feed.specs.declared.at_once.Asked.TheVariants.{One, Epochs}
-use Rattle.td_feed.specs.Noted.{flaw_of, cause_in}
-use Rattle.td_feed.specs.Orders.{Orders, no_orders, numbered, is_between, stream_line_of, with_line, with_order, submissions, notes_in}
+use Rattle.td_feed.specs.Noted.{Aside, flaw_of, cause_in}
+use Rattle.td_feed.specs.Orders.{Orders, no_orders, numbered, is_between, session_line_of, with_line, with_order, submissions, notes_in}
 
 -- what is left of an input, of which some bytes were read and are in no line yet
 abbrev pub unread : Option (List ℕ) → List ℕ → Option (List ℕ)
@@ -101,12 +101,14 @@ abbrev pub with_said : List PlanLine → Option ℕ → ℕ → Option (ℕ × F
 with_said plan limit n (Some why) read line said = Ok (passed_over why read said)
 with_said plan limit n None read line said = judged limit n line read (with_line plan n read said)
 
--- WHERE A STREAM IS in its input: its plan; whether epochs may have places; whether outputs are held; where it refuses epochs, how many
--- records one may have; the number of the next line; why the epoch that is open is refused, if it is; and what was read
+-- WHERE A STREAM IS in its input: its plan; whether epochs may have places; whether outputs are held; whether questions are answered; where
+-- it refuses epochs, how many records one may have; the number of the next line; why the epoch that is open is refused, if it is; and what
+-- was read
 pub record Reading : Type 0 where
   pub plan : List PlanLine
   pub placing : Bool
   pub hold : Bool
+  pub questions : Bool
   pub limit : Option ℕ
   pub number : ℕ
   pub flaw : Option (ℕ × Flaw)
@@ -114,22 +116,22 @@ pub record Reading : Type 0 where
 
 -- of a reader of lines
 abbrev pub place : AnyReading → Reading
-place r = record { plan = r.plan.now; placing = r.placing; hold = r.hold; limit = r.limit; number = r.number; flaw = r.flaw; read = r.read }
+place r = record { plan = r.plan.now; placing = r.placing; hold = r.hold; questions = r.questions; limit = r.limit; number = r.number; flaw = r.flaw; read = r.read }
 
 -- before the first line
-abbrev pub at_start : Bool → Bool → Option ℕ → List PlanLine → Reading
-at_start placing hold limit plan = record { plan = plan; placing = placing; hold = hold; limit = limit; number = 1; flaw = None; read = no_orders }
+abbrev pub at_start : Bool → Bool → Bool → Option ℕ → List PlanLine → Reading
+at_start placing hold questions limit plan = record { plan = plan; placing = placing; hold = hold; questions = questions; limit = limit; number = 1; flaw = None; read = no_orders }
 
 -- after one line more, or its fault
 abbrev pub after_line : Reading → ReadSoFar → Reading
-after_line r next = record { plan = r.plan; placing = r.placing; hold = r.hold; limit = r.limit; number = r.number + 1; flaw = next.0; read = next.1 }
+after_line r next = record { plan = r.plan; placing = r.placing; hold = r.hold; questions = r.questions; limit = r.limit; number = r.number + 1; flaw = next.0; read = next.1 }
 
 abbrev pub onward : Reading → Result ReadSoFar Fault → Result Reading Fault
 onward r (Ok next) = Ok (after_line r next)
 onward r (Err fault) = Err fault
 
 abbrev pub with_next : Reading → List ℕ → Result Reading Fault
-with_next r line = onward r (with_said r.plan r.limit r.number r.flaw r.read line (stream_line_of r.placing r.hold line))
+with_next r line = onward r (with_said r.plan r.limit r.number r.flaw r.read line (session_line_of r.placing r.hold r.questions line))
 
 -- at the end, no epoch may have begun
 abbrev pub may_end : Option (ℕ × Flaw) → Bool → Bool
@@ -146,10 +148,10 @@ abbrev pub script_from : Reading → List (List ℕ) → Script
 script_from r [] = record { orders = r.read.orders; is_sound = may_end r.flaw (is_between r.read) }
 script_from r (line ∷ lines) = script_after r.read (λ more. script_from more lines) (with_next r line)
 
--- THE SCRIPT OF AN INPUT, of a stream whose epochs may have places or not, that holds outputs or not, and that refuses epochs, with so many
--- records at most, or not
-abbrev pub script_of : Bool → Bool → Option ℕ → List PlanLine → List ℕ → Script
-script_of placing hold limit plan input = script_from (at_start placing hold limit plan) (text_lines input)
+-- THE SCRIPT OF AN INPUT, of a stream whose epochs may have places or not, that holds outputs or not, that answers questions or not, and that
+-- refuses epochs, with so many records at most, or not
+abbrev pub script_of : Bool → Bool → Bool → Option ℕ → List PlanLine → List ℕ → Script
+script_of placing hold questions limit plan input = script_from (at_start placing hold questions limit plan) (text_lines input)
 
 -- what is left of a script, where the rest of the input is known
 abbrev pub script_left : Option (List ℕ) → Reading → Option Script
@@ -197,6 +199,7 @@ IsNext last (order.SubmitAs request batch) = may_come (Some last) request ≡ tr
 IsNext last (order.SubmitAt place request batch) = ⊥
 IsNext last order.Cut = ⊥
 IsNext last (order.Seen line epoch) = ⊥
+IsNext last (order.Answer vertex wanted) = ⊥
 IsNext last (order.Say note) = ⊥
 
 -- what is asked for at once submits these
@@ -204,8 +207,8 @@ abbrev pub asked_for : Asked → List Submitted
 asked_for (One order) = submissions (order ∷ [])
 asked_for (Epochs group) = group
 
--- and has these notes written
-abbrev pub notes_for : Asked → List Note
+-- and has these notes written, and these questions answered
+abbrev pub notes_for : Asked → List Aside
 notes_for (One order) = notes_in (order ∷ [])
 notes_for (Epochs group) = []
 

@@ -13,6 +13,12 @@ use Rattle.td_feed.specs.declared.note.Cause.TheVariants.{Line, CarriageReturn, 
 use Rattle.td_feed.specs.declared.note.Flaw.{Flaw}
 use Rattle.td_feed.specs.declared.note.Note.{Note}
 use Rattle.td_feed.specs.declared.note.Note.TheVariants.{Refused, There, Gap}
+use Rattle.td_questions.specs.declared.question.Wanted.{Wanted}
+
+-- WHAT IS ASKED FOR BESIDE epochs and cuts: a note that is to be written, or the answer to what is wanted of a fold
+pub data Aside : Type 0 where
+  to_say : Note → Aside
+  to_answer : ℕ → Wanted → Aside
 
 -- why an epoch is refused
 abbrev pub cause_text : Cause → List ℕ

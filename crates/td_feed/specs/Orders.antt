@@ -13,16 +13,20 @@ use Rattle.td_journal.specs.declared.submitted.Submitted.{Submitted}
 use Rattle.td_journal.specs.Numbers.{may_come}
 use Rattle.td_standing.specs.Standing.{submission}
 use Rattle.td_console.specs.declared.data_line.DataLine.TheVariants.{PassedOver, Record, Close}
-use Rattle.td_console.specs.declared.faults.LineFault.TheVariants.{Syntax, NoSuchInput, NotClosed}
+use Rattle.td_console.specs.declared.faults.LineFault.TheVariants.{Syntax, NoSuchInput, NotClosed, NoSuchFold}
 use Rattle.td_console.specs.declared.faults.Fault.{Fault}
 use Rattle.td_console.specs.declared.faults.Fault.TheVariants.{Line, Memory}
 use Rattle.td_console.specs.Data.{data_line_of}
 use Rattle.td_feed.specs.declared.order.FeedLine.{FeedLine}
-use Rattle.td_feed.specs.declared.order.FeedLine.TheVariants.{Data, Request, At, Cut, Seen}
+use Rattle.td_feed.specs.declared.order.FeedLine.TheVariants.{Data, Request, At, Cut, Seen, Ask}
 use Rattle.td_feed.specs.declared.order.Place.{Place}
 use Rattle.td_feed.specs.declared.order.Order.{Order}
 use Rattle.td_feed.specs.declared.order.Order.TheVariants as order
-use Rattle.td_feed.specs.declared.note.Note.{Note}
+use Rattle.td_questions.specs.declared.question.Question.{Question}
+use Rattle.td_questions.specs.declared.question.Wanted.{Wanted}
+use Rattle.td_questions.specs.Words.{question_of, fold_of}
+use Rattle.td_feed.specs.Noted.{Aside}
+use Rattle.td_feed.specs.Noted.Aside.{to_say, to_answer}
 
 -- whether the one word is `cut`
 abbrev pub is_cut : List (List ℕ) → Bool
@@ -80,6 +84,16 @@ abbrev pub stream_line_of : Bool → Bool → List ℕ → Option FeedLine
 stream_line_of false hold line = held_line_of hold line
 stream_line_of true hold line = if list_all is_ascii line then or_held_line hold line (place_of (words line)) else None
 
+-- a question, or what a line of a stream says
+abbrev pub or_stream_line : Bool → Bool → List ℕ → Option Question → Option FeedLine
+or_stream_line placing hold line (Some question) = Some (Ask question)
+or_stream_line placing hold line None = stream_line_of placing hold line
+
+-- and where questions are answered, also what it asks
+abbrev pub session_line_of : Bool → Bool → Bool → List ℕ → Option FeedLine
+session_line_of placing hold false line = stream_line_of placing hold line
+session_line_of placing hold true line = if list_all is_ascii line then or_stream_line placing hold line (question_of (words line)) else None
+
 -- Orders that were read so far; and of the epoch that is not closed its place, if it has one, its request number, 0 for none, and its
 -- entries as they were read
 pub record Orders : Type 0 where
@@ -131,6 +145,15 @@ abbrev pub with_seen : ℕ → ℕ → Orders → Bool → Result Orders Fault
 with_seen n epoch read true = Ok (record { orders = read.orders ++ order.Seen n epoch ∷ []; place = read.place; request = read.request; current = read.current })
 with_seen n epoch read false = Err (Line n Syntax)
 
+-- and a question to a fold of the plan
+abbrev pub with_answer : ℕ → Wanted → Orders → Option ℕ → Result Orders Fault
+with_answer n wanted read None = Err (Line n NoSuchFold)
+with_answer n wanted read (Some vertex) = Ok (record { orders = read.orders ++ order.Answer vertex wanted ∷ []; place = read.place; request = read.request; current = read.current })
+
+abbrev pub with_question : List PlanLine → ℕ → Question → Orders → Bool → Result Orders Fault
+with_question plan n question read true = with_answer n question.wanted read (fold_of plan question.vertex)
+with_question plan n question read false = Err (Line n Syntax)
+
 -- a request number is of the epoch after it, and stands before its records
 abbrev pub with_request : ℕ → ℕ → Orders → Bool → Result Orders Fault
 with_request n q read true = Ok (record { orders = read.orders; place = read.place; request = q; current = read.current })
@@ -158,6 +181,7 @@ with_line plan n read (Some Cut) = with_cut n read (is_between read)
 with_line plan n read (Some (Request q)) = with_request n q read (has_no_number read)
 with_line plan n read (Some (At epoch)) = with_place n epoch read (may_be_placed read)
 with_line plan n read (Some (Seen epoch)) = with_seen n epoch read (is_between read)
+with_line plan n read (Some (Ask question)) = with_question plan n question read (is_between read)
 with_line plan n read (Some (Data PassedOver)) = Ok read
 with_line plan n read (Some (Data Close)) = Ok (with_order (order_at read.place read.request (bag_of entry_cmp read.current)) read)
 with_line plan n read (Some (Data (Record input rec))) =
@@ -191,17 +215,19 @@ submissions (order.SubmitAs request batch ∷ orders) = submission request batch
 submissions (order.SubmitAt place request batch ∷ orders) = submission request batch ∷ submissions orders
 submissions (order.Cut ∷ orders) = submissions orders
 submissions (order.Seen line epoch ∷ orders) = submissions orders
+submissions (order.Answer vertex wanted ∷ orders) = submissions orders
 submissions (order.Say note ∷ orders) = submissions orders
 
 -- what orders would have written beside
-abbrev pub notes_in : List Order → List Note
+abbrev pub notes_in : List Order → List Aside
 notes_in [] = []
 notes_in (order.Submit batch ∷ orders) = notes_in orders
 notes_in (order.SubmitAs request batch ∷ orders) = notes_in orders
 notes_in (order.SubmitAt place request batch ∷ orders) = notes_in orders
 notes_in (order.Cut ∷ orders) = notes_in orders
 notes_in (order.Seen line epoch ∷ orders) = notes_in orders
-notes_in (order.Say note ∷ orders) = note ∷ notes_in orders
+notes_in (order.Answer vertex wanted ∷ orders) = to_answer vertex wanted ∷ notes_in orders
+notes_in (order.Say note ∷ orders) = to_say note ∷ notes_in orders
 
 -- WHICH OF THESE ARE NEW after a greatest request number: each that has no number, and each whose number is above all before
 abbrev pub new_after : ℕ → List Submitted → List Submitted
@@ -213,13 +239,14 @@ abbrev pub submitted_by : Result (List Order) Fault → List Submitted
 submitted_by (Ok orders) = submissions orders
 submitted_by (Err fault) = []
 
--- what an order of a feed submits names inputs of the plan; it has no places and no notes
+-- what an order of a feed submits names inputs of the plan; it has no places, no notes and no questions
 abbrev pub IsAccepted : List PlanLine → Order → Type 0
 IsAccepted plan (order.Submit batch) = IsTrue (list_all (λ e. is_input_of plan e.input) batch)
 IsAccepted plan (order.SubmitAs request batch) = IsTrue (list_all (λ e. is_input_of plan e.input) batch)
 IsAccepted plan (order.SubmitAt place request batch) = ⊥
 IsAccepted plan order.Cut = Unit {0}
 IsAccepted plan (order.Seen line epoch) = Unit {0}
+IsAccepted plan (order.Answer vertex wanted) = ⊥
 IsAccepted plan (order.Say note) = ⊥
 
 -- a fault of an input: of a line, or for want of memory

@@ -17,14 +17,17 @@ use Rattle.td_standing.specs.Standing.{Standing, last_epoch, last_request}
 use Rattle.td_standing.specs.Advanced.{HeldWhere}
 use Rattle.td_keeper.specs.declared.command.Command.{Command}
 use Rattle.td_keeper.specs.declared.command.Reply.{Reply}
-use Rattle.td_keeper.specs.declared.command.Reply.TheVariants.{Submitted, SubmittedAs, SubmittedAll, Out, Written, Refused, RefusedAll}
+use Rattle.td_keeper.specs.declared.command.Reply.TheVariants.{Submitted, SubmittedAs, SubmittedAll, Out, Answered, Written, Refused, RefusedAll}
 use Rattle.td_keeper.specs.declared.group.GroupError.TheVariants.{Keeper}
-use Rattle.td_keeper.specs.declared.command.Command.TheVariants.{SubmitAs}
+use Rattle.td_keeper.specs.declared.command.Command.TheVariants.{SubmitAs, Answer}
 use Rattle.td_keeper.specs.declared.receipt.Receipt.TheVariants.{New, Already}
 use Rattle.td_keeper.specs.Keeping.{Keeping, IsKeeping, IsFreshlyOpened}
 use Rattle.td_keeper.specs.Driven.{submitted_by, AcknowledgesUpTo, Driven}
 use Rattle.td_feed.specs.declared.note.Note.{Note}
-use Rattle.td_feed.specs.Noted.{note_line}
+use Rattle.td_questions.specs.declared.question.Wanted.{Wanted as Of}
+use Rattle.td_questions.specs.Lines.{answer_lines}
+use Rattle.td_feed.specs.Noted.{Aside, note_line}
+use Rattle.td_feed.specs.Noted.Aside.{to_say, to_answer}
 use Rattle.td_feed.specs.Carried.{new_to, is_refused}
 use Rattle.td_feed.specs.Shown.{IsRefusedAs}
 use Rattle.td_console.specs.Answer.{output_text}
@@ -76,30 +79,39 @@ line_of marks request (Out (Some out)) = out_lines marks out
 line_of marks request (Written (Some epoch)) = cut_line epoch
 line_of marks request _ = []
 
--- WHAT IS SAID: the lines of a reply to a command, a note, or that the journal is full up to an epoch
+-- THE LINES OF AN ANSWER to what is wanted of a fold
+abbrev pub answer_text : ℕ → Of → Reply → List ℕ
+answer_text vertex wanted (Answered epoch entries) = answer_lines epoch vertex wanted entries
+answer_text vertex wanted _ = []
+
+-- WHAT IS SAID: the lines of a reply to a command, a note, that the journal is full up to an epoch, or the answer to what is wanted of a fold
 pub data Saying : Type 0 where
   replied : Command → Reply → Saying
   aside : Note → Saying
   full : ℕ → Saying
+  answered : ℕ → Of → Reply → Saying
 
--- the commands of what is said, the replies, and the notes
+-- the commands of what is said, the replies, and the notes with the answers
 abbrev pub commands_in : List Saying → List Command
 commands_in [] = []
 commands_in (replied command reply ∷ more) = command ∷ commands_in more
 commands_in (aside note ∷ more) = commands_in more
 commands_in (full epoch ∷ more) = commands_in more
+commands_in (answered vertex wanted reply ∷ more) = Answer vertex wanted ∷ commands_in more
 
 abbrev pub replies_in : List Saying → List Reply
 replies_in [] = []
 replies_in (replied command reply ∷ more) = reply ∷ replies_in more
 replies_in (aside note ∷ more) = replies_in more
 replies_in (full epoch ∷ more) = replies_in more
+replies_in (answered vertex wanted reply ∷ more) = reply ∷ replies_in more
 
-abbrev pub notes_among : List Saying → List Note
+abbrev pub notes_among : List Saying → List Aside
 notes_among [] = []
 notes_among (replied command reply ∷ more) = notes_among more
-notes_among (aside note ∷ more) = note ∷ notes_among more
+notes_among (aside note ∷ more) = to_say note ∷ notes_among more
 notes_among (full epoch ∷ more) = notes_among more
+notes_among (answered vertex wanted reply ∷ more) = to_answer vertex wanted ∷ notes_among more
 
 -- the lines of it, one after another
 abbrev pub lines_of : Bool → List Saying → List ℕ
@@ -107,6 +119,7 @@ lines_of marks [] = []
 lines_of marks (replied command reply ∷ more) = line_of marks (request_in command) reply ++ lines_of marks more
 lines_of marks (aside note ∷ more) = note_line note ++ lines_of marks more
 lines_of marks (full epoch ∷ more) = full_line epoch ++ lines_of marks more
+lines_of marks (answered vertex wanted reply ∷ more) = answer_text vertex wanted reply ++ lines_of marks more
 
 -- ALL OUTPUTS of a keeper's epochs were handed out
 pub record IsAllOut {D : Type 0} (k : Keeping D) : Type 0 where
@@ -119,11 +132,11 @@ fault_in (Refused error back) = keeper_fault error
 fault_in (RefusedAll (Keeper error) back) = keeper_fault error
 fault_in _ = Memory
 
--- WHAT AN INPUT ASKS FOR of a disk with this last epoch and this greatest request number: epochs; notes; and of a stream that refuses
+-- WHAT AN INPUT ASKS FOR of a disk with this last epoch and this greatest request number: epochs; notes and answers; and of a stream that refuses
 -- epochs how many records one may have
 pub record Wanted : Type 0 where
   pub epochs : ℕ → ℕ → List AnySubmitted
-  pub notes : ℕ → ℕ → List Note
+  pub notes : ℕ → ℕ → List Aside
   pub limit : Option ℕ
 
 -- epochs alone, whatever the disk has
@@ -131,9 +144,9 @@ abbrev pub epochs_alone : List AnySubmitted → Wanted
 epochs_alone x = record { epochs = λ told last. x; notes = λ told last. []; limit = None }
 
 module _ {D : Type 0} (is_lawful : D → Type 0) (state : D → DiskState) (failures : D → ℕ) (answers : Answers) (marks : Bool) where
-  -- A KEEPER WAS TOLD WHAT SUBMITS THESE, and the lines of its replies were appended to what a writer holds, and these notes beside them,
-  -- all of them, in order
-  pub record Says (before after : Option (List ℕ)) (old new : Keeping D) (x : List AnySubmitted) (notes : List Note) : Type 0 where
+  -- A KEEPER WAS TOLD WHAT SUBMITS THESE, and the lines of its replies were appended to what a writer holds, and these notes and answers
+  -- beside them, all of them, in order
+  pub record Says (before after : Option (List ℕ)) (old new : Keeping D) (x : List AnySubmitted) (notes : List Aside) : Type 0 where
     pub sayings : List Saying
     pub driven : Driven is_lawful state failures answers (commands_in sayings) (replies_in sayings) old new
     pub submitted : submitted_by (commands_in sayings) (replies_in sayings) ≡ x
@@ -141,10 +154,10 @@ module _ {D : Type 0} (is_lawful : D → Type 0) (state : D → DiskState) (fail
     pub said : Appends before after (lines_of marks sayings)
 
   -- or a beginning of them: no line is written before its reply, and the notes are the first of these
-  pub record SaysSome (before after : Option (List ℕ)) (old new : Keeping D) (notes : List Note) : Type 0 where
+  pub record SaysSome (before after : Option (List ℕ)) (old new : Keeping D) (notes : List Aside) : Type 0 where
     pub sayings : List Saying
     pub driven : Driven is_lawful state failures answers (commands_in sayings) (replies_in sayings) old new
-    pub later : List Note
+    pub later : List Aside
     pub noted : notes_among sayings ++ later ≡ notes
     pub text : List ℕ
     pub unsaid : List ℕ
@@ -158,7 +171,7 @@ module _ {D : Type 0} (is_lawful : D → Type 0) (state : D → DiskState) (fail
     pub driven : Driven is_lawful state failures answers commands replies old new
 
   -- all of them after Ok, and a beginning at a refusal
-  abbrev pub SaysBy : Result (Unit {0}) Fault → Option (List ℕ) → Option (List ℕ) → Keeping D → Keeping D → List AnySubmitted → List Note → Type 0
+  abbrev pub SaysBy : Result (Unit {0}) Fault → Option (List ℕ) → Option (List ℕ) → Keeping D → Keeping D → List AnySubmitted → List Aside → Type 0
   SaysBy (Ok done) before after old new x notes = Says before after old new x notes
   SaysBy (Err fault) before after old new x notes = ((fault ≡ Output) × SaysUnheard old new) ⊎ SaysSome before after old new notes
 

@@ -12,7 +12,7 @@ use Rattle.td_keeper.specs.Keeping.{Keeping, EachKeepsTo, EverKeepsTo}
 use Rattle.td_keeper.specs.Driven.{submitted_in, Obeys, Driven}
 use Rattle.td_console.specs.declared.faults.Fault.{Fault}
 use Rattle.td_console.specs.declared.faults.Fault.TheVariants.{Keeper}
-use Rattle.td_feed.specs.declared.note.Note.{Note}
+use Rattle.td_feed.specs.Noted.{Aside}
 use Rattle.td_feed.specs.Orders.{submissions, notes_in, new_after}
 use Rattle.td_feed.specs.Asked.{Script, script_of}
 use Rattle.td_feed.specs.Placed.{placed}
@@ -54,14 +54,14 @@ module _ {D : Type 0} (is_lawful : D → Type 0) (state : D → DiskState) (fail
     pub left : Leaves is_lawful state answers old new (new_to old (batch_in command))
 
 module _ {D : Type 0} (is_lawful : D → Type 0) (state : D → DiskState) (failures : D → ℕ) (answers : Answers) (marks : Bool) where
-  -- THESE ARE FED, and these noted: after Ok the keeper goes on with all of them, after a refusal with some; and what was written are the
-  -- lines of its replies, and the notes
-  pub record FeedsNoting (result : Result (Unit {0}) Fault) (before after : Option (List ℕ)) (old new : Keeping D) (x : List AnySubmitted) (notes : List Note) : Type 0 where
+  -- THESE ARE FED, and these noted or answered: after Ok the keeper goes on with all of them, after a refusal with some; and what was written
+  -- are the lines of its replies, the notes and the answers
+  pub record FeedsNoting (result : Result (Unit {0}) Fault) (before after : Option (List ℕ)) (old new : Keeping D) (x : List AnySubmitted) (notes : List Aside) : Type 0 where
     pub carried : OnOk result (Carries answers old new x)
     pub left : OnErr result (Leaves is_lawful state answers old new x)
     pub said : SaysBy is_lawful state failures answers marks result before after old new x notes
 
-  -- with no note
+  -- with no note and no answer
   abbrev pub Feeds : Result (Unit {0}) Fault → Option (List ℕ) → Option (List ℕ) → Keeping D → Keeping D → List AnySubmitted → Type 0
   Feeds result before after old new x = FeedsNoting result before after old new x []
 
@@ -86,16 +86,16 @@ module _ {D : Type 0} (is_lawful : D → Type 0) (state : D → DiskState) (fail
 
   -- A DISK IS FED AS THE INPUT COMES: what its script asks for, where epochs have places or not; Ok is answered only to one without a fault,
   -- and a gap is one, unless epochs are refused. Of a stream that refuses epochs, one may have so many records
-  pub record StreamsDisk (placing refuse hold : Bool) (result : Result (Unit {0}) Fault) (plan : List PlanLine) (alone : Bool) (disk left : D) (before after : Option (List ℕ)) (input : List ℕ) : Type 0 where
+  pub record StreamsDisk (placing refuse hold questions : Bool) (result : Result (Unit {0}) Fault) (plan : List PlanLine) (alone : Bool) (disk left : D) (before after : Option (List ℕ)) (input : List ℕ) : Type 0 where
     pub records : ℕ
-    pub sound : OnOk result ((script_of placing hold (limit_of refuse records) plan input).is_sound ≡ true)
+    pub sound : OnOk result ((script_of placing hold questions (limit_of refuse records) plan input).is_sound ≡ true)
     pub no_gap : OnOk result (is_lawful disk → (history : List AnySubmitted) → EachTellsHistory answers plan history (state disk)
-        → (placed refuse (length history) (greatest 0 history) (script_of placing hold (limit_of refuse records) plan input)).is_sound ≡ true)
-    pub fed : FeedsDisk result plan alone disk left before after (wanted_by refuse (limit_of refuse records) (script_of placing hold (limit_of refuse records) plan input))
+        → (placed refuse (length history) (greatest 0 history) (script_of placing hold questions (limit_of refuse records) plan input)).is_sound ≡ true)
+    pub fed : FeedsDisk result plan alone disk left before after (wanted_by refuse (limit_of refuse records) (script_of placing hold questions (limit_of refuse records) plan input))
     -- where outputs are held, nothing is kept beyond the last epoch that the input says was seen, whatever a crash leaves: so each later
     -- stream writes again the outputs of every epoch after it
     pub held : hold ≡ true → is_lawful disk → (kept : ℕ) → EachKeepsTo plan kept (state disk)
-        → EachKeepsTo plan (seen_after kept (script_of placing hold (limit_of refuse records) plan input).orders) (state left)
+        → EachKeepsTo plan (seen_after kept (script_of placing hold questions (limit_of refuse records) plan input).orders) (state left)
     -- nor whatever a crash left at any moment of the stream, in the middle of a write too
     pub ever_held : hold ≡ true → is_lawful disk → (kept : ℕ) → EachKeepsTo plan kept (state disk)
-        → EverKeepsTo plan (seen_after kept (script_of placing hold (limit_of refuse records) plan input).orders) (state disk).moment (state left)
+        → EverKeepsTo plan (seen_after kept (script_of placing hold questions (limit_of refuse records) plan input).orders) (state disk).moment (state left)

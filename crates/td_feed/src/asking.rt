@@ -147,21 +147,23 @@ pub(crate) struct Streamed<'a, I: Source> {
 
 impl<'a, I: Source> Streamed<'a, I> {
     /// The orders of a reader's lines, of which those that submit an epoch may have places. Where outputs are held, lines may say which were
-    /// seen. Where a limit is given, an epoch with more records than that, with a faulty line, or after a gap, is refused.
+    /// seen; where questions are answered, lines may ask. Where a limit is given, an epoch with more records than that, with a faulty line,
+    /// or after a gap, is refused.
     pub(crate) fn new(
         alloc: Global,
         plan: &'a Plan,
         placing: bool,
         hold: bool,
+        questions: bool,
         limit: Option<usize>,
         reader: I,
     ) -> Streamed<'a, I>
-        ensures script { script_ahead (unread (I.remaining result.lines.reader) result.lines.unread) (place result.reading) result.ahead.items result.stopped ≡ option_map (script_of placing hold limit plan.now) (I.remaining reader) }
+        ensures script { script_ahead (unread (I.remaining result.lines.reader) result.lines.unread) (place result.reading) result.ahead.items result.stopped ≡ option_map (script_of placing hold questions limit plan.now) (I.remaining reader) }
         ensures refuses { result.refuses ≡ is_given limit }
     {
         Streamed {
             lines: Lines::new(alloc, reader),
-            reading: Reading::new(alloc, plan, placing, hold, limit),
+            reading: Reading::new(alloc, plan, placing, hold, questions, limit),
             ahead: VecDeque::new(alloc),
             stopped: None,
             refuses: limit.is_some(),

@@ -109,7 +109,11 @@ impl Room {
             Order::SubmitAs(request, batch) => {
                 self.is_numbered && last < *request && batch.len() <= self.records
             }
-            Order::SubmitAt(..) | Order::Cut | Order::Say(_) | Order::Seen { .. } => false,
+            Order::SubmitAt(..)
+            | Order::Cut
+            | Order::Say(_)
+            | Order::Seen { .. }
+            | Order::Answer { .. } => false,
         }
     }
 }
@@ -130,7 +134,13 @@ pub(crate) fn take_fitting(
     match orders.pop_front() {
         Some(Order::Submit(batch)) => Some(Submitted { request: 0, batch }),
         Some(Order::SubmitAs(request, batch)) => Some(Submitted { request, batch }),
-        Some(Order::SubmitAt(..) | Order::Cut | Order::Say(_) | Order::Seen { .. }) | None =>
-            unreachable!(),
+        Some(
+            Order::SubmitAt(..)
+            | Order::Cut
+            | Order::Say(_)
+            | Order::Seen { .. }
+            | Order::Answer { .. },
+        )
+        | None => unreachable!(),
     }
 }

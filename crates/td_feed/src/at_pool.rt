@@ -8,6 +8,7 @@ use td_calls::Law;
 use td_disk::Disk;
 use td_keeper::{Command, Keeper, Obey, Reply};
 use td_pool::Crew;
+use td_questions::{Entries, Wanted};
 use td_stamp::EpochOut;
 use td_standing::KeeperError;
 
@@ -51,6 +52,11 @@ impl<'a, 'p, D: Disk, K: Crew, L: Law, R: Wait> Obey<D, L, R> for AtPool<'a, 'p,
 
     fn cut_up_to(&mut self, rt: &R, epoch: u64) -> Result<u64, KeeperError> {
         self.keeper.cut_up_to_in(rt, self.allowance.pool, epoch)
+    }
+
+    fn answer(&self, rt: &R, vertex: u8, wanted: Wanted) -> Result<(u64, Entries), KeeperError> {
+        self.keeper
+            .answer_in(rt, self.allowance.pool, vertex, wanted)
     }
 
     fn next_out(&mut self) -> Option<EpochOut> {

@@ -92,7 +92,8 @@ fn seen_with<D: Disk, L: Law>(
             | Order::SubmitAs(..)
             | Order::SubmitAt(..)
             | Order::Cut
-            | Order::Say(_),
+            | Order::Say(_)
+            | Order::Answer { .. },
         )
         | Asked::Epochs(_) => Ok(Some(last)),
     }

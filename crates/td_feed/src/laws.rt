@@ -20,6 +20,7 @@ ghost use Rattle.td_feed.specs.Dumped.{dump_text, placed_dump, AsksFor, BringsOn
 ghost use Rattle.td_console.specs.declared.faults.Fault.{Fault as AnyFault};
 ghost use Rattle.td_keeper.specs.declared.command.Command.{Command as AnyCommand};
 ghost use Rattle.td_keeper.specs.declared.command.Reply.{Reply as AnyReply};
+ghost use Rattle.td_keeper.specs.Answering.{AllOfHistory};
 ghost use Rattle.td_keeper.specs.Driven.{submitted_by as submitted_in, Driven};
 ghost use Rattle.td_feed.specs.Fed.{EachTellsHistory, TellsOnward};
 ghost use Rattle.td_feed.specs.Said.{Wanted, SaysFrom, TellsAcknowledged};
@@ -52,7 +53,7 @@ pub fn placed_dumps_bring_on()
         (history : List AnySubmitted) → IsPlan plan → MayStand plan head side s → Each FitsLines s.submitted → Tells plan head side s image → Stands run s history
         → (n : ℕ) → s.epoch ≤ n → n ≤ length history → BringsOn plan (placed_dump head.shape s) history n }
     ensures behind { (plan : List Line) (head : AnyHead) (side : ℕ) (s : Standing) → IsPlan plan → MayStand plan head side s → Each FitsLines s.submitted
-        → (told last : ℕ) → told < s.epoch → (placed false told last (script_of true false None plan (placed_dump head.shape s))).orders ≡ [] }
+        → (told last : ℕ) → told < s.epoch → (placed false told last (script_of true false false None plan (placed_dump head.shape s))).orders ≡ [] }
 {
     td_journal::laws::batches_are_in_order();
     td_journal::laws::told_numbers_rise();
@@ -62,9 +63,9 @@ pub fn placed_dumps_bring_on()
 /// What a stream reads of an input without a fault is what a feed reads of it. Where epochs have no places, what a stream reads is the
 /// same at each disk.
 pub fn scripts()
-    ensures read { (plan : List Line) (input : List ℕ) (orders : List AnyOrder) → orders_of plan input ≡ Ok orders → script_of false false None plan input ≡ record { orders = orders; is_sound = true } }
-    ensures anywhere { (hold : Bool) (limit : Option ℕ) (plan : List Line) (input : List ℕ) (refuse : Bool) (told last : ℕ)
-        → placed refuse told last (script_of false hold limit plan input) ≡ script_of false hold limit plan input }
+    ensures read { (plan : List Line) (input : List ℕ) (orders : List AnyOrder) → orders_of plan input ≡ Ok orders → script_of false false false None plan input ≡ record { orders = orders; is_sound = true } }
+    ensures anywhere { (hold questions : Bool) (limit : Option ℕ) (plan : List Line) (input : List ℕ) (refuse : Bool) (told last : ℕ)
+        → placed refuse told last (script_of false hold questions limit plan input) ≡ script_of false hold questions limit plan input }
 {}
 
 /// EACH EPOCH THAT IS ACKNOWLEDGED IS TOLD. Whatever a feed or a stream came to, and whatever a crash leaves of its disk then, that tells
@@ -93,4 +94,18 @@ pub fn moments_are_told<D: Disk, L: Law>()
     td_standing::laws::told_in_parts();
     td_standing::laws::advance_stands::<L>();
     td_keeper::laws::driven_advances::<D, L>();
+}
+
+/// EACH ANSWER IS MEANT. Of a disk that stood for a history, each answer of a stream is of that history and what was acknowledged before the
+/// question: of the last epoch of these, and by their states in the batch meaning.
+pub fn answers_are_meant<D: Disk, L: Law>()
+    ensures { (marks : Bool) (result : AnyResult (Unit {0}) AnyFault) (plan : List Line) (alone : Bool) (disk left : D) (before after : Option (List ℕ)) (wanted : Wanted)
+        (from : SaysFrom D.is_lawful D.state D.failures L.answers marks result plan alone disk left before after wanted) → D.is_lawful disk
+        → (commands : List AnyCommand) (replies : List AnyReply)
+        → Driven D.is_lawful D.state D.failures L.answers commands replies (record from.keeper { watch = from.watch }) from.ended
+        → (history : List AnySubmitted) → EachTellsHistory L.answers plan history (D.state disk)
+        → AllOfHistory L.answers plan history commands replies }
+{
+    td_standing::laws::told_in_parts();
+    td_keeper::laws::driven_answers::<D, L>();
 }

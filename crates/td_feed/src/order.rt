@@ -5,7 +5,7 @@ ghost use Rattle.std.specs.Prelude.{◌≡◌, ◌⊎◌, ◌↔◌, ◌<◌, �
 ghost use Rattle.std.specs.Bool.{OnTrue};
 ghost use Rattle.std.specs.Option.{IsSome, option_to_list};
 ghost use Rattle.td_plan.specs.Text.{text_lines, words};
-ghost use Rattle.td_feed.specs.Orders.{is_cut, request_of, positive, place_of, seen_of, feed_line_of, held_line_of, stream_line_of, has_no_number, may_be_placed, is_between, numbered, order_for, order_at, with_order, with_cut, with_request, with_place, with_seen, with_line};
+ghost use Rattle.td_feed.specs.Orders.{is_cut, request_of, positive, place_of, seen_of, feed_line_of, held_line_of, stream_line_of, session_line_of, has_no_number, may_be_placed, is_between, numbered, order_for, order_at, with_order, with_cut, with_request, with_place, with_seen, with_question, with_line};
 ghost use Rattle.td_feed.specs.Orders.{no_orders, orders_of, is_of_input, IsAccepted, IsFirstLine, Gives};
 
 use crate::at_once::Room;
@@ -17,6 +17,7 @@ use td_console::{
 };
 use td_plan::Plan;
 use td_plan::text::{natural, next_word};
+use td_questions::{Question, Wanted, fold_of, read_question};
 use td_stamp::{Batch, Entry, Rec};
 
 /// What a line says.
@@ -32,6 +33,8 @@ pub enum FeedLine {
     Cut,
     /// `seen E`: the consumer has stored the output lines of all epochs up to this one.
     Seen(u64),
+    /// A question to what folds keep.
+    Ask(Question),
 }
 
 /// The place of an epoch: which one it is to be, as the line with this number says.
@@ -56,6 +59,8 @@ pub enum Order {
     Say(Note),
     /// To keep epochs up to this one from now on, where outputs are held: the line with this number says that they were seen.
     Seen { line: u64, epoch: u64 },
+    /// To answer what is wanted of a fold, of the states after the last epoch.
+    Answer { vertex: u8, wanted: Wanted },
 }
 
 /// Orders that were read, and of the epoch that is not closed its place, its request number, 0 for none, and its entries in the order of
@@ -129,6 +134,7 @@ pub(crate) fn with_line(
         Some(FeedLine::At(epoch)) => return with_place(read, number, epoch),
         Some(FeedLine::Cut) => return with_cut(read, number),
         Some(FeedLine::Seen(epoch)) => return with_seen(read, number, epoch),
+        Some(FeedLine::Ask(question)) => return with_question(plan, read, number, question),
         None => return Err(Fault::Line(number, LineFault::Syntax)),
     };
     match said {
@@ -307,6 +313,40 @@ fn with_seen(read: Orders, number: u64, epoch: u64) -> Result<Orders, Fault>
     })
 }
 
+/// With the answer to a question. Refusals: `Syntax` where an epoch has begun; `NoSuchFold`; `Memory`.
+fn with_question(
+    plan: &Plan,
+    read: Orders,
+    number: u64,
+    question: Question,
+) -> Result<Orders, Fault>
+    ensures gives { Gives result (with_question plan.now number question read (is_between read)) }
+    ensures of_input { IfErr result (λ f. is_of_input f ≡ true) }
+{
+    if !is_between(&read) {
+        return Err(Fault::Line(number, LineFault::Syntax));
+    }
+    let Some(vertex) = fold_of(plan, question.vertex) else {
+        return Err(Fault::Line(number, LineFault::NoSuchFold));
+    };
+    let Orders {
+        mut orders,
+        place,
+        request,
+        current,
+    } = read;
+    orders.push(Order::Answer {
+        vertex,
+        wanted: question.wanted,
+    })?;
+    Ok(Orders {
+        orders,
+        place,
+        request,
+        current,
+    })
+}
+
 /// With the current epoch closed. Refusal: `Memory`.
 fn close(alloc: Global, read: Orders) -> Result<Orders, Fault>
     ensures ok { IfOk result (λ closed. Ok closed ≡ with_line [] 0 read (Some (FeedLine.Data DataLine.Close))) }
@@ -395,9 +435,27 @@ fn first_feed_line(bytes: &[u8]) -> Option<(Option<FeedLine>, &[u8])>
     }
 }
 
+/// What a line of a stream says, if it has a form: where questions are answered, also what it asks.
+pub(crate) fn read_session_line(
+    placing: bool,
+    hold: bool,
+    questions: bool,
+    line: &[u8],
+) -> Option<FeedLine>
+    ensures { result ≡ session_line_of placing hold questions line.now }
+{
+    if !questions {
+        return read_stream_line(placing, hold, line);
+    }
+    match read_question(ascii_text(line)?) {
+        Some(question) => Some(FeedLine::Ask(question)),
+        None => read_stream_line(placing, hold, line),
+    }
+}
+
 /// What a line of a stream says, if it has a form: where epochs may have places, also the place of one; and where outputs are held, which
 /// epoch was seen.
-pub(crate) fn read_stream_line(placing: bool, hold: bool, line: &[u8]) -> Option<FeedLine>
+fn read_stream_line(placing: bool, hold: bool, line: &[u8]) -> Option<FeedLine>
     ensures { result ≡ stream_line_of placing hold line.now }
 {
     if !placing {

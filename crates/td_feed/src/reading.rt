@@ -11,7 +11,7 @@ use crate::at_once::Room;
 use crate::excerpt::cause_of;
 use crate::note::{Cause, Flaw, Note};
 use crate::order::{
-    FeedLine, Order, Orders, has_too_many, is_between, no_orders, numbered, read_stream_line,
+    FeedLine, Order, Orders, has_too_many, is_between, no_orders, numbered, read_session_line,
     records_in, request_in, taken_out, with_line, with_note,
 };
 use std::alloc::Global;
@@ -20,13 +20,14 @@ use td_console::{DataLine, Fault, LineFault};
 use td_plan::Plan;
 
 /// Where a stream is in its input: the number of the next line, what was read, and why the epoch that is open is refused, if it is. Where
-/// epochs are refused, one may have so many records. Where epochs may have places, lines say which; and where outputs are held, which were
-/// seen.
+/// epochs are refused, one may have so many records. Where epochs may have places, lines say which; where outputs are held, which were
+/// seen; and where questions are answered, lines may ask.
 #[derive(Drop)]
 pub(crate) struct Reading<'a> {
     plan: &'a Plan,
     placing: bool,
     hold: bool,
+    questions: bool,
     limit: Option<usize>,
     number: u64,
     flaw: Option<(u64, Flaw)>,
@@ -40,14 +41,16 @@ impl<'a> Reading<'a> {
         plan: &'a Plan,
         placing: bool,
         hold: bool,
+        questions: bool,
         limit: Option<usize>,
     ) -> Reading<'a>
-        ensures { place result ≡ at_start placing hold limit plan.now }
+        ensures { place result ≡ at_start placing hold questions limit plan.now }
     {
         Reading {
             plan,
             placing,
             hold,
+            questions,
             limit,
             number: 1,
             flaw: None,
@@ -86,7 +89,7 @@ impl<'a> Reading<'a> {
         };
         let read = mem::replace(&mut self.read, no_orders(alloc));
         let flaw = self.flaw.take();
-        let words = read_stream_line(self.placing, self.hold, line);
+        let words = read_session_line(self.placing, self.hold, self.questions, line);
         let said = with_said(
             alloc,
             self.plan,
@@ -198,7 +201,8 @@ fn cause_in(fault: LineFault, line: &[u8]) -> Cause
         | LineFault::NotClosed
         | LineFault::NotOut
         | LineFault::SeenBefore
-        | LineFault::Gap => Cause::Line(fault),
+        | LineFault::Gap
+        | LineFault::NoSuchFold => Cause::Line(fault),
     }
 }
 
@@ -246,7 +250,8 @@ fn passed_over(
             FeedLine::Data(DataLine::PassedOver | DataLine::Record(..))
             | FeedLine::At(_)
             | FeedLine::Cut
-            | FeedLine::Seen(_),
+            | FeedLine::Seen(_)
+            | FeedLine::Ask(_),
         )
         | None => Ok((Some(flaw), numbered(alloc, read, request))),
     }

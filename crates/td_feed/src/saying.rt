@@ -5,13 +5,15 @@
 //! it sent.
 ghost use Rattle.std.specs.Prelude.{◌≡◌, ◌⊎◌, ◌-◌, ◌++◌, string_bytes, IfOk, IfErr, OnOk};
 ghost use Rattle.std.specs.Io.KnownBytes.{Appends};
-ghost use Rattle.td_feed.specs.Said.{line_of as line_in, ack_line, ack_lines, full_line, out_lines, request_in};
+ghost use Rattle.td_questions.specs.Lines.{answer_lines};
+ghost use Rattle.td_feed.specs.Said.{line_of as line_in, ack_line, ack_lines, answer_text, full_line, out_lines, request_in};
 
 use crate::voice::Voice;
 use std::alloc::Global;
 use std::fmt::Write;
 use td_console::{Fault, print_epoch, write_answer};
 use td_keeper::{Command, Receipt, Reply};
+use td_questions::{Entry, Wanted, print_answer};
 use td_stamp::EpochOut;
 
 /// Writes the lines of a reply to a command with this request number, where it has some. Refusals: `Memory`, with nothing written,
@@ -27,6 +29,53 @@ pub(crate) fn say<W: Voice>(
 {
     let line = line_of(alloc, request, reply, writer.is_marking())?;
     write_answer(writer, line.as_str())
+}
+
+/// Writes the lines of an answer to what is wanted of a fold. Refusals: `Memory`, with nothing written, and `Output`.
+pub(crate) fn say_answer<W: Voice>(
+    alloc: Global,
+    vertex: u8,
+    wanted: Wanted,
+    reply: &Reply,
+    writer: &mut W,
+) -> Result<(), Fault>
+    ensures said { OnOk result (Appends (W.contents writer.old) (W.contents writer.new) (answer_text vertex wanted reply.now)) }
+    ensures unsaid { IfErr result (λ f. (f ≡ Fault.Output) ⊎ ((f ≡ Fault.Memory) × (writer.new ≡ writer.old))) }
+{
+    let lines = answer_text(alloc, vertex, wanted, reply)?;
+    write_answer(writer, lines.as_str())
+}
+
+/// The lines of an answer: `state E V KEY A B` for each entry, or `none E V KEY`, and `asked E`. Refusal: `Memory`.
+fn answer_text(alloc: Global, vertex: u8, wanted: Wanted, reply: &Reply) -> Result<String, Fault>
+    ensures ok { IfOk result (λ lines. string_bytes lines ≡ answer_text vertex wanted reply.now) }
+    ensures err { IfErr result (λ f. f ≡ Fault.Memory) }
+{
+    match reply {
+        Reply::Answered { epoch, entries } => {
+            let mut lines = String::new(alloc);
+            print_entries(&mut lines, *epoch, vertex, wanted, entries.as_slice())?;
+            Ok(lines)
+        }
+        _ => Ok(String::new(alloc)),
+    }
+}
+
+/// Appends the lines of an answer of an epoch. Refusal: `Memory`.
+fn print_entries(
+    lines: &mut String,
+    epoch: u64,
+    vertex: u8,
+    wanted: Wanted,
+    entries: &[Entry],
+) -> Result<(), Fault>
+    ensures ok { OnOk result (string_bytes lines.new ≡ string_bytes lines.old ++ answer_lines epoch vertex wanted entries.now) }
+    ensures err { IfErr result (λ f. f ≡ Fault.Memory) }
+{
+    match print_answer(lines, epoch, vertex, wanted, entries) {
+        Ok(()) => Ok(()),
+        Err(_memory) => Err(Fault::Memory),
+    }
 }
 
 /// Writes `full E`. Refusals: `Memory`, with nothing written, and `Output`.

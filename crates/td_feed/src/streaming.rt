@@ -47,6 +47,8 @@ pub struct StreamOptions {
     pub placing: bool,
     /// Whether outputs are held: no cut is taken beyond the last epoch of which a line `seen E` says that its outputs were stored.
     pub hold: bool,
+    /// Whether questions are answered: a line between two epochs may ask for what folds keep.
+    pub questions: bool,
 }
 
 /// Does what `feed` does, order by order as the input comes. The output lines of the epochs that the disk tells are written first.
@@ -73,6 +75,10 @@ pub struct StreamOptions {
 /// Where epochs may have places, a line `at E` before an epoch's records says that it is the epoch E. It is put on the disk where the last
 /// epoch there is E - 1. Else it is not: where the disk has E already, a line `there E` is written at its `.`. Where the disk lacks an
 /// epoch before E, the stream ends with `Gap` of the line `at E`; or it writes `gap E` and goes on, where epochs are refused.
+///
+/// Where questions are answered, a line between two epochs may ask for what a fold keeps (`td_questions`). It is answered at once, of the
+/// states after the last epoch on the disk, which has passed: `state E V KEY A B` of each state that answers, or `none E V KEY`, and
+/// `asked E` at the end.
 ///
 /// Refusals: a missing closure, before anything else; what the disk refuses as it is recovered; and then the first of what a line,
 /// the reader, the keeper, a worker or the writer refuse, after all that was asked for before it; but want of memory, where epochs are
@@ -109,7 +115,7 @@ pub fn stream<
 
     // What the input asks for is fed, by one worker until all outputs went out.
     ensures fed { first_lack (C.has_map calls.now) (C.has_group calls.now) (C.has_fold calls.now) (vertices plan.now) ≡ None
-        → IfSome (I.remaining reader) (λ input. StreamsDisk D.is_lawful D.state D.failures L.answers W.marks options.placing options.refuse options.hold result.1 plan.now (workers == 1) disk result.0
+        → IfSome (I.remaining reader) (λ input. StreamsDisk D.is_lawful D.state D.failures L.answers W.marks options.placing options.refuse options.hold options.questions result.1 plan.now (workers == 1) disk result.0
         (W.contents writer.old) (W.contents writer.new) input) }
 {
     laws::told_in_parts();
@@ -185,10 +191,10 @@ fn obey<
     requires collected { keeper.collected ≡ keeper.base }
     ensures disk { KeepsDisk D.capacity D.is_lawful D.failures result.1 keeper.device result.0.device }
     ensures fed { IfSome (I.remaining reader) (λ input. FeedsScript D.is_lawful D.state D.failures L.answers W.marks result.1 (W.contents writer.old) (W.contents writer.new) keeper result.0
-        (placed options.refuse (last_epoch keeper.standing) (last_request keeper.standing) (script_of options.placing options.hold (limit_of options.refuse keeper.head.shape.m) plan.now input))) }
+        (placed options.refuse (last_epoch keeper.standing) (last_request keeper.standing) (script_of options.placing options.hold options.questions (limit_of options.refuse keeper.head.shape.m) plan.now input))) }
     ensures all_out { workers ≡ 1 → OnOk result.1 (IsAllOut result.0) }
     ensures held { IfSome (I.remaining reader) (λ input. KeepsTo (then_seen (first_seen options.hold keeper.standing.epoch)
-        (placed options.refuse (last_epoch keeper.standing) (last_request keeper.standing) (script_of options.placing options.hold (limit_of options.refuse keeper.head.shape.m) plan.now input)).orders) keeper result.0) }
+        (placed options.refuse (last_epoch keeper.standing) (last_request keeper.standing) (script_of options.placing options.hold options.questions (limit_of options.refuse keeper.head.shape.m) plan.now input)).orders) keeper result.0) }
 {
     let feeding = Feeding::new(
         &keeper,
@@ -199,7 +205,15 @@ fn obey<
         },
     );
     let limit = limit_of(options.refuse, &keeper);
-    let orders = Streamed::new(alloc, plan, options.placing, options.hold, limit, reader);
+    let orders = Streamed::new(
+        alloc,
+        plan,
+        options.placing,
+        options.hold,
+        options.questions,
+        limit,
+        reader,
+    );
     if workers == 1 {
         return obey_alone(rt, alloc, keeper, feeding, orders, writer, calls);
     }

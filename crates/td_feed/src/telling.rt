@@ -1,15 +1,16 @@
 //! What a feed tells its keeper beside the workers.
 //!
 //! It is one command at a time, since what a feed writes, and when it releases, depends on the reply before.
-ghost use Rattle.std.specs.Prelude.{◌≡◌, ◌⊎◌, [], true, false, IfOk, IfErr, OnOk, OnErr};
+ghost use Rattle.std.specs.Prelude.{◌≡◌, ◌⊎◌, [], ◌∷◌, true, false, IfOk, IfErr, OnOk, OnErr};
 ghost use Rattle.td_keeper.specs.declared.command.Reply.{Reply as AnyReply};
 ghost use Rattle.td_keeper.specs.Driven.{Obeys, ComesOf};
 ghost use Rattle.td_feed.specs.Carried.{batch_in, new_to, is_refused, is_repeated, is_resting, IsRising, Carries};
-ghost use Rattle.td_feed.specs.Held.{MovesBase};
+ghost use Rattle.td_feed.specs.Held.{SameBase, MovesBase};
+ghost use Rattle.td_feed.specs.Noted.Aside.{to_answer};
 ghost use Rattle.td_feed.specs.Said.{fault_in};
-ghost use Rattle.td_feed.specs.Session.{KeepsDisk, Feeds, IsObeyed, IsNotObeyed};
+ghost use Rattle.td_feed.specs.Session.{KeepsDisk, FeedsNoting, Feeds, IsObeyed, IsNotObeyed};
 
-use crate::saying::{request_in, say};
+use crate::saying::{request_in, say, say_answer};
 use crate::voice::Voice;
 use std::alloc::Global;
 use td_calls::Law;
@@ -17,6 +18,7 @@ use td_console::Fault;
 use td_disk::Disk;
 use td_keeper::laws::others_rest;
 use td_keeper::{Command, GroupError, Obey, Reply, tell_one};
+use td_questions::Wanted;
 use td_standing::laws;
 
 /// Tells a keeper at work one command, and answers its reply. Refusals: the keeper's.
@@ -63,6 +65,25 @@ pub(crate) fn tell_aloud<D: Disk, L: Law, R, E: Obey<D, L, R>, W: Voice>(
     let request = request_in(&command);
     let reply = tell(rt, engine, command)?;
     say(alloc, request, &reply, writer)
+}
+
+/// Has a keeper at work answer what is wanted of a fold, and writes the lines of the answer. Refusals: those of `tell`; `Memory`, where there
+/// was no room for the lines; and `Output`.
+pub(crate) fn answer_aloud<D: Disk, L: Law, R, E: Obey<D, L, R>, W: Voice>(
+    rt: &R,
+    alloc: Global,
+    engine: &mut E,
+    vertex: u8,
+    wanted: Wanted,
+    writer: &mut W,
+) -> Result<(), Fault>
+    requires whole { (E.keeping engine.old).broken ≡ false }
+    ensures disk { KeepsDisk D.capacity D.is_lawful D.failures result (E.keeping engine.old).device (E.keeping engine.new).device }
+    ensures fed { FeedsNoting D.is_lawful D.state D.failures L.answers W.marks result (W.contents writer.old) (W.contents writer.new) (E.keeping engine.old) (E.keeping engine.new) [] (to_answer vertex wanted ∷ []) }
+    ensures base { SameBase (E.keeping engine.old) (E.keeping engine.new) }
+{
+    let reply = tell(rt, engine, Command::Answer(vertex, wanted))?;
+    say_answer(alloc, vertex, wanted, &reply, writer)
 }
 
 /// A reply that is no refusal; else the fault for that.

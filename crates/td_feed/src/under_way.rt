@@ -21,7 +21,7 @@ use crate::at_once::Asked;
 use crate::note::write_note;
 use crate::order::Order;
 use crate::saying::{print_out, say_full};
-use crate::telling::{tell, tell_aloud};
+use crate::telling::{answer_aloud, tell, tell_aloud};
 use crate::voice::Voice;
 use std::alloc::Global;
 use td_calls::Law;
@@ -186,6 +186,9 @@ impl Feeding {
                 Order::Cut => self.cut(rt, alloc, engine, seen, writer),
                 Order::Say(note) => write_note(alloc, &note, writer),
                 Order::Seen { .. } => Ok(()),
+                Order::Answer { vertex, wanted } => {
+                    answer_aloud(rt, alloc, engine, vertex, wanted, writer)
+                }
             },
         }
     }

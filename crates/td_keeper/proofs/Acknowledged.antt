@@ -22,9 +22,9 @@ use Rattle.td_standing.specs.declared.error.KeeperError.TheVariants as error
 use Rattle.td_keeper.specs.declared.group.GroupError.{GroupError}
 use Rattle.td_keeper.specs.declared.group.GroupError.TheVariants.{Keeper}
 use Rattle.td_keeper.specs.declared.command.Command.{Command}
-use Rattle.td_keeper.specs.declared.command.Command.TheVariants.{Submit, SubmitAs, SubmitAll, Release, Settle, Collect, NextOut, Cut, CutUpTo, WriteCut, CloseFree}
+use Rattle.td_keeper.specs.declared.command.Command.TheVariants.{Submit, SubmitAs, SubmitAll, Release, Settle, Collect, NextOut, Cut, CutUpTo, Answer, WriteCut, CloseFree}
 use Rattle.td_keeper.specs.declared.command.Reply.{Reply}
-use Rattle.td_keeper.specs.declared.command.Reply.TheVariants.{Submitted, SubmittedAs, SubmittedAll, Released, Settled, Collected, Out, CutTaken, Written, Closed, Refused, RefusedAll}
+use Rattle.td_keeper.specs.declared.command.Reply.TheVariants.{Submitted, SubmittedAs, SubmittedAll, Released, Settled, Collected, Out, CutTaken, Answered, Written, Closed, Refused, RefusedAll}
 use Rattle.td_keeper.specs.declared.receipt.Receipt.{Receipt}
 use Rattle.td_keeper.specs.declared.receipt.Receipt.TheVariants.{New, Already}
 use Rattle.td_keeper.specs.Received.{IsReceived}
@@ -198,6 +198,7 @@ module _ {D : Type 0} (is_lawful : D → Type 0) (state : D → DiskState) (fail
   submits batch (Out o) old new r = absurd r
   submits batch (CutTaken n) old new r = absurd r
   submits batch (Written n) old new r = absurd r
+  submits batch (Answered m ys) old new r = absurd r
   submits batch Closed old new r = absurd r
 
   receives : (request : ℕ) (batch : List Entry) (receipt : Receipt) (old new : Keeping D) → IsReceived request batch receipt old new → Comes answers (SubmitAs request batch) (SubmittedAs receipt) old new
@@ -229,6 +230,7 @@ module _ {D : Type 0} (is_lawful : D → Type 0) (state : D → DiskState) (fail
   submits_as request batch (Out o) old new r = absurd r
   submits_as request batch (CutTaken n) old new r = absurd r
   submits_as request batch (Written n) old new r = absurd r
+  submits_as request batch (Answered m ys) old new r = absurd r
   submits_as request batch Closed old new r = absurd r
 
   of_group : (group : List AnySubmitted) (old new : Keeping D) → new ≡ with_group old new.device group → GoesOn answers old new group
@@ -254,6 +256,7 @@ module _ {D : Type 0} (is_lawful : D → Type 0) (state : D → DiskState) (fail
   submits_all group (Out o) old new r = absurd r
   submits_all group (CutTaken n) old new r = absurd r
   submits_all group (Written n) old new r = absurd r
+  submits_all group (Answered m ys) old new r = absurd r
   submits_all group Closed old new r = absurd r
   submits_all group (Refused e b) old new r = absurd r
 
@@ -274,6 +277,7 @@ module _ {D : Type 0} (is_lawful : D → Type 0) (state : D → DiskState) (fail
   writes (Collected n) old new kept r = absurd r
   writes (Out o) old new kept r = absurd r
   writes (CutTaken n) old new kept r = absurd r
+  writes (Answered m ys) old new kept r = absurd r
   writes Closed old new kept r = absurd r
 
   closes : (most : ℕ) (r : Reply) (old new : Keeping D) → ClosesFree is_lawful state failures answers most r old new → Comes answers (CloseFree most) r old new
@@ -290,6 +294,7 @@ module _ {D : Type 0} (is_lawful : D → Type 0) (state : D → DiskState) (fail
   closes most (Collected n) old new r = absurd r
   closes most (Out o) old new r = absurd r
   closes most (CutTaken n) old new r = absurd r
+  closes most (Answered m ys) old new r = absurd r
   closes most (Written w) old new r = absurd r
 
   rested : (c : Command) (r : Reply) (old new : Keeping D) → (acknowledged_in c r ≡ []) × (submitted_in c r ≡ []) → Rests old new → Comes answers c r old new
@@ -306,6 +311,7 @@ module _ {D : Type 0} (is_lawful : D → Type 0) (state : D → DiskState) (fail
   one Collect r old new kept obeys = rested Collect r old new (refl, refl) (rests is_lawful state failures answers Collect r old new refl obeys)
   one NextOut r old new kept obeys = rested NextOut r old new (refl, refl) (rests is_lawful state failures answers NextOut r old new refl obeys)
   one Cut r old new kept obeys = rested Cut r old new (refl, refl) (rests is_lawful state failures answers Cut r old new refl obeys)
+  one (Answer v w) r old new kept obeys = rested (Answer v w) r old new (refl, refl) (rests is_lawful state failures answers (Answer v w) r old new refl obeys)
   one (CutUpTo e) r old new kept obeys = rested (CutUpTo e) r old new (refl, refl) (rests is_lawful state failures answers (CutUpTo e) r old new refl obeys)
 
   -- a reply, and then others

@@ -5,9 +5,9 @@ use Rattle.td_calls.specs.Answers.{Answers}
 use Rattle.td_disk.specs.Disk.{DiskState}
 use Rattle.td_standing.specs.Standing.{last_epoch}
 use Rattle.td_keeper.specs.declared.command.Command.{Command}
-use Rattle.td_keeper.specs.declared.command.Command.TheVariants.{Submit, SubmitAs, SubmitAll, Release, Settle, Collect, NextOut, Cut, CutUpTo, WriteCut, CloseFree}
+use Rattle.td_keeper.specs.declared.command.Command.TheVariants.{Submit, SubmitAs, SubmitAll, Release, Settle, Collect, NextOut, Cut, CutUpTo, Answer, WriteCut, CloseFree}
 use Rattle.td_keeper.specs.declared.command.Reply.{Reply}
-use Rattle.td_keeper.specs.declared.command.Reply.TheVariants.{Submitted, SubmittedAs, SubmittedAll, Released, Settled, Collected, Out, CutTaken, Written, Closed, Refused, RefusedAll}
+use Rattle.td_keeper.specs.declared.command.Reply.TheVariants.{Submitted, SubmittedAs, SubmittedAll, Released, Settled, Collected, Out, CutTaken, Answered, Written, Closed, Refused, RefusedAll}
 use Rattle.td_keeper.specs.declared.receipt.Receipt.TheVariants.{New, Already}
 use Rattle.td_keeper.specs.Keeping.{Keeping, IsKeeping}
 use Rattle.td_keeper.specs.Driven.{AcknowledgesUpTo, Obeys, Driven}
@@ -25,6 +25,7 @@ further a b (Collected n) far up = up
 further a b (Out o) far up = up
 further a b (CutTaken n) far up = up
 further a b (Written w) far up = up
+further a b (Answered m ys) far up = up
 further a b Closed far up = up
 further a b (Refused e back) far up = up
 further a b (RefusedAll e back) far up = up
@@ -39,6 +40,7 @@ module _ {D : Type 0} (is_lawful : D → Type 0) (state : D → DiskState) (fail
   one_up command (Out o) old new obeys = tt
   one_up command (CutTaken n) old new obeys = tt
   one_up command (Written w) old new obeys = tt
+  one_up command (Answered m ys) old new obeys = tt
   one_up command Closed old new obeys = tt
   one_up command (Refused e back) old new obeys = tt
   one_up command (RefusedAll e back) old new obeys = tt
@@ -69,6 +71,9 @@ module _ {D : Type 0} (is_lawful : D → Type 0) (state : D → DiskState) (fail
   one_up (CutUpTo e) (Submitted n) old new obeys = absurd obeys
   one_up (CutUpTo e) (SubmittedAs (New n)) old new obeys = absurd obeys
   one_up (CutUpTo e) (SubmittedAll n m) old new obeys = absurd obeys
+  one_up (Answer v w) (Submitted n) old new obeys = absurd obeys
+  one_up (Answer v w) (SubmittedAs (New n)) old new obeys = absurd obeys
+  one_up (Answer v w) (SubmittedAll n m) old new obeys = absurd obeys
   one_up WriteCut (Submitted n) old new obeys = absurd obeys.0
   one_up WriteCut (SubmittedAs (New n)) old new obeys = absurd obeys.0
   one_up WriteCut (SubmittedAll n m) old new obeys = absurd obeys.0

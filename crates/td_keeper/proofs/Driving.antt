@@ -9,6 +9,7 @@ use Rattle.td_calls.specs.Answers.{Answers}
 use Rattle.td_batch.specs.Meaning.{run}
 use Rattle.td_disk.specs.Disk.{DiskState}
 use Rattle.td_journal.specs.declared.submitted.Submitted.{Submitted as AnySubmitted}
+use Rattle.td_questions.specs.declared.question.Wanted.{Wanted}
 use Rattle.td_standing.specs.Standing.{Standing, last_epoch, submission, batches_of, with_more, cut_at}
 use Rattle.td_standing.specs.Stops.{Advance}
 use Rattle.td_standing.specs.Advanced.{TellsAdvance, AdvancesSince, states_by}
@@ -17,16 +18,16 @@ use Rattle.td_standing.specs.declared.error.KeeperError.TheVariants as error
 use Rattle.td_keeper.specs.declared.group.GroupError.{GroupError}
 use Rattle.td_keeper.specs.declared.group.GroupError.TheVariants.{Repeated, Keeper}
 use Rattle.td_keeper.specs.declared.command.Command.{Command}
-use Rattle.td_keeper.specs.declared.command.Command.TheVariants.{Submit, SubmitAs, SubmitAll, Release, Settle, Collect, NextOut, Cut, CutUpTo, WriteCut, CloseFree}
+use Rattle.td_keeper.specs.declared.command.Command.TheVariants.{Submit, SubmitAs, SubmitAll, Release, Settle, Collect, NextOut, Cut, CutUpTo, Answer, WriteCut, CloseFree}
 use Rattle.td_keeper.specs.declared.command.Reply.{Reply}
-use Rattle.td_keeper.specs.declared.command.Reply.TheVariants.{Submitted, SubmittedAs, SubmittedAll, Released, Settled, Collected, Out, CutTaken, Written, Closed, Refused, RefusedAll}
+use Rattle.td_keeper.specs.declared.command.Reply.TheVariants.{Submitted, SubmittedAs, SubmittedAll, Released, Settled, Collected, Out, CutTaken, Answered, Written, Closed, Refused, RefusedAll}
 use Rattle.td_keeper.specs.Keeping.{Keeping, IsKeeping, with_batch, with_epochs, with_group, with_checkpoint}
 use Rattle.td_keeper.specs.Refused.{submit_refusal, submit_as_refusal, group_refusal, write_refusal, close_refusal}
 use Rattle.td_keeper.specs.declared.receipt.Receipt.{Receipt}
 use Rattle.td_keeper.specs.declared.receipt.Receipt.TheVariants.{New, Already}
 use Rattle.td_keeper.specs.Received.{IsReceived, received_in}
 use Rattle.td_keeper.specs.Halls.{with_collected, with_cut, collected_hall, cut_hall_up_to}
-use Rattle.td_keeper.specs.Driven.{is_device, is_of_device, may_write, submitted_in, submitted_by, Advances, IsNotSubmitted, IsNoneSubmitted, Submits, SubmitsAs, SubmitsAll, Releases, Settles, Collects, HandsOut, Cuts, Writes, ClosesFree, Obeys, Driven, Rests}
+use Rattle.td_keeper.specs.Driven.{is_device, is_of_device, may_write, submitted_in, submitted_by, Advances, IsNotSubmitted, IsNoneSubmitted, Submits, SubmitsAs, SubmitsAll, Releases, Settles, Collects, HandsOut, Cuts, Asks, Writes, ClosesFree, Obeys, Driven, Rests}
 
 -- whether the device failed, both ways
 pub is_device_is : (e : KeeperError) → is_device e ≡ true → e ≡ error.Device
@@ -155,6 +156,7 @@ module _ {D : Type 0} (is_lawful : D → Type 0) (state : D → DiskState) (fail
   releases (Out o) old new r = absurd r
   releases (CutTaken n) old new r = absurd r
   releases (Written n) old new r = absurd r
+  releases (Answered m ys) old new r = absurd r
   releases Closed old new r = absurd r
 
   settles : (reply : Reply) (old new : Keeping D) → Settles is_lawful state failures answers reply old new → Rests old new
@@ -169,6 +171,7 @@ module _ {D : Type 0} (is_lawful : D → Type 0) (state : D → DiskState) (fail
   settles (Out o) old new r = absurd r
   settles (CutTaken n) old new r = absurd r
   settles (Written n) old new r = absurd r
+  settles (Answered m ys) old new r = absurd r
   settles Closed old new r = absurd r
 
   collects : (reply : Reply) (old new : Keeping D) → Collects is_lawful state failures answers reply old new → Rests old new
@@ -183,6 +186,7 @@ module _ {D : Type 0} (is_lawful : D → Type 0) (state : D → DiskState) (fail
   collects (Out o) old new r = absurd r
   collects (CutTaken n) old new r = absurd r
   collects (Written n) old new r = absurd r
+  collects (Answered m ys) old new r = absurd r
   collects Closed old new r = absurd r
 
   hands_out : (reply : Reply) (old new : Keeping D) → HandsOut is_lawful state failures answers reply old new → Rests old new
@@ -198,6 +202,7 @@ module _ {D : Type 0} (is_lawful : D → Type 0) (state : D → DiskState) (fail
   hands_out (Collected n) old new r = absurd r
   hands_out (CutTaken n) old new r = absurd r
   hands_out (Written n) old new r = absurd r
+  hands_out (Answered m ys) old new r = absurd r
   hands_out Closed old new r = absurd r
 
   cuts : (most : Option ℕ) (reply : Reply) (old new : Keeping D) → Cuts is_lawful state failures answers most reply old new → Rests old new
@@ -219,7 +224,30 @@ module _ {D : Type 0} (is_lawful : D → Type 0) (state : D → DiskState) (fail
   cuts most (Collected n) old new r = absurd r
   cuts most (Out o) old new r = absurd r
   cuts most (Written n) old new r = absurd r
+  cuts most (Answered m ys) old new r = absurd r
   cuts most Closed old new r = absurd r
+
+  asks : (vertex : ℕ) (wanted : Wanted) (reply : Reply) (old new : Keeping D) → Asks is_lawful state failures answers vertex wanted reply old new → Rests old new
+  asks vertex wanted (Answered m ys) old new r = by old old new r.same (same old)
+  asks vertex wanted (Refused e b) old new r =
+      ⊎_elim
+      (λ foreign. by old old new foreign.1.same (same old))
+      (λ other. ⊎_elim
+      (λ memory. by old old new memory.1.same (same old))
+      (λ unpassed. by old old new unpassed.2.same (same old))
+      other)
+      r.1
+  asks vertex wanted (Submitted n) old new r = absurd r
+  asks vertex wanted (SubmittedAs n) old new r = absurd r
+  asks vertex wanted (SubmittedAll n m) old new r = absurd r
+  asks vertex wanted (RefusedAll e xs) old new r = absurd r
+  asks vertex wanted (Released n) old new r = absurd r
+  asks vertex wanted Settled old new r = absurd r
+  asks vertex wanted (Collected n) old new r = absurd r
+  asks vertex wanted (Out o) old new r = absurd r
+  asks vertex wanted (CutTaken n) old new r = absurd r
+  asks vertex wanted (Written n) old new r = absurd r
+  asks vertex wanted Closed old new r = absurd r
 
   -- WHAT A COMMAND THAT DOES NOT WRITE leaves
   pub rests : (command : Command) (reply : Reply) (old new : Keeping D) → may_write command ≡ false → Obeys is_lawful state failures answers command reply old new → Rests old new
@@ -231,6 +259,7 @@ module _ {D : Type 0} (is_lawful : D → Type 0) (state : D → DiskState) (fail
   rests Collect reply old new quiet obeys = collects reply old new obeys
   rests NextOut reply old new quiet obeys = hands_out reply old new obeys
   rests Cut reply old new quiet obeys = cuts None reply old new obeys
+  rests (Answer vertex wanted) reply old new quiet obeys = asks vertex wanted reply old new obeys
   rests (CutUpTo e) reply old new quiet obeys = cuts (Some e) reply old new obeys
   rests WriteCut reply old new quiet obeys = absurd (cc)
   rests (CloseFree most) reply old new quiet obeys = absurd (cc)
@@ -323,6 +352,7 @@ module _ {D : Type 0} (is_lawful : D → Type 0) (state : D → DiskState) (fail
   submits batch (Out o) old new r advances = absurd r
   submits batch (CutTaken n) old new r advances = absurd r
   submits batch (Written n) old new r advances = absurd r
+  submits batch (Answered m ys) old new r advances = absurd r
   submits batch Closed old new r advances = absurd r
 
   answers_as : (request : ℕ) (batch : List Entry) (receipt : Receipt) (old new : Keeping D) → IsReceived request batch receipt old new
@@ -343,6 +373,7 @@ module _ {D : Type 0} (is_lawful : D → Type 0) (state : D → DiskState) (fail
   submits_as request batch (Out o) old new r advances = absurd r
   submits_as request batch (CutTaken n) old new r advances = absurd r
   submits_as request batch (Written n) old new r advances = absurd r
+  submits_as request batch (Answered m ys) old new r advances = absurd r
   submits_as request batch Closed old new r advances = absurd r
 
   goes_none : (group : List AnySubmitted) (e : GroupError) (back : List AnySubmitted) (old new : Keeping D)
@@ -368,6 +399,7 @@ module _ {D : Type 0} (is_lawful : D → Type 0) (state : D → DiskState) (fail
   submits_all group (Out o) old new r advances = absurd r
   submits_all group (CutTaken n) old new r advances = absurd r
   submits_all group (Written n) old new r advances = absurd r
+  submits_all group (Answered m ys) old new r advances = absurd r
   submits_all group Closed old new r advances = absurd r
   submits_all group (Refused e b) old new r advances = absurd r
 
@@ -405,6 +437,7 @@ module _ {D : Type 0} (is_lawful : D → Type 0) (state : D → DiskState) (fail
   writes (Collected n) old new kept r advances = absurd r
   writes (Out o) old new kept r advances = absurd r
   writes (CutTaken n) old new kept r advances = absurd r
+  writes (Answered m ys) old new kept r advances = absurd r
   writes Closed old new kept r advances = absurd r
 
   closes : (most : ℕ) (reply : Reply) (old new : Keeping D) → ClosesFree is_lawful state failures answers most reply old new
@@ -422,6 +455,7 @@ module _ {D : Type 0} (is_lawful : D → Type 0) (state : D → DiskState) (fail
   closes most (Collected n) old new r advances = absurd r
   closes most (Out o) old new r advances = absurd r
   closes most (CutTaken n) old new r advances = absurd r
+  closes most (Answered m ys) old new r advances = absurd r
   closes most (Written w) old new r advances = absurd r
 
   pub one : (command : Command) (reply : Reply) (old new : Keeping D) → IsKeeping old answers → Obeys is_lawful state failures answers command reply old new
@@ -434,6 +468,7 @@ module _ {D : Type 0} (is_lawful : D → Type 0) (state : D → DiskState) (fail
   one Collect reply old new kept obeys lawful = goes_rests old new (rests is_lawful state failures answers Collect reply old new refl obeys) lawful
   one NextOut reply old new kept obeys lawful = goes_rests old new (rests is_lawful state failures answers NextOut reply old new refl obeys) lawful
   one Cut reply old new kept obeys lawful = goes_rests old new (rests is_lawful state failures answers Cut reply old new refl obeys) lawful
+  one (Answer v w) reply old new kept obeys lawful = goes_rests old new (rests is_lawful state failures answers (Answer v w) reply old new refl obeys) lawful
   one (CutUpTo e) reply old new kept obeys lawful = goes_rests old new (rests is_lawful state failures answers (CutUpTo e) reply old new refl obeys) lawful
   one WriteCut reply old new kept obeys lawful = writes reply old new kept obeys.0 (obeys.1.advances lawful)
   one (CloseFree most) reply old new kept obeys lawful = closes most reply old new obeys.0 (obeys.1.advances lawful)
@@ -471,6 +506,7 @@ module _ {D : Type 0} (is_lawful : D → Type 0) (state : D → DiskState) (fail
   broken_submits batch (Out o) old new r is = absurd r
   broken_submits batch (CutTaken n) old new r is = absurd r
   broken_submits batch (Written n) old new r is = absurd r
+  broken_submits batch (Answered m ys) old new r is = absurd r
   broken_submits batch Closed old new r is = absurd r
 
   broken_submits_as : (request : ℕ) (batch : List Entry) (reply : Reply) (old new : Keeping D) → SubmitsAs is_lawful state failures answers request batch reply old new → old.broken ≡ true
@@ -487,6 +523,7 @@ module _ {D : Type 0} (is_lawful : D → Type 0) (state : D → DiskState) (fail
   broken_submits_as request batch (Out o) old new r is = absurd r
   broken_submits_as request batch (CutTaken n) old new r is = absurd r
   broken_submits_as request batch (Written n) old new r is = absurd r
+  broken_submits_as request batch (Answered m ys) old new r is = absurd r
   broken_submits_as request batch Closed old new r is = absurd r
 
   broken_submits_all : (group : List AnySubmitted) (reply : Reply) (old new : Keeping D) → SubmitsAll is_lawful state failures answers group reply old new → old.broken ≡ true
@@ -507,6 +544,7 @@ module _ {D : Type 0} (is_lawful : D → Type 0) (state : D → DiskState) (fail
   broken_submits_all group (Out o) old new r is = absurd r
   broken_submits_all group (CutTaken n) old new r is = absurd r
   broken_submits_all group (Written n) old new r is = absurd r
+  broken_submits_all group (Answered m ys) old new r is = absurd r
   broken_submits_all group Closed old new r is = absurd r
   broken_submits_all group (Refused e b) old new r is = absurd r
 
@@ -525,6 +563,7 @@ module _ {D : Type 0} (is_lawful : D → Type 0) (state : D → DiskState) (fail
   broken_writes (Collected n) old new r is = absurd r
   broken_writes (Out o) old new r is = absurd r
   broken_writes (CutTaken n) old new r is = absurd r
+  broken_writes (Answered m ys) old new r is = absurd r
   broken_writes Closed old new r is = absurd r
 
   broken_closes : (most : ℕ) (reply : Reply) (old new : Keeping D) → ClosesFree is_lawful state failures answers most reply old new → old.broken ≡ true → StaysBroken old new
@@ -541,6 +580,7 @@ module _ {D : Type 0} (is_lawful : D → Type 0) (state : D → DiskState) (fail
   broken_closes most (Collected n) old new r is = absurd r
   broken_closes most (Out o) old new r is = absurd r
   broken_closes most (CutTaken n) old new r is = absurd r
+  broken_closes most (Answered m ys) old new r is = absurd r
   broken_closes most (Written w) old new r is = absurd r
 
   broken_one : (command : Command) (reply : Reply) (old new : Keeping D) → Obeys is_lawful state failures answers command reply old new → old.broken ≡ true
@@ -553,6 +593,7 @@ module _ {D : Type 0} (is_lawful : D → Type 0) (state : D → DiskState) (fail
   broken_one Collect reply old new obeys is = (rests_broken old new (rests is_lawful state failures answers Collect reply old new refl obeys) is, refl)
   broken_one NextOut reply old new obeys is = (rests_broken old new (rests is_lawful state failures answers NextOut reply old new refl obeys) is, refl)
   broken_one Cut reply old new obeys is = (rests_broken old new (rests is_lawful state failures answers Cut reply old new refl obeys) is, refl)
+  broken_one (Answer v w) reply old new obeys is = (rests_broken old new (rests is_lawful state failures answers (Answer v w) reply old new refl obeys) is, refl)
   broken_one (CutUpTo e) reply old new obeys is = (rests_broken old new (rests is_lawful state failures answers (CutUpTo e) reply old new refl obeys) is, refl)
   broken_one WriteCut reply old new obeys is = (broken_writes reply old new obeys.0 is, refl)
   broken_one (CloseFree most) reply old new obeys is = (broken_closes most reply old new obeys.0 is, refl)

@@ -11,9 +11,9 @@ use Rattle.td_standing.specs.declared.error.KeeperError.TheVariants as error
 use Rattle.td_journal.specs.declared.submitted.Submitted.{Submitted as AnySubmitted}
 use Rattle.td_keeper.specs.declared.group.GroupError.{GroupError}
 use Rattle.td_keeper.specs.declared.command.Command.{Command}
-use Rattle.td_keeper.specs.declared.command.Command.TheVariants.{Submit, SubmitAs, SubmitAll, Release, Settle, Collect, NextOut, Cut, CutUpTo, WriteCut, CloseFree}
+use Rattle.td_keeper.specs.declared.command.Command.TheVariants.{Submit, SubmitAs, SubmitAll, Release, Settle, Collect, NextOut, Cut, CutUpTo, Answer, WriteCut, CloseFree}
 use Rattle.td_keeper.specs.declared.command.Reply.{Reply}
-use Rattle.td_keeper.specs.declared.command.Reply.TheVariants.{Submitted, SubmittedAs, SubmittedAll, Released, Settled, Collected, Out, CutTaken, Written, Closed, Refused, RefusedAll}
+use Rattle.td_keeper.specs.declared.command.Reply.TheVariants.{Submitted, SubmittedAs, SubmittedAll, Released, Settled, Collected, Out, CutTaken, Answered, Written, Closed, Refused, RefusedAll}
 use Rattle.td_keeper.specs.Keeping.{Keeping, with_group}
 use Rattle.td_keeper.specs.Refused.{submit_refusal, submit_as_refusal, first_unpassed, or_waiting, cut_refusal}
 use Rattle.td_keeper.specs.declared.receipt.Receipt.{Receipt}
@@ -56,6 +56,7 @@ module _ {D : Type 0} (is_lawful : D → Type 0) (state : D → DiskState) (fail
   counted Collect r old new obeys = at_rest old new (rests is_lawful state failures answers Collect r old new refl obeys)
   counted NextOut r old new obeys = at_rest old new (rests is_lawful state failures answers NextOut r old new refl obeys)
   counted Cut r old new obeys = at_rest old new (rests is_lawful state failures answers Cut r old new refl obeys)
+  counted (Answer v w) r old new obeys = at_rest old new (rests is_lawful state failures answers (Answer v w) r old new refl obeys)
   counted (CutUpTo m) r old new obeys = at_rest old new (rests is_lawful state failures answers (CutUpTo m) r old new refl obeys)
 
   pub driven_counted : (commands : List Command) (replies : List Reply) (old new : Keeping D) → Driven is_lawful state failures answers commands replies old new
@@ -88,6 +89,10 @@ module _ {D : Type 0} (is_lawful : D → Type 0) (state : D → DiskState) (fail
       absurd (⊎_elim (λ foreign. other_error e error.Foreign foreign.0 refl is)
       (λ other. ⊎_elim (λ memory. other_error e error.Memory memory.0 refl is)
       (λ some. ⊎_elim (λ refused. cut_never_device old some.hall e refused is) (λ memory. other_error e error.Memory memory refl is) some.cause) other) obeys.1)
+  failed (Answer v w) e b old new obeys is =
+      absurd (⊎_elim (λ foreign. other_error e error.Foreign foreign.0 refl is)
+      (λ other. ⊎_elim (λ memory. other_error e error.Memory memory.0 refl is)
+      (λ unpassed. other_error e (error.NotPassed unpassed.0) unpassed.1 refl is) other) obeys.1)
 
   failed_all : (c : Command) (e : GroupError) (b : List AnySubmitted) (old new : Keeping D) → Obeys is_lawful state failures answers c (RefusedAll e b) old new → is_of_device e ≡ true
       → Fails is_lawful state failures answers old new
@@ -102,6 +107,7 @@ module _ {D : Type 0} (is_lawful : D → Type 0) (state : D → DiskState) (fail
   failed_all NextOut e b old new obeys is = absurd obeys
   failed_all Cut e b old new obeys is = absurd obeys
   failed_all (CutUpTo m) e b old new obeys is = absurd obeys
+  failed_all (Answer v w) e b old new obeys is = absurd obeys
 
   one_failed : (c : Command) (r : Reply) (old new : Keeping D) → Obeys is_lawful state failures answers c r old new → is_failed r ≡ true → Fails is_lawful state failures answers old new
   one_failed c (Refused e b) old new obeys is = failed c e b old new obeys is
@@ -115,6 +121,7 @@ module _ {D : Type 0} (is_lawful : D → Type 0) (state : D → DiskState) (fail
   one_failed c (Out o) old new obeys is = absurd (cc)
   one_failed c (CutTaken n) old new obeys is = absurd (cc)
   one_failed c (Written w) old new obeys is = absurd (cc)
+  one_failed c (Answered m ys) old new obeys is = absurd (cc)
   one_failed c Closed old new obeys is = absurd (cc)
 
   pub driven_failed : (commands : List Command) (replies : List Reply) (old new : Keeping D) → Driven is_lawful state failures answers commands replies old new
@@ -165,6 +172,7 @@ module _ {D : Type 0} (is_lawful : D → Type 0) (state : D → DiskState) (fail
   whole_submit_as request batch (Out o) old new r quiet = absurd r
   whole_submit_as request batch (CutTaken n) old new r quiet = absurd r
   whole_submit_as request batch (Written w) old new r quiet = absurd r
+  whole_submit_as request batch (Answered m ys) old new r quiet = absurd r
   whole_submit_as request batch Closed old new r quiet = absurd r
 
   whole_submit : (batch : List Entry) (r : Reply) (old new : Keeping D) → Submits is_lawful state failures answers batch r old new → is_failed r ≡ false → new.broken ≡ old.broken
@@ -179,6 +187,7 @@ module _ {D : Type 0} (is_lawful : D → Type 0) (state : D → DiskState) (fail
   whole_submit batch (Out o) old new r quiet = absurd r
   whole_submit batch (CutTaken n) old new r quiet = absurd r
   whole_submit batch (Written w) old new r quiet = absurd r
+  whole_submit batch (Answered m ys) old new r quiet = absurd r
   whole_submit batch Closed old new r quiet = absurd r
 
   whole_group : (group : List AnySubmitted) (old new : Keeping D) → new ≡ with_group old new.device group → new.broken ≡ old.broken
@@ -198,6 +207,7 @@ module _ {D : Type 0} (is_lawful : D → Type 0) (state : D → DiskState) (fail
   whole_submit_all group (Out o) old new r quiet = absurd r
   whole_submit_all group (CutTaken n) old new r quiet = absurd r
   whole_submit_all group (Written w) old new r quiet = absurd r
+  whole_submit_all group (Answered m ys) old new r quiet = absurd r
   whole_submit_all group Closed old new r quiet = absurd r
   whole_submit_all group (Refused e b) old new r quiet = absurd r
 
@@ -215,6 +225,7 @@ module _ {D : Type 0} (is_lawful : D → Type 0) (state : D → DiskState) (fail
   whole_write (Collected n) old new r quiet = absurd r
   whole_write (Out o) old new r quiet = absurd r
   whole_write (CutTaken n) old new r quiet = absurd r
+  whole_write (Answered m ys) old new r quiet = absurd r
   whole_write Closed old new r quiet = absurd r
 
   whole_close : (most : ℕ) (r : Reply) (old new : Keeping D) → ClosesFree is_lawful state failures answers most r old new → is_failed r ≡ false → new.broken ≡ old.broken
@@ -230,6 +241,7 @@ module _ {D : Type 0} (is_lawful : D → Type 0) (state : D → DiskState) (fail
   whole_close most (Collected n) old new r quiet = absurd r
   whole_close most (Out o) old new r quiet = absurd r
   whole_close most (CutTaken n) old new r quiet = absurd r
+  whole_close most (Answered m ys) old new r quiet = absurd r
   whole_close most (Written w) old new r quiet = absurd r
 
   -- of one that is as it was
@@ -248,6 +260,7 @@ module _ {D : Type 0} (is_lawful : D → Type 0) (state : D → DiskState) (fail
   one_whole Collect r old new obeys quiet = as_whole old new (rests is_lawful state failures answers Collect r old new refl obeys)
   one_whole NextOut r old new obeys quiet = as_whole old new (rests is_lawful state failures answers NextOut r old new refl obeys)
   one_whole Cut r old new obeys quiet = as_whole old new (rests is_lawful state failures answers Cut r old new refl obeys)
+  one_whole (Answer v w) r old new obeys quiet = as_whole old new (rests is_lawful state failures answers (Answer v w) r old new refl obeys)
   one_whole (CutUpTo m) r old new obeys quiet = as_whole old new (rests is_lawful state failures answers (CutUpTo m) r old new refl obeys)
 
   pub driven_whole : (commands : List Command) (replies : List Reply) (old new : Keeping D) → Driven is_lawful state failures answers commands replies old new

@@ -19,7 +19,7 @@ use Rattle.td_standing.specs.Stops.{Begins, Stands}
 use Rattle.td_standing.specs.Advanced.{states_by}
 use Rattle.td_keeper.specs.declared.command.Command.{Command}
 use Rattle.td_keeper.specs.declared.command.Reply.{Reply}
-use Rattle.td_keeper.specs.declared.command.Reply.TheVariants.{Submitted, SubmittedAs, SubmittedAll, Released, Settled, Collected, Out, CutTaken, Written, Closed, Refused, RefusedAll}
+use Rattle.td_keeper.specs.declared.command.Reply.TheVariants.{Submitted, SubmittedAs, SubmittedAll, Released, Settled, Collected, Out, CutTaken, Answered, Written, Closed, Refused, RefusedAll}
 use Rattle.td_keeper.specs.Keeping.{Keeping, IsKeeping}
 use Rattle.td_keeper.specs.Driven.{submitted_by, handed_out, outs_beyond, HandsOn}
 use Rattle.td_keeper.specs.Acknowledged.{outs_of, HandsOutUpTo, Acknowledges}
@@ -171,6 +171,7 @@ of_replies n (Settled ∷ rs) all = All-cons (HandsOutUpTo n) Settled rs tt (of_
 of_replies n (Collected e ∷ rs) all = All-cons (HandsOutUpTo n) (Collected e) rs tt (of_replies n rs all)
 of_replies n (CutTaken e ∷ rs) all = All-cons (HandsOutUpTo n) (CutTaken e) rs tt (of_replies n rs all)
 of_replies n (Written w ∷ rs) all = All-cons (HandsOutUpTo n) (Written w) rs tt (of_replies n rs all)
+of_replies n (Answered m ys ∷ rs) all = All-cons (HandsOutUpTo n) (Answered m ys) rs tt (of_replies n rs all)
 of_replies n (Closed ∷ rs) all = All-cons (HandsOutUpTo n) Closed rs tt (of_replies n rs all)
 of_replies n (Refused e b ∷ rs) all = All-cons (HandsOutUpTo n) (Refused e b) rs tt (of_replies n rs all)
 of_replies n (RefusedAll e b ∷ rs) all = All-cons (HandsOutUpTo n) (RefusedAll e b) rs tt (of_replies n rs all)

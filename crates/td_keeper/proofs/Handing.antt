@@ -19,9 +19,9 @@ use Rattle.td_standing.specs.Standing.{Standing, last_epoch, submission, batches
 use Rattle.td_keeper.specs.declared.group.GroupError.{GroupError}
 use Rattle.td_keeper.specs.declared.group.GroupError.TheVariants.{Keeper}
 use Rattle.td_keeper.specs.declared.command.Command.{Command}
-use Rattle.td_keeper.specs.declared.command.Command.TheVariants.{Submit, SubmitAs, SubmitAll, Release, Settle, Collect, NextOut, Cut, CutUpTo, WriteCut, CloseFree}
+use Rattle.td_keeper.specs.declared.command.Command.TheVariants.{Submit, SubmitAs, SubmitAll, Release, Settle, Collect, NextOut, Cut, CutUpTo, Answer, WriteCut, CloseFree}
 use Rattle.td_keeper.specs.declared.command.Reply.{Reply}
-use Rattle.td_keeper.specs.declared.command.Reply.TheVariants.{Submitted, SubmittedAs, SubmittedAll, Released, Settled, Collected, Out, CutTaken, Written, Closed, Refused, RefusedAll}
+use Rattle.td_keeper.specs.declared.command.Reply.TheVariants.{Submitted, SubmittedAs, SubmittedAll, Released, Settled, Collected, Out, CutTaken, Answered, Written, Closed, Refused, RefusedAll}
 use Rattle.td_keeper.specs.Keeping.{Keeping, IsKeeping, with_batch, with_group}
 use Rattle.td_keeper.specs.Halls.{IsOwn, meant_outs, with_collected}
 use Rattle.td_standing.specs.declared.error.KeeperError.{KeeperError}
@@ -336,6 +336,7 @@ module _ {D : Type 0} (is_lawful : D → Type 0) (state : D → DiskState) (fail
   hands (SubmitAs request batch) (Out o) old mid new y hs kept kept_mid obeys none rest = absurd obeys.0
   hands (SubmitAs request batch) (CutTaken n) old mid new y hs kept kept_mid obeys none rest = absurd obeys.0
   hands (SubmitAs request batch) (Written w) old mid new y hs kept kept_mid obeys none rest = absurd obeys.0
+  hands (SubmitAs request batch) (Answered m ys) old mid new y hs kept kept_mid obeys none rest = absurd obeys.0
   hands (SubmitAs request batch) Closed old mid new y hs kept kept_mid obeys none rest = absurd obeys.0
   hands (Submit batch) (SubmittedAs n) old mid new y hs kept kept_mid obeys none rest = absurd obeys.0
   hands (Submit batch) (SubmittedAll n m) old mid new y hs kept kept_mid obeys none rest = absurd obeys.0
@@ -346,6 +347,7 @@ module _ {D : Type 0} (is_lawful : D → Type 0) (state : D → DiskState) (fail
   hands (Submit batch) (Out o) old mid new y hs kept kept_mid obeys none rest = absurd obeys.0
   hands (Submit batch) (CutTaken n) old mid new y hs kept kept_mid obeys none rest = absurd obeys.0
   hands (Submit batch) (Written w) old mid new y hs kept kept_mid obeys none rest = absurd obeys.0
+  hands (Submit batch) (Answered m ys) old mid new y hs kept kept_mid obeys none rest = absurd obeys.0
   hands (Submit batch) Closed old mid new y hs kept kept_mid obeys none rest = absurd obeys.0
   hands (SubmitAll group) (SubmittedAll n m) old mid new y hs kept kept_mid obeys none rest = hands_group group old mid new y hs obeys.0.submitted rest
   hands (SubmitAll group) (RefusedAll e back) old mid new y hs kept kept_mid obeys none rest = hands_none group e back old mid new y hs kept obeys.0 none rest
@@ -357,6 +359,7 @@ module _ {D : Type 0} (is_lawful : D → Type 0) (state : D → DiskState) (fail
   hands (SubmitAll group) (Out o) old mid new y hs kept kept_mid obeys none rest = absurd obeys.0
   hands (SubmitAll group) (CutTaken n) old mid new y hs kept kept_mid obeys none rest = absurd obeys.0
   hands (SubmitAll group) (Written w) old mid new y hs kept kept_mid obeys none rest = absurd obeys.0
+  hands (SubmitAll group) (Answered m ys) old mid new y hs kept kept_mid obeys none rest = absurd obeys.0
   hands (SubmitAll group) Closed old mid new y hs kept kept_mid obeys none rest = absurd obeys.0
   hands (SubmitAll group) (Refused e b) old mid new y hs kept kept_mid obeys none rest = absurd obeys.0
   hands Release (Released n) old mid new y hs kept kept_mid obeys none rest = as_it_was answers outs_join old mid new y hs obeys.same rest
@@ -371,6 +374,7 @@ module _ {D : Type 0} (is_lawful : D → Type 0) (state : D → DiskState) (fail
   hands Release (Out o) old mid new y hs kept kept_mid obeys none rest = absurd obeys
   hands Release (CutTaken n) old mid new y hs kept kept_mid obeys none rest = absurd obeys
   hands Release (Written w) old mid new y hs kept kept_mid obeys none rest = absurd obeys
+  hands Release (Answered m ys) old mid new y hs kept kept_mid obeys none rest = absurd obeys
   hands Release Closed old mid new y hs kept kept_mid obeys none rest = absurd obeys
   hands Settle Settled old mid new y hs kept kept_mid obeys none rest = as_it_was answers outs_join old mid new y hs obeys.same rest
   hands Settle (Refused e b) old mid new y hs kept kept_mid obeys none rest = as_it_was answers outs_join old mid new y hs obeys.1.2.same rest
@@ -383,6 +387,7 @@ module _ {D : Type 0} (is_lawful : D → Type 0) (state : D → DiskState) (fail
   hands Settle (Out o) old mid new y hs kept kept_mid obeys none rest = absurd obeys
   hands Settle (CutTaken n) old mid new y hs kept kept_mid obeys none rest = absurd obeys
   hands Settle (Written w) old mid new y hs kept kept_mid obeys none rest = absurd obeys
+  hands Settle (Answered m ys) old mid new y hs kept kept_mid obeys none rest = absurd obeys
   hands Settle Closed old mid new y hs kept kept_mid obeys none rest = absurd obeys
   hands Collect (Collected n) old mid new y hs kept kept_mid obeys none rest = collected_from answers outs_join old mid new y hs kept kept_mid obeys.hall (obeys.brings.own) obeys.brings.outs obeys.collected rest
   hands Collect (Refused e b) old mid new y hs kept kept_mid obeys none rest =
@@ -396,6 +401,7 @@ module _ {D : Type 0} (is_lawful : D → Type 0) (state : D → DiskState) (fail
   hands Collect (Out o) old mid new y hs kept kept_mid obeys none rest = absurd obeys
   hands Collect (CutTaken n) old mid new y hs kept kept_mid obeys none rest = absurd obeys
   hands Collect (Written w) old mid new y hs kept kept_mid obeys none rest = absurd obeys
+  hands Collect (Answered m ys) old mid new y hs kept kept_mid obeys none rest = absurd obeys
   hands Collect Closed old mid new y hs kept kept_mid obeys none rest = absurd obeys
   hands NextOut (Out None) old mid new y hs kept kept_mid obeys none rest = as_it_was answers outs_join old mid new y hs obeys.1 rest
   hands NextOut (Out (Some out)) old mid new y hs kept kept_mid obeys none rest = handed_first answers outs_join old mid new y hs out obeys.0 obeys.1 rest
@@ -409,6 +415,7 @@ module _ {D : Type 0} (is_lawful : D → Type 0) (state : D → DiskState) (fail
   hands NextOut (Collected n) old mid new y hs kept kept_mid obeys none rest = absurd obeys
   hands NextOut (CutTaken n) old mid new y hs kept kept_mid obeys none rest = absurd obeys
   hands NextOut (Written w) old mid new y hs kept kept_mid obeys none rest = absurd obeys
+  hands NextOut (Answered m ys) old mid new y hs kept kept_mid obeys none rest = absurd obeys
   hands NextOut Closed old mid new y hs kept kept_mid obeys none rest = absurd obeys
   hands Cut (CutTaken n) old mid new y hs kept kept_mid obeys none rest =
       let is = obeys.cut in
@@ -434,6 +441,7 @@ module _ {D : Type 0} (is_lawful : D → Type 0) (state : D → DiskState) (fail
   hands Cut (Collected n) old mid new y hs kept kept_mid obeys none rest = absurd obeys
   hands Cut (Out o) old mid new y hs kept kept_mid obeys none rest = absurd obeys
   hands Cut (Written w) old mid new y hs kept kept_mid obeys none rest = absurd obeys
+  hands Cut (Answered m ys) old mid new y hs kept kept_mid obeys none rest = absurd obeys
   hands Cut Closed old mid new y hs kept kept_mid obeys none rest = absurd obeys
   hands (CutUpTo most) (CutTaken n) old mid new y hs kept kept_mid obeys none rest =
       let is = obeys.cut in
@@ -459,7 +467,28 @@ module _ {D : Type 0} (is_lawful : D → Type 0) (state : D → DiskState) (fail
   hands (CutUpTo most) (Collected n) old mid new y hs kept kept_mid obeys none rest = absurd obeys
   hands (CutUpTo most) (Out o) old mid new y hs kept kept_mid obeys none rest = absurd obeys
   hands (CutUpTo most) (Written w) old mid new y hs kept kept_mid obeys none rest = absurd obeys
+  hands (CutUpTo most) (Answered m ys) old mid new y hs kept kept_mid obeys none rest = absurd obeys
   hands (CutUpTo most) Closed old mid new y hs kept kept_mid obeys none rest = absurd obeys
+  hands (Answer v w) (Answered m ys) old mid new y hs kept kept_mid obeys none rest = as_it_was answers outs_join old mid new y hs obeys.same rest
+  hands (Answer v w) (Refused e b) old mid new y hs kept kept_mid obeys none rest =
+      ⊎_elim
+      (λ foreign. as_it_was answers outs_join old mid new y hs foreign.1.same rest)
+      (λ other. ⊎_elim
+      (λ memory. as_it_was answers outs_join old mid new y hs memory.1.same rest)
+      (λ unpassed. as_it_was answers outs_join old mid new y hs unpassed.2.same rest)
+      other)
+      obeys.1
+  hands (Answer v w) (Submitted n) old mid new y hs kept kept_mid obeys none rest = absurd obeys
+  hands (Answer v w) (SubmittedAs n) old mid new y hs kept kept_mid obeys none rest = absurd obeys
+  hands (Answer v w) (SubmittedAll n m) old mid new y hs kept kept_mid obeys none rest = absurd obeys
+  hands (Answer v w) (RefusedAll e xs) old mid new y hs kept kept_mid obeys none rest = absurd obeys
+  hands (Answer v w) (Released n) old mid new y hs kept kept_mid obeys none rest = absurd obeys
+  hands (Answer v w) Settled old mid new y hs kept kept_mid obeys none rest = absurd obeys
+  hands (Answer v w) (Collected n) old mid new y hs kept kept_mid obeys none rest = absurd obeys
+  hands (Answer v w) (Out o) old mid new y hs kept kept_mid obeys none rest = absurd obeys
+  hands (Answer v w) (CutTaken n) old mid new y hs kept kept_mid obeys none rest = absurd obeys
+  hands (Answer v w) (Written u) old mid new y hs kept kept_mid obeys none rest = absurd obeys
+  hands (Answer v w) Closed old mid new y hs kept kept_mid obeys none rest = absurd obeys
   hands WriteCut (Written w) old mid new y hs kept kept_mid obeys none rest =
       ⊎_elim
       (λ no. same_all answers outs_join old mid new y hs (ap (λ k. k.plan) no.2) (ap (λ k. k.standing) no.2) (ap (λ k. k.collected) no.2) (ap (λ k. k.queue) no.2) rest)
@@ -485,6 +514,7 @@ module _ {D : Type 0} (is_lawful : D → Type 0) (state : D → DiskState) (fail
   hands WriteCut (Collected n) old mid new y hs kept kept_mid obeys none rest = absurd obeys.0
   hands WriteCut (Out o) old mid new y hs kept kept_mid obeys none rest = absurd obeys.0
   hands WriteCut (CutTaken n) old mid new y hs kept kept_mid obeys none rest = absurd obeys.0
+  hands WriteCut (Answered m ys) old mid new y hs kept kept_mid obeys none rest = absurd obeys.0
   hands WriteCut Closed old mid new y hs kept kept_mid obeys none rest = absurd obeys.0
   hands (CloseFree most) Closed old mid new y hs kept kept_mid obeys none rest =
       let is = obeys.0.same in
@@ -503,6 +533,7 @@ module _ {D : Type 0} (is_lawful : D → Type 0) (state : D → DiskState) (fail
   hands (CloseFree most) (Collected n) old mid new y hs kept kept_mid obeys none rest = absurd obeys.0
   hands (CloseFree most) (Out o) old mid new y hs kept kept_mid obeys none rest = absurd obeys.0
   hands (CloseFree most) (CutTaken n) old mid new y hs kept kept_mid obeys none rest = absurd obeys.0
+  hands (CloseFree most) (Answered m ys) old mid new y hs kept kept_mid obeys none rest = absurd obeys.0
   hands (CloseFree most) (Written w) old mid new y hs kept kept_mid obeys none rest = absurd obeys.0
 
   -- WHAT COMMANDS HAND OUT

@@ -19,3 +19,4 @@ mod Receiving
 mod Acknowledging
 mod Handed
 mod Acknowledged
+mod Answering

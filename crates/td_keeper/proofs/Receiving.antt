@@ -19,9 +19,9 @@ use Rattle.td_standing.specs.Advanced.{HeldWhere}
 use Rattle.td_standing.specs.declared.error.KeeperError.TheVariants as error
 use Rattle.td_keeper.specs.declared.group.GroupError.TheVariants.{Keeper}
 use Rattle.td_keeper.specs.declared.command.Command.{Command}
-use Rattle.td_keeper.specs.declared.command.Command.TheVariants.{Submit, SubmitAs, SubmitAll, Release, Settle, Collect, NextOut, Cut, CutUpTo, WriteCut, CloseFree}
+use Rattle.td_keeper.specs.declared.command.Command.TheVariants.{Submit, SubmitAs, SubmitAll, Release, Settle, Collect, NextOut, Cut, CutUpTo, Answer, WriteCut, CloseFree}
 use Rattle.td_keeper.specs.declared.command.Reply.{Reply}
-use Rattle.td_keeper.specs.declared.command.Reply.TheVariants.{Submitted, SubmittedAs, SubmittedAll, Released, Settled, Collected, Out, CutTaken, Written, Closed, Refused, RefusedAll}
+use Rattle.td_keeper.specs.declared.command.Reply.TheVariants.{Submitted, SubmittedAs, SubmittedAll, Released, Settled, Collected, Out, CutTaken, Answered, Written, Closed, Refused, RefusedAll}
 use Rattle.td_keeper.specs.declared.receipt.Receipt.{Receipt}
 use Rattle.td_keeper.specs.declared.receipt.Receipt.TheVariants.{New, Already}
 use Rattle.td_keeper.specs.Keeping.{Keeping, with_batch, with_group}
@@ -80,6 +80,7 @@ module _ {D : Type 0} (is_lawful : D → Type 0) (state : D → DiskState) (fail
   submits batch (Out o) old new r = absurd r
   submits batch (CutTaken n) old new r = absurd r
   submits batch (Written n) old new r = absurd r
+  submits batch (Answered m ys) old new r = absurd r
   submits batch Closed old new r = absurd r
 
   submits_as : (request : ℕ) (batch : List Entry) (r : Reply) (old new : Keeping D) → SubmitsAs is_lawful state failures answers request batch r old new → last_request old.standing ≤ last_request new.standing
@@ -94,6 +95,7 @@ module _ {D : Type 0} (is_lawful : D → Type 0) (state : D → DiskState) (fail
   submits_as request batch (Out o) old new r = absurd r
   submits_as request batch (CutTaken n) old new r = absurd r
   submits_as request batch (Written n) old new r = absurd r
+  submits_as request batch (Answered m ys) old new r = absurd r
   submits_as request batch Closed old new r = absurd r
 
   submits_all : (group : List AnySubmitted) (r : Reply) (old new : Keeping D) → SubmitsAll is_lawful state failures answers group r old new → last_request old.standing ≤ last_request new.standing
@@ -107,6 +109,7 @@ module _ {D : Type 0} (is_lawful : D → Type 0) (state : D → DiskState) (fail
   submits_all group (Out o) old new r = absurd r
   submits_all group (CutTaken n) old new r = absurd r
   submits_all group (Written n) old new r = absurd r
+  submits_all group (Answered m ys) old new r = absurd r
   submits_all group Closed old new r = absurd r
   submits_all group (Refused e b) old new r = absurd r
 
@@ -130,6 +133,7 @@ module _ {D : Type 0} (is_lawful : D → Type 0) (state : D → DiskState) (fail
   writes (Collected n) old new r = absurd r
   writes (Out o) old new r = absurd r
   writes (CutTaken n) old new r = absurd r
+  writes (Answered m ys) old new r = absurd r
   writes Closed old new r = absurd r
 
   closes : (most : ℕ) (r : Reply) (old new : Keeping D) → ClosesFree is_lawful state failures answers most r old new → last_request old.standing ≤ last_request new.standing
@@ -144,6 +148,7 @@ module _ {D : Type 0} (is_lawful : D → Type 0) (state : D → DiskState) (fail
   closes most (Collected n) old new r = absurd r
   closes most (Out o) old new r = absurd r
   closes most (CutTaken n) old new r = absurd r
+  closes most (Answered m ys) old new r = absurd r
   closes most (Written w) old new r = absurd r
 
   rested : (old new : Keeping D) → Rests old new → last_request old.standing ≤ last_request new.standing
@@ -160,6 +165,7 @@ module _ {D : Type 0} (is_lawful : D → Type 0) (state : D → DiskState) (fail
   one Collect r old new obeys = rested old new (rests is_lawful state failures answers Collect r old new refl obeys)
   one NextOut r old new obeys = rested old new (rests is_lawful state failures answers NextOut r old new refl obeys)
   one Cut r old new obeys = rested old new (rests is_lawful state failures answers Cut r old new refl obeys)
+  one (Answer v w) r old new obeys = rested old new (rests is_lawful state failures answers (Answer v w) r old new refl obeys)
   one (CutUpTo e) r old new obeys = rested old new (rests is_lawful state failures answers (CutUpTo e) r old new refl obeys)
 
   -- WHATEVER A KEEPER IS TOLD

@@ -9,15 +9,16 @@ use Rattle.td_machine.specs.Sound.{Sound}
 use Rattle.td_machine.specs.Reached.{IsReached}
 use Rattle.td_disk.specs.Disk.{DiskState}
 use Rattle.td_journal.specs.declared.submitted.Submitted.{Submitted as AnySubmitted}
+use Rattle.td_questions.specs.declared.question.Wanted.{Wanted}
 use Rattle.td_keeper.specs.declared.command.Command.{Command}
-use Rattle.td_keeper.specs.declared.command.Command.TheVariants.{Submit, SubmitAs, SubmitAll, Release, Settle, Collect, NextOut, Cut, CutUpTo, WriteCut, CloseFree}
+use Rattle.td_keeper.specs.declared.command.Command.TheVariants.{Submit, SubmitAs, SubmitAll, Release, Settle, Collect, NextOut, Cut, CutUpTo, Answer, WriteCut, CloseFree}
 use Rattle.td_keeper.specs.declared.command.Reply.{Reply}
-use Rattle.td_keeper.specs.declared.command.Reply.TheVariants.{Submitted, SubmittedAs, SubmittedAll, Released, Settled, Collected, Out, CutTaken, Written, Closed, Refused, RefusedAll}
+use Rattle.td_keeper.specs.declared.command.Reply.TheVariants.{Submitted, SubmittedAs, SubmittedAll, Released, Settled, Collected, Out, CutTaken, Answered, Written, Closed, Refused, RefusedAll}
 use Rattle.td_keeper.specs.declared.receipt.Receipt.{Receipt}
 use Rattle.td_keeper.specs.declared.receipt.Receipt.TheVariants.{New, Already}
 use Rattle.td_keeper.specs.Received.{IsReceived}
 use Rattle.td_keeper.specs.Keeping.{Keeping, ImageKeepsTo, KeepsSince, with_group}
-use Rattle.td_keeper.specs.Driven.{MayWrite, Submits, SubmitsAs, SubmitsAll, Releases, Settles, Collects, HandsOut, Cuts, Writes, ClosesFree, Obeys, Driven, Rests}
+use Rattle.td_keeper.specs.Driven.{MayWrite, Submits, SubmitsAs, SubmitsAll, Releases, Settles, Collects, HandsOut, Cuts, Asks, Writes, ClosesFree, Obeys, Driven, Rests}
 use Rattle.td_keeper.proofs.Collecting.{never_before}
 use Rattle.td_keeper.proofs.Driving.{rests}
 
@@ -99,6 +100,13 @@ module _ {D : Type 0} (is_lawful : D → Type 0) (state : D → DiskState) (fail
   hands_out (Out (Some out)) old new r = by r.1 (record { plan = refl; base = refl })
   hands_out other old new r = absurd r
 
+  asks : (vertex : ℕ) (wanted : Wanted) (reply : Reply) (old new : Keeping D) → Asks is_lawful state failures answers vertex wanted reply old new → SameBase old new
+  asks vertex wanted (Answered m ys) old new r = by r.same (itself old)
+  asks vertex wanted (Refused e b) old new r =
+      ⊎_elim (λ foreign. by foreign.1.same (itself old))
+      (λ other. ⊎_elim (λ memory. by memory.1.same (itself old)) (λ unpassed. by unpassed.2.same (itself old)) other) r.1
+  asks vertex wanted other old new r = absurd r
+
   writes : (reply : Reply) (old new : Keeping D) → Writes is_lawful state failures answers reply old new → SameBase old new
   writes (Written w) old new r = ⊎_elim (λ none. by none.2 (itself old)) (λ some. by some.1 (record { plan = refl; base = refl })) r.cut
   writes (Refused e b) old new r =
@@ -167,6 +175,8 @@ module _ {D : Type 0} (is_lawful : D → Type 0) (state : D → DiskState) (fail
   one sound NextOut reply old new obeys lawful = resting old new (rests is_lawful state failures answers NextOut reply old new refl obeys) (rises (hands_out reply old new obeys)) lawful
   one sound Cut reply old new obeys lawful = resting old new (rests is_lawful state failures answers Cut reply old new refl obeys) (cuts sound None reply old new obeys) lawful
   one sound (CutUpTo e) reply old new obeys lawful = resting old new (rests is_lawful state failures answers (CutUpTo e) reply old new refl obeys) (cuts sound (Some e) reply old new obeys) lawful
+  one sound (Answer vertex wanted) reply old new obeys lawful =
+      resting old new (rests is_lawful state failures answers (Answer vertex wanted) reply old new refl obeys) (rises (asks vertex wanted reply old new obeys)) lawful
 
   -- one command, and then others
   on_from : (old mid new : Keeping D) → KeepsOn old mid → KeepsOn mid new → KeepsOn old new

@@ -3,6 +3,7 @@ use Rattle.std.specs.Prelude.{◌≡◌, ◌⊎◌, ℕ, ◌+◌, ◌-◌, ◌�
 use Rattle.std.specs.Prelude.{if◌then◌else◌}
 use Rattle.td_stamp.specs.declared.values.Entry.{Entry}
 use Rattle.td_stamp.specs.declared.epoch_out.EpochOut.{EpochOut}
+use Rattle.td_stamp.specs.States.{StateList}
 use Rattle.td_plan.specs.Tree.{tree_of}
 use Rattle.td_calls.specs.Answers.{Answers}
 use Rattle.td_batch.specs.Meaning.{run, states_after, numbered}
@@ -13,6 +14,8 @@ use Rattle.td_machine.specs.Reached.{IsReached}
 use Rattle.td_machine.specs.Sound.{outs_by}
 use Rattle.td_disk.specs.Disk.{DiskState, Rises}
 use Rattle.td_gate.specs.CrashSafe.{CrashSafe, Unchanged}
+use Rattle.td_questions.specs.declared.question.Wanted.{Wanted}
+use Rattle.td_questions.specs.Asked.{answer_to}
 use Rattle.td_standing.specs.declared.error.KeeperError.{KeeperError}
 use Rattle.td_standing.specs.declared.error.KeeperError.TheVariants.{Foreign, NotPassed, TooManyKeys, Broken, Device, Memory, OldVersion}
 use Rattle.td_journal.specs.declared.submitted.Submitted.{Submitted as AnySubmitted}
@@ -21,16 +24,16 @@ use Rattle.td_standing.specs.Advanced.{AdvancesSince, SinceAdvance}
 use Rattle.td_keeper.specs.declared.receipt.Receipt.{Receipt}
 use Rattle.td_keeper.specs.declared.receipt.Receipt.TheVariants.{New}
 use Rattle.td_keeper.specs.declared.command.Command.{Command}
-use Rattle.td_keeper.specs.declared.command.Command.TheVariants.{Submit, SubmitAs, SubmitAll, Release, Settle, Collect, NextOut, Cut, CutUpTo, WriteCut, CloseFree}
+use Rattle.td_keeper.specs.declared.command.Command.TheVariants.{Submit, SubmitAs, SubmitAll, Release, Settle, Collect, NextOut, Cut, CutUpTo, Answer, WriteCut, CloseFree}
 use Rattle.td_keeper.specs.declared.command.Reply.{Reply}
-use Rattle.td_keeper.specs.declared.command.Reply.TheVariants.{Submitted, SubmittedAs, SubmittedAll, Released, Settled, Collected, Out, CutTaken, Written, Closed, Refused, RefusedAll}
+use Rattle.td_keeper.specs.declared.command.Reply.TheVariants.{Submitted, SubmittedAs, SubmittedAll, Released, Settled, Collected, Out, CutTaken, Answered, Written, Closed, Refused, RefusedAll}
 use Rattle.td_keeper.specs.declared.group.GroupError.{GroupError}
 use Rattle.td_keeper.specs.declared.group.GroupError.TheVariants.{Repeated, Keeper}
 use Rattle.td_keeper.specs.Keeping.{Keeping, IsKeeping, KeepsSince, since_base, with_batch, with_group, with_checkpoint, FreeAreShut}
 use Rattle.td_keeper.specs.Refused.{is_new, submit_refusal, submit_as_refusal, group_refusal, write_refusal, close_refusal, cut_refusal}
 use Rattle.td_keeper.specs.Received.{IsReceived, received_in}
 use Rattle.td_keeper.specs.Grouped.{AllOrNone}
-use Rattle.td_keeper.specs.Halls.{IsOwn, IsDone, lacking, with_released, with_collected, with_cut, collected_hall, cut_hall_up_to, cut_place, meant_outs}
+use Rattle.td_keeper.specs.Halls.{IsOwn, IsDone, lacking, with_released, with_collected, with_cut, collected_hall, cut_hall_up_to, cut_place, meant_outs, last_states, LacksLast}
 
 -- the replies of the calls that work on a pool's hall
 abbrev pub released : Result ℕ KeeperError → Reply
@@ -48,6 +51,10 @@ collected (Err error) = Refused error None
 abbrev pub cut : Result ℕ KeeperError → Reply
 cut (Ok e) = CutTaken e
 cut (Err error) = Refused error None
+
+abbrev pub answered : Result (ℕ × StateList) KeeperError → Reply
+answered (Ok a) = Answered a.0 a.1
+answered (Err error) = Refused error None
 
 -- whether the device failed
 abbrev pub is_device : KeeperError → Bool
@@ -85,6 +92,7 @@ needs_hall Settle = true
 needs_hall Collect = true
 needs_hall Cut = true
 needs_hall (CutUpTo epoch) = true
+needs_hall (Answer vertex wanted) = true
 needs_hall _ = false
 
 -- WHAT A COMMAND SUBMITTED, by its reply: its batch or its group, where it was acknowledged, or where the device failed in it; not
@@ -275,6 +283,20 @@ module _ {D : Type 0} (is_lawful : D → Type 0) (state : D → DiskState) (fail
       × (((error ≡ Foreign) × Finds (λ S. IsOwn old S → ⊥) old new) ⊎ ((error ≡ Memory) × Finds (IsOwn old) old new) ⊎ IsNotCut error old new)
   Cuts most _ old new = ⊥
 
+  -- TO ANSWER what is wanted of a fold: the entries are exactly those that answer it, of the states that the batch meaning has after the
+  -- last epoch, and the keeper is as it was
+  pub record IsAnswer (vertex : ℕ) (wanted : Wanted) (epoch : ℕ) (entries : StateList) (old new : Keeping D) : Type 0 where
+    pub last : epoch ≡ last_epoch old.standing
+    pub answer : entries ≡ answer_to vertex wanted (last_states old answers)
+    pub same : new ≡ old
+
+  abbrev pub Asks : ℕ → Wanted → Reply → Keeping D → Keeping D → Type 0
+  Asks vertex wanted (Answered epoch entries) old new = IsAnswer vertex wanted epoch entries old new
+  Asks vertex wanted (Refused error back) old new = (back ≡ None)
+      × (((error ≡ Foreign) × Finds (λ S. IsOwn old S → ⊥) old new) ⊎ ((error ≡ Memory) × Finds (IsOwn old) old new)
+      ⊎ ((e : ℕ) × (error ≡ NotPassed e) × Finds (λ S. IsOwn old S × LacksLast old S) old new))
+  Asks vertex wanted _ old new = ⊥
+
   -- TO WRITE THE CUT that waits: it is the checkpoint
   pub record IsWritten (written : Option ℕ) (old new : Keeping D) : Type 0 where
     pub accepted : write_refusal old ≡ None
@@ -321,6 +343,7 @@ module _ {D : Type 0} (is_lawful : D → Type 0) (state : D → DiskState) (fail
   Obeys NextOut reply old new = HandsOut reply old new
   Obeys Cut reply old new = Cuts None reply old new
   Obeys (CutUpTo epoch) reply old new = Cuts (Some epoch) reply old new
+  Obeys (Answer vertex wanted) reply old new = Asks vertex wanted reply old new
   Obeys WriteCut reply old new = Writes reply old new × MayWrite reply old new []
   Obeys (CloseFree most) reply old new = ClosesFree most reply old new × MayWrite reply old new []
 

@@ -1,15 +1,16 @@
 -- A keeper and a hall.
-use Rattle.std.specs.Prelude.{◌≡◌, ℕ, ◌+◌, ◌-◌, max, min, true, false, List, [], ◌∷◌, ◌++◌, length, take, drop, Option, Some, None}
+use Rattle.std.specs.Prelude.{◌≡◌, ◌⊎◌, ◌≤◌, ℕ, ◌+◌, ◌-◌, max, min, true, false, List, [], ◌∷◌, ◌++◌, length, take, drop, Option, Some, None}
 use Rattle.td_stamp.specs.declared.values.Entry.{Entry}
 use Rattle.td_stamp.specs.declared.epoch_out.EpochOut.{EpochOut}
+use Rattle.td_stamp.specs.States.{StateList}
 use Rattle.td_plan.specs.Tree.{tree_of}
 use Rattle.td_calls.specs.Answers.{Answers}
-use Rattle.td_batch.specs.Meaning.{run, numbered}
+use Rattle.td_batch.specs.Meaning.{run, states_after, numbered}
 use Rattle.td_machine.specs.State.{HallState}
 use Rattle.td_machine.specs.Active.{unpassed, has_passed}
 use Rattle.td_machine.specs.Steps.{release_step, collect_step, cut_at_by}
 use Rattle.td_machine.specs.Sound.{outs_by}
-use Rattle.td_standing.specs.Standing.{batches_of}
+use Rattle.td_standing.specs.Standing.{last_epoch, batches_of}
 use Rattle.td_keeper.specs.Keeping.{Keeping, since_base, words_at, published}
 
 -- some batches are a beginning of others
@@ -45,6 +46,14 @@ module _ {D : Type 0} (k : Keeping D) where
   -- the outputs that the batch meaning of what the keeper stands for has after an epoch, up to another, each once and in order
   abbrev pub meant_outs : Answers → ℕ → ℕ → List EpochOut
   meant_outs answers from to = numbered (from + 1) (take (to - from) (drop (from - k.standing.epoch) (run answers (tree_of k.plan) k.standing.states (batches_of k.standing.submitted)).outs))
+
+  -- the states that the batch meaning of what the keeper stands for has after its last epoch
+  abbrev pub last_states : Answers → StateList
+  last_states answers = states_after answers (tree_of k.plan) k.standing.states (batches_of k.standing.submitted) (last_epoch k.standing - k.standing.epoch)
+
+  -- a hall in which that epoch was not released, or has not passed
+  abbrev pub LacksLast : HallState → Type 0
+  LacksLast S = (S.next ≤ last_epoch k.standing) ⊎ (has_passed S (last_epoch k.standing) ≡ false)
 
   -- the keeper after all that a hall collects was brought into the queue
   abbrev pub with_collected : HallState → Keeping D

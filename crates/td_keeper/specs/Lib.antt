@@ -5,3 +5,4 @@ pub mod Grouped
 pub mod Halls
 pub mod Driven
 pub mod Acknowledged
+pub mod Answering

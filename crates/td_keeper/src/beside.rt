@@ -2,7 +2,7 @@
 ghost use Rattle.std.specs.Prelude.{◌≡◌, ◌⊎◌, true, Some, None};
 ghost use Rattle.td_machine.specs.Active.{unpassed};
 ghost use Rattle.td_machine.specs.Reached.{IsReached};
-ghost use Rattle.td_keeper.specs.Driven.{Releases, Settles, Collects, Cuts, released, settled, collected, cut};
+ghost use Rattle.td_keeper.specs.Driven.{Releases, Settles, Collects, Cuts, Asks, released, settled, collected, cut, answered};
 
 use crate::keeper::Keeper;
 use std::sync::Wait;
@@ -10,6 +10,7 @@ use td_calls::Law;
 use td_disk::Disk;
 use td_pool::laws::each_is_sound;
 use td_pool::{AnyHall, Crew, Pool};
+use td_questions::{Entries, Wanted};
 use td_standing::KeeperError;
 
 /// Each of these is done under one hold of the pool's lock. Between two of them the hall is any that workers may leave.
@@ -74,6 +75,21 @@ impl<D: Disk, L: Law> Keeper<D, L> {
         ensures { Cuts D.is_lawful D.state D.failures L.answers (Some epoch) (cut result) self.old self.new }
     {
         self.cut_lent(&mut *pool.hall(rt), Some(epoch))
+    }
+
+    /// The entries that answer what is wanted of a fold, of the states after the last epoch on the journal, and that epoch, from the
+    /// pool's hall. Refusals: `Foreign`, where the hall is none of this keeper's; `NotPassed` of the first epoch that has not
+    /// passed in it; and `Memory`.
+    pub fn answer_in<K: Crew, R: Wait>(
+        &self,
+        rt: &R,
+        pool: &Pool<K, L>,
+        vertex: u8,
+        wanted: Wanted,
+    ) -> Result<(u64, Entries), KeeperError>
+        ensures { Asks D.is_lawful D.state D.failures L.answers vertex wanted (answered result) self.now self.now }
+    {
+        self.answer_lent(&*pool.hall(rt), vertex, wanted)
     }
 }
 

@@ -1,9 +1,10 @@
 //! What a keeper is told to do, and what it replies.
 ghost use Rattle.std.specs.Prelude.{◌≡◌};
-ghost use Rattle.td_keeper.specs.Driven.{released, settled, collected, cut};
+ghost use Rattle.td_keeper.specs.Driven.{released, settled, collected, cut, answered};
 
 use crate::group::{Group, GroupError};
 use crate::receipt::Receipt;
+use td_questions::{Entries, Wanted};
 use td_stamp::{Batch, EpochOut};
 use td_standing::KeeperError;
 
@@ -28,6 +29,8 @@ pub enum Command {
     Cut,
     /// To cut it at no epoch above this one.
     CutUpTo(u64),
+    /// To answer what is wanted of a fold, of the states after the last epoch.
+    Answer(u8, Wanted),
     /// To write the cut that waits.
     WriteCut,
     /// To close at most so many cells that no epoch uses, those that come next.
@@ -54,6 +57,11 @@ pub enum Reply {
     Out(Option<EpochOut>),
     /// A cut at this epoch was taken.
     CutTaken(u64),
+    /// These are the entries that answer, of the states after this epoch.
+    Answered {
+        epoch: u64,
+        entries: Entries,
+    },
     /// The cut that waited was written, and its epoch; None where none waited.
     Written(Option<u64>),
     /// These cells are closed.
@@ -107,6 +115,16 @@ impl Reply {
     {
         match outcome {
             Ok(epoch) => Reply::CutTaken(epoch),
+            Err(error) => Reply::Refused { error, batch: None },
+        }
+    }
+
+    /// The reply to `Answer`.
+    pub(crate) fn of_answer(outcome: Result<(u64, Entries), KeeperError>) -> Reply
+        ensures { result ≡ answered outcome }
+    {
+        match outcome {
+            Ok((epoch, entries)) => Reply::Answered { epoch, entries },
             Err(error) => Reply::Refused { error, batch: None },
         }
     }

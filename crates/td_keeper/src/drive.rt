@@ -21,7 +21,7 @@ use td_standing::{KeeperError, laws};
 
 impl<D: Disk, L: Law> Keeper<D, L> {
     /// Obeys commands, one after another, beside workers of a pool, and replies to each. What is done with the pool's hall is done
-    /// under one hold of its lock for each command, as `release`, `collect` and `cut` do it; between two holds the hall is any that
+    /// under one hold of its lock for each command, as `release`, `collect`, `cut` and `answer_in` do it; between two holds the hall is any that
     /// workers may leave. `Settle` lets the lock go while it waits; its refusal is `NotPassed` of the first released epoch that has
     /// not passed, where the pool was stopped before. The replies are those of the keeper's calls.
     ///
@@ -92,6 +92,9 @@ impl<D: Disk, L: Law> Keeper<D, L> {
             Command::Collect => Reply::of_collect(self.collect_in(rt, pool)),
             Command::Cut => Reply::of_cut(self.cut_in(rt, pool)),
             Command::CutUpTo(epoch) => Reply::of_cut(self.cut_up_to_in(rt, pool, epoch)),
+            Command::Answer(vertex, wanted) => Reply::of_answer(self.answer_in(
+                rt, pool, vertex, wanted,
+            )),
             other => self.obey_without_hall(other),
         }
     }
@@ -131,7 +134,8 @@ impl<D: Disk, L: Law> Keeper<D, L> {
             | Command::Settle
             | Command::Collect
             | Command::Cut
-            | Command::CutUpTo(_) => unreachable!(),
+            | Command::CutUpTo(_)
+            | Command::Answer(..) => unreachable!(),
         }
     }
 }

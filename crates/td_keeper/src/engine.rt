@@ -4,7 +4,7 @@ ghost use Rattle.td_plan.specs.Blocks.{vertices};
 ghost use Rattle.td_calls.specs.Fits.{first_lack};
 ghost use Rattle.td_machine.specs.Steps.{opened};
 ghost use Rattle.td_core.specs.Drained.{IsKept};
-ghost use Rattle.td_keeper.specs.Driven.{Releases, Settles, Collects, Cuts, released, settled, collected, cut};
+ghost use Rattle.td_keeper.specs.Driven.{Releases, Settles, Collects, Cuts, Asks, released, settled, collected, cut, answered};
 ghost use Rattle.td_standing.specs.declared.error.KeeperError.TheVariants.{Memory};
 
 use crate::command::{Command, Reply};
@@ -17,6 +17,7 @@ use td_batch::laws::run_joins;
 use td_calls::{Closures, Law};
 use td_core::{Hall, HallError};
 use td_disk::Disk;
+use td_questions::{Entries, Wanted};
 use td_stamp::EpochOut;
 use td_standing::KeeperError;
 
@@ -165,6 +166,11 @@ impl<'a, D: Disk, L: Law, C: Closures<L>, R> Obey<D, L, R> for Engine<'a, D, L, 
         each_is_kept(&self.keeper);
         td_core::laws::each_is_sound(&self.hall);
         self.keeper.cut_own(&mut self.hall, Some(epoch))
+    }
+
+    fn answer(&self, _rt: &R, vertex: u8, wanted: Wanted) -> Result<(u64, Entries), KeeperError> {
+        td_core::laws::each_is_sound(&self.hall);
+        self.keeper.answer_own(&self.hall, vertex, wanted)
     }
 
     fn next_out(&mut self) -> Option<EpochOut> {

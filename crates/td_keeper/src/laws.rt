@@ -10,6 +10,7 @@ ghost use Rattle.td_keeper.specs.Keeping.{Keeping, IsKeeping, EachKeepsTo, Keeps
 ghost use Rattle.td_keeper.specs.declared.command.Command.{Command as AnyCommand};
 ghost use Rattle.td_keeper.specs.declared.command.Reply.{Reply as AnyReply};
 ghost use Rattle.td_keeper.specs.Acknowledged.{acknowledged_by, outs_of, HandsOutUpTo, Acknowledges, TellsWork};
+ghost use Rattle.td_keeper.specs.Answering.{AllOfHistory};
 ghost use Rattle.td_keeper.specs.Driven.{may_write, submitted_by, handed_out, HandsOn, Advances, AcknowledgesUpTo, Obeys, Driven, Rests};
 
 use crate::keeper::Keeper;
@@ -132,6 +133,18 @@ pub fn driven_acknowledges<D: Disk, L: Law>()
     laws::advance_stands::<L>();
     laws::standings_advance::<L>();
     laws::advances_join::<L>();
+}
+
+/// WHAT IS ANSWERED IS MEANT. Each answer among the replies to commands is of a history, where the keeper stood for one, and what was
+/// acknowledged before it: of the last epoch of these, and by their states in the batch meaning.
+pub fn driven_answers<D: Disk, L: Law>()
+    ensures { (commands : List AnyCommand) (replies : List AnyReply) (old new : Keeping D) (history : List AnySubmitted) → IsKeeping old L.answers
+        → Driven D.is_lawful D.state D.failures L.answers commands replies old new
+        → Stands (states_by L.answers old.plan) old.standing history
+        → AllOfHistory L.answers old.plan history commands replies }
+{
+    td_batch::laws::run_joins::<L>();
+    driven_acknowledges::<D, L>();
 }
 
 /// What is handed out is counted: no output that goes out, and none that is left in the queue, is of an epoch beyond the last of what

@@ -9,6 +9,7 @@
 //! For example `submit`, `release`, a drain of the hall, `collect` and `next_out` bring one epoch from its batch to its outputs.
 #![tactic(auto)]
 
+mod answer;
 mod beside;
 mod close_free;
 mod collect;

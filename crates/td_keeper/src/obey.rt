@@ -4,13 +4,14 @@ ghost use Rattle.td_machine.specs.State.{HallState};
 ghost use Rattle.td_keeper.specs.Keeping.{Keeping};
 ghost use Rattle.td_keeper.specs.declared.command.Command.TheVariants.{Release, Settle, Collect, Cut};
 ghost use Rattle.td_keeper.specs.declared.command.Reply.TheVariants.{Out};
-ghost use Rattle.td_keeper.specs.Driven.{needs_hall, Releases, Settles, Collects, HandsOut, Cuts, Obeys, IsTold, ComesOf, released, settled, collected, cut};
+ghost use Rattle.td_keeper.specs.Driven.{needs_hall, Releases, Settles, Collects, HandsOut, Cuts, Asks, Obeys, IsTold, ComesOf, released, settled, collected, cut, answered};
 
 use crate::command::{Command, Reply};
 use crate::keeper::Keeper;
 use crate::laws::{each_disk_holds, each_is_kept};
 use td_calls::Law;
 use td_disk::Disk;
+use td_questions::{Entries, Wanted};
 use td_stamp::EpochOut;
 use td_standing::{KeeperError, laws};
 
@@ -57,6 +58,11 @@ pub trait Obey<D: Disk, L: Law, R> {
     fn cut_up_to(&mut self, rt: &R, epoch: u64) -> Result<u64, KeeperError>
         ensures cut { Cuts D.is_lawful D.state D.failures L.answers (Some epoch) (cut result) (keeping self.old) (keeping self.new) };
 
+    /// The entries that answer what is wanted of a fold, of the states after the last epoch on the journal, and that epoch. Refusal:
+    /// `NotPassed` of the first that has not passed.
+    fn answer(&self, rt: &R, vertex: u8, wanted: Wanted) -> Result<(u64, Entries), KeeperError>
+        ensures { Asks D.is_lawful D.state D.failures L.answers vertex wanted (answered result) (keeping self.now) (keeping self.now) };
+
     /// Hands out the outputs of the first epoch of those that were collected and not yet handed out; None where there is none.
     fn next_out(&mut self) -> Option<EpochOut>
         ensures { HandsOut D.is_lawful D.state D.failures L.answers (Out result) (keeping self.old) (keeping self.new) };
@@ -81,6 +87,7 @@ pub trait Obey<D: Disk, L: Law, R> {
             Command::Collect => Reply::of_collect(self.collect(rt)),
             Command::Cut => Reply::of_cut(self.cut(rt)),
             Command::CutUpTo(epoch) => Reply::of_cut(self.cut_up_to(rt, epoch)),
+            Command::Answer(vertex, wanted) => Reply::of_answer(self.answer(rt, vertex, wanted)),
             other => self.obey_without_hall(other),
         }
     }

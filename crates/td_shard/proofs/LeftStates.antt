@@ -25,11 +25,11 @@ use Rattle.td_shard.proofs.LeftBags.{AreApart, left_in-bag, left_in-filter, join
 use Rattle.td_shard.proofs.KeptStates.{InOrder, kept_keeps, left_keeps, look_kept_same, look_kept_other, states_in_order, same_states}
 
 -- whether something was left at a place
-abbrev is_here : ℕ × ℕ → StateLeft → Bool
+abbrev pub is_here : ℕ × ℕ → StateLeft → Bool
 is_here place x = is_eq (state_key_cmp place (x.vertex, x.key))
 
 -- a state, and then those that are left one after another
-abbrev ended : List StateLeft → Option State → Option State
+abbrev pub ended : List StateLeft → Option State → Option State
 ended [] s = s
 ended (x ∷ xs) s = ended xs x.state
 
@@ -45,7 +45,7 @@ look_kept place x states h = by (state_key_cmp place (x.vertex, x.key)) refl
         (λ i. state_of (with_kept states x.vertex x.key x.state) (p i).0 (p i).1) ∙ look_kept_same states x.vertex x.key x.state h
 
 -- A LOOK-UP after what was left is told by what was left there
-look_left : (place : ℕ × ℕ) (ls : List StateLeft) (states : StateList) → InOrder states
+pub look_left : (place : ℕ × ℕ) (ls : List StateLeft) (states : StateList) → InOrder states
     → state_of (with_left states ls) place.0 place.1 ≡ ended (filter (is_here place) ls) (state_of states place.0 place.1)
 look_left place [] states h = refl
 look_left place (x ∷ ls) states h =

@@ -23,3 +23,5 @@ pub mod Orders
 pub mod Cut
 pub mod Parted
 pub mod EachKept
+pub mod TwoLists
+pub mod EntriesAt

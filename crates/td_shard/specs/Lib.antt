@@ -6,3 +6,4 @@ pub mod Asked
 pub mod Seen
 pub mod ProvedOrders
 pub mod Versions
+pub mod After

@@ -6,6 +6,7 @@
 //! leave 1 when divided by 4.
 #![tactic(auto)]
 
+mod after;
 mod append;
 mod error;
 mod lane;
@@ -22,6 +23,7 @@ mod version;
 mod versions;
 mod waiting;
 
+pub use after::{StatesAfter, StatesAfterIterator, StatesInOrder};
 pub use error::ShardError;
 pub use mailbox::{Mailbox, Taken};
 pub use noted::Noted;

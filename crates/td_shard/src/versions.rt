@@ -50,6 +50,11 @@ impl Versions {
         }
     }
 
+    /// What the map allocates with.
+    pub(crate) fn allocator(&self) -> Global {
+        self.alloc
+    }
+
     /// The state of a key after an epoch: what was left last up to it, or else that of the base. Costs O(log v) with v versions of
     /// this key, where its hash is met by few others. Takes no memory.
     pub fn state_at(&self, epoch: u64, vertex: u8, key: u64, base: &States) -> Option<State>

@@ -17,6 +17,8 @@ mod keeper;
 #[cfg(test)]
 mod plan;
 #[cfg(test)]
+mod questions;
+#[cfg(test)]
 mod shard;
 #[cfg(test)]
 mod stamp;

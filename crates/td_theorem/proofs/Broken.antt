@@ -11,7 +11,7 @@ use Rattle.td_standing.specs.declared.error.KeeperError.TheVariants as error
 use Rattle.td_keeper.specs.declared.group.GroupError.{GroupError}
 use Rattle.td_keeper.specs.declared.group.GroupError.TheVariants.{Keeper}
 use Rattle.td_keeper.specs.declared.command.Command.{Command}
-use Rattle.td_keeper.specs.declared.command.Command.TheVariants.{Submit, SubmitAs, SubmitAll, Release, Settle, Collect, NextOut, Cut, CutUpTo, WriteCut, CloseFree}
+use Rattle.td_keeper.specs.declared.command.Command.TheVariants.{Submit, SubmitAs, SubmitAll, Release, Settle, Collect, NextOut, Cut, CutUpTo, Answer, WriteCut, CloseFree}
 use Rattle.td_keeper.specs.declared.command.Reply.{Reply}
 use Rattle.td_keeper.specs.declared.command.Reply.TheVariants.{Submitted, SubmittedAs, SubmittedAll, Written, Closed, Refused, RefusedAll}
 use Rattle.td_keeper.specs.Keeping.{Keeping}
@@ -125,6 +125,7 @@ module _ {D : Type 0} (is_lawful : D → Type 0) (state : D → DiskState) (fail
   one Collect reply old new obeys is = (rests Collect reply old new refl obeys is, refl)
   one NextOut reply old new obeys is = (rests NextOut reply old new refl obeys is, refl)
   one Cut reply old new obeys is = (rests Cut reply old new refl obeys is, refl)
+  one (Answer v w) reply old new obeys is = (rests (Answer v w) reply old new refl obeys is, refl)
   one (CutUpTo e) reply old new obeys is = (rests (CutUpTo e) reply old new refl obeys is, refl)
   one WriteCut reply old new obeys is = (writes reply old new obeys.0 is, refl)
   one (CloseFree most) reply old new obeys is = (closes most reply old new obeys.0 is, refl)

@@ -16,20 +16,21 @@ use Rattle.td_standing.specs.Standing.{Standing, last_epoch, last_request, batch
 use Rattle.td_standing.specs.Stops.{Stands}
 use Rattle.td_standing.specs.Told.{Told}
 use Rattle.td_standing.specs.Advanced.{states_by}
+use Rattle.td_questions.specs.declared.question.Wanted.{Wanted as Of}
 use Rattle.td_keeper.specs.declared.command.Command.{Command}
+use Rattle.td_keeper.specs.declared.command.Command.TheVariants.{Answer}
 use Rattle.td_keeper.specs.declared.command.Reply.{Reply}
-use Rattle.td_keeper.specs.declared.command.Reply.TheVariants.{Out}
+use Rattle.td_keeper.specs.declared.command.Reply.TheVariants.{Out, Answered, Refused}
 use Rattle.td_keeper.specs.Keeping.{Keeping, IsKeeping, EachKeepsTo, EverKeepsTo}
-use Rattle.td_keeper.specs.Driven.{submitted_by, handed_in, handed_out, outs_beyond, HandsOn, Driven}
+use Rattle.td_keeper.specs.Driven.{submitted_by, handed_in, handed_out, outs_beyond, HandsOn, Obeys, Driven}
 use Rattle.td_keeper.specs.Acknowledged.{outs_of, Acknowledges}
 use Rattle.td_console.specs.declared.faults.Fault.{Fault}
-use Rattle.td_feed.specs.declared.note.Note.{Note}
 use Rattle.td_feed.specs.Carried.{new_to}
 use Rattle.td_feed.specs.Asked.{script_of}
 use Rattle.td_feed.specs.Fed.{TellsHistory, EachTellsHistory, TellsOnward}
 use Rattle.td_feed.specs.Held.{seen_after}
-use Rattle.td_feed.specs.Noted.{note_line}
-use Rattle.td_feed.specs.Said.{Saying, replied, aside, full, commands_in, replies_in, out_lines, full_line, request_in, line_of, lines_of, Wanted, SaysBy, SaysFrom, SaysFed}
+use Rattle.td_feed.specs.Noted.{Aside, note_line}
+use Rattle.td_feed.specs.Said.{Saying, replied, aside, full, answered, commands_in, replies_in, out_lines, full_line, request_in, line_of, answer_text, lines_of, Wanted, SaysBy, SaysFrom, SaysFed}
 use Rattle.td_feed.specs.Session.{limit_of, wanted_by}
 use Rattle.td_theorem.specs.Life.{TellsAs}
 use Rattle.td_theorem.specs.Feeds.{found_by}
@@ -63,17 +64,29 @@ behind marks line more all =
     All-weaker (λ out. IsPart (out_lines marks out) (lines_of marks more)) (λ out. IsPart (out_lines marks out) (line ++ lines_of marks more))
     (λ out is. part_then (out_lines marks out) line (lines_of marks more) is) (handed_out (replies_in more)) all
 
--- and those of all epochs that were handed out are parts of all lines
-pub all_written : (marks : Bool) (sayings : List Saying) → All (λ out. IsPart (out_lines marks out) (lines_of marks sayings)) (handed_out (replies_in sayings))
-all_written marks [] = All-nil (λ out. IsPart (out_lines marks out) [])
-all_written marks (replied command reply ∷ more) =
-    let line = line_of marks (request_in command) reply in
-    let lines = lines_of marks more in
-    All-append (λ out. IsPart (out_lines marks out) (line ++ lines)) (handed_in reply) (handed_out (replies_in more))
-    (All-weaker (λ out. IsPart (out_lines marks out) line) (λ out. IsPart (out_lines marks out) (line ++ lines)) (λ out is. part_first (out_lines marks out) line lines is) (handed_in reply) (one_written marks (request_in command) reply))
-    (behind marks line more (all_written marks more))
-all_written marks (aside note ∷ more) = behind marks (note_line note) more (all_written marks more)
-all_written marks (full epoch ∷ more) = behind marks (full_line epoch) more (all_written marks more)
+module _ {D : Type 0} (is_lawful : D → Type 0) (state : D → DiskState) (failures : D → ℕ) (answers : Answers) where
+  -- a question hands out no epoch
+  none_asked : (vertex : ℕ) (wanted : Of) (reply : Reply) (old new : Keeping D) → Obeys is_lawful state failures answers (Answer vertex wanted) reply old new → handed_in reply ≡ []
+  none_asked vertex wanted (Answered epoch entries) old new asks = refl
+  none_asked vertex wanted (Refused error back) old new asks = refl
+  none_asked vertex wanted other old new asks = absurd asks
+
+  -- and those of all epochs that were handed out are parts of all lines
+  pub all_written : (marks : Bool) (sayings : List Saying) (old new : Keeping D) → Driven is_lawful state failures answers (commands_in sayings) (replies_in sayings) old new
+      → All (λ out. IsPart (out_lines marks out) (lines_of marks sayings)) (handed_out (replies_in sayings))
+  all_written marks [] old new driven = All-nil (λ out. IsPart (out_lines marks out) [])
+  all_written marks (replied command reply ∷ more) old new driven =
+      let line = line_of marks (request_in command) reply in
+      let lines = lines_of marks more in
+      All-append (λ out. IsPart (out_lines marks out) (line ++ lines)) (handed_in reply) (handed_out (replies_in more))
+      (All-weaker (λ out. IsPart (out_lines marks out) line) (λ out. IsPart (out_lines marks out) (line ++ lines)) (λ out is. part_first (out_lines marks out) line lines is) (handed_in reply) (one_written marks (request_in command) reply))
+      (behind marks line more (all_written marks more driven.0 new driven.3))
+  all_written marks (aside note ∷ more) old new driven = behind marks (note_line note) more (all_written marks more old new driven)
+  all_written marks (full epoch ∷ more) old new driven = behind marks (full_line epoch) more (all_written marks more old new driven)
+  all_written marks (answered vertex wanted reply ∷ more) old new driven =
+      let line = answer_text vertex wanted reply in
+      subst (λ (l : List EpochOut). All (λ out. IsPart (out_lines marks out) (line ++ lines_of marks more)) (l ++ handed_out (replies_in more)))
+      (sym (none_asked vertex wanted reply old driven.0 driven.2)) (behind marks line more (all_written marks more driven.0 new driven.3))
 
 -- outputs of epochs up to one
 none_after : (P : EpochOut → Type 0) (n last : ℕ) (xs : List (List Output)) → n + length xs ≤ last + 1 → All (λ out. last < out.epoch → P out) (numbered n xs)
@@ -104,7 +117,7 @@ module _ {D : Type 0} (is_lawful : D → Type 0) (state : D → DiskState) (fail
       (sym (same_standing s h.tells.standing (one plan c (Ok s) (Ok h.tells.standing) told (alike c h.tells.standing is h.tells.told)))) h.low
 
   -- whatever a keeper said, it was told commands
-  told_some : (marks : Bool) (result : Result (Unit {0}) Fault) (before after : Option (List ℕ)) (old new : Keeping D) (x : List Submitted) (notes : List Note)
+  told_some : (marks : Bool) (result : Result (Unit {0}) Fault) (before after : Option (List ℕ)) (old new : Keeping D) (x : List Submitted) (notes : List Aside)
       → SaysBy is_lawful state failures answers marks result before after old new x notes
       → (commands : List Command) × (replies : List Reply) × Driven is_lawful state failures answers commands replies old new
   told_some marks (Ok done) before after old new x notes says = (commands_in says.sayings, replies_in says.sayings, says.driven)
@@ -137,12 +150,12 @@ module _ {D : Type 0} (is_lawful : D → Type 0) (state : D → DiskState) (fail
     where
       tells : (more : List Submitted) × TellsHistory answers plan more d.image
       tells =
-          still d.alone d.disk d.left d.before d.after (wanted_by d.refuse (limit_of d.refuse is.streams.records) (script_of d.placing true (limit_of d.refuse is.streams.records) plan d.input)) is.lawful h.history (each_tells image d.disk last h alike) d.image is.crashed
+          still d.alone d.disk d.left d.before d.after (wanted_by d.refuse (limit_of d.refuse is.streams.records) (script_of d.placing true d.questions (limit_of d.refuse is.streams.records) plan d.input)) is.lawful h.history (each_tells image d.disk last h alike) d.image is.crashed
           d.result is.streams.fed.said
 
       kept : EverKeepsTo plan (seen_by plan last d) (state d.disk).moment (state d.left)
       kept =
-          subst (λ (m : ℕ). EverKeepsTo plan (seen_after last (script_of d.placing true (limit_of d.refuse m) plan d.input).orders) (state d.disk).moment (state d.left)) is.records
+          subst (λ (m : ℕ). EverKeepsTo plan (seen_after last (script_of d.placing true d.questions (limit_of d.refuse m) plan d.input).orders) (state d.disk).moment (state d.left)) is.records
           (is.streams.ever_held refl is.lawful last (each_low image d.disk last h alike))
 
   -- and so do several
@@ -204,7 +217,7 @@ module _ {D : Type 0} (is_lawful : D → Type 0) (state : D → DiskState) (fail
 
     -- A STREAM THAT ANSWERED OK, by one worker
     module _ (image : List ℕ) (d : Delivery D) (last : ℕ) (h : HoldsBack answers plan last image) (alike : TellsAs plan image (state d.disk)) (lawful : is_lawful d.disk)
-        {limit : Option ℕ} (done : Unit {0}) (from : SaysFrom is_lawful state failures answers true (Ok done) plan true d.disk d.left d.before d.after (wanted_by d.refuse limit (script_of d.placing true limit plan d.input))) where
+        {limit : Option ℕ} (done : Unit {0}) (from : SaysFrom is_lawful state failures answers true (Ok done) plan true d.disk d.left d.before d.after (wanted_by d.refuse limit (script_of d.placing true d.questions limit plan d.input))) where
       abbrev keeper : Keeping D
       keeper = found_by from
 
@@ -257,7 +270,7 @@ module _ {D : Type 0} (is_lawful : D → Type 0) (state : D → DiskState) (fail
           let these = numbered (keeper.standing.epoch + 1) (outs answers keeper.plan keeper.standing.states keeper.standing.submitted) in
           All-weaker (λ out. IsPart (out_lines true out) text) IsWritten (λ out is after. is) these
           (first_of (λ out. IsPart (out_lines true out) text) these handed.0
-          (subst (λ (l : List EpochOut). All (λ out. IsPart (out_lines true out) text) l) handed.1 (all_written true from.said.sayings)))
+          (subst (λ (l : List EpochOut). All (λ out. IsPart (out_lines true out) text) l) handed.1 (all_written is_lawful state failures answers true from.said.sayings keeper from.ended from.said.driven)))
 
       pub writes_again : WritesAgain answers plan last image d
       writes_again = record {
@@ -279,6 +292,6 @@ module _ {D : Type 0} (is_lawful : D → Type 0) (state : D → DiskState) (fail
         by : (r : Result (Unit {0}) Fault) → d.result ≡ r → OnOk r (WritesAgain answers plan last image d)
         by (Ok done) same =
             writes_again image d last h alike is.lawful done
-            (subst (λ (a : Bool). SaysFed is_lawful state failures answers true (Ok done) plan a d.disk d.left d.before d.after (wanted_by d.refuse (limit_of d.refuse is.streams.records) (script_of d.placing true (limit_of d.refuse is.streams.records) plan d.input))) alone
-            (subst (λ (r : Result (Unit {0}) Fault). SaysFed is_lawful state failures answers true r plan d.alone d.disk d.left d.before d.after (wanted_by d.refuse (limit_of d.refuse is.streams.records) (script_of d.placing true (limit_of d.refuse is.streams.records) plan d.input))) same is.streams.fed.said))
+            (subst (λ (a : Bool). SaysFed is_lawful state failures answers true (Ok done) plan a d.disk d.left d.before d.after (wanted_by d.refuse (limit_of d.refuse is.streams.records) (script_of d.placing true d.questions (limit_of d.refuse is.streams.records) plan d.input))) alone
+            (subst (λ (r : Result (Unit {0}) Fault). SaysFed is_lawful state failures answers true r plan d.alone d.disk d.left d.before d.after (wanted_by d.refuse (limit_of d.refuse is.streams.records) (script_of d.placing true d.questions (limit_of d.refuse is.streams.records) plan d.input))) same is.streams.fed.said))
         by (Err fault) same = tt

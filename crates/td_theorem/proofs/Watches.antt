@@ -8,16 +8,17 @@ use Rattle.td_disk.specs.Disk.{DiskState}
 use Rattle.td_journal.specs.declared.submitted.Submitted.{Submitted as AnySubmitted}
 use Rattle.td_standing.specs.declared.error.KeeperError.{KeeperError}
 use Rattle.td_watch.specs.View.{View}
+use Rattle.td_questions.specs.declared.question.Wanted.{Wanted}
 use Rattle.td_keeper.specs.declared.command.Command.{Command}
-use Rattle.td_keeper.specs.declared.command.Command.TheVariants.{Submit, SubmitAs, SubmitAll, Release, Settle, Collect, NextOut, Cut, CutUpTo, WriteCut, CloseFree}
+use Rattle.td_keeper.specs.declared.command.Command.TheVariants.{Submit, SubmitAs, SubmitAll, Release, Settle, Collect, NextOut, Cut, CutUpTo, Answer, WriteCut, CloseFree}
 use Rattle.td_keeper.specs.declared.command.Reply.{Reply}
-use Rattle.td_keeper.specs.declared.command.Reply.TheVariants.{Submitted, SubmittedAs, SubmittedAll, Released, Settled, Collected, Out, CutTaken, Written, Closed, Refused, RefusedAll}
+use Rattle.td_keeper.specs.declared.command.Reply.TheVariants.{Submitted, SubmittedAs, SubmittedAll, Released, Settled, Collected, Out, CutTaken, Answered, Written, Closed, Refused, RefusedAll}
 use Rattle.td_keeper.specs.declared.receipt.Receipt.{Receipt}
 use Rattle.td_keeper.specs.declared.receipt.Receipt.TheVariants.{New, Already}
 use Rattle.td_keeper.specs.Keeping.{Keeping, IsKeeping, with_group}
 use Rattle.td_keeper.specs.Received.{IsReceived}
 use Rattle.td_keeper.specs.Halls.{IsOwn}
-use Rattle.td_keeper.specs.Driven.{MayWrite, Fails, IsNotSubmitted, Submits, SubmitsAs, SubmitsAll, Finds, Releases, Settles, BringsIn, Collects, HandsOut, IsNotCut, Cuts, Writes, ClosesFree, Obeys, Driven}
+use Rattle.td_keeper.specs.Driven.{MayWrite, Fails, IsNotSubmitted, Submits, SubmitsAs, SubmitsAll, Finds, Releases, Settles, BringsIn, Collects, HandsOut, IsNotCut, Cuts, Asks, Writes, ClosesFree, Obeys, Driven}
 use Rattle.td_theorem.specs.Life.{Obeyed}
 
 -- the keeper, as no one watches it
@@ -177,6 +178,18 @@ module _ {D : Type 0} (is_lawful : D → Type 0) (state : D → DiskState) (fail
   )
   cuts most other old new r = absurd r
 
+  -- an answer is of the same states
+  asks : (vertex : ℕ) (wanted : Wanted) (reply : Reply) (old new : Keeping D) → Asks is_lawful state failures answers vertex wanted reply old new
+      → Asks is_lawful state failures answers vertex wanted reply (unwatched old) (unwatched new)
+  asks vertex wanted (Answered m ys) old new r = record { last = r.last; answer = r.answer; same = ap unwatched r.same }
+  asks vertex wanted (Refused e back) old new r = (
+    r.0,
+    either r.1 (λ foreign. (foreign.0, finds old new foreign.1 (λ S is his. is (was_own old S his))))
+        (λ later. either later (λ memory. (memory.0, finds old new memory.1 (λ S is. own old S is)))
+        (λ unpassed. (unpassed.0, unpassed.1, finds old new unpassed.2 (λ S is. (own old S is.0, is.1))))),
+  )
+  asks vertex wanted other old new r = absurd r
+
   writes : (reply : Reply) (old new : Keeping D) → Writes is_lawful state failures answers reply old new → Writes is_lawful state failures answers reply (unwatched old) (unwatched new)
   writes (Written w) old new r = record {
     accepted = r.accepted;
@@ -212,6 +225,7 @@ module _ {D : Type 0} (is_lawful : D → Type 0) (state : D → DiskState) (fail
   obeys Collect reply old new is = collects reply old new is
   obeys NextOut reply old new is = hands_out reply old new is
   obeys Cut reply old new is = cuts None reply old new is
+  obeys (Answer vertex wanted) reply old new is = asks vertex wanted reply old new is
   obeys (CutUpTo epoch) reply old new is = cuts (Some epoch) reply old new is
   obeys WriteCut reply old new is = (writes reply old new is.0, may_write reply old new _ is.1)
   obeys (CloseFree most) reply old new is = (closes most reply old new is.0, may_write reply old new _ is.1)

@@ -42,14 +42,14 @@ same_flag false true e = let other = ap (bytes_eq (codes "true")) e in cc
 
 -- the job of the name, and its values
 pub only_stream : (rows : List Row) (job : Job) → IsOf (codes "stream") rows job
-    → (disk : Bor Text) × (plan : Bor Text) × (w : ℕ) × (every : Option ℕ) × (most : Option ℕ) × (told : Bool) × (marks : Bool) × (refuse : Bool) × (at : Bool) × (hold : Bool) × (room : Bool) × (status : Option (Bor Text))
-    × (job ≡ Stream disk plan w every most told marks refuse at hold room status) × HasValues rows (Stream disk plan w every most told marks refuse at hold room status)
-only_stream rows (Stream disk plan w every most told marks refuse at hold room status) h = (disk, plan, w, every, most, told, marks, refuse, at, hold, room, status, refl, h.1)
+    → (disk : Bor Text) × (plan : Bor Text) × (w : ℕ) × (every : Option ℕ) × (most : Option ℕ) × (told : Bool) × (marks : Bool) × (refuse : Bool) × (at : Bool) × (hold : Bool) × (room : Bool) × (ask : Bool) × (status : Option (Bor Text))
+    × (job ≡ Stream disk plan w every most told marks refuse at hold room ask status) × HasValues rows (Stream disk plan w every most told marks refuse at hold room ask status)
+only_stream rows (Stream disk plan w every most told marks refuse at hold room ask status) h = (disk, plan, w, every, most, told, marks, refuse, at, hold, room, ask, status, refl, h.1)
 only_stream rows _ h = let other = ap (bytes_eq (codes "stream")) h.0 in cc
 
 -- the values at given words
 abbrev pub StreamValues : Type 0
-StreamValues = Option Text × Option Text × Option Text × Option Text × Option Text × Option Text × Option Text × Option Text × Option Text × Option Text × Option Text × Option Text
+StreamValues = Option Text × Option Text × Option Text × Option Text × Option Text × Option Text × Option Text × Option Text × Option Text × Option Text × Option Text × Option Text × Option Text
 
 abbrev pub stream_values : List Row → StreamValues
 stream_values rows = (
@@ -64,11 +64,12 @@ stream_values rows = (
   one_of (codes "at") rows,
   one_of (codes "hold") rows,
   one_of (codes "room") rows,
+  one_of (codes "ask") rows,
   first_of (codes "status") rows,
 )
 
-abbrev pub given_stream : Option Text → Option Text → Bool → Bool → Bool → Bool → Bool → Bool → Option Text → StreamValues
-given_stream every most told marks refuse at hold room status = (
+abbrev pub given_stream : Option Text → Option Text → Bool → Bool → Bool → Bool → Bool → Bool → Bool → Option Text → StreamValues
+given_stream every most told marks refuse at hold room ask status = (
   Some (codes "d"),
   Some (codes "p"),
   Some (codes "1"),
@@ -80,6 +81,7 @@ given_stream every most told marks refuse at hold room status = (
   Some (flag_text at),
   Some (flag_text hold),
   Some (flag_text room),
+  Some (flag_text ask),
   status,
 )
 
@@ -88,13 +90,13 @@ file_there : (id : Text) (rows : List Row) (text : Option Text) → first_of id 
 file_there id rows None e = e
 file_there id rows (Some text) e = e
 
-module _ (every_text most_text : Option Text) (every most : Option ℕ) (told marks refuse at hold room : Bool) (status : Option Text) (allowed : may_hold marks hold ≡ true)
+module _ (every_text most_text : Option Text) (every most : Option ℕ) (told marks refuse at hold room ask : Bool) (status : Option Text) (allowed : may_hold marks hold ≡ true)
     (gives_every : Gives 1 65536 every_text every) (gives_most : Gives 1 9223372036854775807 most_text most)
-    (met : Option (Text × List Row)) (name : option_map (λ p. p.0) met ≡ Some (codes "stream")) (values : option_map (λ p. stream_values p.1) met ≡ Some (given_stream every_text most_text told marks refuse at hold room status)) where
-  stream_met : IsNamed met (Stream (to (codes "d")) (to (codes "p")) 1 every most told marks refuse at hold room (option_map to status))
+    (met : Option (Text × List Row)) (name : option_map (λ p. p.0) met ≡ Some (codes "stream")) (values : option_map (λ p. stream_values p.1) met ≡ Some (given_stream every_text most_text told marks refuse at hold room ask status)) where
+  stream_met : IsNamed met (Stream (to (codes "d")) (to (codes "p")) 1 every most told marks refuse at hold room ask (option_map to status))
   stream_met =
       let m = met_some met (codes "stream") name in
-      let v = value_met stream_values (given_stream every_text most_text told marks refuse at hold room status) met (codes "stream") m.0 m.1 values in (
+      let v = value_met stream_values (given_stream every_text most_text told marks refuse at hold room ask status) met (codes "stream") m.0 m.1 values in (
         m.0,
         m.1,
         (
@@ -109,18 +111,19 @@ module _ (every_text most_text : Option Text) (every most : Option ℕ) (told ma
           ap (λ (x : StreamValues). x.8) v,
           ap (λ (x : StreamValues). x.9) v,
           ap (λ (x : StreamValues). x.10) v,
-          file_there (codes "status") m.0 status (ap (λ (x : StreamValues). x.11) v),
+          ap (λ (x : StreamValues). x.11) v,
+          file_there (codes "status") m.0 status (ap (λ (x : StreamValues). x.12) v),
           allowed,
         ),
       )
 
-  named_stream : (job : Job) → IsNamed met job → IsStream (codes "d") (codes "p") 1 every most told marks refuse at hold room status job
+  named_stream : (job : Job) → IsNamed met job → IsStream (codes "d") (codes "p") 1 every most told marks refuse at hold room ask status job
   named_stream job n =
       let m = met_of met (codes "stream") job n name in
       let only = only_stream m.0 job m.2 in
-      let v = value_met stream_values (given_stream every_text most_text told marks refuse at hold room status) met (codes "stream") m.0 m.1 values in
-      let has = only.13 in
-      subst (IsStream (codes "d") (codes "p") 1 every most told marks refuse at hold room status) (sym only.12) (
+      let v = value_met stream_values (given_stream every_text most_text told marks refuse at hold room ask status) met (codes "stream") m.0 m.1 values in
+      let has = only.14 in
+      subst (IsStream (codes "d") (codes "p") 1 every most told marks refuse at hold room ask status) (sym only.13) (
         some_is only.0.now (codes "d") (first_of (codes "disk") m.0) has.0 (ap (λ (x : StreamValues). x.0) v),
         some_is only.1.now (codes "p") (first_of (codes "plan") m.0) has.1 (ap (λ (x : StreamValues). x.1) v),
         written (codes "workers") 1 16 m.0 (codes "1") only.2 has.2 (ap (λ (x : StreamValues). x.2) v),
@@ -132,23 +135,24 @@ module _ (every_text most_text : Option Text) (every most : Option ℕ) (told ma
         same_flag only.8 at (some_is (flag_text only.8) (flag_text at) (one_of (codes "at") m.0) has.8 (ap (λ (x : StreamValues). x.8) v)),
         same_flag only.9 hold (some_is (flag_text only.9) (flag_text hold) (one_of (codes "hold") m.0) has.9 (ap (λ (x : StreamValues). x.9) v)),
         same_flag only.10 room (some_is (flag_text only.10) (flag_text room) (one_of (codes "room") m.0) has.10 (ap (λ (x : StreamValues). x.10) v)),
-        sym has.11 ∙ ap (λ (x : StreamValues). x.11) v,
+        same_flag only.11 ask (some_is (flag_text only.11) (flag_text ask) (one_of (codes "ask") m.0) has.11 (ap (λ (x : StreamValues). x.11) v)),
+        sym has.12 ∙ ap (λ (x : StreamValues). x.12) v,
       )
 
 module _ (met : Option (Text × List Row)) (name : option_map (λ p. p.0) met ≡ Some (codes "stream")) where
-  pub uncut_met : (told marks refuse at hold room : Bool) (status : Option Text) → may_hold marks hold ≡ true → option_map (λ p. stream_values p.1) met ≡ Some (given_stream None None told marks refuse at hold room status)
-      → IsNamed met (Stream (to (codes "d")) (to (codes "p")) 1 None None told marks refuse at hold room (option_map to status))
-  uncut_met told marks refuse at hold room status allowed values = stream_met None None None None told marks refuse at hold room status allowed tt tt met name values
+  pub uncut_met : (told marks refuse at hold room ask : Bool) (status : Option Text) → may_hold marks hold ≡ true → option_map (λ p. stream_values p.1) met ≡ Some (given_stream None None told marks refuse at hold room ask status)
+      → IsNamed met (Stream (to (codes "d")) (to (codes "p")) 1 None None told marks refuse at hold room ask (option_map to status))
+  uncut_met told marks refuse at hold room ask status allowed values = stream_met None None None None told marks refuse at hold room ask status allowed tt tt met name values
 
-  pub named_uncut : (told marks refuse at hold room : Bool) (status : Option Text) → may_hold marks hold ≡ true → (job : Job) → IsNamed met job
-      → option_map (λ p. stream_values p.1) met ≡ Some (given_stream None None told marks refuse at hold room status)
-      → IsStream (codes "d") (codes "p") 1 None None told marks refuse at hold room status job
-  named_uncut told marks refuse at hold room status allowed job n values = named_stream None None None None told marks refuse at hold room status allowed tt tt met name values job n
+  pub named_uncut : (told marks refuse at hold room ask : Bool) (status : Option Text) → may_hold marks hold ≡ true → (job : Job) → IsNamed met job
+      → option_map (λ p. stream_values p.1) met ≡ Some (given_stream None None told marks refuse at hold room ask status)
+      → IsStream (codes "d") (codes "p") 1 None None told marks refuse at hold room ask status job
+  named_uncut told marks refuse at hold room ask status allowed job n values = named_stream None None None None told marks refuse at hold room ask status allowed tt tt met name values job n
 
-  pub cutting_met : option_map (λ p. stream_values p.1) met ≡ Some (given_stream (Some (codes "4")) (Some (codes "5")) false false false false false false None)
-      → IsNamed met (Stream (to (codes "d")) (to (codes "p")) 1 (Some 4) (Some 5) false false false false false false None)
-  cutting_met values = stream_met (Some (codes "4")) (Some (codes "5")) (Some 4) (Some 5) false false false false false false None refl (four, omega arith, omega arith) (five, omega arith, omega arith) met name values
+  pub cutting_met : option_map (λ p. stream_values p.1) met ≡ Some (given_stream (Some (codes "4")) (Some (codes "5")) false false false false false false false None)
+      → IsNamed met (Stream (to (codes "d")) (to (codes "p")) 1 (Some 4) (Some 5) false false false false false false false None)
+  cutting_met values = stream_met (Some (codes "4")) (Some (codes "5")) (Some 4) (Some 5) false false false false false false false None refl (four, omega arith, omega arith) (five, omega arith, omega arith) met name values
 
-  pub named_cutting : (job : Job) → IsNamed met job → option_map (λ p. stream_values p.1) met ≡ Some (given_stream (Some (codes "4")) (Some (codes "5")) false false false false false false None)
-      → IsStream (codes "d") (codes "p") 1 (Some 4) (Some 5) false false false false false false None job
-  named_cutting job n values = named_stream (Some (codes "4")) (Some (codes "5")) (Some 4) (Some 5) false false false false false false None refl (four, omega arith, omega arith) (five, omega arith, omega arith) met name values job n
+  pub named_cutting : (job : Job) → IsNamed met job → option_map (λ p. stream_values p.1) met ≡ Some (given_stream (Some (codes "4")) (Some (codes "5")) false false false false false false false None)
+      → IsStream (codes "d") (codes "p") 1 (Some 4) (Some 5) false false false false false false false None job
+  named_cutting job n values = named_stream (Some (codes "4")) (Some (codes "5")) (Some 4) (Some 5) false false false false false false false None refl (four, omega arith, omega arith) (five, omega arith, omega arith) met name values job n

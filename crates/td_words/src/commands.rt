@@ -101,6 +101,9 @@ const STATUS: &str =
 const REFUSE: &str =
     "Refuse an epoch with a fault, and go on: write 'no REQUEST LINE: WHAT' at its '.'";
 
+const ASK: &str =
+    "Between epochs: answer lines 'get VERTEX KEY', 'list VERTEX', 'top VERTEX COUNT' and others";
+
 const HOLD: &str =
     "With --marks: keep each epoch until a line 'seen EPOCH' says that its outputs are stored";
 
@@ -245,6 +248,8 @@ Writes: DISK, and, of all epochs that are closed and before it waits for more li
         with --at, 'there EPOCH' for one that is on DISK already, as its line 'at EPOCH' says, and with --refuse
         'gap EPOCH' where DISK lacks one before it;
         with --hold, no cut beyond the last EPOCH of a line 'seen EPOCH', and 'full EPOCH' where DISK is full up to EPOCH;
+        with --ask, the answer to a line 'get VERTEX KEY', 'list VERTEX', 'top VERTEX COUNT', 'least VERTEX COUNT' or 'rank VERTEX P':
+        lines 'state EPOCH VERTEX KEY A B', or 'none EPOCH VERTEX KEY', and 'asked EPOCH';
         with --progress, to standard error, 'acked EPOCH done EPOCH kept EPOCH': the last epoch on DISK, computed, and cut;
         with --room behind that 'cells COUNT of N states COUNT of K': the epochs after the cut, and its states;
         with --room or --status, once, 'td: little room: cells COUNT of N', or states, where four fifths are used;
@@ -254,6 +259,7 @@ Common faults:
         'line 9: syntax': no record, or a 'cut' inside an epoch; what stands before it was fed
         'line 9: gap': DISK lacks an epoch before the one that 'at EPOCH' names; what stands before it was fed
         'line 9: outputs not written yet', 'line 9: a later epoch was seen': EPOCH of 'seen EPOCH' is too great, or too small
+        'line 9: no such fold': VERTEX of a question is no fold of PLAN
         'too many keys: K is 3': at a cut there are more than K states; copy DISK to one with a larger K
         'file: DISK: locked by another process': another td has DISK open
         'another plan: DISK': DISK was formatted for another plan than PLAN
@@ -455,6 +461,7 @@ fn stream_leaf<'a>(alloc: Global) -> Result<Command<'a>, AllocError>
     let leaf = with_arg(leaf, flag_arg(alloc, "at", AT))?;
     let leaf = with_arg(leaf, flag_arg(alloc, "hold", HOLD))?;
     let leaf = with_arg(leaf, flag_arg(alloc, "room", ROOM))?;
+    let leaf = with_arg(leaf, flag_arg(alloc, "ask", ASK))?;
     with_arg(leaf, file_arg(alloc, "status", STATUS))
 }
 

@@ -29,13 +29,13 @@ module _ (stored : Stored) {D S T : Type 0} (capacity : D → ℕ) (is_lawful : 
         → IfSome (remaining reader) (λ input. FeedsDisk is_lawful state failures stored.answers marks result plan false disk left
         (contents writer) (contents written) (epochs_alone (submitted_by (orders_of plan input))))
 
-  -- A STREAM, whose epochs may have places or not, that refuses epochs or not and holds outputs or not, by one worker or by several, of a disk before and after, of its reader, of a writer before and after, and of its answer
-  pub record StreamsBy (placing refuse hold alone : Bool) (disk left : D) (reader : S) (writer written : T) (result : Result (Unit {0}) Fault) : Type 0 where
+  -- A STREAM, whose epochs may have places or not, that refuses epochs or not, holds outputs or not and answers questions or not, by one worker or by several, of a disk before and after, of its reader, of a writer before and after, and of its answer
+  pub record StreamsBy (placing refuse hold questions alone : Bool) (disk left : D) (reader : S) (writer written : T) (result : Result (Unit {0}) Fault) : Type 0 where
     pub disk_is_kept : KeepsDisk capacity is_lawful failures result disk left
     -- a closure that the store lacks comes first: nothing is written
     pub lack : IfSome (lack_in stored plan) (λ lack. (result ≡ Err (lack_fault lack)) × (left ≡ disk) × (written ≡ writer))
     pub fits : OnOk result (lack_in stored plan ≡ None)
     -- what the input asks for is fed, by one worker until all outputs went out
     pub fed : lack_in stored plan ≡ None
-        → IfSome (remaining reader) (λ input. StreamsDisk is_lawful state failures stored.answers marks placing refuse hold result plan alone disk left
+        → IfSome (remaining reader) (λ input. StreamsDisk is_lawful state failures stored.answers marks placing refuse hold questions result plan alone disk left
         (contents writer) (contents written) input)

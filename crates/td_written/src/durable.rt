@@ -70,7 +70,7 @@ pub fn stream<
     requires most { workers ≤ 16 }
     requires unpublished { IfSome watch (λ w. w.words ≡ 0 ∷ 0 ∷ 0 ∷ []) }
     ensures { StreamsBy (stored_beside L.answers C.has_map C.has_group C.has_fold below closures.items) D.capacity D.is_lawful D.state D.failures I.remaining
-        W.contents W.marks plan.now options.placing options.refuse options.hold (workers == 1) disk result.0 reader writer.old writer.new result.1 }
+        W.contents W.marks plan.now options.placing options.refuse options.hold options.questions (workers == 1) disk result.0 reader writer.old writer.new result.1 }
 {
     stream_by::<Brand, D, I, W, L, C, R>(
         rt, alloc, disk, plan, workers, options, reader, writer, watch, below, closures,
@@ -137,7 +137,7 @@ fn stream_by<
     requires most { workers ≤ 16 }
     requires unpublished { IfSome watch (λ w. w.words ≡ 0 ∷ 0 ∷ 0 ∷ []) }
     ensures { StreamsBy (stored_beside L.answers C.has_map C.has_group C.has_fold below F.closures) D.capacity D.is_lawful D.state D.failures I.remaining
-        W.contents W.marks plan.now options.placing options.refuse options.hold (workers == 1) disk result.0 reader writer.old writer.new result.1 }
+        W.contents W.marks plan.now options.placing options.refuse options.hold options.questions (workers == 1) disk result.0 reader writer.old writer.new result.1 }
 {
     let above = WrittenCalls::<F>::new(closures);
     let calls = BesideCalls { below, above };

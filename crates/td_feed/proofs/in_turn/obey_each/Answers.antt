@@ -3,7 +3,7 @@ use Rattle.std.specs.Prelude.{Option, Some, Err}
 use Rattle.td_console.specs.declared.faults.Fault.{Fault}
 use Rattle.td_console.specs.declared.faults.Fault.TheVariants.{Keeper}
 use Rattle.td_standing.specs.declared.error.KeeperError.TheVariants.{Device}
-use Rattle.td_feed.specs.declared.note.Note.{Note}
+use Rattle.td_feed.specs.Noted.{Aside}
 use Rattle.td_feed.specs.Orders.{submissions, notes_in}
 use Rattle.td_feed.specs.Asked.{Script, Asks, asked_for, notes_for, is_of_reader}
 use Rattle.td_standing.specs.Standing.{last_epoch, last_request}
@@ -109,7 +109,7 @@ returns-in_err-asked-clause-fed g c =
     (λ s is. err_fed _ r c.from_residual-in_err-asked.ensures.1
     (known _ script s is (left_there is_lawful state failures answers marks script left left u v old there first seen so))
     (by_refusal is_lawful state failures answers marks r (λ (f : Fault). f ≡ c.in_err-asked.field-0.0) u v old there (new_to old (submissions s.orders)) (notes_in s.orders) c.from_residual-in_err-asked.ensures.1
-    (λ f holds. let later : (m : List Note) × (notes_in so.done ++ m ≡ notes_in s.orders) = known _ script s is (notes_there is_lawful state failures answers marks script left left u v old there first seen so) in inr (some_of_more is_lawful state failures answers marks u v old there (notes_in so.done) later.0 (notes_in s.orders) later.1 (some_of_all is_lawful state failures answers marks u v old there (new_to old (submissions so.done)) (notes_in so.done) so.said)))))
+    (λ f holds. let later : (m : List Aside) × (notes_in so.done ++ m ≡ notes_in s.orders) = known _ script s is (notes_there is_lawful state failures answers marks script left left u v old there first seen so) in inr (some_of_more is_lawful state failures answers marks u v old there (notes_in so.done) later.0 (notes_in s.orders) later.1 (some_of_all is_lawful state failures answers marks u v old there (new_to old (submissions so.done)) (notes_in so.done) so.said)))))
 
 pub returns-in_err-asked-clause-held : goal.returns-in_err-asked-clause-held
 returns-in_err-asked-clause-held g c =
@@ -147,7 +147,7 @@ returns-in_err-next-clause-fed g c =
     (λ s is. err_fed _ r c.from_residual-in_err-next.ensures.1
     (known _ script s is (left_there is_lawful state failures answers marks script left left u v old there first seen so))
     (by_refusal is_lawful state failures answers marks r (λ (f : Fault). f ≡ c.in_err-next.field-0.0) u v old there (new_to old (submissions s.orders)) (notes_in s.orders) c.from_residual-in_err-next.ensures.1
-    (λ f holds. let later : (m : List Note) × (notes_in so.done ++ m ≡ notes_in s.orders) = known _ script s is (notes_there is_lawful state failures answers marks script left left u v old there first seen so) in inr (some_of_more is_lawful state failures answers marks u v old there (notes_in so.done) later.0 (notes_in s.orders) later.1 (some_of_all is_lawful state failures answers marks u v old there (new_to old (submissions so.done)) (notes_in so.done) so.said)))))
+    (λ f holds. let later : (m : List Aside) × (notes_in so.done ++ m ≡ notes_in s.orders) = known _ script s is (notes_there is_lawful state failures answers marks script left left u v old there first seen so) in inr (some_of_more is_lawful state failures answers marks u v old there (notes_in so.done) later.0 (notes_in s.orders) later.1 (some_of_all is_lawful state failures answers marks u v old there (new_to old (submissions so.done)) (notes_in so.done) so.said)))))
 
 pub returns-in_err-next-clause-held : goal.returns-in_err-next-clause-held
 returns-in_err-next-clause-held g c =
@@ -271,7 +271,7 @@ returns-in_err-obey_at_pace-clause-fed g c =
     (λ s is. err_fed _ r c.from_residual-in_err-obey_at_pace.ensures.1
     (known _ script s is (some_refused is_lawful state failures answers marks script left next u v w old there new asked first seen so asks
     (subst (λ (k : Keeping g.row.D.Denot). Leaves is_lawful state answers k new (new_to k (asked_for asked))) same fed.left)))
-    (let later : (m : List Note) × ((notes_in so.done ++ notes_for asked) ++ m ≡ notes_in s.orders) = known _ script s is (notes_left is_lawful state failures answers marks script left next u v w old there new asked first seen so asks) in
+    (let later : (m : List Aside) × ((notes_in so.done ++ notes_for asked) ++ m ≡ notes_in s.orders) = known _ script s is (notes_left is_lawful state failures answers marks script left next u v w old there new asked first seen so asks) in
     handed_on is_lawful state failures answers marks r e u v w old there new (new_to old (submissions so.done)) (new_to there (asked_for asked)) (new_to old (submissions s.orders)) (notes_in so.done) (notes_for asked) later.0 (notes_in s.orders) later.1 c.from_residual-in_err-obey_at_pace.ensures.1 so.said
     (subst (λ (k : Keeping g.row.D.Denot). SaysBy is_lawful state failures answers marks (Err e) v w k new (new_to k (asked_for asked)) (notes_for asked)) same fed.said)))
 

@@ -99,7 +99,7 @@ returns-in-Err-recover-clause-fed g c = λ fits.
             let new = c.in-Err-recover.disk in
             let plan = c.args.plan.now in
             let safe : CrashSafe Unchanged (state old) (state new) = c.in-Err-recover.ensures.crash_safe_back lawful in
-            none_more answers plan history (new_after (greatest 0 history) (submissions (placed c.args.options.refuse (length history) (greatest 0 history) (script_of c.args.options.placing c.args.options.hold (limit_of c.args.options.refuse 0) plan input)).orders)) (state new)
+            none_more answers plan history (new_after (greatest 0 history) (submissions (placed c.args.options.refuse (length history) (greatest 0 history) (script_of c.args.options.placing c.args.options.hold c.args.options.questions (limit_of c.args.options.refuse 0) plan input)).orders)) (state new)
             (still_each answers plan history (state old) (state new) safe
             (λ i image. g.met.D.Disk.counts_now new (state old).moment i (c.in-Err-recover.ensures.lawful_back.0 lawful) safe.later image) told);
         said = inl (record {
@@ -110,11 +110,11 @@ returns-in-Err-recover-clause-fed g c = λ fits.
       };
       held = λ hold lawful kept each.
           let safe : CrashSafe Unchanged (state c.args.disk) (state new) = recover.crash_safe_back lawful in
-          let orders = (script_of c.args.options.placing c.args.options.hold (limit_of c.args.options.refuse 0) c.args.plan.now input).orders in
+          let orders = (script_of c.args.options.placing c.args.options.hold c.args.options.questions (limit_of c.args.options.refuse 0) c.args.plan.now input).orders in
           beyond c.args.plan.now (state c.args.disk) (state new) kept (seen_after kept orders) safe
           (λ i image. g.met.D.Disk.counts_now new (state c.args.disk).moment i (recover.lawful_back.0 lawful) safe.later image) (seen_on kept orders) each;
       ever_held = λ hold lawful kept each.
-          let orders = (script_of c.args.options.placing c.args.options.hold (limit_of c.args.options.refuse 0) c.args.plan.now input).orders in
+          let orders = (script_of c.args.options.placing c.args.options.hold c.args.options.questions (limit_of c.args.options.refuse 0) c.args.plan.now input).orders in
           ever c.args.plan.now (state c.args.disk) (state new) (state new) kept (seen_after kept orders) (seen_after kept orders) (recover.crash_safe_back lawful) (λ t i le left. inl left) (seen_on kept orders) (omega arith) each;
     })
 
@@ -149,13 +149,13 @@ returns-clause-fed g c = λ fits.
     (λ input is.
     let fed = known _ remaining input is c.obey-keeper.ensures.fed in
     let script_at : Keeping g.row.D.Denot → Script =
-    λ k. placed refuse (last_epoch k.standing) (last_request k.standing) (script_of c.args.options.placing c.args.options.hold (limit_of refuse k.head.shape.m) plan input) in
+    λ k. placed refuse (last_epoch k.standing) (last_request k.standing) (script_of c.args.options.placing c.args.options.hold c.args.options.questions (limit_of refuse k.head.shape.m) plan input) in
     let keeps : KeepsTo (then_seen (first_seen c.args.options.hold keeper.standing.epoch) (script_at keeper).orders) keeper new =
     subst (λ (k : Keeping g.row.D.Denot). KeepsTo (then_seen (first_seen c.args.options.hold k.standing.epoch) (script_at k).orders) k new) c.watched-keeper.ensures.aside.1 (known _ remaining input is c.obey-keeper.ensures.held) in
     let limit : Option ℕ = limit_of refuse keeper.head.shape.m in
     let told : ℕ = last_epoch keeper.standing in
     let last : ℕ = last_request keeper.standing in
-    let raw : Script = script_of c.args.options.placing c.args.options.hold limit plan input in
+    let raw : Script = script_of c.args.options.placing c.args.options.hold c.args.options.questions limit plan input in
     let asked : Script = placed refuse told last raw in
     let wanted : List Submitted = submissions asked.orders in
     let more : List Submitted = new_to keeper wanted in

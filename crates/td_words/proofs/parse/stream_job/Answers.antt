@@ -6,37 +6,40 @@ use Rattle.td_words.proofs.StreamAsked.{only_stream, same_flag}
 use Rattle.td_words.proofs.parse.stream_job.Goals as goal
 
 pub returns-in_err-disk-clause-none : goal.returns-in_err-disk-clause-none
-returns-in_err-disk-clause-none c = when_none _ c.from_residual.ensures (λ job h. let only = only_stream (rows_of (found_of c.args.matches.now)) job h in lacks (codes "disk") (rows_of (found_of c.args.matches.now)) _ c.in_err-disk.ensures.none only.13.0)
+returns-in_err-disk-clause-none c = when_none _ c.from_residual.ensures (λ job h. let only = only_stream (rows_of (found_of c.args.matches.now)) job h in lacks (codes "disk") (rows_of (found_of c.args.matches.now)) _ c.in_err-disk.ensures.none only.14.0)
 
 pub returns-in_err-plan-clause-none : goal.returns-in_err-plan-clause-none
-returns-in_err-plan-clause-none c = when_none _ c.from_residual-in_err-plan.ensures (λ job h. let only = only_stream (rows_of (found_of c.args.matches.now)) job h in lacks (codes "plan") (rows_of (found_of c.args.matches.now)) _ c.in_err-plan.ensures.none only.13.1)
+returns-in_err-plan-clause-none c = when_none _ c.from_residual-in_err-plan.ensures (λ job h. let only = only_stream (rows_of (found_of c.args.matches.now)) job h in lacks (codes "plan") (rows_of (found_of c.args.matches.now)) _ c.in_err-plan.ensures.none only.14.1)
 
 pub returns-in_err-workers-clause-none : goal.returns-in_err-workers-clause-none
-returns-in_err-workers-clause-none c = when_none _ c.from_residual-in_err-workers.ensures (λ job h. let only = only_stream (rows_of (found_of c.args.matches.now)) job h in c.in_err-workers.ensures.none only.2 only.13.2)
+returns-in_err-workers-clause-none c = when_none _ c.from_residual-in_err-workers.ensures (λ job h. let only = only_stream (rows_of (found_of c.args.matches.now)) job h in c.in_err-workers.ensures.none only.2 only.14.2)
 
 pub returns-in_err-cut_every-clause-none : goal.returns-in_err-cut_every-clause-none
-returns-in_err-cut_every-clause-none c = when_none _ c.from_residual-in_err-cut_every.ensures (λ job h. let only = only_stream (rows_of (found_of c.args.matches.now)) job h in c.in_err-cut_every.ensures.none only.3 only.13.3)
+returns-in_err-cut_every-clause-none c = when_none _ c.from_residual-in_err-cut_every.ensures (λ job h. let only = only_stream (rows_of (found_of c.args.matches.now)) job h in c.in_err-cut_every.ensures.none only.3 only.14.3)
 
 pub returns-in_err-most-clause-none : goal.returns-in_err-most-clause-none
-returns-in_err-most-clause-none c = when_none _ c.from_residual-in_err-most.ensures (λ job h. let only = only_stream (rows_of (found_of c.args.matches.now)) job h in c.in_err-most.ensures.none only.4 only.13.4)
+returns-in_err-most-clause-none c = when_none _ c.from_residual-in_err-most.ensures (λ job h. let only = only_stream (rows_of (found_of c.args.matches.now)) job h in c.in_err-most.ensures.none only.4 only.14.4)
 
 pub returns-in_err-progress-clause-none : goal.returns-in_err-progress-clause-none
-returns-in_err-progress-clause-none c = when_none _ c.from_residual-in_err-progress.ensures (λ job h. let only = only_stream (rows_of (found_of c.args.matches.now)) job h in c.in_err-progress.ensures.none only.5 only.13.5)
+returns-in_err-progress-clause-none c = when_none _ c.from_residual-in_err-progress.ensures (λ job h. let only = only_stream (rows_of (found_of c.args.matches.now)) job h in c.in_err-progress.ensures.none only.5 only.14.5)
 
 pub returns-in_err-marks-clause-none : goal.returns-in_err-marks-clause-none
-returns-in_err-marks-clause-none c = when_none _ c.from_residual-in_err-marks.ensures (λ job h. let only = only_stream (rows_of (found_of c.args.matches.now)) job h in c.in_err-marks.ensures.none only.6 only.13.6)
+returns-in_err-marks-clause-none c = when_none _ c.from_residual-in_err-marks.ensures (λ job h. let only = only_stream (rows_of (found_of c.args.matches.now)) job h in c.in_err-marks.ensures.none only.6 only.14.6)
 
 pub returns-in_err-refuse-clause-none : goal.returns-in_err-refuse-clause-none
-returns-in_err-refuse-clause-none c = when_none _ c.from_residual-in_err-refuse.ensures (λ job h. let only = only_stream (rows_of (found_of c.args.matches.now)) job h in c.in_err-refuse.ensures.none only.7 only.13.7)
+returns-in_err-refuse-clause-none c = when_none _ c.from_residual-in_err-refuse.ensures (λ job h. let only = only_stream (rows_of (found_of c.args.matches.now)) job h in c.in_err-refuse.ensures.none only.7 only.14.7)
 
 pub returns-in_err-at-clause-none : goal.returns-in_err-at-clause-none
-returns-in_err-at-clause-none c = when_none _ c.from_residual-in_err-at.ensures (λ job h. let only = only_stream (rows_of (found_of c.args.matches.now)) job h in c.in_err-at.ensures.none only.8 only.13.8)
+returns-in_err-at-clause-none c = when_none _ c.from_residual-in_err-at.ensures (λ job h. let only = only_stream (rows_of (found_of c.args.matches.now)) job h in c.in_err-at.ensures.none only.8 only.14.8)
 
 pub returns-in_err-hold-clause-none : goal.returns-in_err-hold-clause-none
-returns-in_err-hold-clause-none c = when_none _ c.from_residual-in_err-hold.ensures (λ job h. let only = only_stream (rows_of (found_of c.args.matches.now)) job h in c.in_err-hold.ensures.none only.9 only.13.9)
+returns-in_err-hold-clause-none c = when_none _ c.from_residual-in_err-hold.ensures (λ job h. let only = only_stream (rows_of (found_of c.args.matches.now)) job h in c.in_err-hold.ensures.none only.9 only.14.9)
 
 pub returns-in_err-room-clause-none : goal.returns-in_err-room-clause-none
-returns-in_err-room-clause-none c = when_none _ c.from_residual-in_err-room.ensures (λ job h. let only = only_stream (rows_of (found_of c.args.matches.now)) job h in c.in_err-room.ensures.none only.10 only.13.10)
+returns-in_err-room-clause-none c = when_none _ c.from_residual-in_err-room.ensures (λ job h. let only = only_stream (rows_of (found_of c.args.matches.now)) job h in c.in_err-room.ensures.none only.10 only.14.10)
+
+pub returns-in_err-ask-clause-none : goal.returns-in_err-ask-clause-none
+returns-in_err-ask-clause-none c = when_none _ c.from_residual-in_err-ask.ensures (λ job h. let only = only_stream (rows_of (found_of c.args.matches.now)) job h in c.in_err-ask.ensures.none only.11 only.14.11)
 
 not_both : (b : Bool) → b ≡ false → b ≡ true → ⊥
 not_both true is other = absurd (let no = is in cc)
@@ -47,9 +50,9 @@ pub returns-then-not-may_hold-clause-none : goal.returns-then-not-may_hold-claus
 returns-then-not-may_hold-clause-none c job h =
     let rows = rows_of (found_of c.args.matches.now) in
     let only = only_stream rows job h in
-    let marks : only.6 ≡ c.in_ok-marks.marks = same_flag only.6 c.in_ok-marks.marks (some_is (flag_text only.6) (flag_text c.in_ok-marks.marks) (one_of (codes "marks") rows) only.13.6 c.in_ok-marks.ensures.some) in
-    let hold : only.9 ≡ c.in_ok-hold.hold = same_flag only.9 c.in_ok-hold.hold (some_is (flag_text only.9) (flag_text c.in_ok-hold.hold) (one_of (codes "hold") rows) only.13.9 c.in_ok-hold.ensures.some) in
-    not_both c.may_hold.result c.if-not-may_hold.true (c.may_hold.ensures ∙ sym (ap₂ may_hold marks hold) ∙ only.13.12)
+    let marks : only.6 ≡ c.in_ok-marks.marks = same_flag only.6 c.in_ok-marks.marks (some_is (flag_text only.6) (flag_text c.in_ok-marks.marks) (one_of (codes "marks") rows) only.14.6 c.in_ok-marks.ensures.some) in
+    let hold : only.9 ≡ c.in_ok-hold.hold = same_flag only.9 c.in_ok-hold.hold (some_is (flag_text only.9) (flag_text c.in_ok-hold.hold) (one_of (codes "hold") rows) only.14.9 c.in_ok-hold.ensures.some) in
+    not_both c.may_hold.result c.if-not-may_hold.true (c.may_hold.ensures ∙ sym (ap₂ may_hold marks hold) ∙ only.14.13)
 
 pub returns-clause-some : goal.returns-clause-some
-returns-clause-some c = (refl, (c.in_ok-disk.ensures.some, c.in_ok-plan.ensures.some, c.in_ok-workers.ensures.some, c.in_ok-cut_every.ensures.some, c.in_ok-most.ensures.some, c.in_ok-progress.ensures.some, c.in_ok-marks.ensures.some, c.in_ok-refuse.ensures.some, c.in_ok-at.ensures.some, c.in_ok-hold.ensures.some, c.in_ok-room.ensures.some, c.file_of-status.ensures, sym c.may_hold.ensures ∙ c.if-not-may_hold.false))
+returns-clause-some c = (refl, (c.in_ok-disk.ensures.some, c.in_ok-plan.ensures.some, c.in_ok-workers.ensures.some, c.in_ok-cut_every.ensures.some, c.in_ok-most.ensures.some, c.in_ok-progress.ensures.some, c.in_ok-marks.ensures.some, c.in_ok-refuse.ensures.some, c.in_ok-at.ensures.some, c.in_ok-hold.ensures.some, c.in_ok-room.ensures.some, c.in_ok-ask.ensures.some, c.file_of-status.ensures, sym c.may_hold.ensures ∙ c.if-not-may_hold.false))

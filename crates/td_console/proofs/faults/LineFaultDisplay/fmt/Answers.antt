@@ -12,3 +12,6 @@ returns-in-SeenBefore-clause-writes g c = search rules
 
 pub returns-in-Gap-clause-writes : goal.returns-in-Gap-clause-writes
 returns-in-Gap-clause-writes g c = search rules
+
+pub returns-in-NoSuchFold-clause-writes : goal.returns-in-NoSuchFold-clause-writes
+returns-in-NoSuchFold-clause-writes g c = search rules

@@ -34,6 +34,16 @@ returns-in-Seen-clause-fed g c =
 pub returns-in-Seen-clause-held : goal.returns-in-Seen-clause-held
 returns-in-Seen-clause-held g c = keeps_same c.args.seen (base_itself (g.E.Obey.keeping c.args.engine.now))
 
+pub returns-in-Answer-clause-fed : goal.returns-in-Answer-clause-fed
+returns-in-Answer-clause-fed g c =
+    let old = g.E.Obey.keeping c.args.engine.now in
+    let new = g.E.Obey.keeping c.answer_aloud.new.engine in
+    subst (λ (a : Asked). FeedsNoting g.D.Disk.is_lawful g.D.Disk.state g.D.Disk.failures g.L.Law.answers g.W.Voice.marks c.answer_aloud.result (g.W.Sink.contents c.args.writer.now) (g.W.Sink.contents c.answer_aloud.new.writer) old new (new_to old (asked_for a)) (notes_for a))
+    (sym (c.in-One.is ∙ ap (λ (o : Order). One o) c.in-Answer.is)) c.answer_aloud.ensures.fed
+
+pub returns-in-Answer-clause-held : goal.returns-in-Answer-clause-held
+returns-in-Answer-clause-held g c = keeps_same c.args.seen c.answer_aloud.ensures.base
+
 pub returns-in-Say-clause-held : goal.returns-in-Say-clause-held
 returns-in-Say-clause-held g c = keeps_same c.args.seen (base_itself (g.E.Obey.keeping c.args.engine.now))
 

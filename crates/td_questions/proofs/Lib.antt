@@ -1,0 +1,3 @@
+pub mod Firsts
+pub mod Weights
+pub mod Listing

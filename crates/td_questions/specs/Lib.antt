@@ -1,0 +1,5 @@
+pub mod Words
+pub mod Asked
+pub mod Ranks
+pub mod Weighed
+pub mod Lines

@@ -1,0 +1,147 @@
+-- The states that are found at the places of two lists are those of which a look-up tells, where each of these has its place in one of them.
+use Rattle.std.proofs.Common.{◌≡◌, ℕ, ◌||◌, List, [], ◌∷◌, ◌++◌, refl, ap, sym, ◌∙◌, Bool, true, false, cond, Option, Some, None, filter}
+use Rattle.std.specs.Option.{option_map}
+use Rattle.std.specs.List.{AllByRecursion, cons_option}
+use Rattle.std.specs.List.Sorted.{IsStrictlySortedBy}
+use Rattle.std.specs.Map.{keys_of}
+use Rattle.std.specs.declared.cmp.Ordering.{Ordering}
+use Rattle.std.specs.declared.cmp.Ordering.TheVariants.{Less, Equal, Greater}
+use Rattle.std.specs.Ordering.{is_eq}
+use Rattle.td_stamp.specs.declared.values.State.{State}
+use Rattle.td_stamp.specs.Bag.{set_of, has}
+use Rattle.td_stamp.specs.BagLaws.{SetLaws}
+use Rattle.td_stamp.specs.Orders.{state_key_cmp}
+use Rattle.td_stamp.specs.ProvedOrders.{state_key_apart}
+use Rattle.td_stamp.specs.States.{StateList, state_of, AreStates}
+use Rattle.td_machine.specs.declared.records.StateLeft.{StateLeft}
+use Rattle.td_machine.specs.State.{with_left}
+use Rattle.td_shard.specs.After.{entries_at, places_of}
+use Rattle.td_shard.proofs.KeptStates.{InOrder, left_keeps, states_in_order, same_states}
+use Rattle.td_shard.proofs.LeftStates.{ended, is_here, look_left}
+
+abbrev Place : Type 0
+Place = ℕ × ℕ
+
+abbrev AreAbove : Place → List Place → Type 0
+AreAbove p places = AllByRecursion (λ q. state_key_cmp p q ≡ Less) places
+
+module _ (states : StateList) where
+  -- the first of them, where there is one at the first place
+  pub first_found : (p : Place) (places : List Place) (s : State) → state_of states p.0 p.1 ≡ Some s → entries_at states (p ∷ places) ≡ (p, s) ∷ entries_at states places
+  first_found p places s e = ap (λ o. cons_option (option_map (λ t. (p, t)) o) (entries_at states places)) e
+
+  pub none_found : (p : Place) (places : List Place) → state_of states p.0 p.1 ≡ None → entries_at states (p ∷ places) ≡ entries_at states places
+  none_found p places e = ap (λ o. cons_option (option_map (λ t. (p, t)) o) (entries_at states places)) e
+
+  above_found : (p : Place) (places : List Place) → AreAbove p places → AllByRecursion (λ (d : Place × State). state_key_cmp p d.0 ≡ Less) (entries_at states places)
+  above_found p [] h = tt
+  above_found p (q ∷ places) h = by (state_of states q.0 q.1) (above_found p places h.1)
+    where
+      by : (s : Option State) → AllByRecursion (λ (d : Place × State). state_key_cmp p d.0 ≡ Less) (entries_at states places)
+          → AllByRecursion (λ (d : Place × State). state_key_cmp p d.0 ≡ Less) (cons_option (option_map (λ t. (q, t)) s) (entries_at states places))
+      by None rest = rest
+      by (Some s) rest = (h.0, rest)
+
+  found_in_order : (places : List Place) → IsStrictlySortedBy state_key_cmp places → InOrder (entries_at states places)
+  unfolding IsStrictlySortedBy
+  found_in_order [] h = tt
+  found_in_order (p ∷ places) h = by (state_of states p.0 p.1) (found_in_order places h.1)
+    where
+      by : (s : Option State) → InOrder (entries_at states places) → InOrder (cons_option (option_map (λ t. (p, t)) s) (entries_at states places))
+      by None rest = rest
+      by (Some s) rest = (above_found p places h.0, rest)
+
+  none : (b : Bool) (o : Option State) → o ≡ None → cond b o None ≡ None
+  none true o h = h
+  none false o h = refl
+
+  -- a look-up among them
+  look_found : (q : Place) (places : List Place) → state_of (entries_at states places) q.0 q.1 ≡ cond (has state_key_cmp q places) (state_of states q.0 q.1) None
+  look_found q [] = refl
+  look_found q (p ∷ places) = by (state_key_cmp q p) refl (look_found q places)
+    where
+      other : (o : Ordering) → is_eq o ≡ false → state_key_cmp q p ≡ o → (s : Option State)
+          → state_of (cons_option (option_map (λ t. (p, t)) s) (entries_at states places)) q.0 q.1 ≡ state_of (entries_at states places) q.0 q.1
+      other o n e None = refl
+      other o n e (Some s) = ap (λ b. cond b (Some s) (state_of (entries_at states places) q.0 q.1)) (ap is_eq e ∙ n)
+
+      here : (s : Option State) → state_key_cmp q p ≡ Equal → state_of states q.0 q.1 ≡ s
+          → state_of (entries_at states places) q.0 q.1 ≡ cond (has state_key_cmp q places) (state_of states q.0 q.1) None
+          → state_of (cons_option (option_map (λ t. (p, t)) s) (entries_at states places)) q.0 q.1 ≡ s
+      here None e k rest = rest ∙ none (has state_key_cmp q places) (state_of states q.0 q.1) k
+      here (Some s) e k rest = ap (λ b. cond b (Some s) (state_of (entries_at states places) q.0 q.1)) (ap is_eq e)
+
+      by : (o : Ordering) → state_key_cmp q p ≡ o
+          → state_of (entries_at states places) q.0 q.1 ≡ cond (has state_key_cmp q places) (state_of states q.0 q.1) None
+          → state_of (entries_at states (p ∷ places)) q.0 q.1 ≡ cond (is_eq (state_key_cmp q p) || has state_key_cmp q places) (state_of states q.0 q.1) None
+      by Less e rest = other Less refl e (state_of states p.0 p.1) ∙ rest ∙ ap (λ b. cond (b || has state_key_cmp q places) (state_of states q.0 q.1) None) (sym (ap is_eq e))
+      by Greater e rest = other Greater refl e (state_of states p.0 p.1) ∙ rest ∙ ap (λ b. cond (b || has state_key_cmp q places) (state_of states q.0 q.1) None) (sym (ap is_eq e))
+      by Equal e rest =
+          let k : q ≡ p = state_key_apart q p e in
+          here (state_of states p.0 p.1) e (λ i. state_of states (k i).0 (k i).1) rest
+          ∙ ((λ i. state_of states (sym k i).0 (sym k i).1) ∙ ap (λ b. cond (b || has state_key_cmp q places) (state_of states q.0 q.1) None) (sym (ap is_eq e)))
+
+-- a list that is in order by its entries is by its keys
+to_keys : (P : ℕ × ℕ → Type 0) (es : StateList) → AllByRecursion (λ (d : (ℕ × ℕ) × State). P d.0) es → AllByRecursion P (keys_of es)
+to_keys P [] h = tt
+to_keys P (e ∷ es) h = (h.0, to_keys P es h.1)
+
+pub in_order_states : (states : StateList) → InOrder states → AreStates states
+unfolding IsStrictlySortedBy
+in_order_states [] h = tt
+in_order_states (e ∷ es) h = (to_keys (λ k. state_key_cmp e.0 k ≡ Less) es h.0, in_order_states es h.1)
+
+-- where a list has no such place, it has no state there
+no_state : (q : Place) (states : StateList) → has state_key_cmp q (keys_of states) ≡ false → state_of states q.0 q.1 ≡ None
+no_state q [] h = refl
+no_state q (e ∷ es) h = by (is_eq (state_key_cmp q e.0)) h (no_state q es)
+  where
+    by : (b : Bool) → (b || has state_key_cmp q (keys_of es)) ≡ false → (has state_key_cmp q (keys_of es) ≡ false → state_of es q.0 q.1 ≡ None)
+        → cond b (Some e.1) (state_of es q.0 q.1) ≡ None
+    by true n rest = cc
+    by false n rest = rest n
+
+has_either : (q : Place) (xs ys : List Place) → has state_key_cmp q (xs ++ ys) ≡ (has state_key_cmp q xs || has state_key_cmp q ys)
+has_either q [] ys = refl
+has_either q (x ∷ xs) ys = by (is_eq (state_key_cmp q x)) (has_either q xs ys)
+  where
+    by : (b : Bool) → has state_key_cmp q (xs ++ ys) ≡ (has state_key_cmp q xs || has state_key_cmp q ys) → (b || has state_key_cmp q (xs ++ ys)) ≡ ((b || has state_key_cmp q xs) || has state_key_cmp q ys)
+    by true rest = refl
+    by false rest = rest
+
+neither : (b d : Bool) → (b || d) ≡ false → (b ≡ false) × (d ≡ false)
+neither true d h = cc
+neither false d h = (refl, h)
+
+module _ (laws : SetLaws state_key_cmp) (base : StateList) (left : List StateLeft) (ordered : AreStates base) where
+  abbrev after : StateList
+  after = with_left base left
+
+  abbrev lone : StateList
+  lone = with_left [] left
+
+  -- a place in neither has no state after what was left
+  nowhere : (q : Place) → has state_key_cmp q (keys_of base ++ keys_of lone) ≡ false → state_of after q.0 q.1 ≡ None
+  nowhere q h =
+      let n = neither (has state_key_cmp q (keys_of base)) (has state_key_cmp q (keys_of lone)) (sym (has_either q (keys_of base) (keys_of lone)) ∙ h) in
+      look_left q left base (states_in_order base ordered)
+      ∙ ap (ended (filter (is_here q) left)) (no_state q base n.0)
+      ∙ (sym (look_left q left [] tt) ∙ no_state q lone n.1)
+
+  found : (q : Place) (b : Bool) → has state_key_cmp q (keys_of base ++ keys_of lone) ≡ b → cond b (state_of after q.0 q.1) None ≡ state_of after q.0 q.1
+  found q true e = refl
+  found q false e = sym (nowhere q e)
+
+  -- ALL STATES after what was left: those that are found at the places of the base and of what was left alone
+  pub all_found : entries_at after (places_of base lone) ≡ after
+  all_found =
+      same_states (entries_at after (places_of base lone)) after
+      (found_in_order after (places_of base lone) (laws.sorted (keys_of base ++ keys_of lone)))
+      (left_keeps left base (states_in_order base ordered))
+      (λ q. look_found after q (places_of base lone)
+      ∙ (ap (λ b. cond b (state_of after q.0 q.1) None) (set_has_has q (keys_of base ++ keys_of lone))
+      ∙ found q (has state_key_cmp q (keys_of base ++ keys_of lone)) refl))
+    where
+      set_has_has : (q : Place) (xs : List Place) → has state_key_cmp q (set_of state_key_cmp xs) ≡ has state_key_cmp q xs
+      set_has_has q [] = refl
+      set_has_has q (x ∷ xs) = laws.found_inserted q x (set_of state_key_cmp xs) ∙ ap (λ b. is_eq (state_key_cmp q x) || b) (set_has_has q xs)
