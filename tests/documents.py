@@ -10,7 +10,7 @@ from lib import ROOT
 
 # The documents whose commands are run.
 DOCUMENTS = ("README.md", "examples/README.md", "clients/README.md", *(f"docs/{name}.md" for name in (
-    "TUTORIAL", "OPERATING", "STATES", "DELIVERY", "LIVE", "WATCHING", "QUESTIONS", "FORMATS", "DISK", "FAULTS", "MEANING", "STEPS", "THEOREM", "CLOSURES")))
+    "TUTORIAL", "OPERATING", "STATES", "DELIVERY", "LIVE", "WATCHING", "QUESTIONS", "COPIES", "FORMATS", "DISK", "FAULTS", "MEANING", "STEPS", "THEOREM", "CLOSURES")))
 # Seconds for one command.
 SECONDS_OF_A_COMMAND = 90
 

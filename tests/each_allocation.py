@@ -110,12 +110,16 @@ ON_FILES = [
     ("stream disk plan --refuse --at", b"at 2\n0 7 5\n.\nat 3\nreq 3\n0 9 4\n.\nat 5\n.\n0 8 1\n.\nat 5\n.\n", MADE),
     ("stream disk plan --marks --hold", b"seen 2\ncut\nreq 3\n0 9 4\n.\nseen 3\nreq 5\n0 7 1\n0 8 1\n.\ncut\n", MADE),
     ("stream disk plan --ask", b"get 1 7\nlist 1\n0 9 4\n.\ntop 1 2\nleast 1 9\ncut\n0 7 1\n.\nlist 1 8 1\nrank 1 50\nget 1 1\n", MADE),
+    ("stream disk plan --copies .", b"0 9 4\n.\ncopy new 5 4 3\n0 7 1\n.\n", MADE),
+    ("stream disk plan --copies .", b"0 9 4\n.\ncut\ncopy new 5 4 3\n", MADE_WITH_CLOSURES[:2]),
     ("stream disk plan --ask --workers 2", b"list 1\n0 9 4\n.\ntop 1 1\nget 1 9\n", MADE),
 ]
 # Those of them that may change the disk though they are refused, but not what it tells, but to what they would make of it.
 WRITE = ("format", "upgrade")
 # A format that writes over a disk may leave none.
 GONE = {"format": (None,), "upgrade": ()}
+# What a stream writes of a copy, and in its place where that lacked memory.
+COPIED, NOT_COPIED = re.compile(rb"copied new \d+"), b"not copied new: memory"
 # The allocations of reading the input hang on its length, so each is filled up to so many bytes more.
 ROOM = 64
 # So many runs in a row that meet no refusal end the count.
@@ -197,12 +201,19 @@ class OnFiles:
 
     def is_well_refused(self, status, output, errors):
         """Whether an answer, other than with ample memory, is one of a refusal; of a feed or a stream also of smaller groups."""
-        if self.closures_left()[1] not in (None, self.texts[1]) or self.feeds and self.closures_left() != self.texts:
+        of_disk, of_new = self.closures_left()
+        if of_new not in (None, self.texts[1]) or self.feeds and of_disk != self.texts[0]:
             return False
         if not self.feeds:
             return (status, output, errors) == REFUSED and self.shown("new") in (None, self.new) and (
                 self.bytes_of("disk") == self.image if self.words[0] not in WRITE else self.shown("disk") in (self.before, self.after, *GONE[self.words[0]]))
         lines, want = output.splitlines(), self.want[1].splitlines()
+        if self.shown("new") not in (None, self.new) or self.shown("new") is not None and of_new != self.texts[1]:
+            return False
+        if NOT_COPIED in lines and (self.bytes_of("new"), of_new) != (None, None):
+            return False
+        copied = [line for line in want if COPIED.fullmatch(line)]
+        lines = [copied[0] if copied and line == NOT_COPIED else line for line in lines]
         if (status, errors) == (0, b""):
             return is_fed_as(lines, want) and self.shown("disk") == self.after
         return (status, errors) == REFUSED[::2] and is_fed_as([*lines, AGAIN], want) and self.is_told(lines)

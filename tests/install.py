@@ -26,7 +26,7 @@ COMPLETIONS = [
     (["td", "plan", "--d"], ["--dot"]),
     (["td", "plan", "total.p"], ["total.plan"]),
     (["td", "feed", "--w"], ["--workers"]),
-    (["td", "stream", "--"], ["--workers", "--cut-every", "--most", "--progress", "--marks", "--refuse", "--at", "--hold", "--room", "--ask", "--status", "--help"]),
+    (["td", "stream", "--"], ["--workers", "--cut-every", "--most", "--progress", "--marks", "--refuse", "--at", "--hold", "--room", "--ask", "--status", "--copies", "--help"]),
     (["td", "stream", "--workers", ""], []),
     (["td", "feed", "tot"], ["total.disk", "total.plan"]),
     (["td", "feed", "--workers", "4", "total.disk", "total.p"], ["total.plan"]),

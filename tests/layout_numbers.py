@@ -105,9 +105,12 @@ PLACES = {
         "td_console/specs/Answer.antt: 32, 3",
         "td_console/specs/Turns.antt: 32, 2",
         "td_feed/specs/Dumped.antt: 32, 2",
+        "td_feed/specs/Names.antt: 32, 1",
         "td_feed/specs/Noted.antt: 32, 1",
+        "td_feed/specs/Said.antt: 32, 1",
         "td_feed/specs/Shown.antt: 32, 5",
         "td_feed/src/excerpt.rt: 32, 1",
+        "td_feed/src/file_name.rt: 32, 1",
         "td_states/specs/Lines.antt: 32, 3",
     ],
     CODE: [

@@ -59,6 +59,7 @@ PLACES = {
         "td_core/src/take.rt take_there: copy",
         "td_core/src/take.rt grouped: KeyedItems::grouped",
         "td_feed/src/alone.rt obey_alone: Engine::open tasks_of_an_epoch",
+        "td_feed/src/copying.rt copied: told",
         "td_feed/src/saying.rt print_entries: print_answer",
         "td_feed/src/workers.rt obey_by_workers: Pool::<K, L>::new",
         "td_head/src/head.rt is_canonical: text",

@@ -13,7 +13,8 @@ With --feeds (docs/COMMANDS.md) a disk is made for one input in ten more, of ran
 times, by epochs some of which have request numbers, new, repeated or lower ones, with cuts and with mistakes between them; it may be
 raised to version 2; and after each command `td show` must tell what the reading says, and `td dump` write it; what is dumped at the end is
 fed to a fresh disk. What `td states` writes (docs/STATES.md) is loaded to another one, to which the dump is fed then; and once more with mistakes, with
-vertices by other numbers, and with less room. Between epochs of `td stream --ask` random questions are asked, some without a form (docs/QUESTIONS.md)."""
+vertices by other numbers, and with less room. Between epochs of `td stream --ask --copies` random questions are asked, some without a form (docs/QUESTIONS.md), and copies are made, some without room or
+of a name that is there (docs/COPIES.md): each must have then what the reading says."""
 
 import collections
 import random
@@ -483,11 +484,11 @@ class Disk:
         return f"ack {self.told()}"
 
     def stream(self, orders, written):
-        """Obeys orders as `td stream` does: writes outputs at once, and cuts where the journal is full. Between two epochs stands a question."""
+        """Obeys orders as `td stream` does: writes outputs at once, and cuts where the journal is full. Between two epochs stands a question, or a copy."""
         done = self.pace(self.kept, written)
         for order in orders:
             if callable(order):
-                written += order(self.meaning()[0], self.told())
+                written += order(self)
             else:
                 written.append(self.submit(*order))
             done = self.pace(done, written)
@@ -497,6 +498,22 @@ class Disk:
         if len(self.epochs) == self.shape[1]:
             self.cut(written)
         return done
+
+    def lack_of(self, shape):
+        """What a disk of a shape has no room for, or None."""
+        records, cells, most = shape
+        if len(self.states) > most:
+            return f"too many keys: {len(self.states)}, K is {most}"
+        if len(self.epochs) > cells:
+            return f"journal full: {len(self.epochs)} epochs, N is {cells}"
+        large = [(at, len(batch)) for at, (_, batch) in enumerate(self.epochs, self.kept + 1) if len(batch) > records]
+        return f"too many records: epoch {large[0][0]} has {large[0][1]}, M is {records}" if large else None
+
+    def copy(self, shape):
+        """A disk of a shape with the same."""
+        twin = Disk(self.plan, shape, 2)
+        twin.kept, twin.states, twin.kept_last, twin.epochs = self.kept, dict(self.states), self.kept_last, list(self.epochs)
+        return twin
 
     def settle(self, done, written):
         """Writes the output lines of the epochs after one, and answers the last epoch."""
@@ -517,7 +534,8 @@ class Disk:
 def answered_by(vertex, line, listed):
     """The lines for states of a fold, which are listed from those of all its keys, (key, a, b) in the order of keys."""
 
-    def lines(states, told):
+    def lines(disk):
+        states, told = disk.meaning()[0], disk.told()
         kept = sorted((key, a, b) for (at, key), (a, b) in states.items() if at == vertex)
         found = [f"state {told} {vertex} {key} {a} {b}" for key, a, b in listed(kept)]
         return (found or [f"{word} {told} {vertex} {key}" for word, key in line]) + [f"asked {told}"]
@@ -526,7 +544,7 @@ def answered_by(vertex, line, listed):
 
 
 def read_question(plan, at, line):
-    """What answers a line: a function of the states after an epoch, and that epoch."""
+    """What answers a line: a function of a disk."""
     word, *numbers = [it.decode("latin-1") for it in words(line)] if is_printable(line) else [""]
     numbers = [natural(number.encode("latin-1")) for number in numbers]
     few, many = {"list": (1, 3)}.get(word, (2, 2))
@@ -550,6 +568,27 @@ def read_question(plan, at, line):
         return answered_by(vertex, [], lambda kept: up_from(kept)[:numbers[0]])
     # The first up to which so many of 100 stand.
     return answered_by(vertex, [], lambda kept: [it for n, it in enumerate(up_from(kept), 1) if 100 * n >= numbers[0] * len(kept)][:1])
+
+
+# Copies
+
+
+def read_copy(at, line, folder, made):
+    """What a line does that asks for a copy in a folder: a function of a disk, which puts the copy to those that were made."""
+    said = words(line) if is_printable(line) else []
+    shape = tuple(map(number, said[2:]))
+    if len(said) != 5 or said[0] != b"copy" or b"/" in said[1] or said[1] in (b".", b"..") or None in shape or not 1 <= min(shape) or max(shape[:2]) > 65536:
+        raise Fault(f"line {at}: syntax")
+    name = said[1].decode()
+
+    def copied(disk):
+        lack = disk.lack_of(shape) or (f"file: {folder}/{name}: is there" if name in made else None)
+        if lack:
+            return [f"not copied {name}: {lack}"]
+        made[name] = disk.copy(shape)
+        return [f"copied {name} {disk.told()}"]
+
+    return copied
 
 
 # Random inputs
@@ -729,18 +768,30 @@ def random_question(rng, plan):
     return f"{word} {' '.join(map(str, numbers))}".encode()
 
 
+ODD_COPIES = [b"copy", b"copy a 1 1", b"copy a 1 1 1 1", b"copy . 1 1 1", b"copy .. 1 1 1", b"copy a/b 1 1 1", b"copy a 0 1 1", b"copy a 01 1 1", b"copy a 65537 1 1"]
+
+
+def random_copy(rng):
+    if rng.randrange(30) == 0:
+        return rng.choice(ODD_COPIES)
+    name = rng.choice(["a", "b", "c", "...", "x.disk"])
+    return f"copy {name} {rng.choice([1, 3, 9])} {rng.choice([1, 3, 12, 100])} {rng.choice([1, 4, 40])}".encode()
+
+
 def ask_random_disk(inputs, disk, plan, folder, met):
-    """Asks a stream of a disk, with an epoch or none between two questions."""
+    """Asks a stream of a disk, and has it copied, with an epoch or none between two such lines."""
     rng = random.Random("\n".join(disk.show()))
-    lines, orders, fault = [], [], None
+    lines, orders, fault, made, copies = [], [], None, {}, folder / "copies"
+    copies.mkdir()
     for _ in range(rng.randrange(9)):
         if rng.randrange(2) == 0:
             records = [(rng.choice(inputs), rng.randrange(4), rng.randrange(-9, 10)) for _ in range(rng.randrange(min(3, disk.shape[0]) + 1))]
             lines += [f"{n} {key} {val}".encode() for n, key, val in records] + [b"."]
             orders.append((0, records))
-        lines.append(random_question(rng, disk.plan))
+        is_copy = rng.randrange(3) == 0
+        lines.append(random_copy(rng) if is_copy else random_question(rng, disk.plan))
         try:
-            orders.append(read_question(disk.plan, len(lines), lines[-1]))
+            orders.append(read_copy(len(lines), lines[-1], copies, made) if is_copy else read_question(disk.plan, len(lines), lines[-1]))
         except Fault as first:
             fault = first
             break
@@ -750,9 +801,15 @@ def ask_random_disk(inputs, disk, plan, folder, met):
     except TooManyKeys as many:
         fault, status, numbers = many, 4, many.numbers
     text = b"".join(line + b"\n" for line in lines)
-    said = ["stream", folder / "disk", plan, "--ask", "--workers", str(rng.choice(WORKERS))]
+    said = ["stream", folder / "disk", plan, "--ask", "--copies", copies, "--workers", str(rng.choice(WORKERS))]
     expect(said, text, (status, "".join(f"{line}\n" for line in written).encode(), f"td: {fault}{numbers}\n".encode() if fault else b""))
     expect(["show", folder / "disk", plan], b"", lines_as(disk.show()))
+    for name, twin in made.items():
+        expect(["show", copies / name, plan], b"", lines_as(twin.show()))
+        expect(["dump", copies / name, plan], b"", lines_as(twin.dump()))
+    if {it.name for it in copies.iterdir()} != made.keys():
+        lib.fail(f"{said}\n{lines}\nmade {sorted(copies.iterdir())}, not {sorted(made)}")
+    met["copies"] += len(made)
     met["answers to questions"] += sum(line.startswith("asked ") for line in written)
 
 

@@ -3,7 +3,8 @@
 
     tests/status.py [TD]       needs crates/td/out/td, or the program TD
 
-A producer sends epochs and a cut, and waits each time until the file says so: then each number must be the one that follows from what was sent. A file that is read
+A producer sends epochs and a cut, and waits each time until the file says so: then each number must be the one that follows from what was sent.
+A consumer says what it has seen, and the file says it again. A file that is read
 500 times while a stream writes it has all lines each time. A stream whose file cannot be written says so once, and goes on; once it can be written it is. A stream
 that is killed leaves the file as it wrote it last, and the next one writes it anew. A name of the disk with a quote and a backslash is a label."""
 
@@ -19,17 +20,19 @@ TD = lib.asked_td()
 SECONDS, READS = 30, 500
 NAMES = ["acked_epoch", "done_epoch", "kept_epoch", "cells_used", "cells_limit", "states_used", "states_limit", "records_total",
          "epochs_per_second", "seconds_since_cut", "running"]
+# With `--hold` there is one more.
+HELD_NAMES = [*NAMES[:3], "seen_epoch", *NAMES[3:]]
 # M, N and K of the disk.
 SHAPE = ("4", "5", "10")
 
 
-def numbers_in(text, label):
+def numbers_in(text, label, names):
     """The numbers of a status file by name; it has each in order, after its help and its kind, and nothing else."""
     wanted = "".join(rf"# HELP td_{name} [^\n]+\.\n# TYPE td_{name} {'counter' if name.endswith('_total') else 'gauge'}\ntd_{name}{re.escape(label)} (\d+)\n"
-                     for name in NAMES)
+                     for name in names)
     if not (found := re.fullmatch(wanted, text)):
         raise ValueError(f"{text!r} is no status file")
-    return dict(zip(NAMES, map(int, found.groups())))
+    return dict(zip(names, map(int, found.groups())))
 
 
 class Stream:
@@ -37,6 +40,7 @@ class Stream:
 
     def __init__(self, folder, *words, disk="disk", status="status"):
         self.file, self.label = folder / status, f'{{disk="{disk}"}}'
+        self.names = HELD_NAMES if "--hold" in words else NAMES
         self.process = subprocess.Popen([TD, "stream", disk, "plan", "--status", status, *words], cwd=folder, stdin=subprocess.PIPE, stdout=subprocess.DEVNULL,
                                         stderr=subprocess.PIPE)
 
@@ -45,7 +49,7 @@ class Stream:
         self.process.stdin.flush()
 
     def read(self):
-        return numbers_in(self.file.read_text(), self.label)
+        return numbers_in(self.file.read_text(), self.label, self.names)
 
     def wait_for(self, **wanted):
         """The numbers, once these are among them."""
@@ -101,6 +105,26 @@ def known_moments(folder):
     stream = Stream(folder)
     stream.end()
     expect(stream.read(), acked_epoch=4, running=0)
+
+
+def what_was_seen(folder):
+    """The last epoch that the consumer has seen, at first the one that the disk keeps; no cut goes beyond it."""
+    made(folder)
+    stream = Stream(folder, "--marks", "--hold", "--progress")
+    expect(stream.wait_for(running=1), seen_epoch=0)
+    stream.send("0 7 5\n.\n0 8 1\n.\n0 9 1\n.\n")
+    expect(stream.wait_for(done_epoch=3), seen_epoch=0, kept_epoch=0)
+    stream.send("seen 1\nseen 2\n")
+    expect(stream.wait_for(seen_epoch=2), kept_epoch=0, acked_epoch=3)
+    stream.send("cut\n")
+    expect(stream.wait_for(kept_epoch=2), seen_epoch=2, cells_used=1)
+    stream.send("seen 3\n")
+    if (said := stream.end().splitlines()[-1]) != "acked 3 done 3 kept 2 seen 3":
+        raise ValueError(f"{said!r} was said")
+    expect(stream.read(), seen_epoch=3, kept_epoch=2, running=0)
+    stream = Stream(folder, "--marks", "--hold")
+    expect(stream.wait_for(running=1), seen_epoch=2, kept_epoch=2)
+    stream.end()
 
 
 def groups_and_rates(folder):
@@ -164,7 +188,7 @@ def odd_names(folder):
 
 
 def main():
-    for case in (known_moments, groups_and_rates, never_half, unwritable, odd_names):
+    for case in (known_moments, what_was_seen, groups_and_rates, never_half, unwritable, odd_names):
         with lib.folder() as folder:
             try:
                 case(folder)

@@ -14,14 +14,14 @@ pub(crate) enum Engine<'a> {
     Run(u8, Vec<Closure>),
     Sim(u8, Vec<u64>, Vec<Closure>),
     Feed(ReadAhead<FileDisk>, Plan, u8, Vec<Closure>),
-    Stream(ReadAhead<FileDisk>, &'a str, Plan, u8, StreamOptions, Telling<'a>, Vec<Closure>),
+    Stream(ReadAhead<FileDisk>, &'a str, Plan, u8, StreamOptions<'a>, Telling<'a>, Vec<Closure>),
 }
 
 /// After how many epochs a stream cuts, how many tasks each of its epochs may take, whether it marks them, whether it refuses those with
 /// a fault and goes on, whether lines name their places, whether it holds their outputs until they were seen, and whether it answers
-/// questions.
+/// questions; and the folder in which it makes copies, if there is one.
 #[derive(Clone, Copy, Debug, Drop)]
-pub(crate) struct StreamOptions {
+pub(crate) struct StreamOptions<'a> {
     pub cut_every: Option<u32>,
     pub most: Option<u64>,
     pub marks: bool,
@@ -29,14 +29,17 @@ pub(crate) struct StreamOptions {
     pub at: bool,
     pub hold: bool,
     pub ask: bool,
+    pub copies: Option<&'a str>,
 }
 
-/// What is told of a stream: lines on standard error of how far it has come, and of its room too; and a status file.
+/// What is told of a stream: lines on standard error of how far it has come, and of its room too, and, where outputs are held, which epoch was
+/// seen last; and a status file.
 #[derive(Clone, Copy)]
 pub(crate) struct Telling<'a> {
     pub stderr: Stderr,
     pub progress: bool,
     pub room: bool,
+    pub hold: bool,
     pub status: Option<&'a str>,
 }
 

@@ -13,6 +13,7 @@ mod disk_closures;
 mod engine;
 mod faults;
 mod file_cause;
+mod host;
 mod language;
 mod meter;
 mod plan;
@@ -155,6 +156,7 @@ fn done<
             room,
             ask,
             status,
+            copies,
         } => {
             let (disk, plan) = open_disk_or_tell(rt, path, plan, wait)?;
             let closures = closures_of_disk(rt, path)?;
@@ -162,6 +164,7 @@ fn done<
                 stderr,
                 progress,
                 room,
+                hold,
                 status,
             };
             let options = StreamOptions {
@@ -172,6 +175,7 @@ fn done<
                 at,
                 hold,
                 ask,
+                copies,
             };
             run_engine(
                 rt,

@@ -29,6 +29,7 @@ pub(crate) struct Gauge {
     states: AtomicU64,
     epochs: AtomicU64,
     records: AtomicU64,
+    seen: AtomicU64,
 }
 
 impl Gauge {
@@ -39,12 +40,23 @@ impl Gauge {
             states: AtomicU64::new(0),
             epochs: AtomicU64::new(0),
             records: AtomicU64::new(0),
+            seen: AtomicU64::new(0),
         }
     }
 
     /// Whether the input is read, which is so once the disk is recovered.
     pub(crate) fn is_read(&self) -> bool {
         self.is_read.load(Ordering::SeqCst)
+    }
+
+    /// The last epoch that the consumer has seen, where outputs are held; 0 before one is told.
+    pub(crate) fn seen(&self) -> u64 {
+        self.seen.load(Ordering::SeqCst)
+    }
+
+    /// The consumer has seen all epochs up to this one.
+    pub(crate) fn tell_seen(&self, epoch: u64) {
+        self.seen.store(epoch, Ordering::SeqCst);
     }
 
     /// What was counted.

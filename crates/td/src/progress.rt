@@ -6,20 +6,23 @@
 ghost use Rattle.std.specs.Prelude.{◌≡◌, ◌≤◌, [], ◌∷◌, IfOk, IfSome};
 
 use crate::disk::hold_streams;
+use crate::disk_closures::text_of_disk;
 use crate::engine::{StreamOptions, Telling};
+use crate::host::StreamHost;
 use crate::meter::{Gauge, Metered, Noticed};
 use crate::refusal::Refusal;
 use crate::room::{Room, Warned};
 use crate::status::{Places, StatusFile};
 use std::alloc::{AllocError, Global};
+use std::fmt::{Display, Formatter, Write};
 use std::fs::File;
 use std::io::IsTerminal;
 use std::rt::{Files, Stderr};
 use std::sync::atomic::{AtomicBool, Ordering};
 use std::sync::{Arc, Wait};
-use std::thread;
 use std::thread::{Parker, Threads};
 use std::time::Duration;
+use std::{fmt, thread};
 use td_catalogue::{Catalogue, Shelves};
 use td_console::{Fault, Source};
 use td_disk::{FileDisk, ReadAhead};
@@ -90,7 +93,7 @@ pub(crate) fn stream_told<
     path: &str,
     plan: &Plan,
     workers: u8,
-    options: StreamOptions,
+    options: StreamOptions<'_>,
     reader: I,
     writer: &mut W,
     telling: Telling<'_>,
@@ -101,13 +104,16 @@ pub(crate) fn stream_told<
 {
     let mut disk = disk;
     let shape = shape_told(rt.alloc(), &mut disk, plan, telling);
-    let held = held_for(rt, telling)?;
+    let held = held_for(rt, telling, options)?;
+    let closures_text = text_for_copies(rt, path, options)?;
     let ending = Arc::new(rt.alloc(), Ending::new())?;
     let gauge = Arc::new(rt.alloc(), Gauge::new())?;
     let watch = followed(rt, telling, path, shape, &gauge, &ending)?;
     let disk = Metered::new(disk, Arc::try_clone(&gauge)?, shape);
+    let told = Arc::try_clone(&gauge)?;
+    let mut host = StreamHost::new(rt, told, options.copies, closures_text);
     let reader = Noticed::new(reader, gauge);
-    let (disk, ended) = stream::<_, _, _, Catalogue, Shelves, _>(
+    let (disk, ended) = stream::<_, _, _, _, Catalogue, Shelves, _>(
         rt,
         rt.alloc(),
         disk,
@@ -120,10 +126,12 @@ pub(crate) fn stream_told<
             placing: options.at,
             hold: options.hold,
             questions: options.ask,
+            copies: options.copies.is_some(),
         },
         reader,
         writer,
         watch,
+        &mut host,
         Shelves,
         closures,
     );
@@ -142,7 +150,7 @@ fn ended_as(
     disk: Metered<ReadAhead<FileDisk>>,
     path: &str,
     plan: &Plan,
-    options: StreamOptions,
+    options: StreamOptions<'_>,
     ended: Result<(), Fault>,
 ) -> Result<(), Refusal> {
     match ended {
@@ -178,13 +186,27 @@ fn shape_told(
     }
 }
 
-/// Takes the numbers of the standard streams, where one is closed: a status file is opened again and again.
+/// Takes the numbers of the standard streams, where one is closed and files are opened later: a status file, and copies.
 fn held_for<R: Files<File = File>>(
     rt: &R,
     telling: Telling<'_>,
+    options: StreamOptions<'_>,
 ) -> Result<Option<[File; 3]>, Fault> {
-    match telling.status {
-        Some(_) => hold_streams(rt),
+    if telling.status.is_some() || options.copies.is_some() {
+        hold_streams(rt)
+    } else {
+        Ok(None)
+    }
+}
+
+/// The text of the closures of the disk in the file at `path`, if it has one and copies are made, which have it too.
+fn text_for_copies<R: Files<File = File> + AllocGlobal>(
+    rt: &R,
+    path: &str,
+    options: StreamOptions<'_>,
+) -> Result<Option<Vec<u8>>, Refusal> {
+    match options.copies {
+        Some(_folder) => text_of_disk(rt, path),
         None => Ok(None),
     }
 }
@@ -241,13 +263,35 @@ fn follow<R: Places + Wait>(rt: &R, follower: Follower, mut reader: Reader, endi
     ending.of_telling.tell();
 }
 
-/// What a line says: how far a stream has come, and what room its disk has, where that is asked for and known.
+/// What a line says: how far a stream has come, where outputs are held which epoch was seen last, and what room its disk has, where that
+/// is asked for and known.
 #[derive(Clone, Copy, Debug, PartialEq, Eq)]
 struct Line {
     acked: u64,
     done: u64,
     kept: u64,
+    seen: Option<u64>,
     room: Option<Room>,
+}
+
+impl Display for Line {
+    fn fmt<W: Write>(&self, f: &mut Formatter<W>) -> fmt::Result {
+        let Line {
+            acked,
+            done,
+            kept,
+            seen,
+            room,
+        } = self;
+        write!(f, "acked {acked} done {done} kept {kept}")?;
+        if let Some(seen) = seen {
+            write!(f, " seen {seen}")?;
+        }
+        if let Some(room) = room {
+            write!(f, " {room}")?;
+        }
+        Ok(())
+    }
 }
 
 /// What tells how far a stream has come, beside its watch.
@@ -257,6 +301,7 @@ struct Follower {
     is_terminal: bool,
     has_lines: bool,
     has_room: bool,
+    holds: bool,
     shape: Option<Shape>,
     gauge: Arc<Gauge, Global>,
     status: Option<StatusFile>,
@@ -282,6 +327,7 @@ impl Follower {
             is_terminal: telling.stderr.is_terminal(),
             has_lines: telling.progress || telling.room,
             has_room: telling.room,
+            holds: telling.hold,
             shape,
             gauge,
             status,
@@ -300,10 +346,12 @@ impl Follower {
         };
         let [acked, done, kept] = reader.read();
         let counts = self.gauge.counts();
+        let seen = self.seen(kept);
         let mut line = Line {
             acked,
             done,
             kept,
+            seen,
             room: None,
         };
         let Some(shape) = shape else {
@@ -318,37 +366,35 @@ impl Follower {
         let (stderr, before) = (self.stderr, self.before_a_line());
         self.warned.warn(stderr, room, before);
         if let Some(file) = &mut self.status {
-            let status = file.status(acked, done, kept, room, counts, is_last);
+            let status = file.status(acked, done, kept, seen, room, counts, is_last);
             file.write(rt, stderr, status, before);
+        }
+    }
+
+    /// The last epoch that was seen, where outputs are held. It is never behind the one that is kept, which was read before.
+    fn seen(&self, kept: u64) -> Option<u64> {
+        if self.holds {
+            Some(self.gauge.seen().max(kept))
+        } else {
+            None
         }
     }
 
     /// Writes a line, where lines are asked for: each second in which it is another one; and at the end, if it is another one, or none was
     /// written. On a terminal it is written over the line before, which is no longer, or has blanks at its end.
     fn write_line(&mut self, line: Line, is_last: bool) {
-        let Line {
-            acked,
-            done,
-            kept,
-            room,
-        } = line;
         let is_new = match self.written {
             Some(before) => line != before,
-            None => is_last || acked > 0 || done > 0 || kept > 0,
+            None => is_last || line.acked > 0 || line.done > 0 || line.kept > 0,
         };
         if !self.has_lines || !is_new {
             return;
         }
         let stderr = self.stderr;
-        let _ = match (self.is_terminal, room) {
-            (true, None) => eprint!(stderr; "\racked {acked} done {done} kept {kept}"),
-            (true, Some(room)) => {
-                eprint!(stderr; "\racked {acked} done {done} kept {kept} {room}          ")
-            }
-            (false, None) => eprintln!(stderr; "acked {acked} done {done} kept {kept}"),
-            (false, Some(room)) => eprintln!(stderr;
-                "acked {acked} done {done} kept {kept} {room}"
-            ),
+        let _ = match (self.is_terminal, line.room) {
+            (true, None) => eprint!(stderr; "\r{line}"),
+            (true, Some(_)) => eprint!(stderr; "\r{line}          "),
+            (false, _) => eprintln!(stderr; "{line}"),
         };
         self.written = Some(line);
     }

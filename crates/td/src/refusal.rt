@@ -79,27 +79,32 @@ impl Refusal {
         }
     }
 
-    /// The line that is told, in which a control character, as a path may have, is a question mark.
+    /// The line that is told.
     pub(crate) fn line(&self, alloc: Global) -> Result<String, AllocError> {
-        let text = self.text(alloc)?;
-        let mut line = String::new(alloc);
-        for each in text.chars() {
-            line.push(if each.is_control() { '?' } else { each })?;
-        }
-        line.push('\n')?;
-        Ok(line)
+        let words = self.words(alloc)?;
+        format!(in alloc; "td: {words}\n")
     }
 
-    /// What is told.
+    /// What is told, in which a control character, as a path may have, is a question mark.
+    pub(crate) fn words(&self, alloc: Global) -> Result<String, AllocError> {
+        let text = self.text(alloc)?;
+        let mut words = String::new(alloc);
+        for each in text.chars() {
+            words.push(if each.is_control() { '?' } else { each })?;
+        }
+        Ok(words)
+    }
+
+    /// The same with control characters.
     fn text(&self, alloc: Global) -> Result<String, AllocError> {
         match self {
-            Refusal::Plain(fault) | Refusal::New(fault) => format!(in alloc; "td: {fault}"),
-            Refusal::At(fault, cause) => format!(in alloc; "td: {fault}: {cause}"),
-            Refusal::Closures(fault, place) => format!(in alloc; "td: {fault}: {place}"),
-            Refusal::Copy(error) => format!(in alloc; "td: {error}"),
-            Refusal::States(error) => format!(in alloc; "td: {error}"),
-            Refusal::Busy(place) => format!(in alloc; "td: busy: {place}"),
-            Refusal::TooMuchWork(epoch) => format!(in alloc; "td: too much work: epoch {epoch}"),
+            Refusal::Plain(fault) | Refusal::New(fault) => format!(in alloc; "{fault}"),
+            Refusal::At(fault, cause) => format!(in alloc; "{fault}: {cause}"),
+            Refusal::Closures(fault, place) => format!(in alloc; "{fault}: {place}"),
+            Refusal::Copy(error) => format!(in alloc; "{error}"),
+            Refusal::States(error) => format!(in alloc; "{error}"),
+            Refusal::Busy(place) => format!(in alloc; "busy: {place}"),
+            Refusal::TooMuchWork(epoch) => format!(in alloc; "too much work: epoch {epoch}"),
         }
     }
 

@@ -91,6 +91,7 @@ pub(crate) struct Status {
     pub acked: u64,
     pub done: u64,
     pub kept: u64,
+    pub seen: Option<u64>,
     pub room: Room,
     pub records: u64,
     pub epochs_in_a_second: u64,
@@ -116,6 +117,9 @@ impl Status {
         numbers.push("td_acked_epoch", "The last epoch on the disk", self.acked)?;
         numbers.push("td_done_epoch", "The last epoch computed", self.done)?;
         numbers.push("td_kept_epoch", "The epoch of the last cut", self.kept)?;
+        if let Some(seen) = self.seen {
+            numbers.push("td_seen_epoch", SEEN, seen)?;
+        }
         numbers.push("td_cells_used", "Epochs after the last cut", cells.used)?;
         numbers.push("td_cells_limit", "Epochs that find room", cells.of)?;
         numbers.push("td_states_used", "States of the last cut", states.used)?;
@@ -128,6 +132,8 @@ impl Status {
         Ok(text)
     }
 }
+
+const SEEN: &str = "The last epoch that the consumer has stored";
 
 const RECORDS: &str = "Records that the stream has put on the disk";
 

@@ -12,6 +12,7 @@
 mod copying;
 mod epochs;
 mod error;
+pub mod laws;
 mod room;
 mod told;
 mod until;

@@ -20,7 +20,7 @@ use Rattle.td_console.specs.declared.faults.LineFault.TheVariants.{NoSuchInput}
 use Rattle.td_console.specs.declared.faults.Fault.{Fault}
 use Rattle.td_console.specs.declared.faults.Fault.TheVariants.{Line}
 use Rattle.td_feed.specs.declared.order.FeedLine.{FeedLine}
-use Rattle.td_feed.specs.declared.order.FeedLine.TheVariants.{Data, Request, At, Cut, Seen, Ask}
+use Rattle.td_feed.specs.declared.order.FeedLine.TheVariants.{Data, Request, At, Cut, Seen, Ask, Copy}
 use Rattle.td_feed.specs.declared.order.Order.{Order}
 use Rattle.td_feed.specs.declared.order.Order.TheVariants as order
 use Rattle.td_feed.specs.Orders.{Orders, IsAccepted, is_cut, request_of, seen_of, or_data, or_feed_line, has_no_number, is_between, order_for, with_cut, with_request, with_seen, with_line, and_then, ended, orders_from, orders_of, feed_line_of, held_line_of, notes_in}
@@ -65,6 +65,7 @@ submits plan (suc q) batch inputs = inputs
 abbrev pub IsOfFeed : Option FeedLine → Type 0
 IsOfFeed (Some (At epoch)) = ⊥
 IsOfFeed (Some (Ask question)) = ⊥
+IsOfFeed (Some (Copy copy)) = ⊥
 IsOfFeed _ = Unit {0}
 
 pub of_feed : (line : List ℕ) → IsOfFeed (feed_line_of line)
@@ -101,6 +102,7 @@ step : (plan : List PlanLine) (n : ℕ) (orders : List Order) (request : ℕ) (c
     and_then next (with_line plan n (begun orders request current) o) ≡ Ok os → All (IsAccepted plan) os
 step plan n orders request current os next more None of h k e = cc
 step plan n orders request current os next more (Some (Ask question)) of h k e = absurd of
+step plan n orders request current os next more (Some (Copy copy)) of h k e = absurd of
 step plan n orders request current os next more (Some Cut) of h k e = by (is_between (begun orders request current)) e
   where
     by : (between : Bool) → and_then next (with_cut n (begun orders request current) between) ≡ Ok os → All (IsAccepted plan) os
@@ -151,6 +153,7 @@ unnoted plan (order.SubmitAt place request batch ∷ os) is = absurd (All-head (
 unnoted plan (order.Cut ∷ os) is = unnoted plan os (All-tail (IsAccepted plan) order.Cut os is)
 unnoted plan (order.Seen line epoch ∷ os) is = unnoted plan os (All-tail (IsAccepted plan) (order.Seen line epoch) os is)
 unnoted plan (order.Answer vertex wanted ∷ os) is = absurd (All-head (IsAccepted plan) (order.Answer vertex wanted) os is)
+unnoted plan (order.Copy copy ∷ os) is = absurd (All-head (IsAccepted plan) (order.Copy copy) os is)
 unnoted plan (order.Say note ∷ os) is = absurd (All-head (IsAccepted plan) (order.Say note) os is)
 
 pub none_noted : (plan : List PlanLine) (input : List ℕ) (os : List Order) → orders_of plan input ≡ Ok os → notes_in os ≡ []

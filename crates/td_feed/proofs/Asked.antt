@@ -18,13 +18,13 @@ use Rattle.td_console.specs.declared.faults.Fault.{Fault}
 use Rattle.td_console.specs.declared.faults.Fault.TheVariants.{Line, Memory}
 use Rattle.td_questions.specs.Words.{fold_of}
 use Rattle.td_feed.specs.declared.order.FeedLine.{FeedLine}
-use Rattle.td_feed.specs.declared.order.FeedLine.TheVariants.{Data, Request, At, Cut, Seen, Ask}
+use Rattle.td_feed.specs.declared.order.FeedLine.TheVariants.{Data, Request, At, Cut, Seen, Ask, Copy}
 use Rattle.td_feed.specs.declared.order.Order.{Order}
 use Rattle.td_feed.specs.declared.at_once.Asked.{Asked}
 use Rattle.td_feed.specs.declared.at_once.Asked.TheVariants.{One}
 use Rattle.td_feed.specs.declared.order.Order.TheVariants as order
 use Rattle.td_feed.specs.declared.note.Flaw.{Flaw}
-use Rattle.td_feed.specs.Orders.{Orders, Gives, no_orders, numbered, order_at, has_no_number, may_be_placed, is_between, with_cut, with_request, with_place, with_seen, with_answer, with_question, with_line, feed_line_of, session_line_of, orders_from, and_then, ended}
+use Rattle.td_feed.specs.Orders.{Orders, Gives, no_orders, numbered, order_at, has_no_number, may_be_placed, is_between, with_cut, with_request, with_place, with_seen, with_answer, with_question, with_copy, with_line, feed_line_of, service_line_of, orders_from, and_then, ended}
 use Rattle.td_feed.specs.Asked.{Script, Reading, ReadSoFar, refused, is_over, unless_over, flaw_in, unless_refused, judged, with_said, after_line, onward, note_of, with_next, may_end, script_after, script_from, after_order, after_orders, script_on, script_ahead, Completes, HasFault, TakesLine, Asks, IsOf, SameScript, script_left}
 
 -- there is always a part
@@ -145,7 +145,7 @@ judged_prefixed_if os (Ok next) = Ok (judged_prefixed os next)
 judged_prefixed_if os (Err fault) = Err fault
 
 abbrev reading_prefixed : List Order → Reading → Reading
-reading_prefixed os r = record { plan = r.plan; placing = r.placing; hold = r.hold; questions = r.questions; limit = r.limit; number = r.number; flaw = r.flaw; read = prefixed os r.read }
+reading_prefixed os r = record { plan = r.plan; placing = r.placing; hold = r.hold; questions = r.questions; copies = r.copies; limit = r.limit; number = r.number; flaw = r.flaw; read = prefixed os r.read }
 
 abbrev reading_prefixed_if : List Order → Result Reading Fault → Result Reading Fault
 reading_prefixed_if os (Ok r) = Ok (reading_prefixed os r)
@@ -176,6 +176,11 @@ module _ (plan : List PlanLine) (os : List Order) where
       by : (b : Bool) → with_question plan n question (prefixed os read) b ≡ prefixed_if os (with_question plan n question read b)
       by true = to (fold_of plan question.vertex)
       by false = refl
+  line_prefixed n read (Some (Copy copy)) = by (is_between read)
+    where
+      by : (b : Bool) → with_copy n copy (prefixed os read) b ≡ prefixed_if os (with_copy n copy read b)
+      by true = λ i. Ok (record { orders = append_assoc os read.orders (order.Copy copy ∷ []) i; place = read.place; request = read.request; current = read.current })
+      by false = refl
   line_prefixed n read (Some (Request q)) = by (has_no_number read)
     where
       by : (b : Bool) → with_request n q (prefixed os read) b ≡ prefixed_if os (with_request n q read b)
@@ -203,6 +208,7 @@ module _ (plan : List PlanLine) (os : List Order) where
   said_prefixed limit n (Some why) read line (Some Cut) = refl
   said_prefixed limit n (Some why) read line (Some (Seen epoch)) = refl
   said_prefixed limit n (Some why) read line (Some (Ask question)) = refl
+  said_prefixed limit n (Some why) read line (Some (Copy copy)) = refl
   said_prefixed limit n (Some why) read line (Some (Request q)) = refl
   said_prefixed limit n (Some why) read line (Some (At epoch)) = refl
   said_prefixed limit n (Some why) read line (Some (Data PassedOver)) = refl
@@ -230,8 +236,8 @@ module _ (os : List Order) where
 
   next_prefixed : (r : Reading) (line : List ℕ) → with_next (reading_prefixed os r) line ≡ reading_prefixed_if os (with_next r line)
   next_prefixed r line =
-      ap (onward (reading_prefixed os r)) (said_prefixed r.plan os r.limit r.number r.flaw r.read line (session_line_of r.placing r.hold r.questions line))
-      ∙ onward_prefixed r (with_said r.plan r.limit r.number r.flaw r.read line (session_line_of r.placing r.hold r.questions line))
+      ap (onward (reading_prefixed os r)) (said_prefixed r.plan os r.limit r.number r.flaw r.read line (service_line_of r.placing r.hold r.questions r.copies line))
+      ∙ onward_prefixed r (with_said r.plan r.limit r.number r.flaw r.read line (service_line_of r.placing r.hold r.questions r.copies line))
 
   script_prefixed : (r : Reading) (lines : List (List ℕ)) → script_from (reading_prefixed os r) lines ≡ prefixed_script os (script_from r lines)
   script_prefixed r [] = refl
@@ -289,6 +295,11 @@ module _ (plan : List PlanLine) (n : ℕ) where
       by : (b : Bool) → with_question plan n question read b ≡ Ok next → AtMostOne next.orders
       by true e = to (fold_of plan question.vertex) e
       by false e = absurd (let no = e in cc)
+  one_at_most read next (Some (Copy copy)) none is = by (is_between read) is
+    where
+      by : (b : Bool) → with_copy n copy read b ≡ Ok next → AtMostOne next.orders
+      by true e = inr (order.Copy copy, sym (orders_in e) ∙ ap (λ l. l ++ order.Copy copy ∷ []) none)
+      by false e = absurd (let no = e in cc)
   one_at_most read next (Some (Request q)) none is = by (has_no_number read) is
     where
       by : (b : Bool) → with_request n q read b ≡ Ok next → AtMostOne next.orders
@@ -315,6 +326,7 @@ module _ (plan : List PlanLine) (n : ℕ) where
   judged_one limit (Some why) read next line (Some Cut) none is = inl (sym (judged_in is) ∙ none)
   judged_one limit (Some why) read next line (Some (Seen epoch)) none is = inl (sym (judged_in is) ∙ none)
   judged_one limit (Some why) read next line (Some (Ask question)) none is = inl (sym (judged_in is) ∙ none)
+  judged_one limit (Some why) read next line (Some (Copy copy)) none is = inl (sym (judged_in is) ∙ none)
   judged_one limit (Some why) read next line (Some (Request q)) none is = inl (sym (judged_in is) ∙ none)
   judged_one limit (Some why) read next line (Some (At epoch)) none is = inl (sym (judged_in is) ∙ none)
   judged_one limit (Some why) read next line (Some (Data PassedOver)) none is = inl (sym (judged_in is) ∙ none)
@@ -341,9 +353,9 @@ leaving left next = (next.0, record { orders = left; place = next.1.place; reque
 
 module _ (r : Reading) where
   -- ONE LINE MORE, after which the last order was taken out, if there is one
-  pub completes : (next : ReadSoFar) (line : List ℕ) (left : List Order) (taken : Option Order) → r.read.orders ≡ [] → with_said r.plan r.limit r.number r.flaw r.read line (session_line_of r.placing r.hold r.questions line) ≡ Ok next
+  pub completes : (next : ReadSoFar) (line : List ℕ) (left : List Order) (taken : Option Order) → r.read.orders ≡ [] → with_said r.plan r.limit r.number r.flaw r.read line (service_line_of r.placing r.hold r.questions r.copies line) ≡ Ok next
       → next.1.orders ≡ left ++ option_to_list taken → (IsSome taken ↔ (0 < length next.1.orders)) → (left ≡ []) × Completes r (after_line r (leaving left next)) line taken
-  completes next line left taken none is parts some = by (judged_one r.plan r.number r.limit r.flaw r.read next line (session_line_of r.placing r.hold r.questions line) none is) taken parts some
+  completes next line left taken none is parts some = by (judged_one r.plan r.number r.limit r.flaw r.read next line (service_line_of r.placing r.hold r.questions r.copies line) none is) taken parts some
     where
       follows : (more : List (List ℕ)) → script_from r (line ∷ more) ≡ script_from (after_line r next) more
       follows more = ap (λ (w : Result ReadSoFar Fault). script_after r.read (λ q. script_from q more) (onward r w)) is
@@ -375,7 +387,7 @@ module _ (r : Reading) where
                 ∙ script_prefixed (o ∷ []) (after_line r (leaving left next)) more,
           )
 
-  pub at_fault : (line : List ℕ) (fault : Fault) → r.read.orders ≡ [] → with_said r.plan r.limit r.number r.flaw r.read line (session_line_of r.placing r.hold r.questions line) ≡ Err fault → HasFault r line
+  pub at_fault : (line : List ℕ) (fault : Fault) → r.read.orders ≡ [] → with_said r.plan r.limit r.number r.flaw r.read line (service_line_of r.placing r.hold r.questions r.copies line) ≡ Err fault → HasFault r line
   at_fault line fault none is more =
       ap (λ (w : Result ReadSoFar Fault). script_after r.read (λ q. script_from q more) (onward r w)) is ∙ (λ i. record { orders = none i; is_sound = false })
 
@@ -414,12 +426,12 @@ gives_as (Err f) a b is given = ⊎_elim inl (λ e. inr (is ∙ e)) given
 
 -- and the others stand for what was read then
 pub line_read : (r : Reading) (next : ReadSoFar) (line : List ℕ) (left : Orders) (taken : Option Order) (m : ℕ) → r.read.orders ≡ []
-    → with_said r.plan r.limit r.number r.flaw r.read line (session_line_of r.placing r.hold r.questions line) ≡ Ok next → next.1.orders ≡ left.orders ++ option_to_list taken → (IsSome taken ↔ (0 < length next.1.orders))
+    → with_said r.plan r.limit r.number r.flaw r.read line (service_line_of r.placing r.hold r.questions r.copies line) ≡ Ok next → next.1.orders ≡ left.orders ++ option_to_list taken → (IsSome taken ↔ (0 < length next.1.orders))
     → left ≡ record { orders = left.orders; place = next.1.place; request = next.1.request; current = next.1.current } → m ≡ r.number + 1
-    → (left.orders ≡ []) × Completes r (record { plan = r.plan; placing = r.placing; hold = r.hold; questions = r.questions; limit = r.limit; number = m; flaw = next.0; read = left }) line taken
+    → (left.orders ≡ []) × Completes r (record { plan = r.plan; placing = r.placing; hold = r.hold; questions = r.questions; copies = r.copies; limit = r.limit; number = m; flaw = next.0; read = left }) line taken
 line_read r next line left taken m none is parts some same number =
     let all = completes r next line left.orders taken none is parts some in
-    (all.0, subst (λ (q : Reading). Completes r q line taken) (λ i. record { plan = r.plan; placing = r.placing; hold = r.hold; questions = r.questions; limit = r.limit; number = sym number i; flaw = next.0; read = sym same i }) all.1)
+    (all.0, subst (λ (q : Reading). Completes r q line taken) (λ i. record { plan = r.plan; placing = r.placing; hold = r.hold; questions = r.questions; copies = r.copies; limit = r.limit; number = sym number i; flaw = next.0; read = sym same i }) all.1)
 
 -- what was asked for, as lines are taken
 pub same_itself : (s : Option Script) → SameScript s s
@@ -529,7 +541,7 @@ got (Err fault) = []
 
 -- where no epoch is refused
 abbrev plainly : List PlanLine → ℕ → Orders → Reading
-plainly plan n read = record { plan = plan; placing = false; hold = false; questions = false; limit = None; number = n; flaw = None; read = read }
+plainly plan n read = record { plan = plan; placing = false; hold = false; questions = false; copies = false; limit = None; number = n; flaw = None; read = read }
 
 -- AN INPUT WITHOUT A FAULT: its script is its orders
 pub script_is : (plan : List PlanLine) (n : ℕ) (read : Orders) (lines : List (List ℕ)) (orders : List Order) → orders_from plan n read lines ≡ Ok orders

@@ -119,7 +119,7 @@ length_take (suc n) (s ∷ x) le = ap suc (length_take n x (omega (arith, le)))
 
 -- A DISK IS BROUGHT ON
 pub brought : (run : StateList → List (List Entry) → StateList) (plan : List PlanLine) (input : List ℕ) (s : Standing) (history : List Submitted) (orders : List Order)
-    → ArePlaced s.epoch s.submitted orders → ◌≡◌ {A = Script} (script_of true false false None plan input) (record { orders = orders; is_sound = true }) → new_after s.last s.submitted ≡ s.submitted → Stands run s history
+    → ArePlaced s.epoch s.submitted orders → ◌≡◌ {A = Script} (script_of true false false false None plan input) (record { orders = orders; is_sound = true }) → new_after s.last s.submitted ≡ s.submitted → Stands run s history
     → (n : ℕ) → s.epoch ≤ n → n ≤ length history → BringsOn plan input history n
 brought run plan input s history orders are script new stands n from to = λ refuse.
     let x = s.submitted in

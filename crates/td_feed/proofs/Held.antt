@@ -44,6 +44,7 @@ seen_more a b (order.SubmitAt place request batch) less = less
 seen_more a b order.Cut less = less
 seen_more a b (order.Say note) less = less
 seen_more a b (order.Answer vertex wanted) less = less
+seen_more a b (order.Copy copy) less = less
 
 pub seen_further : (a b : ℕ) (orders : List Order) → a ≤ b → seen_after a orders ≤ seen_after b orders
 seen_further a b [] less = less
@@ -57,6 +58,7 @@ seen_one a (order.SubmitAt place request batch) = omega arith
 seen_one a order.Cut = omega arith
 seen_one a (order.Say note) = omega arith
 seen_one a (order.Answer vertex wanted) = omega arith
+seen_one a (order.Copy copy) = omega arith
 
 pub seen_on : (a : ℕ) (orders : List Order) → a ≤ seen_after a orders
 seen_on a [] = omega arith

@@ -7,7 +7,9 @@ pub mod Printable
 pub mod Narrowed
 pub mod Refused
 pub mod Held
+pub mod SeenAsked
 pub mod Lines
+pub mod Copies
 pub mod PlainLines
 pub mod Wording
 pub mod Reread

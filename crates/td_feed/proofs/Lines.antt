@@ -22,12 +22,13 @@ use Rattle.td_console.specs.declared.faults.Fault.{Fault}
 use Rattle.td_console.specs.declared.faults.Fault.TheVariants.{Output, Memory, Keeper}
 use Rattle.td_feed.specs.declared.note.Note.{Note}
 use Rattle.td_questions.specs.declared.question.Wanted.{Wanted as Of}
-use Rattle.td_feed.specs.Noted.{Aside, note_line}
-use Rattle.td_feed.specs.Noted.Aside.{to_say, to_answer}
+use Rattle.td_head.specs.Layout.{Sizes}
+use Rattle.td_feed.specs.Noted.{Aside, copied_in, note_line}
+use Rattle.td_feed.specs.Noted.Aside.{to_say, to_answer, to_copy}
 use Rattle.td_feed.specs.Carried.{is_refused}
 use Rattle.td_feed.specs.Fed.{pool_fault}
-use Rattle.td_feed.specs.Said.{request_in, line_of, answer_text, full_line, Saying, commands_in, replies_in, notes_among, lines_of, Wanted, Says, SaysSome, SaysUnheard, SaysBy, SaysFrom, SaysFed, Refuses}
-use Rattle.td_feed.specs.Said.Saying.{replied, aside, full, answered}
+use Rattle.td_feed.specs.Said.{request_in, line_of, answer_text, full_line, copied_line, not_copied_line, Saying, commands_in, replies_in, notes_among, lines_of, Wanted, Says, SaysSome, SaysUnheard, SaysBy, SaysFrom, SaysFed, copies_said, Refuses}
+use Rattle.td_feed.specs.Said.Saying.{replied, aside, full, answered, copied, not_copied}
 
 -- whether a command's reply has no line
 abbrev pub is_quiet : Command → Bool
@@ -46,6 +47,8 @@ notes-append (replied x r ∷ ss) ts = notes-append ss ts
 notes-append (aside n ∷ ss) ts = ap (λ (l : List Aside). to_say n ∷ l) (notes-append ss ts)
 notes-append (full e ∷ ss) ts = notes-append ss ts
 notes-append (answered v q r ∷ ss) ts = ap (λ (l : List Aside). to_answer v q ∷ l) (notes-append ss ts)
+notes-append (copied n s e ∷ ss) ts = ap (λ (l : List Aside). to_copy n s (Some e) ∷ l) (notes-append ss ts)
+notes-append (not_copied n s w ∷ ss) ts = ap (λ (l : List Aside). to_copy n s None ∷ l) (notes-append ss ts)
 
 module _ {D : Type 0} (is_lawful : D → Type 0) (state : D → DiskState) (failures : D → ℕ) (answers : Answers) (marks : Bool) where
   -- what is said, as commands and their replies
@@ -58,6 +61,8 @@ module _ {D : Type 0} (is_lawful : D → Type 0) (state : D → DiskState) (fail
   told-append (aside n ∷ ss) ts a b c first rest = told-append ss ts a b c first rest
   told-append (full e ∷ ss) ts a b c first rest = told-append ss ts a b c first rest
   told-append (answered v q r ∷ ss) ts a b c first rest = (first.0, first.1, first.2, told-append ss ts first.0 b c first.3 rest)
+  told-append (copied n s e ∷ ss) ts a b c first rest = told-append ss ts a b c first rest
+  told-append (not_copied n s w ∷ ss) ts a b c first rest = told-append ss ts a b c first rest
 
   submitted-append : (ss ts : List Saying) → submitted_by (commands_in (ss ++ ts)) (replies_in (ss ++ ts)) ≡ submitted_by (commands_in ss) (replies_in ss) ++ submitted_by (commands_in ts) (replies_in ts)
   submitted-append [] ts = refl
@@ -69,6 +74,8 @@ module _ {D : Type 0} (is_lawful : D → Type 0) (state : D → DiskState) (fail
   submitted-append (answered v q r ∷ ss) ts =
       ap (λ (l : List AnySubmitted). submitted_in (Answer v q) r ++ l) (submitted-append ss ts)
       ∙ sym (append_assoc (submitted_in (Answer v q) r) (submitted_by (commands_in ss) (replies_in ss)) (submitted_by (commands_in ts) (replies_in ts)))
+  submitted-append (copied n s e ∷ ss) ts = submitted-append ss ts
+  submitted-append (not_copied n s w ∷ ss) ts = submitted-append ss ts
 
   -- lines of what is said, one after another
   lines-append : (ss ts : List Saying) → lines_of marks (ss ++ ts) ≡ lines_of marks ss ++ lines_of marks ts
@@ -78,6 +85,8 @@ module _ {D : Type 0} (is_lawful : D → Type 0) (state : D → DiskState) (fail
   lines-append (aside n ∷ ss) ts = ap (λ (l : List ℕ). note_line n ++ l) (lines-append ss ts) ∙ sym (append_assoc (note_line n) (lines_of marks ss) (lines_of marks ts))
   lines-append (answered v q r ∷ ss) ts =
       ap (λ (l : List ℕ). answer_text v q r ++ l) (lines-append ss ts) ∙ sym (append_assoc (answer_text v q r) (lines_of marks ss) (lines_of marks ts))
+  lines-append (copied n s e ∷ ss) ts = ap (λ (l : List ℕ). copied_line n e ++ l) (lines-append ss ts) ∙ sym (append_assoc (copied_line n e) (lines_of marks ss) (lines_of marks ts))
+  lines-append (not_copied n s w ∷ ss) ts = ap (λ (l : List ℕ). not_copied_line n w ++ l) (lines-append ss ts) ∙ sym (append_assoc (not_copied_line n w) (lines_of marks ss) (lines_of marks ts))
   lines-append (full e ∷ ss) ts = ap (λ (l : List ℕ). full_line e ++ l) (lines-append ss ts) ∙ sym (append_assoc (full_line e) (lines_of marks ss) (lines_of marks ts))
 
   -- the notes of two, where the second has only the first of them
@@ -375,6 +384,33 @@ module _ {D : Type 0} (is_lawful : D → Type 0) (state : D → DiskState) (fail
       ⊎_elim (λ output. inl (output, unheard w w k k (to_say n ∷ []) (unsaid_none w k (to_say n ∷ []))))
       (λ memory. inr (subst (λ (u : Option (List ℕ)). SaysSome is_lawful state failures answers marks w u k k (to_say n ∷ [])) (sym (same memory.1)) (unsaid_none w k (to_say n ∷ [])))) why
 
+  -- that a copy was made was written, or why it was not
+  pub says_copied : (before after : Option (List ℕ)) (n : List ℕ) (s : Sizes) (e : ℕ) (k : Keeping D) → Appends before after (copied_line n e) → Says is_lawful state failures answers marks before after k k [] (to_copy n s (Some e) ∷ [])
+  says_copied before after n s e k said = record {
+    sayings = copied n s e ∷ [];
+    driven = refl;
+    submitted = refl;
+    noted = refl;
+    said = subst (λ (l : List ℕ). Appends before after l) (sym (append-nil (copied_line n e))) said;
+  }
+
+  pub says_not_copied : (before after : Option (List ℕ)) (n : List ℕ) (s : Sizes) (why : List ℕ) (k : Keeping D) → Appends before after (not_copied_line n why) → Says is_lawful state failures answers marks before after k k [] (to_copy n s None ∷ [])
+  says_not_copied before after n s why k said = record {
+    sayings = not_copied n s why ∷ [];
+    driven = refl;
+    submitted = refl;
+    noted = refl;
+    said = subst (λ (l : List ℕ). Appends before after l) (sym (append-nil (not_copied_line n why))) said;
+  }
+
+  -- a line that stands for one of these, where it was to be written
+  pub line_by : (result : Result (Unit {0}) Fault) (w v : Option (List ℕ)) (line : List ℕ) (ns : List Aside) (k : Keeping D) (P : Type 0) → (Appends w v line → Says is_lawful state failures answers marks w v k k [] ns)
+      → OnOk result (Appends w v line) → IfErr result (λ f. (f ≡ Output) ⊎ ((f ≡ Memory) × P)) → (P → v ≡ w) → SaysBy is_lawful state failures answers marks result w v k k [] ns
+  line_by (Ok done) w v line ns k P says said none same = says said
+  line_by (Err f) w v line ns k P says said why same =
+      ⊎_elim (λ output. inl (output, unheard w w k k ns (unsaid_none w k ns)))
+      (λ memory. inr (subst (λ (u : Option (List ℕ)). SaysSome is_lawful state failures answers marks w u k k ns) (sym (same memory.1)) (unsaid_none w k ns))) why
+
   -- an answer, of which nothing was written
   unsaid_answer : (w : Option (List ℕ)) (v : ℕ) (q : Of) (r : Reply) (old new : Keeping D) → Driven is_lawful state failures answers (Answer v q ∷ []) (r ∷ []) old new
       → SaysSome is_lawful state failures answers marks w w old new (to_answer v q ∷ [])
@@ -554,6 +590,10 @@ pub no_device_if : {T : Type 0} (result : Result T Fault) (P : Type 0) → IfErr
 no_device_if (Ok x) P none is = absurd (let not_so = is in cc)
 no_device_if (Err f) P why is = ⊎_elim (λ output. absurd (let not_so = is in let other = output in cc)) (λ memory. absurd (let not_so = is in let other = memory.0 in cc)) why
 
+pub no_device_said : {T : Type 0} (result : Result T Fault) → IfErr result (λ f. (f ≡ Output) ⊎ (f ≡ Memory)) → result ≡ Err (Keeper error.Device) → ⊥
+no_device_said (Ok x) none is = absurd (let not_so = is in cc)
+no_device_said (Err f) why is = ⊎_elim (λ output. absurd (let not_so = is in let other = output in cc)) (λ memory. absurd (let not_so = is in let other = memory in cc)) why
+
 pub output_no_device : {T : Type 0} (result : Result T Fault) → IfErr result (λ f. f ≡ Output) → result ≡ Err (Keeper error.Device) → ⊥
 output_no_device (Ok x) none is = absurd (let not_so = is in cc)
 output_no_device (Err f) why is = absurd (let not_so = is in let other = why in cc)
@@ -581,3 +621,10 @@ module _ {D : Type 0} (is_lawful : D → Type 0) (state : D → DiskState) (fail
       → SaysFrom is_lawful state failures answers marks result plan alone disk left before after wanted → SaysFed is_lawful state failures answers marks result plan alone disk left before after wanted
   fed_says (Ok done) plan alone disk left before after wanted says = says
   fed_says (Err f) plan alone disk left before after wanted says = inr says
+
+  -- and which copies its lines say were made
+  pub says_copies : (result : Result (Unit {0}) Fault) (plan : List PlanLine) (alone : Bool) (disk left : D) (before after : Option (List ℕ)) (wanted : Wanted)
+      (says : SaysFrom is_lawful state failures answers marks result plan alone disk left before after wanted) → copies_said is_lawful state failures answers marks result plan alone disk left before after wanted (fed_says result plan alone disk left before after wanted says) ≡ copied_in says.notes
+  unfolding fed_says
+  says_copies (Ok done) plan alone disk left before after wanted says = refl
+  says_copies (Err f) plan alone disk left before after wanted says = refl

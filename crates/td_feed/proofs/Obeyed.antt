@@ -1,6 +1,6 @@
 -- Orders that were obeyed, one after another, of a script that may be known.
 use Rattle.std.proofs.Common.{◌≡◌, ℕ, zero, suc, ◌≤◌, arith, Bool, true, false, List, [], ◌∷◌, ◌++◌, refl, sym, ap, ◌∙◌, subst, append-nil, append_assoc}
-use Rattle.std.specs.Prelude.{Option, Some, None, Result}
+use Rattle.std.specs.Prelude.{Option, Some, None, Result, Ok, Err, OnOk}
 use Rattle.std.proofs.lemmas.Option.{IfSome_then}
 use Rattle.std.specs.Option.{IfSome}
 use Rattle.td_calls.specs.Answers.{Answers}
@@ -13,15 +13,19 @@ use Rattle.td_keeper.specs.Keeping.{Keeping}
 use Rattle.td_feed.specs.declared.order.Order.{Order}
 use Rattle.td_feed.specs.declared.at_once.Asked.{Asked}
 use Rattle.td_feed.specs.declared.at_once.Asked.TheVariants.{One, Epochs}
-use Rattle.td_feed.specs.Noted.{Aside}
+use Rattle.td_feed.specs.Noted.{Aside, ComeOf, copied_in}
 use Rattle.td_feed.specs.Orders.{submissions, notes_in, order_for, new_after}
-use Rattle.td_feed.specs.Asked.{Script, Asks, IsOf, asked_for, notes_for}
-use Rattle.td_feed.specs.Held.{seen_then, seen_after, then_seen, asked_seen, seen_with, SameBase, GoesUpTo, KeepsTo}
+use Rattle.td_feed.specs.Asked.{Script, SeeNothing, Asks, IsOf, asked_for, notes_for}
+use Rattle.td_feed.specs.Copied.{Copied, MakesCopies}
+use Rattle.td_feed.specs.Session.{FeedsCopying}
+use Rattle.td_feed.specs.Held.{seen_after, then_seen, asked_seen, seen_with, told_seen, TellsSeen, SameBase, KeepsTo}
 use Rattle.td_feed.specs.Carried.{new_to, Carries, Leaves}
 use Rattle.td_console.specs.declared.faults.Fault.{Fault}
 use Rattle.td_feed.specs.Said.{Says, SaysBy}
-use Rattle.td_feed.proofs.Carrying.{unmoved, then_carries, carries_then, then_leaves, leaves_all}
-use Rattle.td_feed.proofs.Held.{seen_further, seen_on, seen_append, up_to_then, up_to_same, up_to_further}
+use Rattle.td_feed.proofs.Carrying.{at_ok, unmoved, then_carries, carries_then, then_leaves, leaves_all}
+use Rattle.td_feed.proofs.Held.{seen_on, seen_append, up_to_then, up_to_further, keeps_same, keeps_then}
+use Rattle.td_feed.proofs.SeenAsked.{nothing_seen, one_for, none_seen, seen_with_more, told_over, tells_taken}
+use Rattle.td_feed.proofs.Copies.{as_they_ask, none_yet, come-append, copied-append, none_made, made_then, made_within}
 use Rattle.td_feed.proofs.Lines.{says_then, then_quiet}
 use Rattle.td_feed.proofs.Newness.{new_on, new_after-append}
 use Rattle.td_feed.proofs.Released.{submissions-append, notes-append}
@@ -74,48 +78,50 @@ those : (asked : Asked) (orders : List Order) → IsOf asked orders → submissi
 those (One order) orders is = ap submissions is
 those (Epochs group) orders is = is.0
 
--- what was seen then is at most what these say
-their_seen : (asked : Asked) (first now : ℕ) → now ≤ first → asked_seen now asked ≤ seen_after first (as_orders asked)
-unfolding as_orders
-their_seen (One order) first now less = seen_further now first (order ∷ []) less
-their_seen (Epochs group) first now less = let on = seen_on first (each_order group) in omega (arith, less, on)
+-- what was seen then is what these say
+each_see : (group : List Submitted) → SeeNothing (each_order group)
+unfolding each_order
+each_see [] = tt
+each_see (s ∷ group) = one_for s.request s.batch (each_order group) (each_see group)
 
-those_seen : (asked : Asked) (orders : List Order) → IsOf asked orders → (first now : ℕ) → now ≤ first → asked_seen now asked ≤ seen_after first orders
-those_seen (One order) orders is first now less = subst (λ (os : List Order). seen_then now order ≤ seen_after first os) (sym is) (seen_further now first (order ∷ []) less)
-those_seen (Epochs group) orders is first now less = let on = seen_on first orders in omega (arith, less, on)
+their_seen : (asked : Asked) (last : ℕ) → asked_seen last asked ≡ seen_after last (as_orders asked)
+unfolding as_orders
+their_seen (One order) last = refl
+their_seen (Epochs group) last = sym (nothing_seen (each_order group) (each_see group) last)
+
+those_seen : (asked : Asked) (orders : List Order) → IsOf asked orders → (last : ℕ) → asked_seen last asked ≡ seen_after last orders
+those_seen (One order) orders is last = sym (ap (seen_after last) is)
+those_seen (Epochs group) orders is last = sym (nothing_seen orders is.3 last)
 
 those_notes : (asked : Asked) (orders : List Order) → IsOf asked orders → notes_in orders ≡ notes_for asked
 those_notes (One order) orders is = ap notes_in is
 those_notes (Epochs group) orders is = is.1
 
 -- WHAT WAS SEEN SO FAR, where outputs are held, by some orders, after a first epoch: nothing is kept beyond it
-abbrev pub HasSeen : {D : Type 0} → Option ℕ → List Order → Option ℕ → Keeping D → Keeping D → Type 0
-HasSeen None done seen old new = seen ≡ None
-HasSeen (Some first) done seen old new = (now : ℕ) × (seen ≡ Some now) × (now ≤ seen_after first done) × GoesUpTo (seen_after first done) old new
+pub record HasSeen {D : Type 0} (first : Option ℕ) (done : List Order) (seen : Option ℕ) (old new : Keeping D) : Type 0 where
+  pub now : seen ≡ then_seen first done
+  pub keeps : KeepsTo (then_seen first done) old new
 
 module _ {D : Type 0} where
   -- before the first order
   seen_first : (first : Option ℕ) (old new : Keeping D) → KeepsTo first old new → HasSeen first [] first old new
-  seen_first None old new keeps = refl
-  seen_first (Some first) old new keeps = (first, refl, omega arith, keeps)
+  seen_first first old new keeps = record { now = sym (none_seen first); keeps = subst (λ (o : Option ℕ). KeepsTo o old new) (sym (none_seen first)) keeps }
+
+  -- up to what was seen, and then with more orders
+  keeps_more : (first : Option ℕ) (done more : List Order) (old there new : Keeping D) → KeepsTo (then_seen first done) old there → KeepsTo (then_seen first (done ++ more)) there new
+      → KeepsTo (then_seen first (done ++ more)) old new
+  keeps_more None done more old there new one other = tt
+  keeps_more (Some first) done more old there new one other =
+      let on = seen_append first done more in
+      let further = seen_on (seen_after first done) more in
+      up_to_then (seen_after first (done ++ more)) (up_to_further (seen_after first done) (seen_after first (done ++ more)) (omega (arith, further, on)) one) other
 
   -- with what was asked for
-  seen_asked : (first seen next : Option ℕ) (done more : List Order) (asked : Asked) (old there new : Keeping D) → ((from now : ℕ) → now ≤ from → asked_seen now asked ≤ seen_after from more)
+  seen_asked : (first seen next : Option ℕ) (done more : List Order) (asked : Asked) (old there new : Keeping D) → ((last : ℕ) → asked_seen last asked ≡ seen_after last more)
       → HasSeen first done seen old there → next ≡ seen_with seen asked → KeepsTo next there new → HasSeen first (done ++ more) next old new
-  seen_asked None seen next done more asked old there new low has is keeps = is ∙ ap (λ (o : Option ℕ). seen_with o asked) has
-  seen_asked (Some first) seen next done more asked old there new low has is keeps =
-      let now : ℕ = asked_seen has.0 asked in
-      let at : next ≡ Some now = is ∙ ap (λ (o : Option ℕ). seen_with o asked) has.1 in
-      let on : seen_after first (done ++ more) ≡ seen_after (seen_after first done) more = seen_append first done more in
-      let further = seen_on (seen_after first done) more in
-      let least = low (seen_after first done) has.0 has.2 in
-      let goes : GoesUpTo now there new = subst (λ (o : Option ℕ). KeepsTo o there new) at keeps in (
-        now,
-        at,
-        omega (arith, least, on),
-        up_to_then (seen_after first (done ++ more)) (up_to_further (seen_after first done) (seen_after first (done ++ more)) (omega (arith, further, on)) has.3)
-            (up_to_further now (seen_after first (done ++ more)) (omega (arith, least, on)) goes),
-      )
+  seen_asked first seen next done more asked old there new same has is keeps =
+      let now : next ≡ then_seen first (done ++ more) = is ∙ ap (λ (o : Option ℕ). seen_with o asked) has.now ∙ seen_with_more first done more asked same in
+      record { now = now; keeps = keeps_more first done more old there new has.keeps (subst (λ (o : Option ℕ). KeepsTo o there new) now keeps) }
 
   -- of a script of which these are done
   seen_of_part : (all left : Option Script) (first seen : Option ℕ) (done : List Order) (old new : Keeping D) → IsPart all done left → HasSeen first done seen old new
@@ -126,31 +132,60 @@ module _ {D : Type 0} where
   seen_of_part (Some s) (Some l) (Some first) seen done old new part has =
       let on = seen_on (seen_after first done) l.orders in
       let whole : seen_after first s.orders ≡ seen_after (seen_after first done) l.orders = ap (seen_after first) part.0 ∙ seen_append first done l.orders in
-      up_to_further (seen_after first done) (seen_after first s.orders) (omega (arith, on, whole)) has.3
+      up_to_further (seen_after first done) (seen_after first s.orders) (omega (arith, on, whole)) has.keeps
 
   -- and nothing moved its base since
   seen_then_same : (first seen : Option ℕ) (done : List Order) (old there new : Keeping D) → HasSeen first done seen old there → SameBase there new → HasSeen first done seen old new
-  seen_then_same None seen done old there new has same = has
-  seen_then_same (Some first) seen done old there new has same =
-      (has.0, has.1, has.2, up_to_then (seen_after first done) has.3 (up_to_same (seen_after first done) same))
+  seen_then_same first seen done old there new has same =
+      record { now = has.now; keeps = keeps_then (then_seen first done) old there new has.keeps (keeps_same (then_seen first done) same) }
 
-module _ {D : Type 0} (is_lawful : D → Type 0) (state : D → DiskState) (failures : D → ℕ) (answers : Answers) (marks : Bool) where
-  -- THE ORDERS SO FAR were obeyed by a keeper, and its lines written
-  pub record HasObeyed (all left : Option Script) (u v : Option (List ℕ)) (old new : Keeping D) (first seen : Option ℕ) : Type 0 where
+module _ {D E : Type 0} (is_lawful : D → Type 0) (state : D → DiskState) (failures : D → ℕ) (answers : Answers) (marks : Bool) (is_new_lawful : E → Type 0) (new_state : E → DiskState) where
+  -- THE ORDERS SO FAR were obeyed by a keeper, its lines written, and the copies for which they ask made
+  pub record HasObeyed (all left : Option Script) (u v : Option (List ℕ)) (had has : Option (List (Copied E))) (old new : Keeping D) (first seen : Option ℕ) : Type 0 where
     pub done : List Order
     pub known : IsPart all done left
-    pub said : Says is_lawful state failures answers marks u v old new (new_to old (submissions done)) (notes_in done)
+    pub answered : List Aside
+    pub came : ComeOf (notes_in done) answered
+    pub said : Says is_lawful state failures answers marks u v old new (new_to old (submissions done)) answered
+    pub copied : MakesCopies is_lawful is_new_lawful new_state answers (copied_in answered) had has old (new_to old (submissions done))
     pub carried : Carries answers old new (new_to old (submissions done))
+    pub sound : is_lawful old.device → is_lawful new.device
     pub held : HasSeen first done seen old new
 
-  pub none_obeyed : (all : Option Script) (u v : Option (List ℕ)) (old new : Keeping D) (first : Option ℕ) → Says is_lawful state failures answers marks u v old new [] [] → Carries answers old new [] → KeepsTo first old new → HasObeyed all all u v old new first first
-  none_obeyed all u v old new first said carried keeps = record { done = []; known = by all; said = said; carried = carried; held = seen_first first old new keeps }
+  pub none_obeyed : (all : Option Script) (u v : Option (List ℕ)) (kept : Option (List (Copied E))) (old new : Keeping D) (first : Option ℕ) → Says is_lawful state failures answers marks u v old new [] [] → Carries answers old new [] → (is_lawful old.device → is_lawful new.device)
+      → KeepsTo first old new → HasObeyed all all u v kept kept old new first first
+  none_obeyed all u v kept old new first said carried sound keeps = record {
+    done = [];
+    known = by all;
+    answered = [];
+    came = refl;
+    said = said;
+    copied = none_made is_lawful is_new_lawful new_state answers kept old [];
+    carried = carried;
+    sound = sound;
+    held = seen_first first old new keeps;
+  }
     where
       by : (all : Option Script) → IsPart all [] all
       by None = tt
       by (Some s) = (refl, refl)
 
-  module _ (all left next : Option Script) (u v w : Option (List ℕ)) (old there new : Keeping D) (asked : Asked) (first seen : Option ℕ) (so : HasObeyed all left u v old there first seen) (asks : Asks left next (Some asked)) where
+  -- what came of some orders, and the notes of those after them, of which nothing is done
+  whole_script : (all done later : List Order) (answered : List Aside) (had has : Option (List (Copied E))) (old : Keeping D) (x : List Submitted) → all ≡ done ++ later → new_to old (submissions done) ≡ x
+      → ComeOf (notes_in done) answered → MakesCopies is_lawful is_new_lawful new_state answers (copied_in answered) had has old x
+      → (rest : List Aside) × ComeOf (notes_in all) (answered ++ rest) × MakesCopies is_lawful is_new_lawful new_state answers (copied_in (answered ++ rest)) had has old (new_to old (submissions all))
+  whole_script all done later answered had has old x parts is came copied = (
+    notes_in later,
+    come-append (notes_in done) (notes_in later) answered (notes_in later) came (as_they_ask later) ∙ sym (ap notes_in parts ∙ notes-append done later),
+    (let said : copied_in (answered ++ notes_in later) ≡ copied_in answered = copied-append answered (notes_in later) ∙ ap (λ (l : List (List ℕ × ℕ)). copied_in answered ++ l) (none_yet later) ∙ append-nil (copied_in answered) in
+        let more : List Submitted = new_after (greatest (last_request old.standing) (new_to old (submissions done))) (submissions later) in
+        let whole : new_to old (submissions all) ≡ x ++ more = ap (new_to old) (ap submissions parts ∙ submissions-append done later) ∙ new_after-append (last_request old.standing) (submissions done) (submissions later) ∙ ap (λ (l : List Submitted). l ++ more) is in
+        subst (λ (y : List Submitted). MakesCopies is_lawful is_new_lawful new_state answers (copied_in (answered ++ notes_in later)) had has old y) (sym whole)
+        (subst (λ (l : List (List ℕ × ℕ)). MakesCopies is_lawful is_new_lawful new_state answers l had has old (x ++ more)) (sym said)
+        (made_within is_lawful is_new_lawful new_state answers (copied_in answered) had has old x more copied))),
+  )
+
+  module _ (all left next : Option Script) (u v w : Option (List ℕ)) (had has then : Option (List (Copied E))) (old there new : Keeping D) (asked : Asked) (first seen : Option ℕ) (so : HasObeyed all left u v had has old there first seen) (asks : Asks left next (Some asked)) where
     abbrev more : List Submitted
     more = asked_for asked
 
@@ -158,11 +193,11 @@ module _ {D : Type 0} (is_lawful : D → Type 0) (state : D → DiskState) (fail
     noted = notes_for asked
 
     -- the orders that were asked for
-    orders : (o : List Order) × (submissions o ≡ more) × IsPart all (so.done ++ o) next × (notes_in o ≡ noted) × ((from now : ℕ) → now ≤ from → asked_seen now asked ≤ seen_after from o)
+    orders : (o : List Order) × (submissions o ≡ more) × IsPart all (so.done ++ o) next × (notes_in o ≡ noted) × ((last : ℕ) → asked_seen last asked ≡ seen_after last o)
     orders = by all left next so.known asks
       where
         by : (all left next : Option Script) → IsPart all so.done left → Asks left next (Some asked)
-            → (o : List Order) × (submissions o ≡ more) × IsPart all (so.done ++ o) next × (notes_in o ≡ noted) × ((from now : ℕ) → now ≤ from → asked_seen now asked ≤ seen_after from o)
+            → (o : List Order) × (submissions o ≡ more) × IsPart all (so.done ++ o) next × (notes_in o ≡ noted) × ((last : ℕ) → asked_seen last asked ≡ seen_after last o)
         by None left next is a = (as_orders asked, these asked, tt, their_notes asked, their_seen asked)
         by (Some s) None next is a = absurd is
         by (Some s) (Some l) None is a = absurd a
@@ -177,21 +212,50 @@ module _ {D : Type 0} (is_lawful : D → Type 0) (state : D → DiskState) (fail
     noted_so_far : notes_in (so.done ++ orders.0) ≡ notes_in so.done ++ noted
     noted_so_far = notes-append so.done orders.0 ∙ ap (λ (l : List Aside). notes_in so.done ++ l) orders.3
 
-    pub some_obeyed : (later : Option ℕ) → later ≡ seen_with seen asked → KeepsTo later there new → Says is_lawful state failures answers marks v w there new (new_to there more) noted
-        → Carries answers there new (new_to there more) → HasObeyed all next u w old new first later
-    some_obeyed later is keeps said carried = record {
+    came_so_far : (more_done : List Aside) → ComeOf noted more_done → ComeOf (notes_in (so.done ++ orders.0)) (so.answered ++ more_done)
+    came_so_far more_done came = come-append (notes_in so.done) noted so.answered more_done so.came came ∙ sym noted_so_far
+
+    copied_so_far : (more_done : List Aside) → MakesCopies is_lawful is_new_lawful new_state answers (copied_in more_done) has then there (new_to there more)
+        → MakesCopies is_lawful is_new_lawful new_state answers (copied_in (so.answered ++ more_done)) had then old (new_to old (submissions so.done) ++ new_to there more)
+    copied_so_far more_done copied =
+        subst (λ (said : List (List ℕ × ℕ)). MakesCopies is_lawful is_new_lawful new_state answers said had then old (new_to old (submissions so.done) ++ new_to there more)) (sym (copied-append so.answered more_done))
+        (made_then is_lawful is_new_lawful new_state answers (copied_in so.answered) (copied_in more_done) had has then old there (new_to old (submissions so.done)) (new_to there more) so.sound so.carried so.copied copied)
+
+    pub some_obeyed : (later : Option ℕ) → later ≡ seen_with seen asked → KeepsTo later there new → (is_lawful there.device → is_lawful new.device) → (d : Unit {0})
+        → FeedsCopying is_lawful state failures answers marks is_new_lawful new_state (Ok d) v w has then there new (new_to there more) noted → HasObeyed all next u w had then old new first later
+    some_obeyed later is keeps sound d fed = record {
       done = so.done ++ orders.0;
       known = orders.2;
-      said = subst (λ (x : List Submitted). Says is_lawful state failures answers marks u w old new x (notes_in (so.done ++ orders.0))) (sym also_new)
-          (subst (λ (ns : List Aside). Says is_lawful state failures answers marks u w old new (new_to old (submissions so.done) ++ new_to there more) ns) (sym noted_so_far)
-          (says_then is_lawful state failures answers marks u v w old there new (new_to old (submissions so.done)) (new_to there more) (notes_in so.done) noted so.said said));
-      carried = subst (λ (x : List Submitted). Carries answers old new x) (sym also_new) (then_carries answers old there new (new_to old (submissions so.done)) (new_to there more) so.carried carried);
+      answered = so.answered ++ fed.done;
+      came = came_so_far fed.done fed.came;
+      said = subst (λ (x : List Submitted). Says is_lawful state failures answers marks u w old new x (so.answered ++ fed.done)) (sym also_new)
+          (says_then is_lawful state failures answers marks u v w old there new (new_to old (submissions so.done)) (new_to there more) so.answered fed.done so.said fed.fed.said);
+      copied = subst (λ (x : List Submitted). MakesCopies is_lawful is_new_lawful new_state answers (copied_in (so.answered ++ fed.done)) had then old x) (sym also_new) (copied_so_far fed.done fed.copied);
+      carried = subst (λ (x : List Submitted). Carries answers old new x) (sym also_new) (then_carries answers old there new (new_to old (submissions so.done)) (new_to there more) so.carried fed.fed.carried);
+      sound = λ lawful. sound (so.sound lawful);
       held = seen_asked first seen later so.done orders.0 asked old there new orders.4 so.held is keeps;
     }
 
     -- also where they were refused
     pub some_held : (later : Option ℕ) → later ≡ seen_with seen asked → KeepsTo later there new → IfSome all (λ s. KeepsTo (then_seen first s.orders) old new)
     some_held later is keeps = seen_of_part all next first later (so.done ++ orders.0) old new orders.2 (seen_asked first seen later so.done orders.0 asked old there new orders.4 so.held is keeps)
+
+    -- and what they say was seen was told
+    pub some_seen : (r : Result (Unit {0}) Fault) (later before after : Option ℕ) → (f : Fault) × (r ≡ Err f) → later ≡ seen_with seen asked → after ≡ told_seen before later → IfSome all (λ s. TellsSeen r first s.orders before after)
+    some_seen r later before after refused is told = by all next orders.2
+      where
+        now : later ≡ then_seen first (so.done ++ orders.0)
+        now = is ∙ ap (λ (o : Option ℕ). seen_with o asked) so.held.now ∙ seen_with_more first so.done orders.0 asked orders.4
+
+        by : (all next : Option Script) → IsPart all (so.done ++ orders.0) next → IfSome all (λ s. TellsSeen r first s.orders before after)
+        by None next part = tt
+        by (Some s) None part = absurd part
+        by (Some s) (Some n) part =
+            tells_taken r first later before after s.orders (so.done ++ orders.0) n.orders part.0 (subst (λ (q : Result (Unit {0}) Fault). OnOk q (n.orders ≡ [])) (sym refused.1) tt) told now
+
+    pub told_on : (later before : Option ℕ) → later ≡ seen_with seen asked → told_seen (told_seen before seen) later ≡ told_seen before later
+    told_on later before is =
+        told_over before first seen later so.done (so.done ++ orders.0) so.held.now (is ∙ ap (λ (o : Option ℕ). seen_with o asked) so.held.now ∙ seen_with_more first so.done orders.0 asked orders.4)
 
     -- or they were refused
     pub some_refused : Leaves is_lawful state answers there new (new_to there more) → IfSome all (λ s. Leaves is_lawful state answers old new (new_to old (submissions s.orders)))
@@ -218,24 +282,32 @@ module _ {D : Type 0} (is_lawful : D → Type 0) (state : D → DiskState) (fail
             then_leaves is_lawful state answers old there new (new_to old (submissions so.done)) (new_to there more) (others n.orders) (new_to old (submissions s.orders))
             (whole s n.orders is.0) so.carried leaves
 
-    -- the notes so far are a beginning of the script's
-    pub notes_left : IfSome all (λ s. (later : List Aside) × ((notes_in so.done ++ noted) ++ later ≡ notes_in s.orders))
-    notes_left = by all next orders.2
+    -- what came of the script's notes, of which those after them are not done
+    pub came_left : (more_done : List Aside) → ComeOf noted more_done
+        → MakesCopies is_lawful is_new_lawful new_state answers (copied_in more_done) has then there (new_to there more)
+        → IfSome all (λ s. (later : List Aside) × ComeOf (notes_in s.orders) ((so.answered ++ more_done) ++ later)
+        × MakesCopies is_lawful is_new_lawful new_state answers (copied_in ((so.answered ++ more_done) ++ later)) had then old (new_to old (submissions s.orders)))
+    came_left more_done came copied = by all next orders.2
       where
-        by : (all next : Option Script) → IsPart all (so.done ++ orders.0) next → IfSome all (λ s. (later : List Aside) × ((notes_in so.done ++ noted) ++ later ≡ notes_in s.orders))
+        by : (all next : Option Script) → IsPart all (so.done ++ orders.0) next
+            → IfSome all (λ s. (later : List Aside) × ComeOf (notes_in s.orders) ((so.answered ++ more_done) ++ later)
+            × MakesCopies is_lawful is_new_lawful new_state answers (copied_in ((so.answered ++ more_done) ++ later)) had then old (new_to old (submissions s.orders)))
         by None next is = tt
         by (Some s) None is = absurd is
         by (Some s) (Some n) is =
-            (notes_in n.orders, ap (λ (l : List Aside). l ++ notes_in n.orders) (sym noted_so_far) ∙ sym (notes-append (so.done ++ orders.0) n.orders) ∙ sym (ap notes_in is.0))
+            whole_script s.orders (so.done ++ orders.0) n.orders (so.answered ++ more_done) had then old (new_to old (submissions so.done) ++ new_to there more) is.0 also_new (came_so_far more_done came) (copied_so_far more_done copied)
 
-  module _ (all left next : Option Script) (u v : Option (List ℕ)) (old there : Keeping D) (first seen : Option ℕ) (so : HasObeyed all left u v old there first seen) where
-    pub notes_there : IfSome all (λ s. (later : List Aside) × (notes_in so.done ++ later ≡ notes_in s.orders))
-    notes_there = by all left so.known
+  module _ (all left next : Option Script) (u v : Option (List ℕ)) (had has : Option (List (Copied E))) (old there : Keeping D) (first seen : Option ℕ) (so : HasObeyed all left u v had has old there first seen) where
+    pub came_there : IfSome all (λ s. (later : List Aside) × ComeOf (notes_in s.orders) (so.answered ++ later)
+        × MakesCopies is_lawful is_new_lawful new_state answers (copied_in (so.answered ++ later)) had has old (new_to old (submissions s.orders)))
+    came_there = by all left so.known
       where
-        by : (all left : Option Script) → IsPart all so.done left → IfSome all (λ s. (later : List Aside) × (notes_in so.done ++ later ≡ notes_in s.orders))
+        by : (all left : Option Script) → IsPart all so.done left
+            → IfSome all (λ s. (later : List Aside) × ComeOf (notes_in s.orders) (so.answered ++ later)
+            × MakesCopies is_lawful is_new_lawful new_state answers (copied_in (so.answered ++ later)) had has old (new_to old (submissions s.orders)))
         by None left is = tt
         by (Some s) None is = absurd is
-        by (Some s) (Some l) is = (notes_in l.orders, sym (notes-append so.done l.orders) ∙ sym (ap notes_in is.0))
+        by (Some s) (Some l) is = whole_script s.orders so.done l.orders so.answered had has old (new_to old (submissions so.done)) is.0 refl so.came so.copied
 
     -- where no further one was asked for
     pub left_there : IfSome all (λ s. Leaves is_lawful state answers old there (new_to old (submissions s.orders)))
@@ -252,6 +324,16 @@ module _ {D : Type 0} (is_lawful : D → Type 0) (state : D → DiskState) (fail
     -- nothing is kept beyond what was seen
     pub held_there : (new : Keeping D) → SameBase there new → IfSome all (λ s. KeepsTo (then_seen first s.orders) old new)
     held_there new same = seen_of_part all left first seen so.done old new so.known (seen_then_same first seen so.done old there new so.held same)
+
+    -- what was seen is told
+    pub seen_there : (r : Result (Unit {0}) Fault) (before after : Option ℕ) → (f : Fault) × (r ≡ Err f) → after ≡ told_seen before seen → IfSome all (λ s. TellsSeen r first s.orders before after)
+    seen_there r before after refused told = by all left so.known
+      where
+        by : (all left : Option Script) → IsPart all so.done left → IfSome all (λ s. TellsSeen r first s.orders before after)
+        by None left part = tt
+        by (Some s) None part = absurd part
+        by (Some s) (Some l) part =
+            tells_taken r first seen before after s.orders so.done l.orders part.0 (subst (λ (q : Result (Unit {0}) Fault). OnOk q (l.orders ≡ [])) (sym refused.1) tt) told so.held.now
 
     -- where the script has ended
     pub is_sound : Asks left next None → IfSome all (λ s. s.is_sound ≡ true)
@@ -281,10 +363,21 @@ module _ {D : Type 0} (is_lawful : D → Type 0) (state : D → DiskState) (fail
     at_end_left new asks carried = IfSome_then all (at_end_carried new asks carried) (λ s whole. leaves_all is_lawful state answers old new (new_to old (submissions s.orders)) whole)
 
     pub at_end_said : (result : Result (Unit {0}) Fault) (w : Option (List ℕ)) (new : Keeping D) → Asks left next None → SaysBy is_lawful state failures answers marks result v w there new [] []
-        → IfSome all (λ s. SaysBy is_lawful state failures answers marks result u w old new (new_to old (submissions s.orders)) (notes_in s.orders))
+        → IfSome all (λ s. SaysBy is_lawful state failures answers marks result u w old new (new_to old (submissions s.orders)) so.answered)
     at_end_said result w new asks said =
-        IfSome_then all (all_done asks) (λ s is. subst (λ (os : List Order). SaysBy is_lawful state failures answers marks result u w old new (new_to old (submissions os)) (notes_in os)) (sym is)
-        (then_quiet is_lawful state failures answers marks result u v w old there new (new_to old (submissions so.done)) (notes_in so.done) so.said said))
+        IfSome_then all (all_done asks) (λ s is. subst (λ (os : List Order). SaysBy is_lawful state failures answers marks result u w old new (new_to old (submissions os)) so.answered) (sym is)
+        (then_quiet is_lawful state failures answers marks result u v w old there new (new_to old (submissions so.done)) so.answered so.said said))
+
+    pub at_end_seen : (r : Result (Unit {0}) Fault) (before after : Option ℕ) → Asks left next None → after ≡ told_seen before seen → IfSome all (λ s. TellsSeen r first s.orders before after)
+    at_end_seen r before after asks told =
+        IfSome_then all (all_done asks) (λ s is. tells_taken r first seen before after s.orders so.done [] (is ∙ sym (append-nil so.done)) (at_ok r refl) told so.held.now)
+
+    pub at_end_came : Asks left next None → IfSome all (λ s. ComeOf (notes_in s.orders) so.answered)
+    at_end_came asks = IfSome_then all (all_done asks) (λ s is. so.came ∙ ap notes_in (sym is))
+
+    pub at_end_copied : Asks left next None → IfSome all (λ s. MakesCopies is_lawful is_new_lawful new_state answers (copied_in so.answered) had has old (new_to old (submissions s.orders)))
+    at_end_copied asks =
+        IfSome_then all (all_done asks) (λ s is. subst (λ (os : List Order). MakesCopies is_lawful is_new_lawful new_state answers (copied_in so.answered) had has old (new_to old (submissions os))) (sym is) so.copied)
 
   -- a refusal before the first order
   pub none_left : (old new : Keeping D) (more : List Submitted) → old.broken ≡ false → Leaves is_lawful state answers old new [] → Leaves is_lawful state answers old new more

@@ -31,6 +31,7 @@ no_place-append (order.SubmitAt place request batch ∷ xs) ys a b = absurd a
 no_place-append (order.Cut ∷ xs) ys a b = no_place-append xs ys a b
 no_place-append (order.Seen line epoch ∷ xs) ys a b = no_place-append xs ys a b
 no_place-append (order.Answer vertex wanted ∷ xs) ys a b = no_place-append xs ys a b
+no_place-append (order.Copy copy ∷ xs) ys a b = no_place-append xs ys a b
 no_place-append (order.Say note ∷ xs) ys a b = no_place-append xs ys a b
 
 -- what some epochs and then others come to
@@ -53,6 +54,7 @@ module _ (sound refuses : Bool) where
   one_placed told last order.Cut orders none = refl
   one_placed told last (order.Seen line epoch) orders none = refl
   one_placed told last (order.Answer vertex wanted) orders none = refl
+  one_placed told last (order.Copy copy) orders none = refl
   one_placed told last (order.Say note) orders none = refl
 
   head_none : (o : Order) (orders : List Order) → HaveNoPlace (o ∷ orders) → HaveNoPlace (o ∷ []) × HaveNoPlace orders
@@ -62,6 +64,7 @@ module _ (sound refuses : Bool) where
   head_none order.Cut orders none = (tt, none)
   head_none (order.Seen line epoch) orders none = (tt, none)
   head_none (order.Answer vertex wanted) orders none = (tt, none)
+  head_none (order.Copy copy) orders none = (tt, none)
   head_none (order.Say note) orders none = (tt, none)
 
   -- AND SOME, before others
@@ -196,6 +199,7 @@ seen_there refuses told (order.SubmitAt place request batch) seen = by (place.ep
 seen_there refuses told order.Cut seen = refl
 seen_there refuses told (order.Seen line epoch) seen = refl
 seen_there refuses told (order.Answer vertex wanted) seen = refl
+seen_there refuses told (order.Copy copy) seen = refl
 seen_there refuses told (order.Say note) seen = refl
 
 -- and a script says there that no more was seen

@@ -27,7 +27,7 @@ use Rattle.td_feed.proofs.Reread.{IsRead, record_words, record_printable, record
 
 -- where a stream is whose epochs have places, and are not refused
 abbrev pub reading : List PlanLine → ℕ → Orders → Reading
-reading plan n read = record { plan = plan; placing = true; hold = false; questions = false; limit = None; number = n; flaw = None; read = read }
+reading plan n read = record { plan = plan; placing = true; hold = false; questions = false; copies = false; limit = None; number = n; flaw = None; read = read }
 
 -- A STREAM READS ON: after some lines of a text it has this, and the rest is left
 abbrev Goes : List PlanLine → Orders → List ℕ → Orders → List ℕ → Type 0
@@ -178,7 +178,7 @@ summary_goes plan sizes s rest =
 
 -- THE WHOLE TEXT
 pub asks_placed : (plan : List PlanLine) (sizes : Sizes) (s : Standing) → s.epoch + length s.submitted < 2 ^ 63 → Each (IsRead plan) s.submitted
-    → (orders : List Order) × ArePlaced s.epoch s.submitted orders × ◌≡◌ {A = Script} (script_of true false false None plan (placed_dump sizes s)) (record { orders = orders; is_sound = true })
+    → (orders : List Order) × ArePlaced s.epoch s.submitted orders × ◌≡◌ {A = Script} (script_of true false false false None plan (placed_dump sizes s)) (record { orders = orders; is_sound = true })
 asks_placed plan sizes s small each =
     let first = summary_goes plan sizes s (placed_text s.epoch s.submitted) 1 in
     let more = epochs_go plan [] s.epoch first.0 s.submitted small each in

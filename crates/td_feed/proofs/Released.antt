@@ -1,5 +1,6 @@
 -- What calls of a hall leave as it was, and what a loop has gone over.
 use Rattle.std.proofs.Common.{◌≡◌, ℕ, ◌+◌, ◌<◌, ◌==◌, Bool, true, false, List, [], ◌∷◌, ◌++◌, length, take, drop, get_or, refl, sym, ap, ◌∙◌}
+use Rattle.std.specs.Prelude.{None}
 use Rattle.std.proofs.lemmas.List.{take-append-drop, drop_more}
 use Rattle.td_stamp.specs.declared.values.Entry.{Entry}
 use Rattle.td_journal.specs.declared.submitted.Submitted.{Submitted}
@@ -11,7 +12,7 @@ use Rattle.td_keeper.specs.Halls.{with_released, cut_hall, last_passed}
 use Rattle.td_feed.specs.declared.order.Order.{Order}
 use Rattle.td_feed.specs.declared.order.Order.TheVariants as order
 use Rattle.td_feed.specs.Noted.{Aside}
-use Rattle.td_feed.specs.Noted.Aside.{to_say, to_answer}
+use Rattle.td_feed.specs.Noted.Aside.{to_say, to_answer, to_copy}
 use Rattle.td_feed.specs.Orders.{submissions, notes_in}
 
 release_by-plan : (S : HallState) (closed at_end : Bool) (batch : List Entry) → (release_by S closed at_end batch).1.plan ≡ S.plan
@@ -40,6 +41,7 @@ submissions-append (order.SubmitAt place request batch ∷ xs) ys = ap (λ (l : 
 submissions-append (order.Cut ∷ xs) ys = submissions-append xs ys
 submissions-append (order.Seen line epoch ∷ xs) ys = submissions-append xs ys
 submissions-append (order.Answer vertex wanted ∷ xs) ys = submissions-append xs ys
+submissions-append (order.Copy copy ∷ xs) ys = submissions-append xs ys
 submissions-append (order.Say note ∷ xs) ys = submissions-append xs ys
 
 -- and their notes and answers
@@ -51,6 +53,7 @@ notes-append (order.SubmitAt place request batch ∷ xs) ys = notes-append xs ys
 notes-append (order.Cut ∷ xs) ys = notes-append xs ys
 notes-append (order.Seen line epoch ∷ xs) ys = notes-append xs ys
 notes-append (order.Answer vertex wanted ∷ xs) ys = ap (λ (l : List Aside). to_answer vertex wanted ∷ l) (notes-append xs ys)
+notes-append (order.Copy copy ∷ xs) ys = ap (λ (l : List Aside). to_copy copy.name copy.shape None ∷ l) (notes-append xs ys)
 notes-append (order.Say note ∷ xs) ys = ap (λ (l : List Aside). to_say note ∷ l) (notes-append xs ys)
 
 -- a list at the place that a loop has come to

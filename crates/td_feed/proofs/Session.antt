@@ -22,17 +22,19 @@ use Rattle.std.specs.Io.KnownBytes.{Appends}
 use Rattle.td_console.specs.declared.faults.Fault.TheVariants.{Keeper, Output, Memory}
 use Rattle.td_feed.specs.Noted.{note_line}
 use Rattle.td_feed.specs.Carried.{batch_in, new_to, Carries, Leaves}
-use Rattle.td_feed.specs.Said.{answer_text, full_line, SaysBy, Refuses}
+use Rattle.td_feed.specs.Said.{answer_text, full_line, Says, SaysBy, Refuses}
 use Rattle.td_feed.specs.declared.note.Note.{Note}
 use Rattle.td_questions.specs.declared.question.Wanted.{Wanted as Of}
-use Rattle.td_feed.specs.Noted.{Aside}
+use Rattle.td_feed.specs.Noted.{Aside, ComeOf, copied_in}
 use Rattle.td_feed.specs.Noted.Aside.{to_say, to_answer}
 use Rattle.td_feed.specs.Orders.{submissions, notes_in}
 use Rattle.td_feed.specs.Asked.{Script}
-use Rattle.td_feed.specs.Session.{KeepsDisk, FeedsNoting, Feeds, FeedsScript, IsObeyed, IsNotObeyed}
+use Rattle.td_feed.specs.Copied.{Copied, MakesCopies}
+use Rattle.td_feed.specs.Session.{KeepsDisk, FeedsNoting, Feeds, FeedsCopying, FeedsScript, IsObeyed, IsNotObeyed}
+use Rattle.td_feed.proofs.Copies.{as_they_ask, none_yet, none_made}
 use Rattle.td_feed.proofs.Carrying.{at_err, at_ok, ok_only, ended_ok, ended_err, unmoved, then_carries, carries_then, carries_after, leaves_none, leaves_all, leaves_then, leaves_after}
 use Rattle.td_feed.proofs.Counting.{counts_same, counts_handed, counts_after, same_count, ended_counts}
-use Rattle.td_feed.proofs.Lines.{EndedAs, is_quiet, says_nothing, then_quiet, then_by, quietly, noted_by, answered_by, unanswered, full_by, unsaid_none, refused_some, ended_says}
+use Rattle.td_feed.proofs.Lines.{EndedAs, is_quiet, says_nothing, then_quiet, then_by, quietly, noted_by, line_by, answered_by, unanswered, full_by, unsaid_none, refused_some, ended_says}
 
 -- what holds of the value, where it is known
 pub known : {A : Type 0} (P : A → Type 0) (o : Option A) (a : A) → o ≡ Some a → IfSome o P → P a
@@ -154,6 +156,15 @@ module _ {D : Type 0} {is_lawful : D → Type 0} {state : D → DiskState} {fail
     said = noted_by is_lawful state failures answers marks r u v note k P said unsaid same;
   }
 
+  -- a line that stands for one of these was to be written
+  pub fed_line : {u v : Option (List ℕ)} {k : Keeping D} {P : Type 0} (r : Result (Unit {0}) Fault) (line : List ℕ) (ns : List Aside) → k.broken ≡ false → (Appends u v line → Says is_lawful state failures answers marks u v k k [] ns)
+      → OnOk r (Appends u v line) → IfErr r (λ f. (f ≡ Output) ⊎ ((f ≡ Memory) × P)) → (P → v ≡ u) → FeedsNoting is_lawful state failures answers marks r u v k k [] ns
+  fed_line {u = u} {v = v} {k = k} {P = P} r line ns whole says said unsaid same = record {
+    carried = at_ok r (unmoved answers k k refl refl whole);
+    left = at_err r (leaves_none is_lawful state answers k k [] (unmoved answers k k refl refl whole));
+    said = line_by is_lawful state failures answers marks r u v line ns k P says said unsaid same;
+  }
+
   -- a question was answered, and the answer was to be written
   pub fed_answer : {u v : Option (List ℕ)} {a b : Keeping D} {P : Type 0} (r : Result (Unit {0}) Fault) (vertex : ℕ) (wanted : Of) (reply : Reply) → IsObeyed is_lawful state failures answers (Answer vertex wanted) reply a b
       → Carries answers a b [] → OnOk r (Appends u v (answer_text vertex wanted reply)) → IfErr r (λ f. (f ≡ Output) ⊎ ((f ≡ Memory) × P)) → (P → v ≡ u)
@@ -191,33 +202,67 @@ module _ {D : Type 0} {is_lawful : D → Type 0} {state : D → DiskState} {fail
     said = inr (unsaid_none is_lawful state failures answers marks w k ns);
   }
 
-  pub none_fed : {w : Option (List ℕ)} {k : Keeping D} {s : Script} (f : Fault) → k.broken ≡ false → FeedsScript is_lawful state failures answers marks (Err f) w w k k s
-  none_fed f whole = record { sound = tt; fed = unfed f whole }
-
   -- what is left at any answer
   pub left_of : {u v : Option (List ℕ)} {a b : Keeping D} {x : List Submitted} {ns : List Aside} (r : Result (Unit {0}) Fault) → FeedsNoting is_lawful state failures answers marks r u v a b x ns → Leaves is_lawful state answers a b x
   left_of {a = a} {b = b} {x = x} (Ok d) fed = leaves_all is_lawful state answers a b x fed.carried
   left_of (Err f) fed = fed.left
 
+-- WHAT IS FED, with copies
+module _ {D E : Type 0} {is_lawful : D → Type 0} {state : D → DiskState} {failures : D → ℕ} {answers : Answers} {marks : Bool} {is_new_lawful : E → Type 0} {new_state : E → DiskState} where
+  -- nothing that asks for a copy
+  pub fed_uncopied : {r : Result (Unit {0}) Fault} {u v : Option (List ℕ)} {kept : Option (List (Copied E))} {a b : Keeping D} {x : List Submitted} (ns : List Aside) → ComeOf ns ns → copied_in ns ≡ []
+      → FeedsNoting is_lawful state failures answers marks r u v a b x ns → FeedsCopying is_lawful state failures answers marks is_new_lawful new_state r u v kept kept a b x ns
+  fed_uncopied {kept = kept} {a = a} {x = x} ns came none fed = record {
+    done = ns;
+    came = came;
+    fed = fed;
+    copied = subst (λ (said : List (List ℕ × ℕ)). MakesCopies is_lawful is_new_lawful new_state answers said kept kept a x) (sym none) (none_made is_lawful is_new_lawful new_state answers kept a x);
+  }
+
+  pub none_fed : {w : Option (List ℕ)} {kept : Option (List (Copied E))} {k : Keeping D} {s : Script} (f : Fault) → k.broken ≡ false
+      → FeedsScript is_lawful state failures answers marks is_new_lawful new_state (Err f) w w kept kept k k s
+  none_fed {s = s} f whole = record { sound = tt; fed = fed_uncopied (notes_in s.orders) (as_they_ask s.orders) (none_yet s.orders) (unfed f whole) }
+
+  -- and then nothing more
+  pub copying_then : {d : Unit {0}} {r : Result (Unit {0}) Fault} {u v w : Option (List ℕ)} {had has : Option (List (Copied E))} {a b c : Keeping D} {x : List Submitted} {ns : List Aside}
+      → FeedsCopying is_lawful state failures answers marks is_new_lawful new_state (Ok d) u v had has a b x ns → Feeds is_lawful state failures answers marks r v w b c []
+      → FeedsCopying is_lawful state failures answers marks is_new_lawful new_state r u w had has a c x ns
+  copying_then first next = record { done = first.done; came = first.came; fed = fed_then first.fed next; copied = first.copied }
+
+  -- the same fault is handed on
+  pub copying_handed : {e : Fault} {u v : Option (List ℕ)} {had has : Option (List (Copied E))} {a b : Keeping D} {x : List Submitted} {ns : List Aside} (r : Result (Unit {0}) Fault) → IsErrAnd r (λ f. f ≡ e)
+      → FeedsCopying is_lawful state failures answers marks is_new_lawful new_state (Err e) u v had has a b x ns → FeedsCopying is_lawful state failures answers marks is_new_lawful new_state r u v had has a b x ns
+  copying_handed r is fed = record { done = fed.done; came = fed.came; fed = fed_handed r is fed.fed; copied = fed.copied }
+
   -- how a feed of a script ended
-  pub fed_ended : {u v : Option (List ℕ)} {a b : Keeping D} {s : Script} (obeyed r : Result (Unit {0}) Fault) (worked : Result (Unit {0}) PoolError) → OnOk r ((obeyed ≡ Ok tt) × (worked ≡ Ok tt)) → IfErr r (EndedAs obeyed worked)
-      → FeedsScript is_lawful state failures answers marks obeyed u v a b s → FeedsScript is_lawful state failures answers marks r u v a b s
+  pub fed_ended : {u v : Option (List ℕ)} {had has : Option (List (Copied E))} {a b : Keeping D} {s : Script} (obeyed r : Result (Unit {0}) Fault) (worked : Result (Unit {0}) PoolError) → OnOk r ((obeyed ≡ Ok tt) × (worked ≡ Ok tt)) → IfErr r (EndedAs obeyed worked)
+      → FeedsScript is_lawful state failures answers marks is_new_lawful new_state obeyed u v had has a b s → FeedsScript is_lawful state failures answers marks is_new_lawful new_state r u v had has a b s
   fed_ended {u = u} {v = v} {a = a} {b = b} {s = s} obeyed r worked ok err fed =
       let x : List Submitted = new_to a (submissions s.orders) in
-      let same = ok_only (obeyed ≡ Ok tt) (worked ≡ Ok tt) r ok in record {
+      let same = ok_only (obeyed ≡ Ok tt) (worked ≡ Ok tt) r ok in
+      let noting = fed.fed.fed in record {
         sound = ended_ok (s.is_sound ≡ true) tt obeyed r same fed.sound;
         fed = record {
-          carried = ended_ok (Carries answers a b x) tt obeyed r same fed.fed.carried;
-          left = ended_err (Carries answers a b x) (Leaves is_lawful state answers a b x) obeyed r (λ whole. leaves_all is_lawful state answers a b x whole) fed.fed.carried fed.fed.left;
-          said = ended_says is_lawful state failures answers marks u v a b x (notes_in s.orders) obeyed r worked ok err fed.fed.said;
+          done = fed.fed.done;
+          came = fed.fed.came;
+          fed = record {
+            carried = ended_ok (Carries answers a b x) tt obeyed r same noting.carried;
+            left = ended_err (Carries answers a b x) (Leaves is_lawful state answers a b x) obeyed r (λ whole. leaves_all is_lawful state answers a b x whole) noting.carried noting.left;
+            said = ended_says is_lawful state failures answers marks u v a b x fed.fed.done obeyed r worked ok err noting.said;
+          };
+          copied = fed.fed.copied;
         };
       }
 
   -- a script was refused
-  pub err_fed : {u v : Option (List ℕ)} {a b : Keeping D} {s : Script} (P : Fault → Type 0) (r : Result (Unit {0}) Fault) → IsErrAnd r P → Leaves is_lawful state answers a b (new_to a (submissions s.orders))
-      → SaysBy is_lawful state failures answers marks r u v a b (new_to a (submissions s.orders)) (notes_in s.orders) → FeedsScript is_lawful state failures answers marks r u v a b s
-  err_fed P (Ok d) none left said = absurd none
-  err_fed P (Err f) holds left said = record { sound = tt; fed = record { carried = tt; left = left; said = said } }
+  pub err_fed : {u v : Option (List ℕ)} {had has : Option (List (Copied E))} {a b : Keeping D} {s : Script} (P : Fault → Type 0) (r : Result (Unit {0}) Fault) (done : List Aside) → IsErrAnd r P
+      → ComeOf (notes_in s.orders) done → Leaves is_lawful state answers a b (new_to a (submissions s.orders))
+      → SaysBy is_lawful state failures answers marks r u v a b (new_to a (submissions s.orders)) done
+      → MakesCopies is_lawful is_new_lawful new_state answers (copied_in done) had has a (new_to a (submissions s.orders))
+      → FeedsScript is_lawful state failures answers marks is_new_lawful new_state r u v had has a b s
+  err_fed P (Ok d) done none came left said copied = absurd none
+  err_fed P (Err f) done holds came left said copied =
+      record { sound = tt; fed = record { done = done; came = came; fed = record { carried = tt; left = left; said = said }; copied = copied } }
 
 module _ {D : Type 0} {is_lawful : D → Type 0} {state : D → DiskState} {failures : D → ℕ} {answers : Answers} where
   -- a hall of its own was released into: it has all batches

@@ -17,10 +17,11 @@ use Rattle.td_console.specs.declared.faults.Fault.{Fault}
 use Rattle.td_console.specs.declared.faults.Fault.TheVariants.{Line}
 use Rattle.td_feed.specs.declared.note.Flaw.{Flaw}
 use Rattle.td_feed.specs.declared.order.Place.{Place}
+use Rattle.td_feed.specs.declared.order.CopyTo.{CopyTo}
 use Rattle.td_feed.specs.declared.order.FeedLine.{FeedLine}
-use Rattle.td_feed.specs.declared.order.FeedLine.TheVariants.{Data, Request, At, Cut, Seen, Ask}
+use Rattle.td_feed.specs.declared.order.FeedLine.TheVariants.{Data, Request, At, Cut, Seen, Ask, Copy}
 use Rattle.td_feed.specs.declared.order.Order.TheVariants as order
-use Rattle.td_feed.specs.Orders.{Orders, no_orders, order_for, order_at, is_between, has_no_number, with_cut, with_request, with_seen, with_answer, with_question, with_line, held_line_of, or_stream_line, session_line_of}
+use Rattle.td_feed.specs.Orders.{Orders, no_orders, order_for, order_at, is_between, has_no_number, with_cut, with_request, with_seen, with_answer, with_question, with_line, held_line_of, or_stream_line, session_line_of, or_session_line, service_line_of, copy_of, with_copy}
 use Rattle.td_feed.specs.Asked.{Reading, ReadSoFar, HaveNoPlace, note_of, judged, unless_over, is_over, with_said, onward, after_line, script_after, script_from, script_of}
 use Rattle.td_feed.specs.Placed.{placed}
 use Rattle.td_feed.proofs.Accepted.{IsOfFeed, of_held}
@@ -39,6 +40,7 @@ no_place_in (Some (At epoch)) of = of
 no_place_in (Some Cut) of = tt
 no_place_in (Some (Seen epoch)) of = tt
 no_place_in (Some (Ask question)) of = tt
+no_place_in (Some (Copy copy)) of = tt
 
 -- where epochs have no places, no line of a stream does, and no question
 of_session : (hold questions : Bool) (line : List ℕ) → NamesNoPlace (session_line_of false hold questions line)
@@ -49,6 +51,16 @@ of_session hold true line = by (list_all is_ascii line) (question_of (words line
     by false question = tt
     by true (Some question) = tt
     by true None = no_place_in (held_line_of hold line) (of_held hold line)
+
+-- nor does one that asks for a copy
+of_service : (hold questions copies : Bool) (line : List ℕ) → NamesNoPlace (service_line_of false hold questions copies line)
+of_service hold questions false line = of_session hold questions line
+of_service hold questions true line = by (list_all is_ascii line) (copy_of (words line))
+  where
+    by : (ascii : Bool) (copy : Option CopyTo) → NamesNoPlace (if ascii then or_session_line false hold questions line copy else None)
+    by false copy = tt
+    by true (Some copy) = tt
+    by true None = of_session hold questions line
 
 -- neither the orders so far nor the open epoch have places
 abbrev IsPlain : Orders → Type 0
@@ -81,6 +93,11 @@ line_plain plan n read (Some (Ask question)) of is = by (is_between read)
 
     by : (b : Bool) → IfOk (with_question plan n question read b) IsPlain
     by true = to (fold_of plan question.vertex)
+    by false = tt
+line_plain plan n read (Some (Copy copy)) of is = by (is_between read)
+  where
+    by : (b : Bool) → IfOk (with_copy n copy read b) IsPlain
+    by true = (is.0, no_place-append read.orders (order.Copy copy ∷ []) is.1 tt)
     by false = tt
 line_plain plan n read (Some (Request q)) of is = by (has_no_number read)
   where
@@ -117,21 +134,22 @@ said_plain plan limit n (Some why) read line None of is = (refl, is.1)
 said_plain plan limit n (Some why) read line (Some Cut) of is = (refl, is.1)
 said_plain plan limit n (Some why) read line (Some (Seen epoch)) of is = (refl, is.1)
 said_plain plan limit n (Some why) read line (Some (Ask question)) of is = (refl, is.1)
+said_plain plan limit n (Some why) read line (Some (Copy copy)) of is = (refl, is.1)
 said_plain plan limit n (Some why) read line (Some (Request q)) of is = (refl, is.1)
 said_plain plan limit n (Some why) read line (Some (At epoch)) of is = absurd of
 said_plain plan limit n (Some why) read line (Some (Data PassedOver)) of is = (refl, is.1)
 said_plain plan limit n (Some why) read line (Some (Data (Record input rec))) of is = (refl, is.1)
 said_plain plan limit n (Some why) read line (Some (Data Close)) of is = (refl, no_place-append read.orders (order.Say (note_of read.request why) ∷ []) is.1 tt)
 
-script_plain : (plan : List PlanLine) (hold questions : Bool) (limit : Option ℕ) (n : ℕ) (flaw : Option (ℕ × Flaw)) (read : Orders) (lines : List (List ℕ)) → IsPlain read
-    → HaveNoPlace (script_from (record { plan = plan; placing = false; hold = hold; questions = questions; limit = limit; number = n; flaw = flaw; read = read }) lines).orders
-script_plain plan hold questions limit n flaw read [] is = is.1
-script_plain plan hold questions limit n flaw read (line ∷ lines) is =
-    by (with_said plan limit n flaw read line (session_line_of false hold questions line)) (said_plain plan limit n flaw read line (session_line_of false hold questions line) (of_session hold questions line) is)
-    (λ next plain. script_plain plan hold questions limit (n + 1) next.0 next.1 lines plain)
+script_plain : (plan : List PlanLine) (hold questions copies : Bool) (limit : Option ℕ) (n : ℕ) (flaw : Option (ℕ × Flaw)) (read : Orders) (lines : List (List ℕ)) → IsPlain read
+    → HaveNoPlace (script_from (record { plan = plan; placing = false; hold = hold; questions = questions; copies = copies; limit = limit; number = n; flaw = flaw; read = read }) lines).orders
+script_plain plan hold questions copies limit n flaw read [] is = is.1
+script_plain plan hold questions copies limit n flaw read (line ∷ lines) is =
+    by (with_said plan limit n flaw read line (service_line_of false hold questions copies line)) (said_plain plan limit n flaw read line (service_line_of false hold questions copies line) (of_service hold questions copies line) is)
+    (λ next plain. script_plain plan hold questions copies limit (n + 1) next.0 next.1 lines plain)
   where
     here : Reading
-    here = record { plan = plan; placing = false; hold = hold; questions = questions; limit = limit; number = n; flaw = flaw; read = read }
+    here = record { plan = plan; placing = false; hold = hold; questions = questions; copies = copies; limit = limit; number = n; flaw = flaw; read = read }
 
     by : (w : Result ReadSoFar Fault) → IfOk w IsPlainSoFar → ((next : ReadSoFar) → IsPlainSoFar next → HaveNoPlace (script_from (after_line here next) lines).orders)
         → HaveNoPlace (script_after read (λ more. script_from more lines) (onward here w)).orders
@@ -139,7 +157,7 @@ script_plain plan hold questions limit n flaw read (line ∷ lines) is =
     by (Err fault) plain more = is.1
 
 -- WHERE EPOCHS HAVE NO PLACES, a script is the same at each disk
-pub same_anywhere : (hold questions : Bool) (limit : Option ℕ) (plan : List PlanLine) (input : List ℕ) (refuses : Bool) (told last : ℕ) → placed refuses told last (script_of false hold questions limit plan input) ≡ script_of false hold questions limit plan input
-same_anywhere hold questions limit plan input refuses told last =
-    let script = script_of false hold questions limit plan input in
-    all_placed script.is_sound refuses told last script.orders (script_plain plan hold questions limit 1 None no_orders (text_lines input) (refl, tt))
+pub same_anywhere : (hold questions copies : Bool) (limit : Option ℕ) (plan : List PlanLine) (input : List ℕ) (refuses : Bool) (told last : ℕ) → placed refuses told last (script_of false hold questions copies limit plan input) ≡ script_of false hold questions copies limit plan input
+same_anywhere hold questions copies limit plan input refuses told last =
+    let script = script_of false hold questions copies limit plan input in
+    all_placed script.is_sound refuses told last script.orders (script_plain plan hold questions copies limit 1 None no_orders (text_lines input) (refl, tt))

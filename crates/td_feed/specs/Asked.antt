@@ -24,7 +24,7 @@ use Rattle.td_feed.specs.declared.reading.Reading.{Reading as AnyReading}
 use Rattle.td_feed.specs.declared.at_once.Asked.{Asked}
 use Rattle.td_feed.specs.declared.at_once.Asked.TheVariants.{One, Epochs}
 use Rattle.td_feed.specs.Noted.{Aside, flaw_of, cause_in}
-use Rattle.td_feed.specs.Orders.{Orders, no_orders, numbered, is_between, session_line_of, with_line, with_order, submissions, notes_in}
+use Rattle.td_feed.specs.Orders.{Orders, no_orders, numbered, is_between, service_line_of, with_line, with_order, submissions, notes_in}
 
 -- what is left of an input, of which some bytes were read and are in no line yet
 abbrev pub unread : Option (List ℕ) → List ℕ → Option (List ℕ)
@@ -101,14 +101,15 @@ abbrev pub with_said : List PlanLine → Option ℕ → ℕ → Option (ℕ × F
 with_said plan limit n (Some why) read line said = Ok (passed_over why read said)
 with_said plan limit n None read line said = judged limit n line read (with_line plan n read said)
 
--- WHERE A STREAM IS in its input: its plan; whether epochs may have places; whether outputs are held; whether questions are answered; where
--- it refuses epochs, how many records one may have; the number of the next line; why the epoch that is open is refused, if it is; and what
--- was read
+-- WHERE A STREAM IS in its input: its plan; whether epochs may have places; whether outputs are held; whether questions are answered; whether
+-- copies are made; where it refuses epochs, how many records one may have; the number of the next line; why the epoch that is open is
+-- refused, if it is; and what was read
 pub record Reading : Type 0 where
   pub plan : List PlanLine
   pub placing : Bool
   pub hold : Bool
   pub questions : Bool
+  pub copies : Bool
   pub limit : Option ℕ
   pub number : ℕ
   pub flaw : Option (ℕ × Flaw)
@@ -116,22 +117,22 @@ pub record Reading : Type 0 where
 
 -- of a reader of lines
 abbrev pub place : AnyReading → Reading
-place r = record { plan = r.plan.now; placing = r.placing; hold = r.hold; questions = r.questions; limit = r.limit; number = r.number; flaw = r.flaw; read = r.read }
+place r = record { plan = r.plan.now; placing = r.placing; hold = r.hold; questions = r.questions; copies = r.copies; limit = r.limit; number = r.number; flaw = r.flaw; read = r.read }
 
 -- before the first line
-abbrev pub at_start : Bool → Bool → Bool → Option ℕ → List PlanLine → Reading
-at_start placing hold questions limit plan = record { plan = plan; placing = placing; hold = hold; questions = questions; limit = limit; number = 1; flaw = None; read = no_orders }
+abbrev pub at_start : Bool → Bool → Bool → Bool → Option ℕ → List PlanLine → Reading
+at_start placing hold questions copies limit plan = record { plan = plan; placing = placing; hold = hold; questions = questions; copies = copies; limit = limit; number = 1; flaw = None; read = no_orders }
 
 -- after one line more, or its fault
 abbrev pub after_line : Reading → ReadSoFar → Reading
-after_line r next = record { plan = r.plan; placing = r.placing; hold = r.hold; questions = r.questions; limit = r.limit; number = r.number + 1; flaw = next.0; read = next.1 }
+after_line r next = record { plan = r.plan; placing = r.placing; hold = r.hold; questions = r.questions; copies = r.copies; limit = r.limit; number = r.number + 1; flaw = next.0; read = next.1 }
 
 abbrev pub onward : Reading → Result ReadSoFar Fault → Result Reading Fault
 onward r (Ok next) = Ok (after_line r next)
 onward r (Err fault) = Err fault
 
 abbrev pub with_next : Reading → List ℕ → Result Reading Fault
-with_next r line = onward r (with_said r.plan r.limit r.number r.flaw r.read line (session_line_of r.placing r.hold r.questions line))
+with_next r line = onward r (with_said r.plan r.limit r.number r.flaw r.read line (service_line_of r.placing r.hold r.questions r.copies line))
 
 -- at the end, no epoch may have begun
 abbrev pub may_end : Option (ℕ × Flaw) → Bool → Bool
@@ -148,10 +149,10 @@ abbrev pub script_from : Reading → List (List ℕ) → Script
 script_from r [] = record { orders = r.read.orders; is_sound = may_end r.flaw (is_between r.read) }
 script_from r (line ∷ lines) = script_after r.read (λ more. script_from more lines) (with_next r line)
 
--- THE SCRIPT OF AN INPUT, of a stream whose epochs may have places or not, that holds outputs or not, that answers questions or not, and that
--- refuses epochs, with so many records at most, or not
-abbrev pub script_of : Bool → Bool → Bool → Option ℕ → List PlanLine → List ℕ → Script
-script_of placing hold questions limit plan input = script_from (at_start placing hold questions limit plan) (text_lines input)
+-- THE SCRIPT OF AN INPUT, of a stream whose epochs may have places or not, that holds outputs or not, that answers questions or not, that
+-- makes copies or not, and that refuses epochs, with so many records at most, or not
+abbrev pub script_of : Bool → Bool → Bool → Bool → Option ℕ → List PlanLine → List ℕ → Script
+script_of placing hold questions copies limit plan input = script_from (at_start placing hold questions copies limit plan) (text_lines input)
 
 -- what is left of a script, where the rest of the input is known
 abbrev pub script_left : Option (List ℕ) → Reading → Option Script
@@ -200,6 +201,7 @@ IsNext last (order.SubmitAt place request batch) = ⊥
 IsNext last order.Cut = ⊥
 IsNext last (order.Seen line epoch) = ⊥
 IsNext last (order.Answer vertex wanted) = ⊥
+IsNext last (order.Copy copy) = ⊥
 IsNext last (order.Say note) = ⊥
 
 -- what is asked for at once submits these
@@ -207,7 +209,7 @@ abbrev pub asked_for : Asked → List Submitted
 asked_for (One order) = submissions (order ∷ [])
 asked_for (Epochs group) = group
 
--- and has these notes written, and these questions answered
+-- and has these notes written, these questions answered, and these copies made
 abbrev pub notes_for : Asked → List Aside
 notes_for (One order) = notes_in (order ∷ [])
 notes_for (Epochs group) = []
@@ -218,10 +220,16 @@ HaveNoPlace [] = Unit {0}
 HaveNoPlace (order.SubmitAt place request batch ∷ orders) = ⊥
 HaveNoPlace (_ ∷ orders) = HaveNoPlace orders
 
+-- nor says what was seen
+abbrev pub SeeNothing : List Order → Type 0
+SeeNothing [] = Unit {0}
+SeeNothing (order.Seen line epoch ∷ orders) = ⊥
+SeeNothing (_ ∷ orders) = SeeNothing orders
+
 -- and is these orders: one alone, or some that submit a group, in no place
 abbrev pub IsOf : Asked → List Order → Type 0
 IsOf (One order) orders = orders ≡ order ∷ []
-IsOf (Epochs group) orders = (submissions orders ≡ group) × (notes_in orders ≡ []) × HaveNoPlace orders
+IsOf (Epochs group) orders = (submissions orders ≡ group) × (notes_in orders ≡ []) × HaveNoPlace orders × SeeNothing orders
 
 -- something was asked for, the first of a script; or nothing, and the script has ended without a fault
 abbrev pub Asks : Option Script → Option Script → Option Asked → Type 0

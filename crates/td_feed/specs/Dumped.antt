@@ -80,7 +80,7 @@ pub record Dumps (plan : List PlanLine) (before after : Option (List ℕ)) (is_l
 -- AN INPUT BRINGS A DISK ON to a history, of which it stands for the first so many
 abbrev pub BringsOn : List PlanLine → List ℕ → List Submitted → ℕ → Type 0
 BringsOn plan input history n = (refuse : Bool) → take n history
-    ++ new_after (greatest 0 (take n history)) (submissions (placed refuse (length (take n history)) (greatest 0 (take n history)) (script_of true false false None plan input)).orders) ≡ history
+    ++ new_after (greatest 0 (take n history)) (submissions (placed refuse (length (take n history)) (greatest 0 (take n history)) (script_of true false false false None plan input)).orders) ≡ history
 
 -- A DISK WAS DUMPED WITH PLACES: the text of a standing was appended to what a writer holds. A lawful disk tells that standing, whatever a
 -- crash leaves of it. As an input the text brings any disk on that stands for a beginning of the same history, which has the checkpoint's
@@ -93,7 +93,7 @@ pub record DumpsPlaced (plan : List PlanLine) (before after : Option (List ℕ))
   pub keeps : is_lawful → Keeps plan head side standing state
   pub brings : is_lawful → (run : StateList → List (List Entry) → StateList) (history : List Submitted) → Stands run standing history
       → (n : ℕ) → standing.epoch ≤ n → n ≤ length history → BringsOn plan (placed_dump head.shape standing) history n
-  pub behind : (told last : ℕ) → told < standing.epoch → (placed false told last (script_of true false false None plan (placed_dump head.shape standing))).orders ≡ []
+  pub behind : (told last : ℕ) → told < standing.epoch → (placed false told last (script_of true false false false None plan (placed_dump head.shape standing))).orders ≡ []
 
 -- of a text that was to be written some was, and this is left
 pub record WritesFront (before after : Option (List ℕ)) (text left : List ℕ) : Type 0 where

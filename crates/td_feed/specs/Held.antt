@@ -1,5 +1,6 @@
 -- Outputs that are held until the consumer has seen them.
-use Rattle.std.specs.Prelude.{◌≡◌, ℕ, ◌≤◌, max, Bool, true, false, List, [], ◌∷◌, Option, Some, None}
+use Rattle.std.specs.Prelude.{◌≡◌, ◌⊎◌, ℕ, ◌≤◌, max, Bool, true, false, List, [], ◌∷◌, ◌++◌, Option, Some, None, Result, OnOk, IsErr}
+use Rattle.td_console.specs.declared.faults.Fault.{Fault}
 use Rattle.td_keeper.specs.declared.command.Command.{Command}
 use Rattle.td_keeper.specs.declared.command.Command.TheVariants.{Cut, CutUpTo}
 use Rattle.td_keeper.specs.Keeping.{Keeping}
@@ -41,6 +42,20 @@ asked_seen last (Epochs group) = last
 abbrev pub seen_with : Option ℕ → Asked → Option ℕ
 seen_with None asked = None
 seen_with (Some last) asked = Some (asked_seen last asked)
+
+-- the last epoch that was told to be seen, where one was told before, and where outputs are held
+abbrev pub told_seen : Option ℕ → Option ℕ → Option ℕ
+told_seen before None = before
+told_seen before (Some seen) = Some seen
+
+-- WHICH EPOCH WAS SEEN LAST IS TOLD, where outputs are held: at first the one that the disk keeps, and then that of each line that was taken,
+-- after Ok of all. At a refusal before the first nothing is told
+pub record TellsSeen (result : Result (Unit {0}) Fault) (first : Option ℕ) (orders : List Order) (before after : Option ℕ) : Type 0 where
+  pub taken : List Order
+  pub later : List Order
+  pub parts : orders ≡ taken ++ later
+  pub whole : OnOk result (later ≡ [])
+  pub told : (after ≡ told_seen before (then_seen first taken)) ⊎ (IsErr result × (after ≡ before))
 
 -- a keeper's plan and its base are as they were
 pub record SameBase {D : Type 0} (old new : Keeping D) : Type 0 where

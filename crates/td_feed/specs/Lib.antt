@@ -1,3 +1,4 @@
+pub mod Names
 pub mod Noted
 pub mod Orders
 pub mod Narrowed
@@ -6,6 +7,7 @@ pub mod Dumped
 pub mod Fed
 pub mod Held
 pub mod Carried
+pub mod Copied
 pub mod Said
 pub mod Upgraded
 pub mod Asked

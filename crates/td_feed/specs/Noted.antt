@@ -1,5 +1,5 @@
 -- What a stream writes beside the lines of its keeper's replies.
-use Rattle.std.specs.Prelude.{ℕ, ◌+◌, ◌^◌, ◌==◌, nat_lt, not, ◌&&◌, ◌||◌, Bool, true, false, if◌then◌else◌, List, [], ◌∷◌, ◌++◌, map, take, drop, slice_index, Option, Some, None, codes}
+use Rattle.std.specs.Prelude.{◌≡◌, ℕ, ◌+◌, ◌^◌, ◌==◌, nat_lt, not, ◌&&◌, ◌||◌, Bool, true, false, if◌then◌else◌, List, [], ◌∷◌, ◌++◌, map, take, drop, slice_index, Option, Some, None, codes}
 use Rattle.std.specs.List.{list_all, list_any}
 use Rattle.std.specs.Char.{is_ascii, is_ascii_digit}
 use Rattle.std.specs.Str.{bytes_eq}
@@ -14,11 +14,29 @@ use Rattle.td_feed.specs.declared.note.Flaw.{Flaw}
 use Rattle.td_feed.specs.declared.note.Note.{Note}
 use Rattle.td_feed.specs.declared.note.Note.TheVariants.{Refused, There, Gap}
 use Rattle.td_questions.specs.declared.question.Wanted.{Wanted}
+use Rattle.td_head.specs.Layout.{Sizes}
 
--- WHAT IS ASKED FOR BESIDE epochs and cuts: a note that is to be written, or the answer to what is wanted of a fold
+-- WHAT IS ASKED FOR BESIDE epochs and cuts: a note that is to be written, the answer to what is wanted of a fold, or a copy of this name and
+-- shape, with the epoch up to which it goes, once it is made
 pub data Aside : Type 0 where
   to_say : Note → Aside
   to_answer : ℕ → Wanted → Aside
+  to_copy : List ℕ → Sizes → Option ℕ → Aside
+
+-- as it is asked for: no copy is made yet
+abbrev pub as_asked : Aside → Aside
+as_asked (to_copy name shape made) = to_copy name shape None
+as_asked aside = aside
+
+-- THESE CAME OF THOSE that were asked for: each is the same one, and a copy was made or not
+abbrev pub ComeOf : List Aside → List Aside → Type 0
+ComeOf asked done = map as_asked done ≡ asked
+
+-- the copies that were made: their names, and the epochs up to which they go
+abbrev pub copied_in : List Aside → List (List ℕ × ℕ)
+copied_in [] = []
+copied_in (to_copy name shape (Some epoch) ∷ more) = (name, epoch) ∷ copied_in more
+copied_in (_ ∷ more) = copied_in more
 
 -- why an epoch is refused
 abbrev pub cause_text : Cause → List ℕ

@@ -7,8 +7,9 @@ use Rattle.td_stamp.specs.declared.values.Entry.{Entry}
 use Rattle.td_stamp.specs.Orders.{entry_cmp}
 use Rattle.td_stamp.specs.Bag.{bag_of}
 use Rattle.td_plan.specs.Lines.{Line as PlanLine}
-use Rattle.td_plan.specs.Text.{text_lines, words, natural_of}
+use Rattle.td_plan.specs.Text.{text_lines, words, natural_of, number_of}
 use Rattle.td_plan.specs.Inputs.{is_input_of}
+use Rattle.td_head.specs.Layout.{Sizes, is_shape}
 use Rattle.td_journal.specs.declared.submitted.Submitted.{Submitted}
 use Rattle.td_journal.specs.Numbers.{may_come}
 use Rattle.td_standing.specs.Standing.{submission}
@@ -18,15 +19,17 @@ use Rattle.td_console.specs.declared.faults.Fault.{Fault}
 use Rattle.td_console.specs.declared.faults.Fault.TheVariants.{Line, Memory}
 use Rattle.td_console.specs.Data.{data_line_of}
 use Rattle.td_feed.specs.declared.order.FeedLine.{FeedLine}
-use Rattle.td_feed.specs.declared.order.FeedLine.TheVariants.{Data, Request, At, Cut, Seen, Ask}
+use Rattle.td_feed.specs.declared.order.FeedLine.TheVariants.{Data, Request, At, Cut, Seen, Ask, Copy}
 use Rattle.td_feed.specs.declared.order.Place.{Place}
+use Rattle.td_feed.specs.declared.order.CopyTo.{CopyTo}
 use Rattle.td_feed.specs.declared.order.Order.{Order}
 use Rattle.td_feed.specs.declared.order.Order.TheVariants as order
 use Rattle.td_questions.specs.declared.question.Question.{Question}
 use Rattle.td_questions.specs.declared.question.Wanted.{Wanted}
 use Rattle.td_questions.specs.Words.{question_of, fold_of}
 use Rattle.td_feed.specs.Noted.{Aside}
-use Rattle.td_feed.specs.Noted.Aside.{to_say, to_answer}
+use Rattle.td_feed.specs.Noted.Aside.{to_say, to_answer, to_copy}
+use Rattle.td_feed.specs.Names.{is_plain_name}
 
 -- whether the one word is `cut`
 abbrev pub is_cut : List (List ℕ) → Bool
@@ -94,6 +97,38 @@ abbrev pub session_line_of : Bool → Bool → Bool → List ℕ → Option Feed
 session_line_of placing hold false line = stream_line_of placing hold line
 session_line_of placing hold true line = if list_all is_ascii line then or_stream_line placing hold line (question_of (words line)) else None
 
+-- the shape of three numbers, where each keeps its limits
+abbrev pub shape_if : Sizes → Option Sizes
+shape_if sizes = if is_shape sizes then Some sizes else None
+
+abbrev pub shape_with : Option ℕ → Option ℕ → Option ℕ → Option Sizes
+shape_with (Some m) (Some n) (Some k) = shape_if (record { m = m; n = n; k = k })
+shape_with _ _ _ = None
+
+abbrev pub shape_in : List (List ℕ) → Option Sizes
+shape_in (m ∷ n ∷ k ∷ []) = shape_with (number_of m) (number_of n) (number_of k)
+shape_in _ = None
+
+-- a copy of this name and shape, where the name is plain
+abbrev pub copy_named : List ℕ → Option Sizes → Option CopyTo
+copy_named name None = None
+copy_named name (Some shape) = if is_plain_name name then Some (record { name = name; shape = shape }) else None
+
+-- the copy of the words `copy NEW M N K`
+abbrev pub copy_of : List (List ℕ) → Option CopyTo
+copy_of (word ∷ name ∷ more) = if bytes_eq word (codes "copy") then copy_named name (shape_in more) else None
+copy_of _ = None
+
+-- a copy, or what another line says
+abbrev pub or_session_line : Bool → Bool → Bool → List ℕ → Option CopyTo → Option FeedLine
+or_session_line placing hold questions line (Some copy) = Some (Copy copy)
+or_session_line placing hold questions line None = session_line_of placing hold questions line
+
+-- and where copies are made, also which
+abbrev pub service_line_of : Bool → Bool → Bool → Bool → List ℕ → Option FeedLine
+service_line_of placing hold questions false line = session_line_of placing hold questions line
+service_line_of placing hold questions true line = if list_all is_ascii line then or_session_line placing hold questions line (copy_of (words line)) else None
+
 -- Orders that were read so far; and of the epoch that is not closed its place, if it has one, its request number, 0 for none, and its
 -- entries as they were read
 pub record Orders : Type 0 where
@@ -154,6 +189,11 @@ abbrev pub with_question : List PlanLine → ℕ → Question → Orders → Boo
 with_question plan n question read true = with_answer n question.wanted read (fold_of plan question.vertex)
 with_question plan n question read false = Err (Line n Syntax)
 
+-- and a copy
+abbrev pub with_copy : ℕ → CopyTo → Orders → Bool → Result Orders Fault
+with_copy n copy read true = Ok (record { orders = read.orders ++ order.Copy copy ∷ []; place = read.place; request = read.request; current = read.current })
+with_copy n copy read false = Err (Line n Syntax)
+
 -- a request number is of the epoch after it, and stands before its records
 abbrev pub with_request : ℕ → ℕ → Orders → Bool → Result Orders Fault
 with_request n q read true = Ok (record { orders = read.orders; place = read.place; request = q; current = read.current })
@@ -182,6 +222,7 @@ with_line plan n read (Some (Request q)) = with_request n q read (has_no_number 
 with_line plan n read (Some (At epoch)) = with_place n epoch read (may_be_placed read)
 with_line plan n read (Some (Seen epoch)) = with_seen n epoch read (is_between read)
 with_line plan n read (Some (Ask question)) = with_question plan n question read (is_between read)
+with_line plan n read (Some (Copy copy)) = with_copy n copy read (is_between read)
 with_line plan n read (Some (Data PassedOver)) = Ok read
 with_line plan n read (Some (Data Close)) = Ok (with_order (order_at read.place read.request (bag_of entry_cmp read.current)) read)
 with_line plan n read (Some (Data (Record input rec))) =
@@ -216,9 +257,10 @@ submissions (order.SubmitAt place request batch ∷ orders) = submission request
 submissions (order.Cut ∷ orders) = submissions orders
 submissions (order.Seen line epoch ∷ orders) = submissions orders
 submissions (order.Answer vertex wanted ∷ orders) = submissions orders
+submissions (order.Copy copy ∷ orders) = submissions orders
 submissions (order.Say note ∷ orders) = submissions orders
 
--- what orders would have written beside
+-- what orders would have done beside: no copy is made yet
 abbrev pub notes_in : List Order → List Aside
 notes_in [] = []
 notes_in (order.Submit batch ∷ orders) = notes_in orders
@@ -227,6 +269,7 @@ notes_in (order.SubmitAt place request batch ∷ orders) = notes_in orders
 notes_in (order.Cut ∷ orders) = notes_in orders
 notes_in (order.Seen line epoch ∷ orders) = notes_in orders
 notes_in (order.Answer vertex wanted ∷ orders) = to_answer vertex wanted ∷ notes_in orders
+notes_in (order.Copy copy ∷ orders) = to_copy copy.name copy.shape None ∷ notes_in orders
 notes_in (order.Say note ∷ orders) = to_say note ∷ notes_in orders
 
 -- WHICH OF THESE ARE NEW after a greatest request number: each that has no number, and each whose number is above all before
@@ -239,7 +282,7 @@ abbrev pub submitted_by : Result (List Order) Fault → List Submitted
 submitted_by (Ok orders) = submissions orders
 submitted_by (Err fault) = []
 
--- what an order of a feed submits names inputs of the plan; it has no places, no notes and no questions
+-- what an order of a feed submits names inputs of the plan; it has no places, no notes, no questions and no copies
 abbrev pub IsAccepted : List PlanLine → Order → Type 0
 IsAccepted plan (order.Submit batch) = IsTrue (list_all (λ e. is_input_of plan e.input) batch)
 IsAccepted plan (order.SubmitAs request batch) = IsTrue (list_all (λ e. is_input_of plan e.input) batch)
@@ -247,6 +290,7 @@ IsAccepted plan (order.SubmitAt place request batch) = ⊥
 IsAccepted plan order.Cut = Unit {0}
 IsAccepted plan (order.Seen line epoch) = Unit {0}
 IsAccepted plan (order.Answer vertex wanted) = ⊥
+IsAccepted plan (order.Copy copy) = ⊥
 IsAccepted plan (order.Say note) = ⊥
 
 -- a fault of an input: of a line, or for want of memory

@@ -1,4 +1,5 @@
 -- What a feed writes: the lines of what its keeper replied, and notes.
+use Rattle.std.proofs.Common.{inl, inr}
 use Rattle.std.specs.Prelude.{◌≡◌, ◌⊎◌, ℕ, zero, suc, ◌-◌, Bool, true, false, List, [], ◌∷◌, ◌++◌, codes, All, Option, Some, None, IfSome, Result, Ok, Err, OnOk}
 use Rattle.std.specs.Fmt.{decimal}
 use Rattle.std.specs.Io.KnownBytes.{Appends}
@@ -26,8 +27,9 @@ use Rattle.td_keeper.specs.Driven.{submitted_by, AcknowledgesUpTo, Driven}
 use Rattle.td_feed.specs.declared.note.Note.{Note}
 use Rattle.td_questions.specs.declared.question.Wanted.{Wanted as Of}
 use Rattle.td_questions.specs.Lines.{answer_lines}
-use Rattle.td_feed.specs.Noted.{Aside, note_line}
-use Rattle.td_feed.specs.Noted.Aside.{to_say, to_answer}
+use Rattle.td_feed.specs.Noted.{Aside, ComeOf, copied_in, note_line}
+use Rattle.td_feed.specs.Noted.Aside.{to_say, to_answer, to_copy}
+use Rattle.td_head.specs.Layout.{Sizes}
 use Rattle.td_feed.specs.Carried.{new_to, is_refused}
 use Rattle.td_feed.specs.Shown.{IsRefusedAs}
 use Rattle.td_console.specs.Answer.{output_text}
@@ -58,6 +60,13 @@ done_line epoch = codes "done " ++ decimal epoch ++ 10 ∷ []
 abbrev pub full_line : ℕ → List ℕ
 full_line epoch = codes "full " ++ decimal epoch ++ 10 ∷ []
 
+-- `copied NEW E`, and `not copied NEW: WHAT`
+abbrev pub copied_line : List ℕ → ℕ → List ℕ
+copied_line name epoch = codes "copied " ++ name ++ 32 ∷ decimal epoch ++ 10 ∷ []
+
+abbrev pub not_copied_line : List ℕ → List ℕ → List ℕ
+not_copied_line name why = codes "not copied " ++ (name ++ (codes ": " ++ (why ++ 10 ∷ [])))
+
 -- THE LINES OF AN EPOCH that is handed out: its outputs, and its mark after them, where epochs are marked
 abbrev pub out_lines : Bool → EpochOut → List ℕ
 out_lines true out = output_text (out ∷ []) ++ done_line out.epoch
@@ -84,20 +93,25 @@ abbrev pub answer_text : ℕ → Of → Reply → List ℕ
 answer_text vertex wanted (Answered epoch entries) = answer_lines epoch vertex wanted entries
 answer_text vertex wanted _ = []
 
--- WHAT IS SAID: the lines of a reply to a command, a note, that the journal is full up to an epoch, or the answer to what is wanted of a fold
+-- WHAT IS SAID: the lines of a reply to a command, a note, that the journal is full up to an epoch, the answer to what is wanted of a fold,
+-- that a copy of this name and shape was made up to an epoch, or why it was not
 pub data Saying : Type 0 where
   replied : Command → Reply → Saying
   aside : Note → Saying
   full : ℕ → Saying
   answered : ℕ → Of → Reply → Saying
+  copied : List ℕ → Sizes → ℕ → Saying
+  not_copied : List ℕ → Sizes → List ℕ → Saying
 
--- the commands of what is said, the replies, and the notes with the answers
+-- the commands of what is said, the replies, and the notes with the answers and the copies
 abbrev pub commands_in : List Saying → List Command
 commands_in [] = []
 commands_in (replied command reply ∷ more) = command ∷ commands_in more
 commands_in (aside note ∷ more) = commands_in more
 commands_in (full epoch ∷ more) = commands_in more
 commands_in (answered vertex wanted reply ∷ more) = Answer vertex wanted ∷ commands_in more
+commands_in (copied name shape epoch ∷ more) = commands_in more
+commands_in (not_copied name shape why ∷ more) = commands_in more
 
 abbrev pub replies_in : List Saying → List Reply
 replies_in [] = []
@@ -105,6 +119,8 @@ replies_in (replied command reply ∷ more) = reply ∷ replies_in more
 replies_in (aside note ∷ more) = replies_in more
 replies_in (full epoch ∷ more) = replies_in more
 replies_in (answered vertex wanted reply ∷ more) = reply ∷ replies_in more
+replies_in (copied name shape epoch ∷ more) = replies_in more
+replies_in (not_copied name shape why ∷ more) = replies_in more
 
 abbrev pub notes_among : List Saying → List Aside
 notes_among [] = []
@@ -112,6 +128,8 @@ notes_among (replied command reply ∷ more) = notes_among more
 notes_among (aside note ∷ more) = to_say note ∷ notes_among more
 notes_among (full epoch ∷ more) = notes_among more
 notes_among (answered vertex wanted reply ∷ more) = to_answer vertex wanted ∷ notes_among more
+notes_among (copied name shape epoch ∷ more) = to_copy name shape (Some epoch) ∷ notes_among more
+notes_among (not_copied name shape why ∷ more) = to_copy name shape None ∷ notes_among more
 
 -- the lines of it, one after another
 abbrev pub lines_of : Bool → List Saying → List ℕ
@@ -120,6 +138,8 @@ lines_of marks (replied command reply ∷ more) = line_of marks (request_in comm
 lines_of marks (aside note ∷ more) = note_line note ++ lines_of marks more
 lines_of marks (full epoch ∷ more) = full_line epoch ++ lines_of marks more
 lines_of marks (answered vertex wanted reply ∷ more) = answer_text vertex wanted reply ++ lines_of marks more
+lines_of marks (copied name shape epoch ∷ more) = copied_line name epoch ++ lines_of marks more
+lines_of marks (not_copied name shape why ∷ more) = not_copied_line name why ++ lines_of marks more
 
 -- ALL OUTPUTS of a keeper's epochs were handed out
 pub record IsAllOut {D : Type 0} (k : Keeping D) : Type 0 where
@@ -132,7 +152,7 @@ fault_in (Refused error back) = keeper_fault error
 fault_in (RefusedAll (Keeper error) back) = keeper_fault error
 fault_in _ = Memory
 
--- WHAT AN INPUT ASKS FOR of a disk with this last epoch and this greatest request number: epochs; notes and answers; and of a stream that refuses
+-- WHAT AN INPUT ASKS FOR of a disk with this last epoch and this greatest request number: epochs; notes, answers and copies; and of a stream that refuses
 -- epochs how many records one may have
 pub record Wanted : Type 0 where
   pub epochs : ℕ → ℕ → List AnySubmitted
@@ -144,8 +164,8 @@ abbrev pub epochs_alone : List AnySubmitted → Wanted
 epochs_alone x = record { epochs = λ told last. x; notes = λ told last. []; limit = None }
 
 module _ {D : Type 0} (is_lawful : D → Type 0) (state : D → DiskState) (failures : D → ℕ) (answers : Answers) (marks : Bool) where
-  -- A KEEPER WAS TOLD WHAT SUBMITS THESE, and the lines of its replies were appended to what a writer holds, and these notes and answers
-  -- beside them, all of them, in order
+  -- A KEEPER WAS TOLD WHAT SUBMITS THESE, and the lines of its replies were appended to what a writer holds, and these notes, answers and
+  -- copies beside them, all of them, in order
   pub record Says (before after : Option (List ℕ)) (old new : Keeping D) (x : List AnySubmitted) (notes : List Aside) : Type 0 where
     pub sayings : List Saying
     pub driven : Driven is_lawful state failures answers (commands_in sayings) (replies_in sayings) old new
@@ -194,8 +214,10 @@ module _ {D : Type 0} (is_lawful : D → Type 0) (state : D → DiskState) (fail
     pub lawful_left : is_lawful disk → is_lawful left
     pub holds : is_lawful left → HeldWhere ended.broken answers ended.plan ended.head ended.side ended.standing (state left)
     pub limit : IfSome wanted.limit (λ most. most ≡ keeper.head.shape.m)
+    pub notes : List Aside
+    pub came : ComeOf (wanted.notes (last_epoch keeper.standing) (last_request keeper.standing)) notes
     pub said : SaysBy result before after (record keeper { watch = watch }) ended
-        (new_to keeper (wanted.epochs (last_epoch keeper.standing) (last_request keeper.standing))) (wanted.notes (last_epoch keeper.standing) (last_request keeper.standing))
+        (new_to keeper (wanted.epochs (last_epoch keeper.standing) (last_request keeper.standing))) notes
     pub all_out : alone ≡ true → OnOk result (IsAllOut ended)
 
   -- OR NO KEEPER WAS FOUND on it: the disk tells this refusal, or a call of it or memory failed; and nothing was written, there or to a writer
@@ -208,6 +230,13 @@ module _ {D : Type 0} (is_lawful : D → Type 0) (state : D → DiskState) (fail
   abbrev pub SaysFed : Result (Unit {0}) Fault → List PlanLine → Bool → D → D → Option (List ℕ) → Option (List ℕ) → Wanted → Type 0
   SaysFed (Ok done) plan alone disk left before after wanted = SaysFrom (Ok done) plan alone disk left before after wanted
   SaysFed (Err fault) plan alone disk left before after wanted = IsUntouched fault plan disk left before after ⊎ SaysFrom (Err fault) plan alone disk left before after wanted
+
+  -- the copies of which its lines say that they were made
+  abbrev pub copies_said : (result : Result (Unit {0}) Fault) (plan : List PlanLine) (alone : Bool) (disk left : D) (before after : Option (List ℕ)) (wanted : Wanted)
+      → SaysFed result plan alone disk left before after wanted → List (List ℕ × ℕ)
+  copies_said (Ok done) plan alone disk left before after wanted from = copied_in from.notes
+  copies_said (Err fault) plan alone disk left before after wanted (inl untouched) = []
+  copies_said (Err fault) plan alone disk left before after wanted (inr from) = copied_in from.notes
 
 module _ {D : Type 0} (is_lawful : D → Type 0) (state : D → DiskState) (failures : D → ℕ) (answers : Answers) where
   -- ONE COMMAND that was refused: by the keeper, or before it was told

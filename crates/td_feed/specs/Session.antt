@@ -1,25 +1,28 @@
 -- What a call does with a disk, with a keeper at work and with a writer, by its answer.
-use Rattle.std.specs.Prelude.{◌≡◌, ◌↔◌, ℕ, Bool, false, true, List, [], ◌∷◌, ◌++◌, length, Option, Some, None, Result, OnOk, OnErr}
+use Rattle.std.specs.Prelude.{◌≡◌, ◌⊎◌, ◌↔◌, ℕ, Bool, false, true, List, [], ◌∷◌, ◌++◌, length, All, Option, Some, None, Result, Ok, OnOk, OnErr, IsErr}
 use Rattle.td_plan.specs.Lines.{Line as PlanLine}
 use Rattle.td_calls.specs.Answers.{Answers}
 use Rattle.td_disk.specs.Disk.{DiskState, CountsDevice}
 use Rattle.td_journal.specs.declared.submitted.Submitted.{Submitted as AnySubmitted}
 use Rattle.td_journal.specs.Numbers.{greatest}
 use Rattle.td_standing.specs.declared.error.KeeperError.TheVariants.{Device}
+use Rattle.td_standing.specs.Standing.{Standing, last_epoch, last_request}
+use Rattle.td_standing.specs.Told.{Told}
 use Rattle.td_keeper.specs.declared.command.Command.{Command}
 use Rattle.td_keeper.specs.declared.command.Reply.{Reply}
 use Rattle.td_keeper.specs.Keeping.{Keeping, EachKeepsTo, EverKeepsTo}
 use Rattle.td_keeper.specs.Driven.{submitted_in, Obeys, Driven}
 use Rattle.td_console.specs.declared.faults.Fault.{Fault}
 use Rattle.td_console.specs.declared.faults.Fault.TheVariants.{Keeper}
-use Rattle.td_feed.specs.Noted.{Aside}
+use Rattle.td_feed.specs.Noted.{Aside, ComeOf, copied_in}
 use Rattle.td_feed.specs.Orders.{submissions, notes_in, new_after}
 use Rattle.td_feed.specs.Asked.{Script, script_of}
 use Rattle.td_feed.specs.Placed.{placed}
 use Rattle.td_feed.specs.Fed.{EachTellsHistory, EachTellsSome}
-use Rattle.td_feed.specs.Held.{seen_after}
+use Rattle.td_feed.specs.Held.{TellsSeen, first_seen, seen_after}
 use Rattle.td_feed.specs.Carried.{batch_in, new_to, is_refused, Carries, Leaves}
-use Rattle.td_feed.specs.Said.{Wanted, SaysBy, SaysFed, Refuses}
+use Rattle.td_feed.specs.Copied.{Copied, with_copies, labels, IsCopyOf, MakesCopies}
+use Rattle.td_feed.specs.Said.{Wanted, SaysBy, SaysFed, copies_said, Refuses}
 
 -- how many records an epoch may have, where a stream refuses epochs
 abbrev pub limit_of : Bool → ℕ → Option ℕ
@@ -54,8 +57,8 @@ module _ {D : Type 0} (is_lawful : D → Type 0) (state : D → DiskState) (fail
     pub left : Leaves is_lawful state answers old new (new_to old (batch_in command))
 
 module _ {D : Type 0} (is_lawful : D → Type 0) (state : D → DiskState) (failures : D → ℕ) (answers : Answers) (marks : Bool) where
-  -- THESE ARE FED, and these noted or answered: after Ok the keeper goes on with all of them, after a refusal with some; and what was written
-  -- are the lines of its replies, the notes and the answers
+  -- THESE ARE FED, and these noted, answered or copied: after Ok the keeper goes on with all of them, after a refusal with some; and what was
+  -- written are the lines of its replies, the notes, the answers, and those of the copies
   pub record FeedsNoting (result : Result (Unit {0}) Fault) (before after : Option (List ℕ)) (old new : Keeping D) (x : List AnySubmitted) (notes : List Aside) : Type 0 where
     pub carried : OnOk result (Carries answers old new x)
     pub left : OnErr result (Leaves is_lawful state answers old new x)
@@ -64,12 +67,6 @@ module _ {D : Type 0} (is_lawful : D → Type 0) (state : D → DiskState) (fail
   -- with no note and no answer
   abbrev pub Feeds : Result (Unit {0}) Fault → Option (List ℕ) → Option (List ℕ) → Keeping D → Keeping D → List AnySubmitted → Type 0
   Feeds result before after old new x = FeedsNoting result before after old new x []
-
-  -- A SCRIPT IS FED, those of its batches that are new to the keeper, and its notes are written; and Ok is answered only to one without a
-  -- fault
-  pub record FeedsScript (result : Result (Unit {0}) Fault) (before after : Option (List ℕ)) (old new : Keeping D) (script : Script) : Type 0 where
-    pub sound : OnOk result (script.is_sound ≡ true)
-    pub fed : FeedsNoting result before after old new (new_to old (submissions script.orders)) (notes_in script.orders)
 
   -- A DISK IS FED, of an input that asks for these
   pub record FeedsDisk (result : Result (Unit {0}) Fault) (plan : List PlanLine) (alone : Bool) (disk left : D) (before after : Option (List ℕ)) (wanted : Wanted) : Type 0 where
@@ -86,16 +83,61 @@ module _ {D : Type 0} (is_lawful : D → Type 0) (state : D → DiskState) (fail
 
   -- A DISK IS FED AS THE INPUT COMES: what its script asks for, where epochs have places or not; Ok is answered only to one without a fault,
   -- and a gap is one, unless epochs are refused. Of a stream that refuses epochs, one may have so many records
-  pub record StreamsDisk (placing refuse hold questions : Bool) (result : Result (Unit {0}) Fault) (plan : List PlanLine) (alone : Bool) (disk left : D) (before after : Option (List ℕ)) (input : List ℕ) : Type 0 where
+  pub record StreamsDisk (placing refuse hold questions copies : Bool) (result : Result (Unit {0}) Fault) (plan : List PlanLine) (alone : Bool) (disk left : D) (before after : Option (List ℕ)) (input : List ℕ) : Type 0 where
     pub records : ℕ
-    pub sound : OnOk result ((script_of placing hold questions (limit_of refuse records) plan input).is_sound ≡ true)
+    pub sound : OnOk result ((script_of placing hold questions copies (limit_of refuse records) plan input).is_sound ≡ true)
     pub no_gap : OnOk result (is_lawful disk → (history : List AnySubmitted) → EachTellsHistory answers plan history (state disk)
-        → (placed refuse (length history) (greatest 0 history) (script_of placing hold questions (limit_of refuse records) plan input)).is_sound ≡ true)
-    pub fed : FeedsDisk result plan alone disk left before after (wanted_by refuse (limit_of refuse records) (script_of placing hold questions (limit_of refuse records) plan input))
+        → (placed refuse (length history) (greatest 0 history) (script_of placing hold questions copies (limit_of refuse records) plan input)).is_sound ≡ true)
+    pub fed : FeedsDisk result plan alone disk left before after (wanted_by refuse (limit_of refuse records) (script_of placing hold questions copies (limit_of refuse records) plan input))
     -- where outputs are held, nothing is kept beyond the last epoch that the input says was seen, whatever a crash leaves: so each later
     -- stream writes again the outputs of every epoch after it
     pub held : hold ≡ true → is_lawful disk → (kept : ℕ) → EachKeepsTo plan kept (state disk)
-        → EachKeepsTo plan (seen_after kept (script_of placing hold questions (limit_of refuse records) plan input).orders) (state left)
+        → EachKeepsTo plan (seen_after kept (script_of placing hold questions copies (limit_of refuse records) plan input).orders) (state left)
     -- nor whatever a crash left at any moment of the stream, in the middle of a write too
     pub ever_held : hold ≡ true → is_lawful disk → (kept : ℕ) → EachKeepsTo plan kept (state disk)
-        → EverKeepsTo plan (seen_after kept (script_of placing hold questions (limit_of refuse records) plan input).orders) (state disk).moment (state left)
+        → EverKeepsTo plan (seen_after kept (script_of placing hold questions copies (limit_of refuse records) plan input).orders) (state disk).moment (state left)
+
+module _ {D : Type 0} (is_lawful : D → Type 0) (state : D → DiskState) where
+  -- THE HOST IS TOLD WHAT WAS SEEN, where outputs are held: at first the epoch that the disk keeps, and then that of each line that was
+  -- taken, after Ok of all
+  pub record SeesDisk (placing refuse hold questions copies : Bool) (result : Result (Unit {0}) Fault) (plan : List PlanLine) (disk : D) (before after : Option ℕ) (input : List ℕ) : Type 0 where
+    pub records : ℕ
+    pub standing : Standing
+    pub told : is_lawful disk → (c : List ℕ) × (state disk).images c × Told plan c (Ok standing)
+    pub seen : TellsSeen result (first_seen hold standing.epoch)
+        (placed refuse (last_epoch standing) (last_request standing) (script_of placing hold questions copies (limit_of refuse records) plan input)).orders before after
+
+  -- or no keeper was found on the disk, and it is told nothing
+  abbrev pub SeesOrNot : Bool → Bool → Bool → Bool → Bool → Result (Unit {0}) Fault → List PlanLine → D → Option ℕ → Option ℕ → List ℕ → Type 0
+  SeesOrNot placing refuse hold questions copies result plan disk before after input =
+      (IsErr result × (after ≡ before)) ⊎ SeesDisk placing refuse hold questions copies result plan disk before after input
+
+module _ {D E : Type 0} (is_lawful : D → Type 0) (state : D → DiskState) (failures : D → ℕ) (answers : Answers) (marks : Bool) (is_new_lawful : E → Type 0) (new_state : E → DiskState) where
+  -- THESE ARE FED, and what is asked for beside them is done: the lines say which copies were made, and these are kept
+  pub record FeedsCopying (result : Result (Unit {0}) Fault) (before after : Option (List ℕ)) (had has : Option (List (Copied E))) (old new : Keeping D) (x : List AnySubmitted) (asked : List Aside) : Type 0 where
+    pub done : List Aside
+    pub came : ComeOf asked done
+    pub fed : FeedsNoting is_lawful state failures answers marks result before after old new x done
+    pub copied : MakesCopies is_lawful is_new_lawful new_state answers (copied_in done) had has old x
+
+  -- A SCRIPT IS FED, those of its batches that are new to the keeper, and what it asks for beside is done; and Ok is answered only to one
+  -- without a fault
+  pub record FeedsScript (result : Result (Unit {0}) Fault) (before after : Option (List ℕ)) (had has : Option (List (Copied E))) (old new : Keeping D) (script : Script) : Type 0 where
+    pub sound : OnOk result (script.is_sound ≡ true)
+    pub fed : FeedsCopying result before after had has old new (new_to old (submissions script.orders)) (notes_in script.orders)
+
+  -- COPIES OF A DISK WERE MADE, those of which the lines say so, and are kept: each is of the history for which the disk stood, with what is
+  -- new of what the input asks for
+  pub record CopiesDisk (plan : List PlanLine) (said : List (List ℕ × ℕ)) (had has : Option (List (Copied E))) (disk : D) (wanted : Wanted) : Type 0 where
+    pub made : List (Copied E)
+    pub kept : has ≡ with_copies had made
+    pub labelled : labels made ≡ said
+    pub each : is_lawful disk → (history : List AnySubmitted) → EachTellsHistory answers plan history (state disk)
+        → All (IsCopyOf is_new_lawful new_state answers plan (history ++ new_after (greatest 0 history) (wanted.epochs (length history) (greatest 0 history)))) made
+
+  -- AND COPIED, where it asks for that
+  pub record StreamsCopying (placing refuse hold questions copies : Bool) (result : Result (Unit {0}) Fault) (plan : List PlanLine) (alone : Bool) (disk left : D) (before after : Option (List ℕ)) (had has : Option (List (Copied E))) (input : List ℕ) : Type 0 where
+    pub streams : StreamsDisk is_lawful state failures answers marks placing refuse hold questions copies result plan alone disk left before after input
+    pub copied : CopiesDisk plan (copies_said is_lawful state failures answers marks result plan alone disk left before after
+        (wanted_by refuse (limit_of refuse streams.records) (script_of placing hold questions copies (limit_of refuse streams.records) plan input)) streams.fed.said) had has disk
+        (wanted_by refuse (limit_of refuse streams.records) (script_of placing hold questions copies (limit_of refuse streams.records) plan input))

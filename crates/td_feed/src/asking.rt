@@ -13,7 +13,7 @@ ghost use Rattle.td_group.specs.Groups.{may_follow};
 ghost use Rattle.td_feed.specs.declared.order.Order.{Order as AnyOrder};
 ghost use Rattle.td_feed.specs.Orders.{is_between, submissions, notes_in};
 ghost use Rattle.td_feed.specs.declared.at_once.Asked.TheVariants.{One};
-ghost use Rattle.td_feed.specs.Asked.{unread, Script, script_left, script_of, script_on, script_ahead, place, may_end, SameScript, is_given, HaveNoPlace, Asks, IsOf, MayFollow, is_of_reader};
+ghost use Rattle.td_feed.specs.Asked.{unread, Script, script_left, script_of, script_on, script_ahead, place, may_end, SameScript, is_given, HaveNoPlace, SeeNothing, Asks, IsOf, MayFollow, is_of_reader};
 ghost use Rattle.td_feed.specs.Placed.{at_disk, not_in_place, placed, told_by, last_by};
 
 use crate::at_once::{Asked, Room, take_fitting};
@@ -73,7 +73,7 @@ fn take_asked(alloc: Global, orders: &mut VecDeque<Order>, room: &Room) -> Optio
 
 /// Takes the first orders, as many as submit epochs that together find this room; fewer where memory runs out.
 fn take_group(alloc: Global, orders: &mut VecDeque<Order>, room: &Room) -> Vec<Submitted>
-    ensures taken { (taken : List AnyOrder) × (orders.old.items ≡ taken ++ orders.new.items) × (submissions taken ≡ result.items) × (notes_in taken ≡ []) × HaveNoPlace taken }
+    ensures taken { (taken : List AnyOrder) × (orders.old.items ≡ taken ++ orders.new.items) × (submissions taken ≡ result.items) × (notes_in taken ≡ []) × HaveNoPlace taken × SeeNothing taken }
     ensures none { result.items ≡ [] → orders.new.items ≡ orders.old.items }
     ensures rising { may_follow (Some room.now.last) result.items ≡ true }
 {
@@ -147,23 +147,24 @@ pub(crate) struct Streamed<'a, I: Source> {
 
 impl<'a, I: Source> Streamed<'a, I> {
     /// The orders of a reader's lines, of which those that submit an epoch may have places. Where outputs are held, lines may say which were
-    /// seen; where questions are answered, lines may ask. Where a limit is given, an epoch with more records than that, with a faulty line,
-    /// or after a gap, is refused.
+    /// seen; where questions are answered, lines may ask; where copies are made, for one. Where a limit is given, an epoch with more records
+    /// than that, with a faulty line, or after a gap, is refused.
     pub(crate) fn new(
         alloc: Global,
         plan: &'a Plan,
         placing: bool,
         hold: bool,
         questions: bool,
+        copies: bool,
         limit: Option<usize>,
         reader: I,
     ) -> Streamed<'a, I>
-        ensures script { script_ahead (unread (I.remaining result.lines.reader) result.lines.unread) (place result.reading) result.ahead.items result.stopped ≡ option_map (script_of placing hold questions limit plan.now) (I.remaining reader) }
+        ensures script { script_ahead (unread (I.remaining result.lines.reader) result.lines.unread) (place result.reading) result.ahead.items result.stopped ≡ option_map (script_of placing hold questions copies limit plan.now) (I.remaining reader) }
         ensures refuses { result.refuses ≡ is_given limit }
     {
         Streamed {
             lines: Lines::new(alloc, reader),
-            reading: Reading::new(alloc, plan, placing, hold, questions, limit),
+            reading: Reading::new(alloc, plan, placing, hold, questions, copies, limit),
             ahead: VecDeque::new(alloc),
             stopped: None,
             refuses: limit.is_some(),

@@ -113,7 +113,8 @@ impl Room {
             | Order::Cut
             | Order::Say(_)
             | Order::Seen { .. }
-            | Order::Answer { .. } => false,
+            | Order::Answer { .. }
+            | Order::Copy(_) => false,
         }
     }
 }
@@ -139,7 +140,8 @@ pub(crate) fn take_fitting(
             | Order::Cut
             | Order::Say(_)
             | Order::Seen { .. }
-            | Order::Answer { .. },
+            | Order::Answer { .. }
+            | Order::Copy(_),
         )
         | None => unreachable!(),
     }

@@ -10,6 +10,7 @@ ghost use Rattle.td_feed.specs.Said.{epochs_alone};
 ghost use Rattle.td_feed.specs.Session.{KeepsDisk, Feeds, FeedsDisk};
 
 use crate::asking::Listed;
+use crate::host::NoHost;
 use crate::order::{Order, read_orders};
 use crate::under_way::{Feeding, Pace, open};
 use crate::voice::Voice;
@@ -115,8 +116,9 @@ fn obey<
             let blank = Blank::new(u64::from(hall.workers()));
             let orders = Listed(VecDeque::from(orders));
             let feeding = Feeding::new(&keeper, Pace::AtEnd);
-            obey_by_workers::<_, _, _, _, _, Brand, _>(
-                rt, alloc, keeper, hall, blank, feeding, orders, writer, calls,
+            let mut host = NoHost::new();
+            obey_by_workers::<_, _, _, _, _, _, Brand, _>(
+                rt, alloc, keeper, hall, blank, feeding, orders, writer, &mut host, calls,
             )
         }
         Err(fault) => (keeper, Err(fault)),

@@ -5,12 +5,13 @@ ghost use Rattle.td_standing.specs.declared.error.KeeperError.TheVariants.{NotPa
 ghost use Rattle.td_standing.specs.Standing.{last_epoch, last_request};
 ghost use Rattle.td_feed.specs.Asked.{is_of_reader};
 ghost use Rattle.td_feed.specs.Fed.{pool_fault};
-ghost use Rattle.td_feed.specs.Held.{KeepsTo, seen_at, then_seen, seen_with};
+ghost use Rattle.td_feed.specs.Held.{KeepsTo, TellsSeen, seen_at, then_seen, seen_with, told_seen};
 ghost use Rattle.td_feed.specs.Said.{IsAllOut};
 ghost use Rattle.td_feed.specs.Session.{KeepsDisk, FeedsScript};
 
 use crate::asking::Asking;
 use crate::at_once::{Asked, Room};
+use crate::host::Host;
 use crate::order::Order;
 use crate::under_way::{Feeding, open_epochs};
 use crate::voice::Voice;
@@ -26,7 +27,7 @@ use td_standing::KeeperError;
 
 /// Does what is asked for in turn, at the feeding's pace, and settles. Refusals: `Memory`, before anything else, where a worker was
 /// refused a thread; those of what asks for the orders, of the keeper and of the writer.
-pub(crate) fn obey_each<D: Disk, S: Asking, W: Voice, L: Law, R: Wait, E: Obey<D, L, R>>(
+pub(crate) fn obey_each<D: Disk, S: Asking, W: Voice, H: Host, L: Law, R: Wait, E: Obey<D, L, R>>(
     rt: &R,
     alloc: Global,
     engine: &mut E,
@@ -34,19 +35,24 @@ pub(crate) fn obey_each<D: Disk, S: Asking, W: Voice, L: Law, R: Wait, E: Obey<D
     mut feeding: Feeding,
     orders: &mut S,
     writer: &mut W,
+    host: &mut H,
 ) -> Result<(), Fault>
     requires whole { (E.keeping engine.old).broken ≡ false }
     ensures disk { KeepsDisk D.capacity D.is_lawful D.failures result (E.keeping engine.old).device (E.keeping engine.new).device }
-    ensures fed { IfSome (S.script (last_epoch (E.keeping engine.old).standing) (last_request (E.keeping engine.old).standing) orders.old) (λ script. FeedsScript D.is_lawful D.state D.failures L.answers W.marks result (W.contents writer.old) (W.contents writer.new) (E.keeping engine.old) (E.keeping engine.new) script) }
+    ensures fed { IfSome (S.script (last_epoch (E.keeping engine.old).standing) (last_request (E.keeping engine.old).standing) orders.old) (λ script. FeedsScript D.is_lawful D.state D.failures L.answers W.marks H.New.is_lawful H.New.state result (W.contents writer.old) (W.contents writer.new) (H.copies host.old) (H.copies host.new) (E.keeping engine.old) (E.keeping engine.new) script) }
     ensures all_out { E.alone ≡ true → OnOk result (IsAllOut (E.keeping engine.new)) }
 
     // Where outputs are held, nothing is kept beyond what the script says was seen.
     ensures held { IfSome (S.script (last_epoch (E.keeping engine.old).standing) (last_request (E.keeping engine.old).standing) orders.old) (λ script. KeepsTo (then_seen (seen_at feeding.pace (E.keeping engine.old).standing.epoch) script.orders) (E.keeping engine.old) (E.keeping engine.new)) }
+
+    // And the host is told what was seen.
+    ensures seen { IfSome (S.script (last_epoch (E.keeping engine.old).standing) (last_request (E.keeping engine.old).standing) orders.old) (λ script. TellsSeen result (seen_at feeding.pace (E.keeping engine.old).standing.epoch) script.orders (H.seen host.old) (H.seen host.new)) }
 {
     if is_refused {
         return Err(Fault::Memory);
     }
     let mut seen = feeding.pace.first_seen(engine.keeper());
+    tell_seen(host, seen);
     engine.allow(open_epochs(engine.keeper()));
     feeding.begin(rt, alloc, engine, seen, writer)?;
     for _asked in rt.forever() {
@@ -58,10 +64,21 @@ pub(crate) fn obey_each<D: Disk, S: Asking, W: Voice, L: Law, R: Wait, E: Obey<D
         };
         let next = seen_with(seen, &asked, engine.keeper())?;
         seen = next;
+        tell_seen(host, seen);
         engine.allow(asked.epochs());
-        feeding.obey_at_pace(rt, alloc, engine, asked, seen, writer)?;
+        feeding.obey_at_pace(rt, alloc, engine, asked, seen, writer, host)?;
     }
     unreachable!()
+}
+
+/// Tells a host the last epoch that was seen, where outputs are held.
+fn tell_seen<H: Host>(host: &mut H, seen: Option<u64>)
+    ensures seen { H.seen host.new ≡ told_seen (H.seen host.old) seen }
+    ensures copies { H.copies host.new ≡ H.copies host.old }
+{
+    if let Some(epoch) = seen {
+        host.tell_seen(epoch);
+    }
 }
 
 /// The last epoch that was seen, with what is asked for, where outputs are held. Refusals, of a line that says what was seen:
@@ -93,7 +110,8 @@ fn seen_with<D: Disk, L: Law>(
             | Order::SubmitAt(..)
             | Order::Cut
             | Order::Say(_)
-            | Order::Answer { .. },
+            | Order::Answer { .. }
+            | Order::Copy(_),
         )
         | Asked::Epochs(_) => Ok(Some(last)),
     }

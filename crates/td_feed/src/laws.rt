@@ -53,7 +53,7 @@ pub fn placed_dumps_bring_on()
         (history : List AnySubmitted) → IsPlan plan → MayStand plan head side s → Each FitsLines s.submitted → Tells plan head side s image → Stands run s history
         → (n : ℕ) → s.epoch ≤ n → n ≤ length history → BringsOn plan (placed_dump head.shape s) history n }
     ensures behind { (plan : List Line) (head : AnyHead) (side : ℕ) (s : Standing) → IsPlan plan → MayStand plan head side s → Each FitsLines s.submitted
-        → (told last : ℕ) → told < s.epoch → (placed false told last (script_of true false false None plan (placed_dump head.shape s))).orders ≡ [] }
+        → (told last : ℕ) → told < s.epoch → (placed false told last (script_of true false false false None plan (placed_dump head.shape s))).orders ≡ [] }
 {
     td_journal::laws::batches_are_in_order();
     td_journal::laws::told_numbers_rise();
@@ -63,9 +63,9 @@ pub fn placed_dumps_bring_on()
 /// What a stream reads of an input without a fault is what a feed reads of it. Where epochs have no places, what a stream reads is the
 /// same at each disk.
 pub fn scripts()
-    ensures read { (plan : List Line) (input : List ℕ) (orders : List AnyOrder) → orders_of plan input ≡ Ok orders → script_of false false false None plan input ≡ record { orders = orders; is_sound = true } }
-    ensures anywhere { (hold questions : Bool) (limit : Option ℕ) (plan : List Line) (input : List ℕ) (refuse : Bool) (told last : ℕ)
-        → placed refuse told last (script_of false hold questions limit plan input) ≡ script_of false hold questions limit plan input }
+    ensures read { (plan : List Line) (input : List ℕ) (orders : List AnyOrder) → orders_of plan input ≡ Ok orders → script_of false false false false None plan input ≡ record { orders = orders; is_sound = true } }
+    ensures anywhere { (hold questions copies : Bool) (limit : Option ℕ) (plan : List Line) (input : List ℕ) (refuse : Bool) (told last : ℕ)
+        → placed refuse told last (script_of false hold questions copies limit plan input) ≡ script_of false hold questions copies limit plan input }
 {}
 
 /// EACH EPOCH THAT IS ACKNOWLEDGED IS TOLD. Whatever a feed or a stream came to, and whatever a crash leaves of its disk then, that tells

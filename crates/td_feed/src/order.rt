@@ -1,27 +1,29 @@
 //! What the input of a feed asks for, line by line.
 //!
 //! A request number is a line of its own, so a data line is the same in all inputs.
-ghost use Rattle.std.specs.Prelude.{◌≡◌, ◌⊎◌, ◌↔◌, ◌<◌, ◌^◌, ◌++◌, [], true, false, All, IfOk, IfErr, MatchOption, Some, None, Ok, Err, length};
+ghost use Rattle.std.specs.Prelude.{◌≡◌, ◌⊎◌, ◌↔◌, ◌<◌, ◌^◌, ◌++◌, [], true, false, All, IfOk, IfErr, IfSome, IfNone, MatchOption, Some, None, Ok, Err, length};
 ghost use Rattle.std.specs.Bool.{OnTrue};
 ghost use Rattle.std.specs.Option.{IsSome, option_to_list};
 ghost use Rattle.td_plan.specs.Text.{text_lines, words};
-ghost use Rattle.td_feed.specs.Orders.{is_cut, request_of, positive, place_of, seen_of, feed_line_of, held_line_of, stream_line_of, session_line_of, has_no_number, may_be_placed, is_between, numbered, order_for, order_at, with_order, with_cut, with_request, with_place, with_seen, with_question, with_line};
+ghost use Rattle.td_feed.specs.Orders.{is_cut, request_of, positive, place_of, seen_of, feed_line_of, held_line_of, stream_line_of, session_line_of, service_line_of, shape_in, copy_named, copy_of, has_no_number, may_be_placed, is_between, numbered, order_for, order_at, with_order, with_cut, with_request, with_place, with_seen, with_question, with_copy, with_line};
 ghost use Rattle.td_feed.specs.Orders.{no_orders, orders_of, is_of_input, IsAccepted, IsFirstLine, Gives};
 
 use crate::at_once::Room;
+use crate::file_name::FileName;
 use crate::note::Note;
 use std::alloc::Global;
 use std::marker::Model;
 use td_console::{
     DataLine, Fault, LineFault, ascii_text, first_line, is_input, plain_record, read_data_line,
 };
+use td_head::Shape;
 use td_plan::Plan;
-use td_plan::text::{natural, next_word};
+use td_plan::text::{natural, next_word, number};
 use td_questions::{Question, Wanted, fold_of, read_question};
 use td_stamp::{Batch, Entry, Rec};
 
 /// What a line says.
-#[derive(Clone, Copy, Debug, PartialEq, Eq)]
+#[derive(Debug, Drop)]
 pub enum FeedLine {
     /// What data lines say in every input.
     Data(DataLine),
@@ -35,6 +37,15 @@ pub enum FeedLine {
     Seen(u64),
     /// A question to what folds keep.
     Ask(Question),
+    /// `copy NEW M N K`.
+    Copy(CopyTo),
+}
+
+/// A new disk on which a copy is put: the name of its file, and its shape.
+#[derive(Debug, Drop)]
+pub struct CopyTo {
+    pub name: FileName,
+    pub shape: Shape,
 }
 
 /// The place of an epoch: which one it is to be, as the line with this number says.
@@ -61,6 +72,8 @@ pub enum Order {
     Seen { line: u64, epoch: u64 },
     /// To answer what is wanted of a fold, of the states after the last epoch.
     Answer { vertex: u8, wanted: Wanted },
+    /// To copy the disk, up to the last epoch.
+    Copy(CopyTo),
 }
 
 /// Orders that were read, and of the epoch that is not closed its place, its request number, 0 for none, and its entries in the order of
@@ -135,6 +148,7 @@ pub(crate) fn with_line(
         Some(FeedLine::Cut) => return with_cut(read, number),
         Some(FeedLine::Seen(epoch)) => return with_seen(read, number, epoch),
         Some(FeedLine::Ask(question)) => return with_question(plan, read, number, question),
+        Some(FeedLine::Copy(copy)) => return with_copy(read, number, copy),
         None => return Err(Fault::Line(number, LineFault::Syntax)),
     };
     match said {
@@ -347,6 +361,29 @@ fn with_question(
     })
 }
 
+/// With a copy. Refusals: `Syntax` where an epoch has begun; `Memory`.
+fn with_copy(read: Orders, number: u64, copy: CopyTo) -> Result<Orders, Fault>
+    ensures gives { Gives result (with_copy number copy read (is_between read)) }
+    ensures of_input { IfErr result (λ f. is_of_input f ≡ true) }
+{
+    if !is_between(&read) {
+        return Err(Fault::Line(number, LineFault::Syntax));
+    }
+    let Orders {
+        mut orders,
+        place,
+        request,
+        current,
+    } = read;
+    orders.push(Order::Copy(copy))?;
+    Ok(Orders {
+        orders,
+        place,
+        request,
+        current,
+    })
+}
+
 /// With the current epoch closed. Refusal: `Memory`.
 fn close(alloc: Global, read: Orders) -> Result<Orders, Fault>
     ensures ok { IfOk result (λ closed. Ok closed ≡ with_line [] 0 read (Some (FeedLine.Data DataLine.Close))) }
@@ -435,13 +472,32 @@ fn first_feed_line(bytes: &[u8]) -> Option<(Option<FeedLine>, &[u8])>
     }
 }
 
-/// What a line of a stream says, if it has a form: where questions are answered, also what it asks.
-pub(crate) fn read_session_line(
+/// What a line of a stream says, if it has a form: where copies are made, also which. Refusal: `Memory`.
+pub(crate) fn read_service_line(
+    alloc: Global,
     placing: bool,
     hold: bool,
     questions: bool,
+    copies: bool,
     line: &[u8],
-) -> Option<FeedLine>
+) -> Result<Option<FeedLine>, Fault>
+    ensures ok { IfOk result (λ said. said ≡ service_line_of placing hold questions copies line.now) }
+    ensures err { IfErr result (λ f. f ≡ Fault.Memory) }
+{
+    if !copies {
+        return Ok(read_session_line(placing, hold, questions, line));
+    }
+    let Some(text) = ascii_text(line) else {
+        return Ok(None);
+    };
+    match read_copy(alloc, text)? {
+        Some(copy) => Ok(Some(FeedLine::Copy(copy))),
+        None => Ok(read_session_line(placing, hold, questions, line)),
+    }
+}
+
+/// The same where no copies are made: where questions are answered, also what the line asks.
+fn read_session_line(placing: bool, hold: bool, questions: bool, line: &[u8]) -> Option<FeedLine>
     ensures { result ≡ session_line_of placing hold questions line.now }
 {
     if !questions {
@@ -453,8 +509,8 @@ pub(crate) fn read_session_line(
     }
 }
 
-/// What a line of a stream says, if it has a form: where epochs may have places, also the place of one; and where outputs are held, which
-/// epoch was seen.
+/// The same where no questions are answered: where epochs may have places, also the place of one; and where outputs are held, which epoch
+/// was seen.
 fn read_stream_line(placing: bool, hold: bool, line: &[u8]) -> Option<FeedLine>
     ensures { result ≡ stream_line_of placing hold line.now }
 {
@@ -542,6 +598,46 @@ fn read_seen(line: &str) -> Option<u64>
         return None;
     }
     natural(number)
+}
+
+/// The copy for which a line `copy NEW M N K` asks, where it is one. Refusal: `Memory`.
+fn read_copy(alloc: Global, line: &str) -> Result<Option<CopyTo>, Fault>
+    ensures ok { IfOk result (λ copy. copy ≡ copy_of (words line.now)) }
+    ensures err { IfErr result (λ f. f ≡ Fault.Memory) }
+{
+    let Some((name, shape)) = copy_words(line) else {
+        return Ok(None);
+    };
+    match FileName::of(alloc, name)? {
+        Some(name) => Ok(Some(CopyTo { name, shape })),
+        None => Ok(None),
+    }
+}
+
+/// The word for the name of a copy, and the shape, of a line `copy NEW M N K`, where it is one.
+fn copy_words(line: &str) -> Option<(&str, Shape)>
+    ensures some { IfSome result (λ w. copy_of (words line.now) ≡ copy_named w.0.now (Some w.1)) }
+    ensures none { IfNone result (copy_of (words line.now) ≡ None) }
+{
+    let (word, rest) = next_word(line)?;
+    let (name, rest) = next_word(rest)?;
+    if word != "copy" {
+        return None;
+    }
+    Some((name, read_shape(rest)?))
+}
+
+/// The shape that three numbers give, where they are all of a text and each keeps its limits.
+fn read_shape(text: &str) -> Option<Shape>
+    ensures { result ≡ shape_in (words text.now) }
+{
+    let (m, rest) = next_word(text)?;
+    let (n, rest) = next_word(rest)?;
+    let (k, rest) = next_word(rest)?;
+    if next_word(rest).is_some() {
+        return None;
+    }
+    Shape::new(number(m)?, number(n)?, number(k)?)
 }
 
 /// A number, where it is not 0.

@@ -11,7 +11,7 @@ use crate::at_once::Room;
 use crate::excerpt::cause_of;
 use crate::note::{Cause, Flaw, Note};
 use crate::order::{
-    FeedLine, Order, Orders, has_too_many, is_between, no_orders, numbered, read_session_line,
+    FeedLine, Order, Orders, has_too_many, is_between, no_orders, numbered, read_service_line,
     records_in, request_in, taken_out, with_line, with_note,
 };
 use std::alloc::Global;
@@ -21,13 +21,14 @@ use td_plan::Plan;
 
 /// Where a stream is in its input: the number of the next line, what was read, and why the epoch that is open is refused, if it is. Where
 /// epochs are refused, one may have so many records. Where epochs may have places, lines say which; where outputs are held, which were
-/// seen; and where questions are answered, lines may ask.
+/// seen; where questions are answered, lines may ask; and where copies are made, for one.
 #[derive(Drop)]
 pub(crate) struct Reading<'a> {
     plan: &'a Plan,
     placing: bool,
     hold: bool,
     questions: bool,
+    copies: bool,
     limit: Option<usize>,
     number: u64,
     flaw: Option<(u64, Flaw)>,
@@ -42,15 +43,17 @@ impl<'a> Reading<'a> {
         placing: bool,
         hold: bool,
         questions: bool,
+        copies: bool,
         limit: Option<usize>,
     ) -> Reading<'a>
-        ensures { place result ≡ at_start placing hold questions limit plan.now }
+        ensures { place result ≡ at_start placing hold questions copies limit plan.now }
     {
         Reading {
             plan,
             placing,
             hold,
             questions,
+            copies,
             limit,
             number: 1,
             flaw: None,
@@ -87,9 +90,16 @@ impl<'a> Reading<'a> {
         let Some(next) = self.number.checked_add(1) else {
             return Err(Fault::Input);
         };
+        let words = read_service_line(
+            alloc,
+            self.placing,
+            self.hold,
+            self.questions,
+            self.copies,
+            line,
+        )?;
         let read = mem::replace(&mut self.read, no_orders(alloc));
         let flaw = self.flaw.take();
-        let words = read_session_line(self.placing, self.hold, self.questions, line);
         let said = with_said(
             alloc,
             self.plan,
@@ -251,7 +261,8 @@ fn passed_over(
             | FeedLine::At(_)
             | FeedLine::Cut
             | FeedLine::Seen(_)
-            | FeedLine::Ask(_),
+            | FeedLine::Ask(_)
+            | FeedLine::Copy(_),
         )
         | None => Ok((Some(flaw), numbered(alloc, read, request))),
     }

@@ -6,12 +6,15 @@
 ghost use Rattle.std.specs.Prelude.{◌≡◌, ◌⊎◌, ◌-◌, ◌++◌, string_bytes, IfOk, IfErr, OnOk};
 ghost use Rattle.std.specs.Io.KnownBytes.{Appends};
 ghost use Rattle.td_questions.specs.Lines.{answer_lines};
-ghost use Rattle.td_feed.specs.Said.{line_of as line_in, ack_line, ack_lines, answer_text, full_line, out_lines, request_in};
+ghost use Rattle.td_feed.specs.Said.{line_of as line_in, ack_line, ack_lines, answer_text, full_line, copied_line, not_copied_line, out_lines, request_in};
+ghost use Rattle.td_feed.specs.Copied.{why_text};
 
+use crate::file_name::FileName;
+use crate::host::Why;
 use crate::voice::Voice;
 use std::alloc::Global;
 use std::fmt::Write;
-use td_console::{Fault, print_epoch, write_answer};
+use td_console::{Fault, Sink, print_epoch, write_answer};
 use td_keeper::{Command, Receipt, Reply};
 use td_questions::{Entry, Wanted, print_answer};
 use td_stamp::EpochOut;
@@ -84,6 +87,34 @@ pub(crate) fn say_full<W: Voice>(alloc: Global, epoch: u64, writer: &mut W) -> R
     ensures unsaid { IfErr result (λ f. (f ≡ Fault.Output) ⊎ ((f ≡ Fault.Memory) × (writer.new ≡ writer.old))) }
 {
     let line = format!(in alloc; "full {epoch}\n")?;
+    write_answer(writer, line.as_str())
+}
+
+/// Writes `copied NEW E`. Refusals: `Memory`, with nothing written, and `Output`.
+pub(crate) fn say_copied<W: Sink>(
+    alloc: Global,
+    name: &FileName,
+    epoch: u64,
+    writer: &mut W,
+) -> Result<(), Fault>
+    ensures said { OnOk result (Appends (W.contents writer.old) (W.contents writer.new) (copied_line name.now epoch)) }
+    ensures unsaid { IfErr result (λ f. (f ≡ Fault.Output) ⊎ ((f ≡ Fault.Memory) × (writer.new ≡ writer.old))) }
+{
+    let line = format!(in alloc; "copied {name} {epoch}\n")?;
+    write_answer(writer, line.as_str())
+}
+
+/// Writes `not copied NEW: WHAT`. Refusals: `Memory`, with nothing written, and `Output`.
+pub(crate) fn say_not_copied<W: Sink>(
+    alloc: Global,
+    name: &FileName,
+    why: &Why,
+    writer: &mut W,
+) -> Result<(), Fault>
+    ensures said { OnOk result (Appends (W.contents writer.old) (W.contents writer.new) (not_copied_line name.now (why_text why.now))) }
+    ensures unsaid { IfErr result (λ f. (f ≡ Fault.Output) ⊎ ((f ≡ Fault.Memory) × (writer.new ≡ writer.old))) }
+{
+    let line = format!(in alloc; "not copied {name}: {why}\n")?;
     write_answer(writer, line.as_str())
 }
 

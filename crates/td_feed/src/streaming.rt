@@ -11,12 +11,13 @@ ghost use Rattle.td_console.specs.Answer.{lack_fault};
 ghost use Rattle.td_standing.specs.Standing.{last_epoch, last_request};
 ghost use Rattle.td_feed.specs.Asked.{script_of};
 ghost use Rattle.td_feed.specs.Placed.{placed};
-ghost use Rattle.td_feed.specs.Held.{KeepsTo, first_seen, then_seen};
+ghost use Rattle.td_feed.specs.Held.{KeepsTo, TellsSeen, first_seen, then_seen};
 ghost use Rattle.td_feed.specs.Said.{IsAllOut};
-ghost use Rattle.td_feed.specs.Session.{limit_of, KeepsDisk, FeedsScript, StreamsDisk};
+ghost use Rattle.td_feed.specs.Session.{limit_of, KeepsDisk, FeedsScript, StreamsCopying, SeesOrNot};
 
 use crate::alone::obey_alone;
 use crate::asking::Streamed;
+use crate::host::Host;
 use crate::under_way::{Feeding, Pace, open};
 use crate::voice::Voice;
 use crate::workers::obey_by_workers;
@@ -49,6 +50,8 @@ pub struct StreamOptions {
     pub hold: bool,
     /// Whether questions are answered: a line between two epochs may ask for what folds keep.
     pub questions: bool,
+    /// Whether copies are made: a line between two epochs may ask for one.
+    pub copies: bool,
 }
 
 /// Does what `feed` does, order by order as the input comes. The output lines of the epochs that the disk tells are written first.
@@ -80,6 +83,10 @@ pub struct StreamOptions {
 /// states after the last epoch on the disk, which has passed: `state E V KEY A B` of each state that answers, or `none E V KEY`, and
 /// `asked E` at the end.
 ///
+/// Where copies are made, a line `copy NEW M N K` between two epochs asks for one. What the disk tells is put on a new disk of that shape,
+/// which the host makes and keeps, and `copied NEW E` is written, with the last epoch E. Where it has no room for that, or the host or the
+/// new disk refuses, `not copied NEW: WHAT` is written, and the stream goes on. The host is told each epoch of a line `seen E`, too.
+///
 /// Refusals: a missing closure, before anything else; what the disk refuses as it is recovered; and then the first of what a line,
 /// the reader, the keeper, a worker or the writer refuse, after all that was asked for before it; but want of memory, where epochs are
 /// read ahead, may come before these are put on the disk. What was written stays written. `Memory` also where a thread could not be
@@ -88,6 +95,7 @@ pub fn stream<
     D: Disk + Drop,
     I: Source + Drop,
     W: Voice,
+    H: Host,
     L: Law + Send + Sync,
     C: Closures<L> + Sync,
     R: Threads + Wait + Sync,
@@ -101,6 +109,7 @@ pub fn stream<
     reader: I,
     writer: &mut W,
     watch: Option<Writer>,
+    host: &mut H,
     calls: &C,
 ) -> (D, Result<(), Fault>)
     requires some { 1 ≤ workers }
@@ -110,13 +119,17 @@ pub fn stream<
 
     // A missing closure comes first: nothing was written.
     ensures lack { IfSome (first_lack (C.has_map calls.now) (C.has_group calls.now) (C.has_fold calls.now) (vertices plan.now)) (λ lack.
-        (result.1 ≡ Err (lack_fault lack)) × (result.0 ≡ disk) × (writer.new ≡ writer.old)) }
+        (result.1 ≡ Err (lack_fault lack)) × (result.0 ≡ disk) × (writer.new ≡ writer.old) × (host.new ≡ host.old)) }
     ensures fits { OnOk result.1 (first_lack (C.has_map calls.now) (C.has_group calls.now) (C.has_fold calls.now) (vertices plan.now) ≡ None) }
 
     // What the input asks for is fed, by one worker until all outputs went out.
     ensures fed { first_lack (C.has_map calls.now) (C.has_group calls.now) (C.has_fold calls.now) (vertices plan.now) ≡ None
-        → IfSome (I.remaining reader) (λ input. StreamsDisk D.is_lawful D.state D.failures L.answers W.marks options.placing options.refuse options.hold options.questions result.1 plan.now (workers == 1) disk result.0
-        (W.contents writer.old) (W.contents writer.new) input) }
+        → IfSome (I.remaining reader) (λ input. StreamsCopying D.is_lawful D.state D.failures L.answers W.marks H.New.is_lawful H.New.state options.placing options.refuse options.hold options.questions options.copies result.1 plan.now (workers == 1) disk result.0
+        (W.contents writer.old) (W.contents writer.new) (H.copies host.old) (H.copies host.new) input) }
+
+    // And the host is told what was seen.
+    ensures seen { first_lack (C.has_map calls.now) (C.has_group calls.now) (C.has_fold calls.now) (vertices plan.now) ≡ None
+        → IfSome (I.remaining reader) (λ input. SeesOrNot D.is_lawful D.state options.placing options.refuse options.hold options.questions options.copies result.1 plan.now disk (H.seen host.old) (H.seen host.new) input) }
 {
     laws::told_in_parts();
     driven_keeps_to_its_base::<D, L>();
@@ -130,7 +143,7 @@ pub fn stream<
     let keeper = watched(keeper, watch);
     each_is_kept(&keeper);
     let (keeper, ended) = obey(
-        rt, alloc, keeper, plan, workers, options, reader, writer, calls,
+        rt, alloc, keeper, plan, workers, options, reader, writer, host, calls,
     );
     each_keeps_to_its_base(&keeper);
     (keeper.into_disk(), ended)
@@ -170,6 +183,7 @@ fn obey<
     D: Disk + Drop,
     I: Source + Drop,
     W: Voice,
+    H: Host,
     L: Law + Send + Sync,
     C: Closures<L> + Sync,
     R: Threads + Wait + Sync,
@@ -182,6 +196,7 @@ fn obey<
     options: StreamOptions,
     reader: I,
     writer: &mut W,
+    host: &mut H,
     calls: &C,
 ) -> (Keeper<D, L>, Result<(), Fault>)
     requires some { 1 ≤ workers }
@@ -190,11 +205,13 @@ fn obey<
     requires fits { first_lack (C.has_map calls.now) (C.has_group calls.now) (C.has_fold calls.now) (vertices keeper.plan) ≡ None }
     requires collected { keeper.collected ≡ keeper.base }
     ensures disk { KeepsDisk D.capacity D.is_lawful D.failures result.1 keeper.device result.0.device }
-    ensures fed { IfSome (I.remaining reader) (λ input. FeedsScript D.is_lawful D.state D.failures L.answers W.marks result.1 (W.contents writer.old) (W.contents writer.new) keeper result.0
-        (placed options.refuse (last_epoch keeper.standing) (last_request keeper.standing) (script_of options.placing options.hold options.questions (limit_of options.refuse keeper.head.shape.m) plan.now input))) }
+    ensures fed { IfSome (I.remaining reader) (λ input. FeedsScript D.is_lawful D.state D.failures L.answers W.marks H.New.is_lawful H.New.state result.1 (W.contents writer.old) (W.contents writer.new) (H.copies host.old) (H.copies host.new) keeper result.0
+        (placed options.refuse (last_epoch keeper.standing) (last_request keeper.standing) (script_of options.placing options.hold options.questions options.copies (limit_of options.refuse keeper.head.shape.m) plan.now input))) }
     ensures all_out { workers ≡ 1 → OnOk result.1 (IsAllOut result.0) }
     ensures held { IfSome (I.remaining reader) (λ input. KeepsTo (then_seen (first_seen options.hold keeper.standing.epoch)
-        (placed options.refuse (last_epoch keeper.standing) (last_request keeper.standing) (script_of options.placing options.hold options.questions (limit_of options.refuse keeper.head.shape.m) plan.now input)).orders) keeper result.0) }
+        (placed options.refuse (last_epoch keeper.standing) (last_request keeper.standing) (script_of options.placing options.hold options.questions options.copies (limit_of options.refuse keeper.head.shape.m) plan.now input)).orders) keeper result.0) }
+    ensures seen { IfSome (I.remaining reader) (λ input. TellsSeen result.1 (first_seen options.hold keeper.standing.epoch)
+        (placed options.refuse (last_epoch keeper.standing) (last_request keeper.standing) (script_of options.placing options.hold options.questions options.copies (limit_of options.refuse keeper.head.shape.m) plan.now input)).orders (H.seen host.old) (H.seen host.new)) }
 {
     let feeding = Feeding::new(
         &keeper,
@@ -211,17 +228,18 @@ fn obey<
         options.placing,
         options.hold,
         options.questions,
+        options.copies,
         limit,
         reader,
     );
     if workers == 1 {
-        return obey_alone(rt, alloc, keeper, feeding, orders, writer, calls);
+        return obey_alone(rt, alloc, keeper, feeding, orders, writer, host, calls);
     }
     match open(alloc, &keeper, plan, workers) {
         Ok(hall) => {
             let blank = Blank::new(u64::from(hall.workers()));
-            obey_by_workers::<_, _, _, _, _, Brand, _>(
-                rt, alloc, keeper, hall, blank, feeding, orders, writer, calls,
+            obey_by_workers::<_, _, _, _, _, _, Brand, _>(
+                rt, alloc, keeper, hall, blank, feeding, orders, writer, host, calls,
             )
         }
         Err(fault) => (keeper, Err(fault)),

@@ -14,10 +14,12 @@ ghost use Rattle.td_feed.specs.Fed.{hall_fault};
 ghost use Rattle.td_feed.specs.Held.{SameBase, KeepsTo, MovesBase, seen_at, cut_for};
 ghost use Rattle.td_feed.specs.Carried.{batch_in, new_to, IsRising, Carries};
 ghost use Rattle.td_feed.specs.Said.{IsAllOut};
-ghost use Rattle.td_feed.specs.Session.{KeepsDisk, FeedsNoting, Feeds};
+ghost use Rattle.td_feed.specs.Session.{KeepsDisk, Feeds, FeedsCopying};
 ghost use Rattle.td_keeper.specs.Keeping.{since_base};
 
 use crate::at_once::Asked;
+use crate::copying::copy_aloud;
+use crate::host::Host;
 use crate::note::write_note;
 use crate::order::Order;
 use crate::saying::{print_out, say_full};
@@ -141,7 +143,7 @@ impl Feeding {
     }
 
     /// Does what is asked for. Refusals: those of the keeper and of the writer.
-    fn obey<D: Disk, L: Law, R, E: Obey<D, L, R>, W: Voice>(
+    fn obey<D: Disk, L: Law, R, E: Obey<D, L, R>, W: Voice, H: Host>(
         &mut self,
         rt: &R,
         alloc: Global,
@@ -149,12 +151,14 @@ impl Feeding {
         asked: Asked,
         seen: Option<u64>,
         writer: &mut W,
+        host: &mut H,
     ) -> Result<(), Fault>
         requires whole { (E.keeping engine.old).broken ≡ false }
         requires rising { MayFollow (last_request (E.keeping engine.old).standing) (Some asked) }
         ensures disk { KeepsDisk D.capacity D.is_lawful D.failures result (E.keeping engine.old).device (E.keeping engine.new).device }
-        ensures fed { FeedsNoting D.is_lawful D.state D.failures L.answers W.marks result (W.contents writer.old) (W.contents writer.new) (E.keeping engine.old) (E.keeping engine.new) (new_to (E.keeping engine.old) (asked_for asked)) (notes_for asked) }
+        ensures fed { FeedsCopying D.is_lawful D.state D.failures L.answers W.marks H.New.is_lawful H.New.state result (W.contents writer.old) (W.contents writer.new) (H.copies host.old) (H.copies host.new) (E.keeping engine.old) (E.keeping engine.new) (new_to (E.keeping engine.old) (asked_for asked)) (notes_for asked) }
         ensures held { KeepsTo seen (E.keeping engine.old) (E.keeping engine.new) }
+        ensures seen { H.seen host.new ≡ H.seen host.old }
     {
         match asked {
             Asked::Epochs(group) => {
@@ -189,6 +193,7 @@ impl Feeding {
                 Order::Answer { vertex, wanted } => {
                     answer_aloud(rt, alloc, engine, vertex, wanted, writer)
                 }
+                Order::Copy(copy) => copy_aloud(alloc, engine.keeper(), &copy, host, writer),
             },
         }
     }
@@ -298,7 +303,7 @@ impl Feeding {
     }
 
     /// Does what is asked for, and what is due after it at this pace.
-    pub(crate) fn obey_at_pace<D: Disk, L: Law, R, E: Obey<D, L, R>, W: Voice>(
+    pub(crate) fn obey_at_pace<D: Disk, L: Law, R, E: Obey<D, L, R>, W: Voice, H: Host>(
         &mut self,
         rt: &R,
         alloc: Global,
@@ -306,14 +311,16 @@ impl Feeding {
         asked: Asked,
         seen: Option<u64>,
         writer: &mut W,
+        host: &mut H,
     ) -> Result<(), Fault>
         requires whole { (E.keeping engine.old).broken ≡ false }
         requires rising { MayFollow (last_request (E.keeping engine.old).standing) (Some asked) }
         ensures disk { KeepsDisk D.capacity D.is_lawful D.failures result (E.keeping engine.old).device (E.keeping engine.new).device }
-        ensures fed { FeedsNoting D.is_lawful D.state D.failures L.answers W.marks result (W.contents writer.old) (W.contents writer.new) (E.keeping engine.old) (E.keeping engine.new) (new_to (E.keeping engine.old) (asked_for asked)) (notes_for asked) }
+        ensures fed { FeedsCopying D.is_lawful D.state D.failures L.answers W.marks H.New.is_lawful H.New.state result (W.contents writer.old) (W.contents writer.new) (H.copies host.old) (H.copies host.new) (E.keeping engine.old) (E.keeping engine.new) (new_to (E.keeping engine.old) (asked_for asked)) (notes_for asked) }
         ensures held { KeepsTo seen (E.keeping engine.old) (E.keeping engine.new) }
+        ensures seen { H.seen host.new ≡ H.seen host.old }
     {
-        self.obey(rt, alloc, engine, asked, seen, writer)?;
+        self.obey(rt, alloc, engine, asked, seen, writer, host)?;
         self.keep_pace(rt, alloc, engine, seen, writer)
     }
 

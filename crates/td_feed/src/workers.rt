@@ -1,17 +1,18 @@
 //! A feed beside the workers, each in a thread of its own.
 //!
-//! The keeper moves into the scope of the threads and comes back with the answer, and so does the reference to the writer. A
+//! The keeper moves into the scope of the threads and comes back with the answer, and so do the references to the writer and to the host. A
 //! closure that is called once says nothing of what it leaves behind a reference. So a disk must be one that may be dropped.
 //! `td_workers` is not used here: of a reference in its work nothing is known afterwards, and a feed says what its writer then
 //! holds.
 ghost use Rattle.std.specs.Prelude.{◌≡◌, false, IfSome};
 ghost use Rattle.td_standing.specs.Standing.{last_epoch, last_request};
-ghost use Rattle.td_feed.specs.Held.{KeepsTo, seen_at, then_seen};
+ghost use Rattle.td_feed.specs.Held.{KeepsTo, TellsSeen, seen_at, then_seen};
 ghost use Rattle.td_feed.specs.Session.{KeepsDisk, FeedsScript};
 
 use crate::allowance::Allowance;
 use crate::asking::Asking;
 use crate::at_pool::AtPool;
+use crate::host::Host;
 use crate::in_turn::{ended_as, obey_each};
 use crate::under_way::Feeding;
 use crate::voice::Voice;
@@ -34,6 +35,7 @@ pub(crate) fn obey_by_workers<
     D: Disk + Drop,
     S: Asking + Drop,
     W: Voice,
+    H: Host,
     L: Law + Send + Sync,
     C: Closures<L> + Sync,
     K: Crew + Send + Sync,
@@ -47,6 +49,7 @@ pub(crate) fn obey_by_workers<
     feeding: Feeding,
     orders: S,
     writer: &mut W,
+    host: &mut H,
     calls: &C,
 ) -> (Keeper<D, L>, Result<(), Fault>)
     requires name { blank.name ≡ K.name }
@@ -54,22 +57,29 @@ pub(crate) fn obey_by_workers<
     requires hall { (hall.workers ≡ K.shards) × (hall.given ≡ K.start) }
     requires whole { keeper.broken ≡ false }
     ensures disk { KeepsDisk D.capacity D.is_lawful D.failures result.1 keeper.device result.0.device }
-    ensures fed { IfSome (S.script (last_epoch keeper.standing) (last_request keeper.standing) orders) (λ script. FeedsScript D.is_lawful D.state D.failures L.answers W.marks result.1 (W.contents writer.old) (W.contents writer.new) keeper result.0 script) }
+    ensures fed { IfSome (S.script (last_epoch keeper.standing) (last_request keeper.standing) orders) (λ script. FeedsScript D.is_lawful D.state D.failures L.answers W.marks H.New.is_lawful H.New.state result.1 (W.contents writer.old) (W.contents writer.new) (H.copies host.old) (H.copies host.new) keeper result.0 script) }
     ensures held { IfSome (S.script (last_epoch keeper.standing) (last_request keeper.standing) orders) (λ script. KeepsTo (then_seen (seen_at feeding.pace keeper.standing.epoch) script.orders) keeper result.0) }
+    ensures seen { IfSome (S.script (last_epoch keeper.standing) (last_request keeper.standing) orders) (λ script. TellsSeen result.1 (seen_at feeding.pace keeper.standing.epoch) script.orders (H.seen host.old) (H.seen host.new)) }
 {
     match Pool::<K, L>::new(alloc, hall, blank) {
-        Ok((pool, seats)) => beside(
-            rt, alloc, keeper, &pool, seats, feeding, orders, writer, calls,
-        ),
+        Ok((pool, seats)) => {
+            let (ended, _host) = beside(
+                rt, alloc, keeper, &pool, seats, feeding, orders, writer, host, calls,
+            );
+            ended
+        }
         Err((_memory, _hall)) => (keeper, Err(Fault::Memory)),
     }
 }
 
-/// Obeys orders beside a worker for each seat, and stops the workers.
+/// Obeys orders beside a worker for each seat, and stops the workers. The reference to the host comes back: of two that a scope gives back,
+/// the prover knows what the last one, the writer's, is left with.
 fn beside<
+    'h,
     D: Disk + Drop,
     S: Asking + Drop,
     W: Voice,
+    H: Host,
     L: Law + Send + Sync,
     C: Closures<L> + Sync,
     K: Crew + Send + Sync,
@@ -83,24 +93,29 @@ fn beside<
     feeding: Feeding,
     orders: S,
     writer: &mut W,
+    host: &'h mut H,
     calls: &C,
-) -> (Keeper<D, L>, Result<(), Fault>)
+) -> ((Keeper<D, L>, Result<(), Fault>), &'h mut H)
     requires whole { keeper.broken ≡ false }
-    ensures disk { KeepsDisk D.capacity D.is_lawful D.failures result.1 keeper.device result.0.device }
-    ensures fed { IfSome (S.script (last_epoch keeper.standing) (last_request keeper.standing) orders) (λ script. FeedsScript D.is_lawful D.state D.failures L.answers W.marks result.1 (W.contents writer.old) (W.contents writer.new) keeper result.0 script) }
-    ensures held { IfSome (S.script (last_epoch keeper.standing) (last_request keeper.standing) orders) (λ script. KeepsTo (then_seen (seen_at feeding.pace keeper.standing.epoch) script.orders) keeper result.0) }
+    ensures same_host { result.1.ghost_name ≡ host.entry.ghost_name }
+    ensures disk { KeepsDisk D.capacity D.is_lawful D.failures result.0.1 keeper.device result.0.0.device }
+    ensures fed { IfSome (S.script (last_epoch keeper.standing) (last_request keeper.standing) orders) (λ script. FeedsScript D.is_lawful D.state D.failures L.answers W.marks H.New.is_lawful H.New.state result.0.1 (W.contents writer.old) (W.contents writer.new) (H.copies host.entry.now) (H.copies result.1.now) keeper result.0.0 script) }
+    ensures held { IfSome (S.script (last_epoch keeper.standing) (last_request keeper.standing) orders) (λ script. KeepsTo (then_seen (seen_at feeding.pace keeper.standing.epoch) script.orders) keeper result.0.0) }
+    ensures seen { IfSome (S.script (last_epoch keeper.standing) (last_request keeper.standing) orders) (λ script. TellsSeen result.0.1 (seen_at feeding.pace keeper.standing.epoch) script.orders (H.seen host.entry.now) (H.seen result.1.now)) }
 {
     let allowance = Allowance::new(pool, feeding.pace.tasks_of_an_epoch());
     let allowance = &allowance;
-    let (ended, _writer) = thread::scope(
+    let (ended, host, _writer) = thread::scope(
         thread::scope_env(),
         rt,
-        move |scope| -> ((Keeper<D, L>, Result<(), Fault>), &mut W)
+        move |scope| -> ((Keeper<D, L>, Result<(), Fault>), &mut H, &mut W)
             requires { keeper.broken ≡ false }
-            ensures same_writer { result.1.ghost_name ≡ writer.entry.ghost_name }
+            ensures same_writer { result.2.ghost_name ≡ writer.entry.ghost_name }
+            ensures same_host { result.1.ghost_name ≡ host.entry.ghost_name }
             ensures disk { KeepsDisk D.capacity D.is_lawful D.failures result.0.1 keeper.device result.0.0.device }
-            ensures fed { IfSome (S.script (last_epoch keeper.standing) (last_request keeper.standing) orders) (λ script. FeedsScript D.is_lawful D.state D.failures L.answers W.marks result.0.1 (W.contents writer.entry.now) (W.contents result.1.now) keeper result.0.0 script) }
+            ensures fed { IfSome (S.script (last_epoch keeper.standing) (last_request keeper.standing) orders) (λ script. FeedsScript D.is_lawful D.state D.failures L.answers W.marks H.New.is_lawful H.New.state result.0.1 (W.contents writer.entry.now) (W.contents result.2.now) (H.copies host.entry.now) (H.copies result.1.now) keeper result.0.0 script) }
             ensures held { IfSome (S.script (last_epoch keeper.standing) (last_request keeper.standing) orders) (λ script. KeepsTo (then_seen (seen_at feeding.pace keeper.standing.epoch) script.orders) keeper result.0.0) }
+            ensures seen { IfSome (S.script (last_epoch keeper.standing) (last_request keeper.standing) orders) (λ script. TellsSeen result.0.1 (seen_at feeding.pace keeper.standing.epoch) script.orders (H.seen host.entry.now) (H.seen result.1.now)) }
         {
             let pool = allowance.pool;
             let mut engine = AtPool { keeper, allowance };
@@ -128,16 +143,17 @@ fn beside<
                 feeding,
                 &mut orders,
                 writer,
+                host,
             );
             pool.stop(rt);
             let mut worked = Ok(());
             for worker in workers {
                 worked = worked.and(worker.join(rt));
             }
-            ((engine.keeper, ended_as(obeyed, worked)), writer)
+            ((engine.keeper, ended_as(obeyed, worked)), host, writer)
         },
     );
-    ended
+    (ended, host)
 }
 
 /// Works from a seat until the pool is stopped, as it is at the first task beyond the allowance. Where the work ends by a refusal, it stops the pool.

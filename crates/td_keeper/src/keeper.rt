@@ -6,10 +6,11 @@ ghost use Rattle.td_head.specs.Layout.{size_of};
 ghost use Rattle.td_standing.specs.Standing.{batches_of, nothing_told};
 ghost use Rattle.td_standing.specs.Told.{Told};
 ghost use Rattle.td_standing.specs.Tells.{Keeps, first_head};
-ghost use Rattle.td_standing.specs.Read.{Stood, Refused};
+ghost use Rattle.td_standing.specs.Read.{MayStand, standing_of, Stood, Refused};
 ghost use Rattle.td_standing.specs.Advanced.{HeldWhere};
 ghost use Rattle.td_keeper.specs.Keeping.{Keeping, IsFreshlyOpened};
 
+use crate::laws::each_is_kept;
 use std::alloc::Global;
 use std::collections::VecDeque;
 use std::marker::{Model, PhantomData};
@@ -20,7 +21,7 @@ use td_journal::{Submitted, greatest_request};
 use td_plan::Plan;
 use td_slots::Checkpoint;
 use td_stamp::{Batch, EpochOut, States};
-use td_standing::{KeeperError, format_device, laws, recover_device};
+use td_standing::{KeeperError, Recovered, format_device, laws, recover_device};
 use td_watch::Writer;
 
 /// A cut that was taken since the checkpoint was written, and whether it waits to be written.
@@ -195,6 +196,36 @@ impl<D: Disk, L: Law> Keeper<D, L> {
         Ok((self.checkpoint.epoch, states, batches))
     }
 
+    /// What it stands for, as a recovery of its disk would read it, in memory of its own. Refusal: `Memory`.
+    pub fn told(&self) -> Result<Recovered, KeeperError>
+        ensures told { IfOk result (λ r. standing_of r ≡ self.now.standing) }
+        ensures may_stand { IfOk result (λ r. MayStand self.now.plan r.head r.checkpoint.slot (standing_of r)) }
+        ensures refusals { IfErr result (λ e. e ≡ KeeperError.Memory) }
+    {
+        each_is_kept(self);
+        let Checkpoint {
+            slot,
+            epoch,
+            last,
+            states,
+        } = &self.checkpoint;
+        let states = states.copy()?;
+        let mut submitted = Vec::with_capacity(self.alloc, self.submitted.len())?;
+        for i in 0..self.submitted.len() {
+            submitted.push(copy_of(&self.submitted[i])?)?;
+        }
+        Ok(Recovered {
+            head: self.head,
+            checkpoint: Checkpoint {
+                slot: *slot,
+                epoch: *epoch,
+                last: *last,
+                states,
+            },
+            submitted,
+        })
+    }
+
     /// The disk.
     pub fn into_disk(self) -> D
         ensures disk { result ≡ self.device }
@@ -218,4 +249,15 @@ impl<D: Disk, L: Law> Keeper<D, L> {
         } = self;
         device
     }
+}
+
+/// What was submitted, in memory of its own. Refusal: `Memory`.
+fn copy_of(submitted: &Submitted) -> Result<Submitted, KeeperError>
+    ensures same { IfOk result (λ s. s ≡ submitted.now) }
+    ensures refusals { IfErr result (λ e. e ≡ KeeperError.Memory) }
+{
+    Ok(Submitted {
+        request: submitted.request,
+        batch: submitted.batch.copy()?,
+    })
 }

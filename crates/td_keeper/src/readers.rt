@@ -6,6 +6,7 @@ ghost use Rattle.td_standing.specs.Standing.{last_epoch, last_request};
 use crate::keeper::Keeper;
 use td_calls::Law;
 use td_disk::Disk;
+use td_plan::Plan;
 use td_stamp::States;
 use td_standing::KeeperError;
 
@@ -72,6 +73,13 @@ impl<D: Disk, L: Law> Keeper<D, L> {
         ensures refusals { IfErr result (λ e. e ≡ KeeperError.Memory) }
     {
         Ok(self.checkpoint.states.copy()?)
+    }
+
+    /// The plan.
+    pub fn plan(&self) -> &Plan
+        ensures { result.now ≡ self.now.plan }
+    {
+        &self.plan
     }
 
     /// Whether the device failed in an earlier call that writes.

@@ -30,7 +30,7 @@ use Rattle.td_feed.specs.Asked.{script_of}
 use Rattle.td_feed.specs.Fed.{TellsHistory, EachTellsHistory, TellsOnward}
 use Rattle.td_feed.specs.Held.{seen_after}
 use Rattle.td_feed.specs.Noted.{Aside, note_line}
-use Rattle.td_feed.specs.Said.{Saying, replied, aside, full, answered, commands_in, replies_in, out_lines, full_line, request_in, line_of, answer_text, lines_of, Wanted, SaysBy, SaysFrom, SaysFed}
+use Rattle.td_feed.specs.Said.{Saying, replied, aside, full, answered, copied, not_copied, commands_in, replies_in, out_lines, full_line, copied_line, not_copied_line, request_in, line_of, answer_text, lines_of, Wanted, SaysBy, SaysFrom, SaysFed}
 use Rattle.td_feed.specs.Session.{limit_of, wanted_by}
 use Rattle.td_theorem.specs.Life.{TellsAs}
 use Rattle.td_theorem.specs.Feeds.{found_by}
@@ -83,6 +83,8 @@ module _ {D : Type 0} (is_lawful : D → Type 0) (state : D → DiskState) (fail
       (behind marks line more (all_written marks more driven.0 new driven.3))
   all_written marks (aside note ∷ more) old new driven = behind marks (note_line note) more (all_written marks more old new driven)
   all_written marks (full epoch ∷ more) old new driven = behind marks (full_line epoch) more (all_written marks more old new driven)
+  all_written marks (copied name shape epoch ∷ more) old new driven = behind marks (copied_line name epoch) more (all_written marks more old new driven)
+  all_written marks (not_copied name shape why ∷ more) old new driven = behind marks (not_copied_line name why) more (all_written marks more old new driven)
   all_written marks (answered vertex wanted reply ∷ more) old new driven =
       let line = answer_text vertex wanted reply in
       subst (λ (l : List EpochOut). All (λ out. IsPart (out_lines marks out) (line ++ lines_of marks more)) (l ++ handed_out (replies_in more)))
@@ -130,7 +132,7 @@ module _ {D : Type 0} (is_lawful : D → Type 0) (state : D → DiskState) (fail
     onward : (result : Result (Unit {0}) Fault) → SaysFrom is_lawful state failures answers true result plan alone disk left before after wanted → (more : List Submitted) × TellsHistory answers plan more image
     onward result from =
         let some = told_some true result before after (found_by from) from.ended (new_to (found_by from) (wanted.epochs (last_epoch from.keeper.standing) (last_request from.keeper.standing)))
-        (wanted.notes (last_epoch from.keeper.standing) (last_request from.keeper.standing)) from.said in
+        from.notes from.said in
         let goes = moments true result plan alone disk left before after wanted from lawful some.0 some.1 some.2 history told image crashed in
         (history ++ take goes.count (submitted_by some.0 some.1), goes.tells)
 
@@ -150,12 +152,12 @@ module _ {D : Type 0} (is_lawful : D → Type 0) (state : D → DiskState) (fail
     where
       tells : (more : List Submitted) × TellsHistory answers plan more d.image
       tells =
-          still d.alone d.disk d.left d.before d.after (wanted_by d.refuse (limit_of d.refuse is.streams.records) (script_of d.placing true d.questions (limit_of d.refuse is.streams.records) plan d.input)) is.lawful h.history (each_tells image d.disk last h alike) d.image is.crashed
+          still d.alone d.disk d.left d.before d.after (wanted_by d.refuse (limit_of d.refuse is.streams.records) (script_of d.placing true d.questions d.copies (limit_of d.refuse is.streams.records) plan d.input)) is.lawful h.history (each_tells image d.disk last h alike) d.image is.crashed
           d.result is.streams.fed.said
 
       kept : EverKeepsTo plan (seen_by plan last d) (state d.disk).moment (state d.left)
       kept =
-          subst (λ (m : ℕ). EverKeepsTo plan (seen_after last (script_of d.placing true d.questions (limit_of d.refuse m) plan d.input).orders) (state d.disk).moment (state d.left)) is.records
+          subst (λ (m : ℕ). EverKeepsTo plan (seen_after last (script_of d.placing true d.questions d.copies (limit_of d.refuse m) plan d.input).orders) (state d.disk).moment (state d.left)) is.records
           (is.streams.ever_held refl is.lawful last (each_low image d.disk last h alike))
 
   -- and so do several
@@ -217,7 +219,7 @@ module _ {D : Type 0} (is_lawful : D → Type 0) (state : D → DiskState) (fail
 
     -- A STREAM THAT ANSWERED OK, by one worker
     module _ (image : List ℕ) (d : Delivery D) (last : ℕ) (h : HoldsBack answers plan last image) (alike : TellsAs plan image (state d.disk)) (lawful : is_lawful d.disk)
-        {limit : Option ℕ} (done : Unit {0}) (from : SaysFrom is_lawful state failures answers true (Ok done) plan true d.disk d.left d.before d.after (wanted_by d.refuse limit (script_of d.placing true d.questions limit plan d.input))) where
+        {limit : Option ℕ} (done : Unit {0}) (from : SaysFrom is_lawful state failures answers true (Ok done) plan true d.disk d.left d.before d.after (wanted_by d.refuse limit (script_of d.placing true d.questions d.copies limit plan d.input))) where
       abbrev keeper : Keeping D
       keeper = found_by from
 
@@ -292,6 +294,6 @@ module _ {D : Type 0} (is_lawful : D → Type 0) (state : D → DiskState) (fail
         by : (r : Result (Unit {0}) Fault) → d.result ≡ r → OnOk r (WritesAgain answers plan last image d)
         by (Ok done) same =
             writes_again image d last h alike is.lawful done
-            (subst (λ (a : Bool). SaysFed is_lawful state failures answers true (Ok done) plan a d.disk d.left d.before d.after (wanted_by d.refuse (limit_of d.refuse is.streams.records) (script_of d.placing true d.questions (limit_of d.refuse is.streams.records) plan d.input))) alone
-            (subst (λ (r : Result (Unit {0}) Fault). SaysFed is_lawful state failures answers true r plan d.alone d.disk d.left d.before d.after (wanted_by d.refuse (limit_of d.refuse is.streams.records) (script_of d.placing true d.questions (limit_of d.refuse is.streams.records) plan d.input))) same is.streams.fed.said))
+            (subst (λ (a : Bool). SaysFed is_lawful state failures answers true (Ok done) plan a d.disk d.left d.before d.after (wanted_by d.refuse (limit_of d.refuse is.streams.records) (script_of d.placing true d.questions d.copies (limit_of d.refuse is.streams.records) plan d.input))) alone
+            (subst (λ (r : Result (Unit {0}) Fault). SaysFed is_lawful state failures answers true r plan d.alone d.disk d.left d.before d.after (wanted_by d.refuse (limit_of d.refuse is.streams.records) (script_of d.placing true d.questions d.copies (limit_of d.refuse is.streams.records) plan d.input))) same is.streams.fed.said))
         by (Err fault) same = tt

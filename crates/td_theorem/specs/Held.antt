@@ -15,12 +15,13 @@ use Rattle.td_feed.specs.Session.{limit_of, StreamsDisk}
 use Rattle.td_theorem.specs.Life.{TellsAs}
 
 -- A DELIVERY: a stream with marks that holds its outputs. Its epochs may have places; it may refuse epochs, those with more records than so many among them; it may
--- answer questions, and it may work alone. It has the disk that it was given, and the one that it left; what its writer held before and after; its input and its answer;
+-- answer questions and make copies, and it may work alone. It has the disk that it was given, and the one that it left; what its writer held before and after; its input and its answer;
 -- and what a crash left of its disk at some moment
 pub record Delivery (D : Type 0) : Type 0 where
   pub placing : Bool
   pub refuse : Bool
   pub questions : Bool
+  pub copies : Bool
   pub records : ℕ
   pub alone : Bool
   pub disk : D
@@ -33,7 +34,7 @@ pub record Delivery (D : Type 0) : Type 0 where
 
 -- the last epoch that was seen, by its input, and by those of several, one after another
 abbrev pub seen_by : {D : Type 0} → List Line → ℕ → Delivery D → ℕ
-seen_by plan last d = seen_after last (script_of d.placing true d.questions (limit_of d.refuse d.records) plan d.input).orders
+seen_by plan last d = seen_after last (script_of d.placing true d.questions d.copies (limit_of d.refuse d.records) plan d.input).orders
 
 abbrev pub seen_in_all : {D : Type 0} → List Line → ℕ → List (Delivery D) → ℕ
 seen_in_all plan last [] = last
@@ -62,7 +63,7 @@ module _ {D : Type 0} (is_lawful : D → Type 0) (state : D → DiskState) (fail
   -- too, or after it
   pub record IsDelivery (d : Delivery D) : Type 0 where
     pub lawful : is_lawful d.disk
-    pub streams : StreamsDisk is_lawful state failures answers true d.placing d.refuse true d.questions d.result plan d.alone d.disk d.left d.before d.after d.input
+    pub streams : StreamsDisk is_lawful state failures answers true d.placing d.refuse true d.questions d.copies d.result plan d.alone d.disk d.left d.before d.after d.input
     pub records : streams.records ≡ d.records
     pub crashed : (state d.left).since (state d.disk).moment d.image
 

@@ -114,7 +114,7 @@ pub has_workers : (met : Option (Text × List Row)) (job : Job) → IsNamed met 
 has_workers met (Run w c) n = (n.2.0.4, n.2.0.5)
 has_workers met (Sim w picks c) n = (n.2.0.4, n.2.0.5)
 has_workers met (Feed disk plan w) n = (n.2.2.4, n.2.2.5)
-has_workers met (Stream disk plan w cut_every most progress marks refuse at hold room ask status) n = (n.2.2.4, n.2.2.5)
+has_workers met (Stream disk plan w cut_every most progress marks refuse at hold room ask status copies) n = (n.2.2.4, n.2.2.5)
 has_workers met _ n = tt
 
 -- help is asked for, where the parse failed with help

@@ -40,16 +40,21 @@ same_flag false false e = refl
 same_flag true false e = let other = ap (bytes_eq (codes "true")) e in cc
 same_flag false true e = let other = ap (bytes_eq (codes "true")) e in cc
 
--- the job of the name, and its values
-pub only_stream : (rows : List Row) (job : Job) → IsOf (codes "stream") rows job
-    → (disk : Bor Text) × (plan : Bor Text) × (w : ℕ) × (every : Option ℕ) × (most : Option ℕ) × (told : Bool) × (marks : Bool) × (refuse : Bool) × (at : Bool) × (hold : Bool) × (room : Bool) × (ask : Bool) × (status : Option (Bor Text))
-    × (job ≡ Stream disk plan w every most told marks refuse at hold room ask status) × HasValues rows (Stream disk plan w every most told marks refuse at hold room ask status)
-only_stream rows (Stream disk plan w every most told marks refuse at hold room ask status) h = (disk, plan, w, every, most, told, marks, refuse, at, hold, room, ask, status, refl, h.1)
-only_stream rows _ h = let other = ap (bytes_eq (codes "stream")) h.0 in cc
+-- what a job of the name is made of
+abbrev pub StreamFields : Type 0
+StreamFields = Bor Text × Bor Text × ℕ × Option ℕ × Option ℕ × Bool × Bool × Bool × Bool × Bool × Bool × Bool × Option (Bor Text) × Option (Bor Text)
+
+abbrev pub stream_with : StreamFields → Job
+stream_with f = Stream f.0 f.1 f.2 f.3 f.4 f.5 f.6 f.7 f.8 f.9 f.10 f.11 f.12 f.13
+
+-- what holds of each job of the name by its values holds of a job that is named so
+pub only_stream : (rows : List Row) (P : Job → Type 0) → ((f : StreamFields) → HasValues rows (stream_with f) → P (stream_with f)) → (job : Job) → IsOf (codes "stream") rows job → P job
+only_stream rows P holds (Stream disk plan w every most told marks refuse at hold room ask status copies) h = holds (disk, plan, w, every, most, told, marks, refuse, at, hold, room, ask, status, copies) h.1
+only_stream rows P holds _ h = let other = ap (bytes_eq (codes "stream")) h.0 in cc
 
 -- the values at given words
 abbrev pub StreamValues : Type 0
-StreamValues = Option Text × Option Text × Option Text × Option Text × Option Text × Option Text × Option Text × Option Text × Option Text × Option Text × Option Text × Option Text × Option Text
+StreamValues = Option Text × Option Text × Option Text × Option Text × Option Text × Option Text × Option Text × Option Text × Option Text × Option Text × Option Text × Option Text × Option Text × Option Text
 
 abbrev pub stream_values : List Row → StreamValues
 stream_values rows = (
@@ -66,10 +71,11 @@ stream_values rows = (
   one_of (codes "room") rows,
   one_of (codes "ask") rows,
   first_of (codes "status") rows,
+  first_of (codes "copies") rows,
 )
 
-abbrev pub given_stream : Option Text → Option Text → Bool → Bool → Bool → Bool → Bool → Bool → Bool → Option Text → StreamValues
-given_stream every most told marks refuse at hold room ask status = (
+abbrev pub given_stream : Option Text → Option Text → Bool → Bool → Bool → Bool → Bool → Bool → Bool → Option Text → Option Text → StreamValues
+given_stream every most told marks refuse at hold room ask status copies = (
   Some (codes "d"),
   Some (codes "p"),
   Some (codes "1"),
@@ -83,6 +89,7 @@ given_stream every most told marks refuse at hold room ask status = (
   Some (flag_text room),
   Some (flag_text ask),
   status,
+  copies,
 )
 
 -- the file of an option, as it is written
@@ -90,13 +97,13 @@ file_there : (id : Text) (rows : List Row) (text : Option Text) → first_of id 
 file_there id rows None e = e
 file_there id rows (Some text) e = e
 
-module _ (every_text most_text : Option Text) (every most : Option ℕ) (told marks refuse at hold room ask : Bool) (status : Option Text) (allowed : may_hold marks hold ≡ true)
+module _ (every_text most_text : Option Text) (every most : Option ℕ) (told marks refuse at hold room ask : Bool) (status copies : Option Text) (allowed : may_hold marks hold ≡ true)
     (gives_every : Gives 1 65536 every_text every) (gives_most : Gives 1 9223372036854775807 most_text most)
-    (met : Option (Text × List Row)) (name : option_map (λ p. p.0) met ≡ Some (codes "stream")) (values : option_map (λ p. stream_values p.1) met ≡ Some (given_stream every_text most_text told marks refuse at hold room ask status)) where
-  stream_met : IsNamed met (Stream (to (codes "d")) (to (codes "p")) 1 every most told marks refuse at hold room ask (option_map to status))
+    (met : Option (Text × List Row)) (name : option_map (λ p. p.0) met ≡ Some (codes "stream")) (values : option_map (λ p. stream_values p.1) met ≡ Some (given_stream every_text most_text told marks refuse at hold room ask status copies)) where
+  stream_met : IsNamed met (Stream (to (codes "d")) (to (codes "p")) 1 every most told marks refuse at hold room ask (option_map to status) (option_map to copies))
   stream_met =
       let m = met_some met (codes "stream") name in
-      let v = value_met stream_values (given_stream every_text most_text told marks refuse at hold room ask status) met (codes "stream") m.0 m.1 values in (
+      let v = value_met stream_values (given_stream every_text most_text told marks refuse at hold room ask status copies) met (codes "stream") m.0 m.1 values in (
         m.0,
         m.1,
         (
@@ -113,46 +120,46 @@ module _ (every_text most_text : Option Text) (every most : Option ℕ) (told ma
           ap (λ (x : StreamValues). x.10) v,
           ap (λ (x : StreamValues). x.11) v,
           file_there (codes "status") m.0 status (ap (λ (x : StreamValues). x.12) v),
+          file_there (codes "copies") m.0 copies (ap (λ (x : StreamValues). x.13) v),
           allowed,
         ),
       )
 
-  named_stream : (job : Job) → IsNamed met job → IsStream (codes "d") (codes "p") 1 every most told marks refuse at hold room ask status job
+  named_stream : (job : Job) → IsNamed met job → IsStream (codes "d") (codes "p") 1 every most told marks refuse at hold room ask status copies job
   named_stream job n =
       let m = met_of met (codes "stream") job n name in
-      let only = only_stream m.0 job m.2 in
-      let v = value_met stream_values (given_stream every_text most_text told marks refuse at hold room ask status) met (codes "stream") m.0 m.1 values in
-      let has = only.14 in
-      subst (IsStream (codes "d") (codes "p") 1 every most told marks refuse at hold room ask status) (sym only.13) (
-        some_is only.0.now (codes "d") (first_of (codes "disk") m.0) has.0 (ap (λ (x : StreamValues). x.0) v),
-        some_is only.1.now (codes "p") (first_of (codes "plan") m.0) has.1 (ap (λ (x : StreamValues). x.1) v),
-        written (codes "workers") 1 16 m.0 (codes "1") only.2 has.2 (ap (λ (x : StreamValues). x.2) v),
-        option_is (codes "cut-every") 1 65536 m.0 every_text every gives_every (ap (λ (x : StreamValues). x.3) v) only.3 has.3,
-        option_is (codes "most") 1 9223372036854775807 m.0 most_text most gives_most (ap (λ (x : StreamValues). x.4) v) only.4 has.4,
-        same_flag only.5 told (some_is (flag_text only.5) (flag_text told) (one_of (codes "progress") m.0) has.5 (ap (λ (x : StreamValues). x.5) v)),
-        same_flag only.6 marks (some_is (flag_text only.6) (flag_text marks) (one_of (codes "marks") m.0) has.6 (ap (λ (x : StreamValues). x.6) v)),
-        same_flag only.7 refuse (some_is (flag_text only.7) (flag_text refuse) (one_of (codes "refuse") m.0) has.7 (ap (λ (x : StreamValues). x.7) v)),
-        same_flag only.8 at (some_is (flag_text only.8) (flag_text at) (one_of (codes "at") m.0) has.8 (ap (λ (x : StreamValues). x.8) v)),
-        same_flag only.9 hold (some_is (flag_text only.9) (flag_text hold) (one_of (codes "hold") m.0) has.9 (ap (λ (x : StreamValues). x.9) v)),
-        same_flag only.10 room (some_is (flag_text only.10) (flag_text room) (one_of (codes "room") m.0) has.10 (ap (λ (x : StreamValues). x.10) v)),
-        same_flag only.11 ask (some_is (flag_text only.11) (flag_text ask) (one_of (codes "ask") m.0) has.11 (ap (λ (x : StreamValues). x.11) v)),
+      let v = value_met stream_values (given_stream every_text most_text told marks refuse at hold room ask status copies) met (codes "stream") m.0 m.1 values in
+      only_stream m.0 (IsStream (codes "d") (codes "p") 1 every most told marks refuse at hold room ask status copies) (λ f has. (
+        some_is f.0.now (codes "d") (first_of (codes "disk") m.0) has.0 (ap (λ (x : StreamValues). x.0) v),
+        some_is f.1.now (codes "p") (first_of (codes "plan") m.0) has.1 (ap (λ (x : StreamValues). x.1) v),
+        written (codes "workers") 1 16 m.0 (codes "1") f.2 has.2 (ap (λ (x : StreamValues). x.2) v),
+        option_is (codes "cut-every") 1 65536 m.0 every_text every gives_every (ap (λ (x : StreamValues). x.3) v) f.3 has.3,
+        option_is (codes "most") 1 9223372036854775807 m.0 most_text most gives_most (ap (λ (x : StreamValues). x.4) v) f.4 has.4,
+        same_flag f.5 told (some_is (flag_text f.5) (flag_text told) (one_of (codes "progress") m.0) has.5 (ap (λ (x : StreamValues). x.5) v)),
+        same_flag f.6 marks (some_is (flag_text f.6) (flag_text marks) (one_of (codes "marks") m.0) has.6 (ap (λ (x : StreamValues). x.6) v)),
+        same_flag f.7 refuse (some_is (flag_text f.7) (flag_text refuse) (one_of (codes "refuse") m.0) has.7 (ap (λ (x : StreamValues). x.7) v)),
+        same_flag f.8 at (some_is (flag_text f.8) (flag_text at) (one_of (codes "at") m.0) has.8 (ap (λ (x : StreamValues). x.8) v)),
+        same_flag f.9 hold (some_is (flag_text f.9) (flag_text hold) (one_of (codes "hold") m.0) has.9 (ap (λ (x : StreamValues). x.9) v)),
+        same_flag f.10 room (some_is (flag_text f.10) (flag_text room) (one_of (codes "room") m.0) has.10 (ap (λ (x : StreamValues). x.10) v)),
+        same_flag f.11 ask (some_is (flag_text f.11) (flag_text ask) (one_of (codes "ask") m.0) has.11 (ap (λ (x : StreamValues). x.11) v)),
         sym has.12 ∙ ap (λ (x : StreamValues). x.12) v,
-      )
+        sym has.13 ∙ ap (λ (x : StreamValues). x.13) v,
+      )) job m.2
 
 module _ (met : Option (Text × List Row)) (name : option_map (λ p. p.0) met ≡ Some (codes "stream")) where
-  pub uncut_met : (told marks refuse at hold room ask : Bool) (status : Option Text) → may_hold marks hold ≡ true → option_map (λ p. stream_values p.1) met ≡ Some (given_stream None None told marks refuse at hold room ask status)
-      → IsNamed met (Stream (to (codes "d")) (to (codes "p")) 1 None None told marks refuse at hold room ask (option_map to status))
-  uncut_met told marks refuse at hold room ask status allowed values = stream_met None None None None told marks refuse at hold room ask status allowed tt tt met name values
+  pub uncut_met : (told marks refuse at hold room ask : Bool) (status copies : Option Text) → may_hold marks hold ≡ true → option_map (λ p. stream_values p.1) met ≡ Some (given_stream None None told marks refuse at hold room ask status copies)
+      → IsNamed met (Stream (to (codes "d")) (to (codes "p")) 1 None None told marks refuse at hold room ask (option_map to status) (option_map to copies))
+  uncut_met told marks refuse at hold room ask status copies allowed values = stream_met None None None None told marks refuse at hold room ask status copies allowed tt tt met name values
 
-  pub named_uncut : (told marks refuse at hold room ask : Bool) (status : Option Text) → may_hold marks hold ≡ true → (job : Job) → IsNamed met job
-      → option_map (λ p. stream_values p.1) met ≡ Some (given_stream None None told marks refuse at hold room ask status)
-      → IsStream (codes "d") (codes "p") 1 None None told marks refuse at hold room ask status job
-  named_uncut told marks refuse at hold room ask status allowed job n values = named_stream None None None None told marks refuse at hold room ask status allowed tt tt met name values job n
+  pub named_uncut : (told marks refuse at hold room ask : Bool) (status copies : Option Text) → may_hold marks hold ≡ true → (job : Job) → IsNamed met job
+      → option_map (λ p. stream_values p.1) met ≡ Some (given_stream None None told marks refuse at hold room ask status copies)
+      → IsStream (codes "d") (codes "p") 1 None None told marks refuse at hold room ask status copies job
+  named_uncut told marks refuse at hold room ask status copies allowed job n values = named_stream None None None None told marks refuse at hold room ask status copies allowed tt tt met name values job n
 
-  pub cutting_met : option_map (λ p. stream_values p.1) met ≡ Some (given_stream (Some (codes "4")) (Some (codes "5")) false false false false false false false None)
-      → IsNamed met (Stream (to (codes "d")) (to (codes "p")) 1 (Some 4) (Some 5) false false false false false false false None)
-  cutting_met values = stream_met (Some (codes "4")) (Some (codes "5")) (Some 4) (Some 5) false false false false false false false None refl (four, omega arith, omega arith) (five, omega arith, omega arith) met name values
+  pub cutting_met : option_map (λ p. stream_values p.1) met ≡ Some (given_stream (Some (codes "4")) (Some (codes "5")) false false false false false false false None None)
+      → IsNamed met (Stream (to (codes "d")) (to (codes "p")) 1 (Some 4) (Some 5) false false false false false false false None None)
+  cutting_met values = stream_met (Some (codes "4")) (Some (codes "5")) (Some 4) (Some 5) false false false false false false false None None refl (four, omega arith, omega arith) (five, omega arith, omega arith) met name values
 
-  pub named_cutting : (job : Job) → IsNamed met job → option_map (λ p. stream_values p.1) met ≡ Some (given_stream (Some (codes "4")) (Some (codes "5")) false false false false false false false None)
-      → IsStream (codes "d") (codes "p") 1 (Some 4) (Some 5) false false false false false false false None job
-  named_cutting job n values = named_stream (Some (codes "4")) (Some (codes "5")) (Some 4) (Some 5) false false false false false false false None refl (four, omega arith, omega arith) (five, omega arith, omega arith) met name values job n
+  pub named_cutting : (job : Job) → IsNamed met job → option_map (λ p. stream_values p.1) met ≡ Some (given_stream (Some (codes "4")) (Some (codes "5")) false false false false false false false None None)
+      → IsStream (codes "d") (codes "p") 1 (Some 4) (Some 5) false false false false false false false None None job
+  named_cutting job n values = named_stream (Some (codes "4")) (Some (codes "5")) (Some 4) (Some 5) false false false false false false false None None refl (four, omega arith, omega arith) (five, omega arith, omega arith) met name values job n

@@ -14,7 +14,7 @@ unfolding clap_on_literals
 stream_is_named = refl
 
 -- with no number of shards, 1, with no numbers of epochs and deliveries, none, and with no flag, false
-pub stream_has : option_map (λ p. stream_values p.1) (subcommand_of td stream_words) ≡ Some (given_stream None None false false false false false false false None)
+pub stream_has : option_map (λ p. stream_values p.1) (subcommand_of td stream_words) ≡ Some (given_stream None None false false false false false false false None None)
 unfolding clap_on_literals
 stream_has = refl
 
@@ -26,7 +26,7 @@ pub cutting_is_named : option_map (λ p. p.0) (subcommand_of td cutting_words) �
 unfolding clap_on_literals
 cutting_is_named = refl
 
-pub cutting_has : option_map (λ p. stream_values p.1) (subcommand_of td cutting_words) ≡ Some (given_stream (Some (codes "4")) (Some (codes "5")) false false false false false false false None)
+pub cutting_has : option_map (λ p. stream_values p.1) (subcommand_of td cutting_words) ≡ Some (given_stream (Some (codes "4")) (Some (codes "5")) false false false false false false false None None)
 unfolding clap_on_literals
 cutting_has = refl
 
@@ -38,6 +38,6 @@ pub telling_is_named : option_map (λ p. p.0) (subcommand_of td telling_words) �
 unfolding clap_on_literals
 telling_is_named = refl
 
-pub telling_has : option_map (λ p. stream_values p.1) (subcommand_of td telling_words) ≡ Some (given_stream None None true true true true true true true (Some (codes "s")))
+pub telling_has : option_map (λ p. stream_values p.1) (subcommand_of td telling_words) ≡ Some (given_stream None None true true true true true true true (Some (codes "s")) (Some (codes "f")))
 unfolding clap_on_literals
 telling_has = refl

@@ -73,6 +73,10 @@ map_rule = file_rule (codes "map")
 abbrev pub status_rule : Rule
 status_rule = file_rule (codes "status")
 
+-- `--copies FOLDER`
+abbrev pub copies_rule : Rule
+copies_rule = file_rule (codes "copies")
+
 -- the subcommands
 abbrev pub batch_app : App
 batch_app = with_rule (new_app (codes "batch")) closures_rule
@@ -114,8 +118,8 @@ abbrev pub load_app : App
 load_app = with_rule (with_rule (with_shape (with_rule (with_rule (new_app (codes "load")) (word_rule (codes "new"))) (word_rule (codes "plan")))) map_rule) closures_rule
 
 abbrev pub stream_app : App
-stream_app = with_rule (with_rule (with_rule (with_rule (with_rule (with_rule (with_rule (with_rule (with_rule (with_rule (with_rule (with_files (new_app (codes "stream"))) workers_rule) cut_every_rule) most_rule) (flag_rule (codes "progress")))
-    (flag_rule (codes "marks"))) (flag_rule (codes "refuse"))) (flag_rule (codes "at"))) (flag_rule (codes "hold"))) (flag_rule (codes "room"))) (flag_rule (codes "ask"))) status_rule
+stream_app = with_rule (with_rule (with_rule (with_rule (with_rule (with_rule (with_rule (with_rule (with_rule (with_rule (with_rule (with_rule (with_files (new_app (codes "stream"))) workers_rule) cut_every_rule) most_rule) (flag_rule (codes "progress")))
+    (flag_rule (codes "marks"))) (flag_rule (codes "refuse"))) (flag_rule (codes "at"))) (flag_rule (codes "hold"))) (flag_rule (codes "room"))) (flag_rule (codes "ask"))) status_rule) copies_rule
 
 abbrev pub plan_app : App
 plan_app = with_rule (with_rule (with_rule (new_app (codes "plan")) (word_rule (codes "plan"))) (flag_rule (codes "dot"))) closures_rule
@@ -166,7 +170,7 @@ abbrev pub cutting_words : List (List ℕ)
 cutting_words = codes "td" ∷ codes "stream" ∷ codes "d" ∷ codes "p" ∷ codes "--cut-every" ∷ codes "4" ∷ codes "--most" ∷ codes "5" ∷ []
 
 abbrev pub telling_words : List (List ℕ)
-telling_words = codes "td" ∷ codes "stream" ∷ codes "d" ∷ codes "p" ∷ codes "--progress" ∷ codes "--marks" ∷ codes "--refuse" ∷ codes "--at" ∷ codes "--hold" ∷ codes "--room" ∷ codes "--ask" ∷ codes "--status" ∷ codes "s" ∷ []
+telling_words = codes "td" ∷ codes "stream" ∷ codes "d" ∷ codes "p" ∷ codes "--progress" ∷ codes "--marks" ∷ codes "--refuse" ∷ codes "--at" ∷ codes "--hold" ∷ codes "--room" ∷ codes "--ask" ∷ codes "--status" ∷ codes "s" ∷ codes "--copies" ∷ codes "f" ∷ []
 
 -- the number that a subcommand has at a name, where clap says so: in decimal, as Rust reads it, and between these
 abbrev pub IsNumber : Text → ℕ → ℕ → List Row → ℕ → Type 0
@@ -227,7 +231,7 @@ name_of (Upgrade disk plan) = codes "upgrade"
 name_of (Copy disk plan new m n k until) = codes "copy"
 name_of (States disk plan) = codes "states"
 name_of (Load new plan m n k map closures) = codes "load"
-name_of (Stream disk plan workers cut_every most progress marks refuse at hold room ask status) = codes "stream"
+name_of (Stream disk plan workers cut_every most progress marks refuse at hold room ask status copies) = codes "stream"
 name_of (Plan plan dot closures) = codes "plan"
 name_of (Help text) = codes "help"
 name_of Version = codes "version"
@@ -257,9 +261,9 @@ HasValues rows (States disk plan) = (first_of (codes "disk") rows ≡ Some disk.
 HasValues rows (Load new plan m n k map closures) = (first_of (codes "new") rows ≡ Some new.now) × (first_of (codes "plan") rows ≡ Some plan.now)
     × IsNumber (codes "m") 0 4294967295 rows m × IsNumber (codes "n") 0 4294967295 rows n × IsNumber (codes "k") 0 4294967295 rows k
     × IsMap rows map × IsClosures rows closures
-HasValues rows (Stream disk plan workers cut_every most progress marks refuse at hold room ask status) = (first_of (codes "disk") rows ≡ Some disk.now) × (first_of (codes "plan") rows ≡ Some plan.now)
+HasValues rows (Stream disk plan workers cut_every most progress marks refuse at hold room ask status copies) = (first_of (codes "disk") rows ≡ Some disk.now) × (first_of (codes "plan") rows ≡ Some plan.now)
     × IsWorkers rows workers × IsCutEvery rows cut_every × IsMost rows most × IsFlag (codes "progress") rows progress × IsFlag (codes "marks") rows marks × IsFlag (codes "refuse") rows refuse
-    × IsFlag (codes "at") rows at × IsFlag (codes "hold") rows hold × IsFlag (codes "room") rows room × IsFlag (codes "ask") rows ask × IsFile (codes "status") rows status × (may_hold marks hold ≡ true)
+    × IsFlag (codes "at") rows at × IsFlag (codes "hold") rows hold × IsFlag (codes "room") rows room × IsFlag (codes "ask") rows ask × IsFile (codes "status") rows status × IsFile (codes "copies") rows copies × (may_hold marks hold ≡ true)
 HasValues rows (Plan plan dot closures) = (first_of (codes "plan") rows ≡ Some plan.now) × IsFlag (codes "dot") rows dot × IsClosures rows closures
 HasValues rows (Help text) = ⊥
 HasValues rows Version = ⊥
@@ -283,7 +287,7 @@ abbrev pub HasWorkers : Job → Type 0
 HasWorkers (Run workers closures) = (1 ≤ workers) × (workers ≤ 16)
 HasWorkers (Sim workers picks closures) = (1 ≤ workers) × (workers ≤ 16)
 HasWorkers (Feed disk plan workers) = (1 ≤ workers) × (workers ≤ 16)
-HasWorkers (Stream disk plan workers cut_every most progress marks refuse at hold room ask status) = (1 ≤ workers) × (workers ≤ 16)
+HasWorkers (Stream disk plan workers cut_every most progress marks refuse at hold room ask status copies) = (1 ≤ workers) × (workers ≤ 16)
 HasWorkers _ = Unit {0}
 
 -- the words ask for no job, nor for help alone
@@ -311,7 +315,7 @@ abbrev pub IsCopy : Text → Text → Text → ℕ → ℕ → ℕ → Option �
 IsCopy a b c x y z e (Copy disk plan new m n k until) = (disk.now ≡ a) × (plan.now ≡ b) × (new.now ≡ c) × (m ≡ x) × (n ≡ y) × (k ≡ z) × (until ≡ e)
 IsCopy a b c x y z e _ = ⊥
 
-abbrev pub IsStream : Text → Text → ℕ → Option ℕ → Option ℕ → Bool → Bool → Bool → Bool → Bool → Bool → Bool → Option Text → Job → Type 0
-IsStream a b w e r t s f p h o k u (Stream disk plan workers cut_every most progress marks refuse at hold room ask status) = (disk.now ≡ a) × (plan.now ≡ b) × (workers ≡ w) × (cut_every ≡ e) × (most ≡ r) × (progress ≡ t) × (marks ≡ s) × (refuse ≡ f)
-    × (at ≡ p) × (hold ≡ h) × (room ≡ o) × (ask ≡ k) × (option_map (λ file. file.now) status ≡ u)
-IsStream a b w e r t s f p h o k u _ = ⊥
+abbrev pub IsStream : Text → Text → ℕ → Option ℕ → Option ℕ → Bool → Bool → Bool → Bool → Bool → Bool → Bool → Option Text → Option Text → Job → Type 0
+IsStream a b w e r t s f p h o k u v (Stream disk plan workers cut_every most progress marks refuse at hold room ask status copies) = (disk.now ≡ a) × (plan.now ≡ b) × (workers ≡ w) × (cut_every ≡ e) × (most ≡ r) × (progress ≡ t) × (marks ≡ s) × (refuse ≡ f)
+    × (at ≡ p) × (hold ≡ h) × (room ≡ o) × (ask ≡ k) × (option_map (λ file. file.now) status ≡ u) × (option_map (λ folder. folder.now) copies ≡ v)
+IsStream a b w e r t s f p h o k u v _ = ⊥

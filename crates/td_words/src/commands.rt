@@ -101,6 +101,9 @@ const STATUS: &str =
 const REFUSE: &str =
     "Refuse an epoch with a fault, and go on: write 'no REQUEST LINE: WHAT' at its '.'";
 
+const COPIES: &str =
+    "Between epochs: at a line 'copy NEW M N K', copy DISK to a new disk NEW in FOLDER, as td copy";
+
 const ASK: &str =
     "Between epochs: answer lines 'get VERTEX KEY', 'list VERTEX', 'top VERTEX COUNT' and others";
 
@@ -250,7 +253,10 @@ Writes: DISK, and, of all epochs that are closed and before it waits for more li
         with --hold, no cut beyond the last EPOCH of a line 'seen EPOCH', and 'full EPOCH' where DISK is full up to EPOCH;
         with --ask, the answer to a line 'get VERTEX KEY', 'list VERTEX', 'top VERTEX COUNT', 'least VERTEX COUNT' or 'rank VERTEX P':
         lines 'state EPOCH VERTEX KEY A B', or 'none EPOCH VERTEX KEY', and 'asked EPOCH';
+        with --copies FOLDER, 'copied NEW EPOCH' for a line 'copy NEW M N K' between two epochs: FOLDER/NEW is a new disk with
+        what DISK has, as of td copy; or 'not copied NEW: WHAT';
         with --progress, to standard error, 'acked EPOCH done EPOCH kept EPOCH': the last epoch on DISK, computed, and cut;
+        with --hold 'seen EPOCH' behind that: the last one of a line 'seen EPOCH';
         with --room behind that 'cells COUNT of N states COUNT of K': the epochs after the cut, and its states;
         with --room or --status, once, 'td: little room: cells COUNT of N', or states, where four fifths are used;
         with --status FILE, FILE: what is there is written over only where it is such a file
@@ -462,7 +468,8 @@ fn stream_leaf<'a>(alloc: Global) -> Result<Command<'a>, AllocError>
     let leaf = with_arg(leaf, flag_arg(alloc, "hold", HOLD))?;
     let leaf = with_arg(leaf, flag_arg(alloc, "room", ROOM))?;
     let leaf = with_arg(leaf, flag_arg(alloc, "ask", ASK))?;
-    with_arg(leaf, file_arg(alloc, "status", STATUS))
+    let leaf = with_arg(leaf, file_arg(alloc, "status", STATUS))?;
+    with_arg(leaf, folder_arg(alloc, "copies", COPIES))
 }
 
 /// `plan`.
@@ -582,6 +589,14 @@ fn file_arg<'a>(alloc: Global, id: &'a str, help: &'a str) -> Arg<'a>
     ensures local { result.global ≡ false }
 {
     Arg::new(alloc, id).long(id).value_name("FILE").help(help)
+}
+
+/// An option with the name of a folder, which may be left out, as `--copies FOLDER`.
+fn folder_arg<'a>(alloc: Global, id: &'a str, help: &'a str) -> Arg<'a>
+    ensures rule { rule_of result ≡ file_rule id.entry.now }
+    ensures local { result.global ≡ false }
+{
+    Arg::new(alloc, id).long(id).value_name("FOLDER").help(help)
 }
 
 /// An option with a list, which may be left out, as `--map LIST`.

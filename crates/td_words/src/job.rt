@@ -86,8 +86,8 @@ pub enum Job<'a> {
     /// `cut_every` epochs, if there is such a number; to stop where epochs take more than `most` deliveries on average, if there is such
     /// a number; to tell how far it has come, if `progress`; to mark the end of each epoch, if `marks`; to refuse an epoch with a fault
     /// and go on, if `refuse`; to take lines that name the places of epochs, if `at`; to hold the outputs until they were seen, if `hold`, which
-    /// stands only with `marks`; to tell its room too, if `room`; to answer questions, if `ask`; and to write how far it is to the file
-    /// `status` each second, if there is one.
+    /// stands only with `marks`; to tell its room too, if `room`; to answer questions, if `ask`; to write how far it is to the file `status`
+    /// each second, if there is one; and to take lines that ask for copies, in the folder `copies`, if there is one.
     Stream {
         disk: &'a str,
         plan: &'a str,
@@ -102,6 +102,7 @@ pub enum Job<'a> {
         room: bool,
         ask: bool,
         status: Option<&'a str>,
+        copies: Option<&'a str>,
     },
     /// To write the lines of the plan in the file `plan` with what its closures are in words, or a picture of it, if `dot`.
     Plan {

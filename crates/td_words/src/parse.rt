@@ -19,7 +19,7 @@ use std::alloc::Global;
 /// `sim [--workers W] [--picks LIST]`, each with `[--closures FILE]`, `format DISK PLAN M N K`, `feed [--workers W] DISK PLAN`,
 /// `show [--live] DISK PLAN`, `dump [--live] [--at] DISK PLAN`, `upgrade DISK PLAN`, `copy [--until E] DISK PLAN NEW M N K`, `states DISK PLAN`,
 /// `load [--map LIST] [--closures FILE] NEW PLAN M N K`, `stream [--workers W] [--cut-every E] [--most R]
-/// [--progress] [--marks [--hold]] [--refuse] [--at] [--room] [--ask] [--status FILE] DISK PLAN` and `plan [--dot] [--closures FILE] PLAN`. W is 1 to 16, and 1 where it is not given; LIST is `0` where it is not given; M, N and K
+/// [--progress] [--marks [--hold]] [--refuse] [--at] [--room] [--ask] [--status FILE] [--copies FOLDER] DISK PLAN` and `plan [--dot] [--closures FILE] PLAN`. W is 1 to 16, and 1 where it is not given; LIST is `0` where it is not given; M, N and K
 /// are numbers of 32 bits. E of `--cut-every` is 1 to 65536, E of `--until` 0 to 2^63 - 1, and R 1 to 2^63 - 1; each is none where it is not
 /// given. `--version` or `-V` alone asks for the version, `help faults` for the text on faults, `help closures` for that on
 /// closures in text.
@@ -34,9 +34,9 @@ pub fn words<'a>(alloc: Global, given: &'a [String]) -> Result<Job<'a>, WordsErr
     ensures format { map string_bytes given.entry.now ≡ format_words → IfOk result (IsFormat (codes "d") (codes "p") 4 2 3 None) × IfErr result (λ e. e ≡ WordsError.Memory) }
     ensures feed { map string_bytes given.entry.now ≡ feed_words → IfOk result (IsFeed (codes "d") (codes "p") 1) × IfErr result (λ e. e ≡ WordsError.Memory) }
     ensures until { map string_bytes given.entry.now ≡ until_words → IfOk result (IsCopy (codes "d") (codes "p") (codes "e") 4 2 3 (Some 4)) × IfErr result (λ e. e ≡ WordsError.Memory) }
-    ensures stream { map string_bytes given.entry.now ≡ stream_words → IfOk result (IsStream (codes "d") (codes "p") 1 None None false false false false false false false None) × IfErr result (λ e. e ≡ WordsError.Memory) }
-    ensures cutting { map string_bytes given.entry.now ≡ cutting_words → IfOk result (IsStream (codes "d") (codes "p") 1 (Some 4) (Some 5) false false false false false false false None) × IfErr result (λ e. e ≡ WordsError.Memory) }
-    ensures telling { map string_bytes given.entry.now ≡ telling_words → IfOk result (IsStream (codes "d") (codes "p") 1 None None true true true true true true true (Some (codes "s"))) × IfErr result (λ e. e ≡ WordsError.Memory) }
+    ensures stream { map string_bytes given.entry.now ≡ stream_words → IfOk result (IsStream (codes "d") (codes "p") 1 None None false false false false false false false None None) × IfErr result (λ e. e ≡ WordsError.Memory) }
+    ensures cutting { map string_bytes given.entry.now ≡ cutting_words → IfOk result (IsStream (codes "d") (codes "p") 1 (Some 4) (Some 5) false false false false false false false None None) × IfErr result (λ e. e ≡ WordsError.Memory) }
+    ensures telling { map string_bytes given.entry.now ≡ telling_words → IfOk result (IsStream (codes "d") (codes "p") 1 None None true true true true true true true (Some (codes "s")) (Some (codes "f"))) × IfErr result (λ e. e ≡ WordsError.Memory) }
     ensures version { asks_version (map string_bytes given.entry.now) ≡ true → result ≡ Ok Job.Version }
     ensures faults { asks_faults (map string_bytes given.entry.now) ≡ true → result ≡ Ok Job.Faults }
     ensures language { asks_language (map string_bytes given.entry.now) ≡ true → result ≡ Ok Job.Language }
@@ -106,9 +106,9 @@ fn parsed<'a>(alloc: Global, given: &'a [String]) -> Result<Job<'a>, WordsError>
     ensures format { map string_bytes given.entry.now ≡ format_words → IfOk result (IsFormat (codes "d") (codes "p") 4 2 3 None) × IfErr result (λ e. e ≡ WordsError.Memory) }
     ensures feed { map string_bytes given.entry.now ≡ feed_words → IfOk result (IsFeed (codes "d") (codes "p") 1) × IfErr result (λ e. e ≡ WordsError.Memory) }
     ensures until { map string_bytes given.entry.now ≡ until_words → IfOk result (IsCopy (codes "d") (codes "p") (codes "e") 4 2 3 (Some 4)) × IfErr result (λ e. e ≡ WordsError.Memory) }
-    ensures stream { map string_bytes given.entry.now ≡ stream_words → IfOk result (IsStream (codes "d") (codes "p") 1 None None false false false false false false false None) × IfErr result (λ e. e ≡ WordsError.Memory) }
-    ensures cutting { map string_bytes given.entry.now ≡ cutting_words → IfOk result (IsStream (codes "d") (codes "p") 1 (Some 4) (Some 5) false false false false false false false None) × IfErr result (λ e. e ≡ WordsError.Memory) }
-    ensures telling { map string_bytes given.entry.now ≡ telling_words → IfOk result (IsStream (codes "d") (codes "p") 1 None None true true true true true true true (Some (codes "s"))) × IfErr result (λ e. e ≡ WordsError.Memory) }
+    ensures stream { map string_bytes given.entry.now ≡ stream_words → IfOk result (IsStream (codes "d") (codes "p") 1 None None false false false false false false false None None) × IfErr result (λ e. e ≡ WordsError.Memory) }
+    ensures cutting { map string_bytes given.entry.now ≡ cutting_words → IfOk result (IsStream (codes "d") (codes "p") 1 (Some 4) (Some 5) false false false false false false false None None) × IfErr result (λ e. e ≡ WordsError.Memory) }
+    ensures telling { map string_bytes given.entry.now ≡ telling_words → IfOk result (IsStream (codes "d") (codes "p") 1 None None true true true true true true true (Some (codes "s")) (Some (codes "f"))) × IfErr result (λ e. e ≡ WordsError.Memory) }
 {
     let Ok(command) = command(alloc) else {
         return Err(WordsError::Memory);
@@ -337,6 +337,7 @@ fn stream_job<'a>(matches: &ArgMatches<'a>) -> Option<Job<'a>>
     let room = flag_of(matches, "room")?;
     let ask = flag_of(matches, "ask")?;
     let status = file_of(matches, "status");
+    let copies = file_of(matches, "copies");
     if !may_hold(marks, hold) {
         return None;
     }
@@ -354,6 +355,7 @@ fn stream_job<'a>(matches: &ArgMatches<'a>) -> Option<Job<'a>>
         room,
         ask,
         status,
+        copies,
     })
 }
 

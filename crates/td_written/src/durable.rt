@@ -11,7 +11,7 @@ use td_calls::{Closures, Law};
 use td_console::{Fault, Source};
 use td_disk::Disk;
 use td_feed as disk_engine;
-use td_feed::{StreamOptions, Voice};
+use td_feed::{Host, StreamOptions, Voice};
 use td_formula::{Beside, BesideCalls, Closure, Formulas, WrittenCalls};
 use td_plan::Plan;
 use td_watch::Writer;
@@ -50,6 +50,7 @@ pub fn stream<
     D: Disk + Drop,
     I: Source + Drop,
     W: Voice,
+    H: Host,
     L: Law + Send + Sync,
     C: Closures<L> + Sync + Drop,
     R: Threads + Wait + Sync,
@@ -63,6 +64,7 @@ pub fn stream<
     reader: I,
     writer: &mut W,
     watch: Option<Writer>,
+    host: &mut H,
     below: C,
     closures: Vec<Closure>,
 ) -> (D, Result<(), Fault>)
@@ -70,10 +72,10 @@ pub fn stream<
     requires most { workers ≤ 16 }
     requires unpublished { IfSome watch (λ w. w.words ≡ 0 ∷ 0 ∷ 0 ∷ []) }
     ensures { StreamsBy (stored_beside L.answers C.has_map C.has_group C.has_fold below closures.items) D.capacity D.is_lawful D.state D.failures I.remaining
-        W.contents W.marks plan.now options.placing options.refuse options.hold options.questions (workers == 1) disk result.0 reader writer.old writer.new result.1 }
+        W.contents W.marks H.New.is_lawful H.New.state H.copies H.seen plan.now options.placing options.refuse options.hold options.questions options.copies (workers == 1) disk result.0 reader writer.old writer.new host.old host.new result.1 }
 {
-    stream_by::<Brand, D, I, W, L, C, R>(
-        rt, alloc, disk, plan, workers, options, reader, writer, watch, below, closures,
+    stream_by::<Brand, D, I, W, H, L, C, R>(
+        rt, alloc, disk, plan, workers, options, reader, writer, watch, host, below, closures,
     )
 }
 
@@ -116,6 +118,7 @@ fn stream_by<
     D: Disk + Drop,
     I: Source + Drop,
     W: Voice,
+    H: Host,
     L: Law + Send + Sync,
     C: Closures<L> + Sync + Drop,
     R: Threads + Wait + Sync,
@@ -129,6 +132,7 @@ fn stream_by<
     reader: I,
     writer: &mut W,
     watch: Option<Writer>,
+    host: &mut H,
     below: C,
     closures: Vec<Closure>,
 ) -> (D, Result<(), Fault>)
@@ -137,11 +141,11 @@ fn stream_by<
     requires most { workers ≤ 16 }
     requires unpublished { IfSome watch (λ w. w.words ≡ 0 ∷ 0 ∷ 0 ∷ []) }
     ensures { StreamsBy (stored_beside L.answers C.has_map C.has_group C.has_fold below F.closures) D.capacity D.is_lawful D.state D.failures I.remaining
-        W.contents W.marks plan.now options.placing options.refuse options.hold options.questions (workers == 1) disk result.0 reader writer.old writer.new result.1 }
+        W.contents W.marks H.New.is_lawful H.New.state H.copies H.seen plan.now options.placing options.refuse options.hold options.questions options.copies (workers == 1) disk result.0 reader writer.old writer.new host.old host.new result.1 }
 {
     let above = WrittenCalls::<F>::new(closures);
     let calls = BesideCalls { below, above };
-    disk_engine::stream::<D, I, W, Beside<L, F>, BesideCalls<C, F>, R>(
-        rt, alloc, disk, plan, workers, options, reader, writer, watch, &calls,
+    disk_engine::stream::<D, I, W, H, Beside<L, F>, BesideCalls<C, F>, R>(
+        rt, alloc, disk, plan, workers, options, reader, writer, watch, host, &calls,
     )
 }

@@ -10,7 +10,8 @@ use Rattle.td_feed.specs.Session.{KeepsDisk, FeedsScript}
 use Rattle.td_feed.proofs.Carrying.{ok_only, ended_ok}
 use Rattle.td_feed.proofs.Counting.{memory_no_device, epochs_no_device}
 use Rattle.td_feed.proofs.Session.{in_some_is, disk_same, disk_ended, none_fed, fed_ended}
-use Rattle.td_feed.specs.Held.{KeepsTo, seen_at, then_seen}
+use Rattle.td_feed.specs.Held.{KeepsTo, TellsSeen, seen_at, then_seen}
+use Rattle.td_feed.proofs.SeenAsked.{seen_ended, tells_nothing}
 use Rattle.td_feed.proofs.Held.{base_itself, keeps_same}
 use Rattle.td_feed.proofs.alone.obey_alone.Goals as goal
 
@@ -27,7 +28,7 @@ pub returns-in-Err-clause-fed : goal.returns-in-Err-clause-fed
 returns-in-Err-clause-fed g c =
     let w = g.W.Sink.contents c.args.writer.now in
     in_some_is (g.S.Asking.script (last_epoch c.args.keeper.standing) (last_request c.args.keeper.standing) c.args.orders)
-    (λ s is. subst (λ (k : Keeping g.row.D.Denot). FeedsScript g.D.Disk.is_lawful g.D.Disk.state g.D.Disk.failures g.L.Law.answers g.W.Voice.marks (Err Memory) w w c.args.keeper k s) (sym c.in-Err.ensures.refused.1) (none_fed Memory c.requires.whole))
+    (λ s is. subst (λ (k : Keeping g.row.D.Denot). FeedsScript g.D.Disk.is_lawful g.D.Disk.state g.D.Disk.failures g.L.Law.answers g.W.Voice.marks g.H.New.Disk.is_lawful g.H.New.Disk.state (Err Memory) w w (g.H.Host.copies c.args.host.now) (g.H.Host.copies c.args.host.now) c.args.keeper k s) (sym c.in-Err.ensures.refused.1) (none_fed Memory c.requires.whole))
 
 pub returns-clause-disk : goal.returns-clause-disk
 returns-clause-disk g c =
@@ -44,15 +45,19 @@ returns-clause-fed g c =
     let failures = g.D.Disk.failures in
     let answers = g.L.Law.answers in
     let marks = g.W.Voice.marks in
+    let lawful_new = g.H.New.Disk.is_lawful in
+    let state_new = g.H.New.Disk.state in
+    let had = g.H.Host.copies c.args.host.now in
+    let has = g.H.Host.copies c.obey_each-obeyed.new.host in
     let u = g.W.Sink.contents c.args.writer.now in
     let v = g.W.Sink.contents c.obey_each-obeyed.new.writer in
     let new = c.into_keeper-keeper.result.0 in
     let obeyed = c.obey_each-obeyed.result in
     let r = c.ended_as.result in
     let script = λ (k : Keeping g.row.D.Denot). g.S.Asking.script (last_epoch k.standing) (last_request k.standing) c.args.orders in
-    subst (λ (k : Keeping g.row.D.Denot). IfSome (script k) (λ s. FeedsScript is_lawful state failures answers marks r u v k new s)) c.in-Ok.ensures.same
+    subst (λ (k : Keeping g.row.D.Denot). IfSome (script k) (λ s. FeedsScript is_lawful state failures answers marks lawful_new state_new r u v had has k new s)) c.in-Ok.ensures.same
     (IfSome_then (script c.in-Ok.engine.keeping) c.obey_each-obeyed.ensures.fed
-    (λ s fed. subst (λ (k : Keeping g.row.D.Denot). FeedsScript is_lawful state failures answers marks r u v c.in-Ok.engine.keeping k s) (sym c.into_keeper-keeper.ensures)
+    (λ s fed. subst (λ (k : Keeping g.row.D.Denot). FeedsScript is_lawful state failures answers marks lawful_new state_new r u v had has c.in-Ok.engine.keeping k s) (sym c.into_keeper-keeper.ensures)
     (fed_ended obeyed r c.worked_until.result c.ended_as.ensures.ok c.ended_as.ensures.err fed)))
 
 pub returns-clause-all_out : goal.returns-clause-all_out
@@ -79,3 +84,23 @@ returns-clause-held g c =
     subst (λ (k : Keeping g.row.D.Denot). IfSome (script k) (λ s. KeepsTo (then_seen (seen_at pace k.standing.epoch) s.orders) k new)) c.in-Ok.ensures.same
     (IfSome_then (script c.in-Ok.engine.keeping) c.obey_each-obeyed.ensures.held
     (λ s held. subst (λ (k : Keeping g.row.D.Denot). KeepsTo (then_seen (seen_at pace c.in-Ok.engine.keeping.standing.epoch) s.orders) c.in-Ok.engine.keeping k) (sym c.into_keeper-keeper.ensures) held))
+
+pub returns-then-is_at_last_number-clause-seen : goal.returns-then-is_at_last_number-clause-seen
+returns-then-is_at_last_number-clause-seen g c =
+    in_some_is (g.S.Asking.script (last_epoch c.args.keeper.standing) (last_request c.args.keeper.standing) c.args.orders)
+    (λ s is. tells_nothing _ (seen_at c.args.feeding.pace c.args.keeper.standing.epoch) (g.H.Host.seen c.args.host.now) s.orders)
+
+pub returns-in-Err-clause-seen : goal.returns-in-Err-clause-seen
+returns-in-Err-clause-seen g c =
+    in_some_is (g.S.Asking.script (last_epoch c.args.keeper.standing) (last_request c.args.keeper.standing) c.args.orders)
+    (λ s is. tells_nothing _ (seen_at c.args.feeding.pace c.args.keeper.standing.epoch) (g.H.Host.seen c.args.host.now) s.orders)
+
+pub returns-clause-seen : goal.returns-clause-seen
+returns-clause-seen g c =
+    let pace = c.args.feeding.pace in
+    let r = c.ended_as.result in
+    let before = g.H.Host.seen c.args.host.now in
+    let after = g.H.Host.seen c.obey_each-obeyed.new.host in
+    let script = λ (k : Keeping g.row.D.Denot). g.S.Asking.script (last_epoch k.standing) (last_request k.standing) c.args.orders in
+    subst (λ (k : Keeping g.row.D.Denot). IfSome (script k) (λ s. TellsSeen r (seen_at pace k.standing.epoch) s.orders before after)) c.in-Ok.ensures.same
+    (IfSome_then (script c.in-Ok.engine.keeping) c.obey_each-obeyed.ensures.seen (λ s seen. seen_ended c.obey_each-obeyed.result r c.worked_until.result c.ended_as.ensures.ok seen))

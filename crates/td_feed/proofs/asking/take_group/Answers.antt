@@ -9,6 +9,7 @@ use Rattle.td_feed.specs.Orders.{submissions}
 use Rattle.td_feed.proofs.Newness.{greatest-append, one_follows}
 use Rattle.td_feed.proofs.Released.{submissions-append, notes-append}
 use Rattle.td_feed.proofs.Placed.{no_place-append}
+use Rattle.td_feed.proofs.SeenAsked.{see_nothing-append, submits_only}
 use Rattle.td_feed.proofs.asking.take_group.Goals as goal
 
 some_more : (xs : List Submitted) (x : Submitted) → xs ++ x ∷ [] ≡ [] → ⊥
@@ -46,6 +47,7 @@ loop-epoch-preserved c =
             ∙ (ap (λ (l : List Submitted). group ++ l) next.2 ∙ sym pushed)),
         notes-append done (next.0 ∷ []) ∙ (λ i. so_far.taken.3 i ++ next.3 i),
         no_place-append done (next.0 ∷ []) so_far.taken.4 next.5,
+        see_nothing-append done (next.0 ∷ []) so_far.taken.5 (submits_only next.0 s next.2),
       );
       none = λ none. absurd (some_more group s (sym pushed ∙ none));
       rising = ap (may_follow (Some first)) pushed ∙ one_follows first group s so_far.rising comes;

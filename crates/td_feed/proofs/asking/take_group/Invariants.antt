@@ -4,13 +4,13 @@ use Rattle.td_journal.specs.Numbers.{greatest}
 use Rattle.td_group.specs.Groups.{may_follow}
 use Rattle.td_feed.specs.declared.order.Order.{Order}
 use Rattle.td_feed.specs.Orders.{submissions, notes_in}
-use Rattle.td_feed.specs.Asked.{HaveNoPlace}
+use Rattle.td_feed.specs.Asked.{HaveNoPlace, SeeNothing}
 use Rattle.td_feed.proofs.asking.take_group.Given as goal
 
 -- the first orders were taken, and their epochs stand in the group
 abbrev pub invariant-loop-epoch : goal.invariant-loop-epoch
 invariant-loop-epoch l = record {
-  taken : (taken : List Order) × (l.fn.orders.items ≡ taken ++ l.orders.items) × (submissions taken ≡ l.group.items) × (notes_in taken ≡ []) × HaveNoPlace taken;
+  taken : (taken : List Order) × (l.fn.orders.items ≡ taken ++ l.orders.items) × (submissions taken ≡ l.group.items) × (notes_in taken ≡ []) × HaveNoPlace taken × SeeNothing taken;
   none : l.group.items ≡ [] → l.orders.items ≡ l.fn.orders.items;
   rising : may_follow (Some l.room.last) l.group.items ≡ true;
   last : l.last ≡ greatest l.room.last l.group.items;

@@ -1,4 +1,4 @@
-use Rattle.std.proofs.Common.{◌≡◌, false, ℕ, List, ◌++◌, refl, sym, ap, ◌∙◌, subst, inl, inr, ⊎_elim}
+use Rattle.std.proofs.Common.{◌≡◌, false, ℕ, List, [], ◌++◌, refl, sym, ap, ◌∙◌, subst, inl, inr, ⊎_elim}
 use Rattle.td_console.specs.Refusals.{keeper_fault}
 use Rattle.std.proofs.lemmas.Option.{IfSome_then}
 use Rattle.td_plan.specs.Lines.{Line}
@@ -138,6 +138,8 @@ returns-clause-fed g c = λ fits.
             lawful_left = λ lawful. subst is_lawful (sym c.into_disk.ensures.disk) (left_lawful lawful);
             holds = subst (λ (d : g.row.D.Denot). is_lawful d → HeldWhere new.broken answers new.plan new.head new.side new.standing (state d)) (sym c.into_disk.ensures.disk) held;
             limit = tt;
+            notes = [];
+            came = refl;
             said = feeds.said;
             all_out = λ never. absurd (let no = never in cc);
           });

@@ -1,22 +1,26 @@
 use Rattle.std.proofs.Common.{◌≡◌, ℕ, ◌++◌, List, [], true, refl, sym, ap, ◌∙◌, subst, inr, None}
-use Rattle.std.specs.Prelude.{Option, Some, Err}
+use Rattle.std.specs.Prelude.{Option, Some, Result, Ok, Err, OnOk}
+use Rattle.std.specs.Result.{IsErrAnd}
 use Rattle.td_console.specs.declared.faults.Fault.{Fault}
 use Rattle.td_console.specs.declared.faults.Fault.TheVariants.{Keeper}
 use Rattle.td_standing.specs.declared.error.KeeperError.TheVariants.{Device}
-use Rattle.td_feed.specs.Noted.{Aside}
+use Rattle.td_feed.specs.Noted.{Aside, ComeOf, copied_in}
+use Rattle.td_feed.specs.Copied.{Copied, MakesCopies}
 use Rattle.td_feed.specs.Orders.{submissions, notes_in}
 use Rattle.td_feed.specs.Asked.{Script, Asks, asked_for, notes_for, is_of_reader}
 use Rattle.td_standing.specs.Standing.{last_epoch, last_request}
 use Rattle.td_keeper.specs.Keeping.{Keeping}
 use Rattle.td_feed.specs.Carried.{new_to, Carries, Leaves}
 use Rattle.td_feed.specs.Said.{Says, SaysBy}
-use Rattle.td_feed.specs.Session.{KeepsDisk}
-use Rattle.td_feed.specs.Held.{KeepsTo, seen_at, then_seen}
+use Rattle.td_feed.specs.Session.{KeepsDisk, FeedsCopying}
+use Rattle.td_feed.specs.Held.{KeepsTo, seen_at, then_seen, told_seen}
+use Rattle.td_feed.proofs.SeenAsked.{none_seen, tells_taken, tells_nothing}
+use Rattle.td_feed.proofs.Copies.{as_they_ask, none_yet, none_made}
 use Rattle.td_feed.proofs.Held.{base_itself, keeps_same, keeps_on}
 use Rattle.td_feed.proofs.Carrying.{at_ok, at_err}
 use Rattle.td_feed.proofs.Counting.{as_err, other_fault, memory_no_device}
 use Rattle.td_feed.proofs.Lines.{says_nothing, some_of_all, some_of_more, by_refusal, handed_on}
-use Rattle.td_feed.proofs.Obeyed.{HasObeyed, none_obeyed, some_obeyed, some_refused, some_held, held_there, notes_left, notes_there, left_there, is_sound, at_end_carried, at_end_left, at_end_said, none_left, none_of}
+use Rattle.td_feed.proofs.Obeyed.{HasObeyed, none_obeyed, some_obeyed, some_refused, some_held, held_there, some_seen, told_on, came_left, came_there, left_there, seen_there, is_sound, at_end_carried, at_end_left, at_end_said, at_end_came, at_end_copied, at_end_seen, none_left, none_of}
 use Rattle.td_feed.proofs.Placed.{script_at, next_script, script_same, next_there, AsksFrom, asks_there}
 use Rattle.td_feed.proofs.Session.{done, known, in_some_is, disk_same, disk_then, disk_handed, none_fed, err_fed}
 use Rattle.td_feed.proofs.in_turn.obey_each.Goals as goal
@@ -42,16 +46,22 @@ returns-in_err-begin-clause-fed g c =
     let failures = g.D.Disk.failures in
     let answers = g.L.Law.answers in
     let marks = g.W.Voice.marks in
+    let lawful_new = g.H.New.Disk.is_lawful in
+    let state_new = g.H.New.Disk.state in
+    let had = g.H.Host.copies c.args.host.now in
     let u = g.W.Sink.contents c.args.writer.now in
     let w = g.W.Sink.contents c.begin.new.writer in
     let old = g.E.Obey.keeping c.args.engine.now in
     let new = g.E.Obey.keeping c.begin.new.engine in
     let fed = c.in_err-begin.ensures.fed in
     in_some_is (script_at g.S.Asking.script (g.E.Obey.keeping c.args.engine.now) c.args.orders.now)
-    (λ s is. err_fed _ c.from_residual.result c.from_residual.ensures.1
-    (none_left is_lawful state failures answers marks old new (new_to old (submissions s.orders)) c.requires.whole (subst (λ (k : Keeping g.row.D.Denot). Leaves is_lawful state answers k new []) c.allow.ensures fed.left))
+    (λ s is. err_fed _ c.from_residual.result (notes_in s.orders) c.from_residual.ensures.1 (as_they_ask s.orders)
+    (none_left is_lawful state failures answers marks lawful_new state_new old new (new_to old (submissions s.orders)) c.requires.whole (subst (λ (k : Keeping g.row.D.Denot). Leaves is_lawful state answers k new []) c.allow.ensures fed.left))
     (handed_on is_lawful state failures answers marks c.from_residual.result c.in_err-begin.field-0.0 u u w old old new [] [] (new_to old (submissions s.orders)) [] [] (notes_in s.orders) (notes_in s.orders) refl c.from_residual.ensures.1 (says_nothing is_lawful state failures answers marks u old)
-    (subst (λ (k : Keeping g.row.D.Denot). SaysBy is_lawful state failures answers marks (Err c.in_err-begin.field-0.0) u w k new [] []) c.allow.ensures fed.said)))
+    (subst (λ (k : Keeping g.row.D.Denot). SaysBy is_lawful state failures answers marks (Err c.in_err-begin.field-0.0) u w k new [] []) c.allow.ensures fed.said))
+    (subst (λ (has : Option (List (Copied g.row.H-New.Denot))). MakesCopies is_lawful lawful_new state_new answers (copied_in (notes_in s.orders)) had has old (new_to old (submissions s.orders))) (sym c.tell_seen.ensures.copies)
+    (subst (λ (said : List (List ℕ × ℕ)). MakesCopies is_lawful lawful_new state_new answers said had had old (new_to old (submissions s.orders))) (sym (none_yet s.orders))
+    (none_made is_lawful lawful_new state_new answers had old (new_to old (submissions s.orders))))))
 
 pub loop-asked-init : goal.loop-asked-init
 loop-asked-init g c =
@@ -60,6 +70,9 @@ loop-asked-init g c =
     let failures = g.D.Disk.failures in
     let answers = g.L.Law.answers in
     let marks = g.W.Voice.marks in
+    let lawful_new = g.H.New.Disk.is_lawful in
+    let state_new = g.H.New.Disk.state in
+    let had = g.H.Host.copies c.args.host.now in
     let v = g.W.Sink.contents c.args.writer.now in
     let w = g.W.Sink.contents c.begin.new.writer in
     let new = g.E.Obey.keeping c.begin.new.engine in
@@ -71,15 +84,19 @@ loop-asked-init g c =
     let pace = c.args.feeding.pace in
     let first : Option ℕ = c.first_seen-seen.result in
     let is : first ≡ seen_at pace old.standing.epoch = c.first_seen-seen.ensures ∙ ap (λ (k : Keeping g.row.D.Denot). seen_at pace k.standing.epoch) c.keeper.ensures in
+    let disk : KeepsDisk g.D.Disk.capacity is_lawful failures done old.device new.device =
+    subst (λ (k : Keeping g.row.D.Denot). KeepsDisk g.D.Disk.capacity is_lawful failures done k.device new.device) same c.in_ok-begin.ensures.disk in
     record {
       obeyed =
-          subst (λ (left : Option Script). HasObeyed is_lawful state failures answers marks script left v w old new (seen_at pace old.standing.epoch) first) (script_same g.S.Asking.script answers old new c.args.orders.now carried)
-          (subst (λ (f : Option ℕ). HasObeyed is_lawful state failures answers marks script script v w old new f first) is
-          (none_obeyed is_lawful state failures answers marks script v w old new first
+          subst (λ (has : Option (List (Copied g.row.H-New.Denot))). HasObeyed is_lawful state failures answers marks lawful_new state_new script (script_at g.S.Asking.script new c.args.orders.now) v w had has old new (seen_at pace old.standing.epoch) first) (sym c.tell_seen.ensures.copies)
+          (subst (λ (left : Option Script). HasObeyed is_lawful state failures answers marks lawful_new state_new script left v w had had old new (seen_at pace old.standing.epoch) first) (script_same g.S.Asking.script answers old new c.args.orders.now carried)
+          (subst (λ (f : Option ℕ). HasObeyed is_lawful state failures answers marks lawful_new state_new script script v w had had old new f first) is
+          (none_obeyed is_lawful state failures answers marks lawful_new state_new script v w had old new first
           (subst (λ (k : Keeping g.row.D.Denot). Says is_lawful state failures answers marks v w k new [] []) same fed.said)
-          carried
-          (subst (λ (k : Keeping g.row.D.Denot). KeepsTo first k new) same c.begin.ensures.held)));
-      disk = subst (λ (k : Keeping g.row.D.Denot). KeepsDisk g.D.Disk.capacity is_lawful failures done k.device new.device) same c.in_ok-begin.ensures.disk;
+          carried disk.lawful.0
+          (subst (λ (k : Keeping g.row.D.Denot). KeepsTo first k new) same c.begin.ensures.held))));
+      disk = disk;
+      told = c.tell_seen.ensures.seen;
     }
 
 pub returns-in_err-asked-clause-disk : goal.returns-in_err-asked-clause-disk
@@ -95,10 +112,14 @@ returns-in_err-asked-clause-fed g c =
     let failures = g.D.Disk.failures in
     let answers = g.L.Law.answers in
     let marks = g.W.Voice.marks in
+    let lawful_new = g.H.New.Disk.is_lawful in
+    let state_new = g.H.New.Disk.state in
+    let had = g.H.Host.copies c.args.host.now in
     let script = script_at g.S.Asking.script (g.E.Obey.keeping c.args.engine.now) c.args.orders.now in
     let left = script_at g.S.Asking.script (g.E.Obey.keeping c.loop-asked.engine) c.loop-asked.orders in
     let u = g.W.Sink.contents c.args.writer.now in
     let v = g.W.Sink.contents c.loop-asked.writer in
+    let has = g.H.Host.copies c.loop-asked.host in
     let old = g.E.Obey.keeping c.args.engine.now in
     let there = g.E.Obey.keeping c.loop-asked.engine in
     let first = seen_at c.args.feeding.pace (g.E.Obey.keeping c.args.engine.now).standing.epoch in
@@ -106,10 +127,14 @@ returns-in_err-asked-clause-fed g c =
     let so = c.loop-asked.invariant.obeyed in
     let r = c.from_residual-in_err-asked.result in
     in_some_is script
-    (λ s is. err_fed _ r c.from_residual-in_err-asked.ensures.1
-    (known _ script s is (left_there is_lawful state failures answers marks script left left u v old there first seen so))
-    (by_refusal is_lawful state failures answers marks r (λ (f : Fault). f ≡ c.in_err-asked.field-0.0) u v old there (new_to old (submissions s.orders)) (notes_in s.orders) c.from_residual-in_err-asked.ensures.1
-    (λ f holds. let later : (m : List Aside) × (notes_in so.done ++ m ≡ notes_in s.orders) = known _ script s is (notes_there is_lawful state failures answers marks script left left u v old there first seen so) in inr (some_of_more is_lawful state failures answers marks u v old there (notes_in so.done) later.0 (notes_in s.orders) later.1 (some_of_all is_lawful state failures answers marks u v old there (new_to old (submissions so.done)) (notes_in so.done) so.said)))))
+    (λ s is.
+    let later : (m : List Aside) × ComeOf (notes_in s.orders) (so.answered ++ m) × MakesCopies is_lawful lawful_new state_new answers (copied_in (so.answered ++ m)) had has old (new_to old (submissions s.orders)) =
+    known _ script s is (came_there is_lawful state failures answers marks lawful_new state_new script left left u v had has old there first seen so) in
+    err_fed _ r (so.answered ++ later.0) c.from_residual-in_err-asked.ensures.1 later.1
+    (known _ script s is (left_there is_lawful state failures answers marks lawful_new state_new script left left u v had has old there first seen so))
+    (by_refusal is_lawful state failures answers marks r (λ (f : Fault). f ≡ c.in_err-asked.field-0.0) u v old there (new_to old (submissions s.orders)) (so.answered ++ later.0) c.from_residual-in_err-asked.ensures.1
+    (λ f holds. inr (some_of_more is_lawful state failures answers marks u v old there so.answered later.0 (so.answered ++ later.0) refl (some_of_all is_lawful state failures answers marks u v old there (new_to old (submissions so.done)) so.answered so.said))))
+    later.2)
 
 pub returns-in_err-asked-clause-held : goal.returns-in_err-asked-clause-held
 returns-in_err-asked-clause-held g c =
@@ -118,7 +143,7 @@ returns-in_err-asked-clause-held g c =
     let left = script_at g.S.Asking.script (g.E.Obey.keeping c.loop-asked.engine) c.loop-asked.orders in
     let old = g.E.Obey.keeping c.args.engine.now in
     let there = g.E.Obey.keeping c.loop-asked.engine in
-    held_there g.D.Disk.is_lawful g.D.Disk.state g.D.Disk.failures g.L.Law.answers g.W.Voice.marks script left left (g.W.Sink.contents c.args.writer.now) (g.W.Sink.contents c.loop-asked.writer) old there first c.loop-asked.seen c.loop-asked.invariant.obeyed there (base_itself there)
+    held_there g.D.Disk.is_lawful g.D.Disk.state g.D.Disk.failures g.L.Law.answers g.W.Voice.marks g.H.New.Disk.is_lawful g.H.New.Disk.state script left left (g.W.Sink.contents c.args.writer.now) (g.W.Sink.contents c.loop-asked.writer) (g.H.Host.copies c.args.host.now) (g.H.Host.copies c.loop-asked.host) old there first c.loop-asked.seen c.loop-asked.invariant.obeyed there (base_itself there)
 
 pub returns-in_err-next-clause-disk : goal.returns-in_err-next-clause-disk
 returns-in_err-next-clause-disk g c =
@@ -133,10 +158,14 @@ returns-in_err-next-clause-fed g c =
     let failures = g.D.Disk.failures in
     let answers = g.L.Law.answers in
     let marks = g.W.Voice.marks in
+    let lawful_new = g.H.New.Disk.is_lawful in
+    let state_new = g.H.New.Disk.state in
+    let had = g.H.Host.copies c.args.host.now in
     let script = script_at g.S.Asking.script (g.E.Obey.keeping c.args.engine.now) c.args.orders.now in
     let left = script_at g.S.Asking.script (g.E.Obey.keeping c.loop-asked.engine) c.loop-asked.orders in
     let u = g.W.Sink.contents c.args.writer.now in
     let v = g.W.Sink.contents c.loop-asked.writer in
+    let has = g.H.Host.copies c.loop-asked.host in
     let old = g.E.Obey.keeping c.args.engine.now in
     let there = g.E.Obey.keeping c.loop-asked.engine in
     let first = seen_at c.args.feeding.pace (g.E.Obey.keeping c.args.engine.now).standing.epoch in
@@ -144,10 +173,14 @@ returns-in_err-next-clause-fed g c =
     let so = c.loop-asked.invariant.obeyed in
     let r = c.from_residual-in_err-next.result in
     in_some_is script
-    (λ s is. err_fed _ r c.from_residual-in_err-next.ensures.1
-    (known _ script s is (left_there is_lawful state failures answers marks script left left u v old there first seen so))
-    (by_refusal is_lawful state failures answers marks r (λ (f : Fault). f ≡ c.in_err-next.field-0.0) u v old there (new_to old (submissions s.orders)) (notes_in s.orders) c.from_residual-in_err-next.ensures.1
-    (λ f holds. let later : (m : List Aside) × (notes_in so.done ++ m ≡ notes_in s.orders) = known _ script s is (notes_there is_lawful state failures answers marks script left left u v old there first seen so) in inr (some_of_more is_lawful state failures answers marks u v old there (notes_in so.done) later.0 (notes_in s.orders) later.1 (some_of_all is_lawful state failures answers marks u v old there (new_to old (submissions so.done)) (notes_in so.done) so.said)))))
+    (λ s is.
+    let later : (m : List Aside) × ComeOf (notes_in s.orders) (so.answered ++ m) × MakesCopies is_lawful lawful_new state_new answers (copied_in (so.answered ++ m)) had has old (new_to old (submissions s.orders)) =
+    known _ script s is (came_there is_lawful state failures answers marks lawful_new state_new script left left u v had has old there first seen so) in
+    err_fed _ r (so.answered ++ later.0) c.from_residual-in_err-next.ensures.1 later.1
+    (known _ script s is (left_there is_lawful state failures answers marks lawful_new state_new script left left u v had has old there first seen so))
+    (by_refusal is_lawful state failures answers marks r (λ (f : Fault). f ≡ c.in_err-next.field-0.0) u v old there (new_to old (submissions s.orders)) (so.answered ++ later.0) c.from_residual-in_err-next.ensures.1
+    (λ f holds. inr (some_of_more is_lawful state failures answers marks u v old there so.answered later.0 (so.answered ++ later.0) refl (some_of_all is_lawful state failures answers marks u v old there (new_to old (submissions so.done)) so.answered so.said))))
+    later.2)
 
 pub returns-in_err-next-clause-held : goal.returns-in_err-next-clause-held
 returns-in_err-next-clause-held g c =
@@ -156,7 +189,7 @@ returns-in_err-next-clause-held g c =
     let left = script_at g.S.Asking.script (g.E.Obey.keeping c.loop-asked.engine) c.loop-asked.orders in
     let old = g.E.Obey.keeping c.args.engine.now in
     let there = g.E.Obey.keeping c.loop-asked.engine in
-    held_there g.D.Disk.is_lawful g.D.Disk.state g.D.Disk.failures g.L.Law.answers g.W.Voice.marks script left left (g.W.Sink.contents c.args.writer.now) (g.W.Sink.contents c.loop-asked.writer) old there first c.loop-asked.seen c.loop-asked.invariant.obeyed there (base_itself there)
+    held_there g.D.Disk.is_lawful g.D.Disk.state g.D.Disk.failures g.L.Law.answers g.W.Voice.marks g.H.New.Disk.is_lawful g.H.New.Disk.state script left left (g.W.Sink.contents c.args.writer.now) (g.W.Sink.contents c.loop-asked.writer) (g.H.Host.copies c.args.host.now) (g.H.Host.copies c.loop-asked.host) old there first c.loop-asked.seen c.loop-asked.invariant.obeyed there (base_itself there)
 
 pub returns-in_default-clause-disk : goal.returns-in_default-clause-disk
 returns-in_default-clause-disk g c = disk_then c.loop-asked.invariant.disk c.settle.ensures.disk
@@ -168,10 +201,14 @@ returns-in_default-clause-fed g c =
     let failures = g.D.Disk.failures in
     let answers = g.L.Law.answers in
     let marks = g.W.Voice.marks in
+    let lawful_new = g.H.New.Disk.is_lawful in
+    let state_new = g.H.New.Disk.state in
+    let had = g.H.Host.copies c.args.host.now in
     let script = script_at g.S.Asking.script (g.E.Obey.keeping c.args.engine.now) c.args.orders.now in
     let left = script_at g.S.Asking.script (g.E.Obey.keeping c.loop-asked.engine) c.loop-asked.orders in
     let u = g.W.Sink.contents c.args.writer.now in
     let v = g.W.Sink.contents c.loop-asked.writer in
+    let has = g.H.Host.copies c.loop-asked.host in
     let old = g.E.Obey.keeping c.args.engine.now in
     let there = g.E.Obey.keeping c.loop-asked.engine in
     let first = seen_at c.args.feeding.pace (g.E.Obey.keeping c.args.engine.now).standing.epoch in
@@ -188,11 +225,16 @@ returns-in_default-clause-fed g c =
     (subst (AsksFrom g.S.Asking.script c.of-room.result.told c.of-room.result.last c.loop-asked.orders c.next_asked.new.self) none c.in_ok-asked.ensures.asked) in
     in_some_is script
     (λ s is. record {
-      sound = at_ok r (known _ script s is (is_sound is_lawful state failures answers marks script left next u v old there first seen so asks));
+      sound = at_ok r (known _ script s is (is_sound is_lawful state failures answers marks lawful_new state_new script left next u v had has old there first seen so asks));
       fed = record {
-        carried = at_ok r (known _ script s is (at_end_carried is_lawful state failures answers marks script left next u v old there first seen so new asks c.settle.ensures.rests));
-        left = at_err r (known _ script s is (at_end_left is_lawful state failures answers marks script left next u v old there first seen so new asks c.settle.ensures.rests));
-        said = known _ script s is (at_end_said is_lawful state failures answers marks script left next u v old there first seen so r w new asks c.settle.ensures.fed.said);
+        done = so.answered;
+        came = known _ script s is (at_end_came is_lawful state failures answers marks lawful_new state_new script left next u v had has old there first seen so asks);
+        fed = record {
+          carried = at_ok r (known _ script s is (at_end_carried is_lawful state failures answers marks lawful_new state_new script left next u v had has old there first seen so new asks c.settle.ensures.rests));
+          left = at_err r (known _ script s is (at_end_left is_lawful state failures answers marks lawful_new state_new script left next u v had has old there first seen so new asks c.settle.ensures.rests));
+          said = known _ script s is (at_end_said is_lawful state failures answers marks lawful_new state_new script left next u v had has old there first seen so r w new asks c.settle.ensures.fed.said);
+        };
+        copied = known _ script s is (at_end_copied is_lawful state failures answers marks lawful_new state_new script left next u v had has old there first seen so asks);
       };
     })
 
@@ -203,16 +245,21 @@ loop-asked-preserved g c =
     let failures = g.D.Disk.failures in
     let answers = g.L.Law.answers in
     let marks = g.W.Voice.marks in
+    let lawful_new = g.H.New.Disk.is_lawful in
+    let state_new = g.H.New.Disk.state in
+    let had = g.H.Host.copies c.args.host.now in
     let script = script_at g.S.Asking.script (g.E.Obey.keeping c.args.engine.now) c.args.orders.now in
     let left = script_at g.S.Asking.script (g.E.Obey.keeping c.loop-asked.engine) c.loop-asked.orders in
     let u = g.W.Sink.contents c.args.writer.now in
     let v = g.W.Sink.contents c.loop-asked.writer in
+    let has = g.H.Host.copies c.loop-asked.host in
     let old = g.E.Obey.keeping c.args.engine.now in
     let there = g.E.Obey.keeping c.loop-asked.engine in
     let first = seen_at c.args.feeding.pace (g.E.Obey.keeping c.args.engine.now).standing.epoch in
     let seen = c.loop-asked.seen in
     let so = c.loop-asked.invariant.obeyed in
     let w = g.W.Sink.contents c.obey_at_pace.new.writer in
+    let then = g.H.Host.copies c.obey_at_pace.new.host in
     let new = g.E.Obey.keeping c.obey_at_pace.new.engine in
     let asked = c.in-Some-2.asked in
     let next = next_script g.S.Asking.script there (Some asked) c.next_asked.new.self in
@@ -221,16 +268,23 @@ loop-asked-preserved g c =
     (c.of-room.ensures.told ∙ ap (λ (k : Keeping g.row.D.Denot). last_epoch k.standing) c.keeper-keeper.ensures) (c.of-room.ensures.last ∙ ap (λ (k : Keeping g.row.D.Denot). last_request k.standing) c.keeper-keeper.ensures)
     (subst (AsksFrom g.S.Asking.script c.of-room.result.told c.of-room.result.last c.loop-asked.orders c.next_asked.new.self) c.in-Some-2.is c.in_ok-asked.ensures.asked) in
     let same = c.allow-in-loop-asked.ensures in
-    let fed = c.in_ok-obey_at_pace.ensures.fed in
-    let carried : Carries answers there new (new_to there (asked_for asked)) = subst (λ (k : Keeping g.row.D.Denot). Carries answers k new (new_to k (asked_for asked))) same fed.carried in
+    let told = c.tell_seen-in-loop-asked.ensures in
+    let fed : FeedsCopying is_lawful state failures answers marks lawful_new state_new done v w has then there new (new_to there (asked_for asked)) (notes_for asked) =
+    subst (λ (k : Keeping g.row.D.Denot). FeedsCopying is_lawful state failures answers marks lawful_new state_new done v w has then k new (new_to k (asked_for asked)) (notes_for asked)) same
+    (subst (λ (h : Option (List (Copied g.row.H-New.Denot))). FeedsCopying is_lawful state failures answers marks lawful_new state_new done v w h then (g.E.Obey.keeping c.allow-in-loop-asked.new.self) new (new_to (g.E.Obey.keeping c.allow-in-loop-asked.new.self) (asked_for asked)) (notes_for asked)) told.copies c.in_ok-obey_at_pace.ensures.fed) in
+    let disk : KeepsDisk g.D.Disk.capacity is_lawful failures done there.device new.device =
+    subst (λ (k : Keeping g.row.D.Denot). KeepsDisk g.D.Disk.capacity is_lawful failures done k.device new.device) same c.in_ok-obey_at_pace.ensures.disk in
+    let later = c.in_ok-next.next in
+    let before = g.H.Host.seen c.args.host.now in
     record {
       obeyed =
-          subst (λ (more : Option Script). HasObeyed is_lawful state failures answers marks script more u w old new first c.in_ok-next.next) (next_there g.S.Asking.script answers there new asked c.next_asked.new.self carried)
-          (some_obeyed is_lawful state failures answers marks script left next u v w old there new asked first seen so asks c.in_ok-next.next c.in_ok-next.ensures.ok
-          (subst (λ (k : Keeping g.row.D.Denot). KeepsTo c.in_ok-next.next k new) same c.obey_at_pace.ensures.held)
-          (subst (λ (k : Keeping g.row.D.Denot). Says is_lawful state failures answers marks v w k new (new_to k (asked_for asked)) (notes_for asked)) same fed.said)
-          carried);
-      disk = disk_then c.loop-asked.invariant.disk (subst (λ (k : Keeping g.row.D.Denot). KeepsDisk g.D.Disk.capacity is_lawful failures done k.device new.device) same c.in_ok-obey_at_pace.ensures.disk);
+          subst (λ (more : Option Script). HasObeyed is_lawful state failures answers marks lawful_new state_new script more u w had then old new first later) (next_there g.S.Asking.script answers there new asked c.next_asked.new.self fed.fed.carried)
+          (some_obeyed is_lawful state failures answers marks lawful_new state_new script left next u v w had has then old there new asked first seen so asks later c.in_ok-next.ensures.ok
+          (subst (λ (k : Keeping g.row.D.Denot). KeepsTo later k new) same c.obey_at_pace.ensures.held) disk.lawful.0 tt fed);
+      disk = disk_then c.loop-asked.invariant.disk disk;
+      told =
+          c.obey_at_pace.ensures.seen ∙ told.seen ∙ ap (λ (o : Option ℕ). told_seen o later) c.loop-asked.invariant.told
+          ∙ told_on is_lawful state failures answers marks lawful_new state_new script left next u v w had has then old there new asked first seen so asks later before c.in_ok-next.ensures.ok;
     }
 
 pub returns-in_err-obey_at_pace-clause-disk : goal.returns-in_err-obey_at_pace-clause-disk
@@ -246,16 +300,21 @@ returns-in_err-obey_at_pace-clause-fed g c =
     let failures = g.D.Disk.failures in
     let answers = g.L.Law.answers in
     let marks = g.W.Voice.marks in
+    let lawful_new = g.H.New.Disk.is_lawful in
+    let state_new = g.H.New.Disk.state in
+    let had = g.H.Host.copies c.args.host.now in
     let script = script_at g.S.Asking.script (g.E.Obey.keeping c.args.engine.now) c.args.orders.now in
     let left = script_at g.S.Asking.script (g.E.Obey.keeping c.loop-asked.engine) c.loop-asked.orders in
     let u = g.W.Sink.contents c.args.writer.now in
     let v = g.W.Sink.contents c.loop-asked.writer in
+    let has = g.H.Host.copies c.loop-asked.host in
     let old = g.E.Obey.keeping c.args.engine.now in
     let there = g.E.Obey.keeping c.loop-asked.engine in
     let first = seen_at c.args.feeding.pace (g.E.Obey.keeping c.args.engine.now).standing.epoch in
     let seen = c.loop-asked.seen in
     let so = c.loop-asked.invariant.obeyed in
     let w = g.W.Sink.contents c.obey_at_pace.new.writer in
+    let then = g.H.Host.copies c.obey_at_pace.new.host in
     let new = g.E.Obey.keeping c.obey_at_pace.new.engine in
     let asked = c.in-Some-2.asked in
     let next = next_script g.S.Asking.script there (Some asked) c.next_asked.new.self in
@@ -266,14 +325,18 @@ returns-in_err-obey_at_pace-clause-fed g c =
     let same = c.allow-in-loop-asked.ensures in
     let r = c.from_residual-in_err-obey_at_pace.result in
     let e = c.in_err-obey_at_pace.field-0.0 in
-    let fed = c.in_err-obey_at_pace.ensures.fed in
+    let fed : FeedsCopying is_lawful state failures answers marks lawful_new state_new (as_err (Unit {0}) e) v w has then there new (new_to there (asked_for asked)) (notes_for asked) =
+    subst (λ (k : Keeping g.row.D.Denot). FeedsCopying is_lawful state failures answers marks lawful_new state_new (as_err (Unit {0}) e) v w has then k new (new_to k (asked_for asked)) (notes_for asked)) same
+    (subst (λ (h : Option (List (Copied g.row.H-New.Denot))). FeedsCopying is_lawful state failures answers marks lawful_new state_new (as_err (Unit {0}) e) v w h then (g.E.Obey.keeping c.allow-in-loop-asked.new.self) new (new_to (g.E.Obey.keeping c.allow-in-loop-asked.new.self) (asked_for asked)) (notes_for asked))
+    c.tell_seen-in-loop-asked.ensures.copies c.in_err-obey_at_pace.ensures.fed) in
     in_some_is script
-    (λ s is. err_fed _ r c.from_residual-in_err-obey_at_pace.ensures.1
-    (known _ script s is (some_refused is_lawful state failures answers marks script left next u v w old there new asked first seen so asks
-    (subst (λ (k : Keeping g.row.D.Denot). Leaves is_lawful state answers k new (new_to k (asked_for asked))) same fed.left)))
-    (let later : (m : List Aside) × ((notes_in so.done ++ notes_for asked) ++ m ≡ notes_in s.orders) = known _ script s is (notes_left is_lawful state failures answers marks script left next u v w old there new asked first seen so asks) in
-    handed_on is_lawful state failures answers marks r e u v w old there new (new_to old (submissions so.done)) (new_to there (asked_for asked)) (new_to old (submissions s.orders)) (notes_in so.done) (notes_for asked) later.0 (notes_in s.orders) later.1 c.from_residual-in_err-obey_at_pace.ensures.1 so.said
-    (subst (λ (k : Keeping g.row.D.Denot). SaysBy is_lawful state failures answers marks (Err e) v w k new (new_to k (asked_for asked)) (notes_for asked)) same fed.said)))
+    (λ s is.
+    let later : (m : List Aside) × ComeOf (notes_in s.orders) ((so.answered ++ fed.done) ++ m) × MakesCopies is_lawful lawful_new state_new answers (copied_in ((so.answered ++ fed.done) ++ m)) had then old (new_to old (submissions s.orders)) =
+    known _ script s is (came_left is_lawful state failures answers marks lawful_new state_new script left next u v w had has then old there new asked first seen so asks fed.done fed.came fed.copied) in
+    err_fed _ r ((so.answered ++ fed.done) ++ later.0) c.from_residual-in_err-obey_at_pace.ensures.1 later.1
+    (known _ script s is (some_refused is_lawful state failures answers marks lawful_new state_new script left next u v w had has then old there new asked first seen so asks fed.fed.left))
+    (handed_on is_lawful state failures answers marks r e u v w old there new (new_to old (submissions so.done)) (new_to there (asked_for asked)) (new_to old (submissions s.orders)) so.answered fed.done later.0 ((so.answered ++ fed.done) ++ later.0) refl c.from_residual-in_err-obey_at_pace.ensures.1 so.said fed.fed.said)
+    later.2)
 
 pub returns-then-is_refused-clause-held : goal.returns-then-is_refused-clause-held
 returns-then-is_refused-clause-held g c =
@@ -295,7 +358,7 @@ returns-in_default-clause-held g c =
     let first = seen_at c.args.feeding.pace (g.E.Obey.keeping c.args.engine.now).standing.epoch in
     let script = script_at g.S.Asking.script (g.E.Obey.keeping c.args.engine.now) c.args.orders.now in
     let left = script_at g.S.Asking.script (g.E.Obey.keeping c.loop-asked.engine) c.loop-asked.orders in
-    held_there g.D.Disk.is_lawful g.D.Disk.state g.D.Disk.failures g.L.Law.answers g.W.Voice.marks script left left (g.W.Sink.contents c.args.writer.now) (g.W.Sink.contents c.loop-asked.writer) (g.E.Obey.keeping c.args.engine.now) (g.E.Obey.keeping c.loop-asked.engine) first c.loop-asked.seen c.loop-asked.invariant.obeyed
+    held_there g.D.Disk.is_lawful g.D.Disk.state g.D.Disk.failures g.L.Law.answers g.W.Voice.marks g.H.New.Disk.is_lawful g.H.New.Disk.state script left left (g.W.Sink.contents c.args.writer.now) (g.W.Sink.contents c.loop-asked.writer) (g.H.Host.copies c.args.host.now) (g.H.Host.copies c.loop-asked.host) (g.E.Obey.keeping c.args.engine.now) (g.E.Obey.keeping c.loop-asked.engine) first c.loop-asked.seen c.loop-asked.invariant.obeyed
     (g.E.Obey.keeping c.settle.new.engine) c.settle.ensures.base
 
 pub returns-in_err-obey_at_pace-clause-held : goal.returns-in_err-obey_at_pace-clause-held
@@ -312,6 +375,95 @@ returns-in_err-obey_at_pace-clause-held g c =
     asks_there g.S.Asking.script there c.of-room.result.told c.of-room.result.last c.loop-asked.orders c.next_asked.new.self (Some asked)
     (c.of-room.ensures.told ∙ ap (λ (k : Keeping g.row.D.Denot). last_epoch k.standing) c.keeper-keeper.ensures) (c.of-room.ensures.last ∙ ap (λ (k : Keeping g.row.D.Denot). last_request k.standing) c.keeper-keeper.ensures)
     (subst (AsksFrom g.S.Asking.script c.of-room.result.told c.of-room.result.last c.loop-asked.orders c.next_asked.new.self) c.in-Some-2.is c.in_ok-asked.ensures.asked) in
-    some_held g.D.Disk.is_lawful g.D.Disk.state g.D.Disk.failures g.L.Law.answers g.W.Voice.marks script left next (g.W.Sink.contents c.args.writer.now) (g.W.Sink.contents c.loop-asked.writer) (g.W.Sink.contents c.obey_at_pace.new.writer) old there new asked first c.loop-asked.seen
+    some_held g.D.Disk.is_lawful g.D.Disk.state g.D.Disk.failures g.L.Law.answers g.W.Voice.marks g.H.New.Disk.is_lawful g.H.New.Disk.state script left next (g.W.Sink.contents c.args.writer.now) (g.W.Sink.contents c.loop-asked.writer) (g.W.Sink.contents c.obey_at_pace.new.writer) (g.H.Host.copies c.args.host.now) (g.H.Host.copies c.loop-asked.host) (g.H.Host.copies c.obey_at_pace.new.host) old there new asked first c.loop-asked.seen
     c.loop-asked.invariant.obeyed asks c.in_ok-next.next c.in_ok-next.ensures.ok
     (subst (λ (k : Keeping g.row.D.Denot). KeepsTo c.in_ok-next.next k new) c.allow-in-loop-asked.ensures c.obey_at_pace.ensures.held)
+
+pub returns-then-is_refused-clause-seen : goal.returns-then-is_refused-clause-seen
+returns-then-is_refused-clause-seen g c =
+    let first = seen_at c.args.feeding.pace (g.E.Obey.keeping c.args.engine.now).standing.epoch in
+    in_some_is (script_at g.S.Asking.script (g.E.Obey.keeping c.args.engine.now) c.args.orders.now) (λ s is. tells_nothing _ first (g.H.Host.seen c.args.host.now) s.orders)
+
+-- a refusal of a step
+is_err : (P : Fault → Type 0) (r : Result (Unit {0}) Fault) → IsErrAnd r P → (f : Fault) × (r ≡ Err f)
+is_err P (Ok d) none = absurd none
+is_err P (Err f) holds = (f, refl)
+
+pub returns-in_err-begin-clause-seen : goal.returns-in_err-begin-clause-seen
+returns-in_err-begin-clause-seen g c =
+    let old = g.E.Obey.keeping c.args.engine.now in
+    let pace = c.args.feeding.pace in
+    let first : Option ℕ = c.first_seen-seen.result in
+    let is : first ≡ seen_at pace old.standing.epoch = c.first_seen-seen.ensures ∙ ap (λ (k : Keeping g.row.D.Denot). seen_at pace k.standing.epoch) c.keeper.ensures in
+    let r = c.from_residual.result in
+    let refused = is_err _ r c.from_residual.ensures.1 in
+    in_some_is (script_at g.S.Asking.script old c.args.orders.now)
+    (λ s there. tells_taken r (seen_at pace old.standing.epoch) first (g.H.Host.seen c.args.host.now) (g.H.Host.seen c.tell_seen.new.host) s.orders [] s.orders refl
+    (subst (λ (q : Result (Unit {0}) Fault). OnOk q (s.orders ≡ [])) (sym refused.1) tt) c.tell_seen.ensures.seen (is ∙ sym (none_seen (seen_at pace old.standing.epoch))))
+
+pub returns-in_err-asked-clause-seen : goal.returns-in_err-asked-clause-seen
+returns-in_err-asked-clause-seen g c =
+    let first = seen_at c.args.feeding.pace (g.E.Obey.keeping c.args.engine.now).standing.epoch in
+    let script = script_at g.S.Asking.script (g.E.Obey.keeping c.args.engine.now) c.args.orders.now in
+    let left = script_at g.S.Asking.script (g.E.Obey.keeping c.loop-asked.engine) c.loop-asked.orders in
+    let old = g.E.Obey.keeping c.args.engine.now in
+    let there = g.E.Obey.keeping c.loop-asked.engine in
+    let r = c.from_residual-in_err-asked.result in
+    seen_there g.D.Disk.is_lawful g.D.Disk.state g.D.Disk.failures g.L.Law.answers g.W.Voice.marks g.H.New.Disk.is_lawful g.H.New.Disk.state script left left (g.W.Sink.contents c.args.writer.now) (g.W.Sink.contents c.loop-asked.writer) (g.H.Host.copies c.args.host.now) (g.H.Host.copies c.loop-asked.host) old there first c.loop-asked.seen c.loop-asked.invariant.obeyed
+    r (g.H.Host.seen c.args.host.now) (g.H.Host.seen c.loop-asked.host) (is_err _ r c.from_residual-in_err-asked.ensures.1) c.loop-asked.invariant.told
+
+pub returns-in_err-next-clause-seen : goal.returns-in_err-next-clause-seen
+returns-in_err-next-clause-seen g c =
+    let first = seen_at c.args.feeding.pace (g.E.Obey.keeping c.args.engine.now).standing.epoch in
+    let script = script_at g.S.Asking.script (g.E.Obey.keeping c.args.engine.now) c.args.orders.now in
+    let left = script_at g.S.Asking.script (g.E.Obey.keeping c.loop-asked.engine) c.loop-asked.orders in
+    let old = g.E.Obey.keeping c.args.engine.now in
+    let there = g.E.Obey.keeping c.loop-asked.engine in
+    let r = c.from_residual-in_err-next.result in
+    seen_there g.D.Disk.is_lawful g.D.Disk.state g.D.Disk.failures g.L.Law.answers g.W.Voice.marks g.H.New.Disk.is_lawful g.H.New.Disk.state script left left (g.W.Sink.contents c.args.writer.now) (g.W.Sink.contents c.loop-asked.writer) (g.H.Host.copies c.args.host.now) (g.H.Host.copies c.loop-asked.host) old there first c.loop-asked.seen c.loop-asked.invariant.obeyed
+    r (g.H.Host.seen c.args.host.now) (g.H.Host.seen c.loop-asked.host) (is_err _ r c.from_residual-in_err-next.ensures.1) c.loop-asked.invariant.told
+
+pub returns-in_default-clause-seen : goal.returns-in_default-clause-seen
+returns-in_default-clause-seen g c =
+    let first = seen_at c.args.feeding.pace (g.E.Obey.keeping c.args.engine.now).standing.epoch in
+    let script = script_at g.S.Asking.script (g.E.Obey.keeping c.args.engine.now) c.args.orders.now in
+    let left = script_at g.S.Asking.script (g.E.Obey.keeping c.loop-asked.engine) c.loop-asked.orders in
+    let old = g.E.Obey.keeping c.args.engine.now in
+    let there = g.E.Obey.keeping c.loop-asked.engine in
+    let next = next_script g.S.Asking.script there None c.next_asked.new.self in
+    let none = none_of c.in_ok-asked.field-0 c.in_default.not-Some in
+    let asks : Asks left next None =
+    asks_there g.S.Asking.script there c.of-room.result.told c.of-room.result.last c.loop-asked.orders c.next_asked.new.self None
+    (c.of-room.ensures.told ∙ ap (λ (k : Keeping g.row.D.Denot). last_epoch k.standing) c.keeper-keeper.ensures) (c.of-room.ensures.last ∙ ap (λ (k : Keeping g.row.D.Denot). last_request k.standing) c.keeper-keeper.ensures)
+    (subst (AsksFrom g.S.Asking.script c.of-room.result.told c.of-room.result.last c.loop-asked.orders c.next_asked.new.self) none c.in_ok-asked.ensures.asked) in
+    at_end_seen g.D.Disk.is_lawful g.D.Disk.state g.D.Disk.failures g.L.Law.answers g.W.Voice.marks g.H.New.Disk.is_lawful g.H.New.Disk.state script left next (g.W.Sink.contents c.args.writer.now) (g.W.Sink.contents c.loop-asked.writer) (g.H.Host.copies c.args.host.now) (g.H.Host.copies c.loop-asked.host) old there first c.loop-asked.seen c.loop-asked.invariant.obeyed
+    c.settle.result (g.H.Host.seen c.args.host.now) (g.H.Host.seen c.loop-asked.host) asks c.loop-asked.invariant.told
+
+pub returns-in_err-obey_at_pace-clause-seen : goal.returns-in_err-obey_at_pace-clause-seen
+returns-in_err-obey_at_pace-clause-seen g c =
+    let script = script_at g.S.Asking.script (g.E.Obey.keeping c.args.engine.now) c.args.orders.now in
+    let left = script_at g.S.Asking.script (g.E.Obey.keeping c.loop-asked.engine) c.loop-asked.orders in
+    let old = g.E.Obey.keeping c.args.engine.now in
+    let there = g.E.Obey.keeping c.loop-asked.engine in
+    let new = g.E.Obey.keeping c.obey_at_pace.new.engine in
+    let first = seen_at c.args.feeding.pace old.standing.epoch in
+    let asked = c.in-Some-2.asked in
+    let next = next_script g.S.Asking.script there (Some asked) c.next_asked.new.self in
+    let asks : Asks left next (Some asked) =
+    asks_there g.S.Asking.script there c.of-room.result.told c.of-room.result.last c.loop-asked.orders c.next_asked.new.self (Some asked)
+    (c.of-room.ensures.told ∙ ap (λ (k : Keeping g.row.D.Denot). last_epoch k.standing) c.keeper-keeper.ensures) (c.of-room.ensures.last ∙ ap (λ (k : Keeping g.row.D.Denot). last_request k.standing) c.keeper-keeper.ensures)
+    (subst (AsksFrom g.S.Asking.script c.of-room.result.told c.of-room.result.last c.loop-asked.orders c.next_asked.new.self) c.in-Some-2.is c.in_ok-asked.ensures.asked) in
+    let later = c.in_ok-next.next in
+    let before = g.H.Host.seen c.args.host.now in
+    let r = c.from_residual-in_err-obey_at_pace.result in
+    let so = c.loop-asked.invariant.obeyed in
+    let u = g.W.Sink.contents c.args.writer.now in
+    let v = g.W.Sink.contents c.loop-asked.writer in
+    let w = g.W.Sink.contents c.obey_at_pace.new.writer in
+    let had = g.H.Host.copies c.args.host.now in
+    let has = g.H.Host.copies c.loop-asked.host in
+    let then = g.H.Host.copies c.obey_at_pace.new.host in
+    some_seen g.D.Disk.is_lawful g.D.Disk.state g.D.Disk.failures g.L.Law.answers g.W.Voice.marks g.H.New.Disk.is_lawful g.H.New.Disk.state script left next u v w had has then old there new asked first c.loop-asked.seen so asks
+    r later before (g.H.Host.seen c.obey_at_pace.new.host) (is_err _ r c.from_residual-in_err-obey_at_pace.ensures.1) c.in_ok-next.ensures.ok
+    (c.obey_at_pace.ensures.seen ∙ c.tell_seen-in-loop-asked.ensures.seen ∙ ap (λ (o : Option ℕ). told_seen o later) c.loop-asked.invariant.told
+    ∙ told_on g.D.Disk.is_lawful g.D.Disk.state g.D.Disk.failures g.L.Law.answers g.W.Voice.marks g.H.New.Disk.is_lawful g.H.New.Disk.state script left next u v w had has then old there new asked first c.loop-asked.seen so asks later before c.in_ok-next.ensures.ok)

@@ -8,4 +8,4 @@ pub returns-clause-read : goal.returns-clause-read
 returns-clause-read c plan input orders is = script_is plan 1 no_orders (text_lines input) orders is
 
 pub returns-clause-anywhere : goal.returns-clause-anywhere
-returns-clause-anywhere c hold questions limit plan input refuse told last = same_anywhere hold questions limit plan input refuse told last
+returns-clause-anywhere c hold questions copies limit plan input refuse told last = same_anywhere hold questions copies limit plan input refuse told last

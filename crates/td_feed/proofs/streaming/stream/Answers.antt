@@ -1,5 +1,5 @@
-use Rattle.std.proofs.Common.{◌≡◌, ◌==◌, eqb-true, Bool, true, false, ℕ, ◌≤◌, arith, List, ◌++◌, length, refl, sym, ap, ◌∙◌, subst, inl, inr, ⊎_elim}
-use Rattle.std.specs.Prelude.{Option, IfSome, Ok}
+use Rattle.std.proofs.Common.{◌≡◌, ◌==◌, eqb-true, Bool, true, false, ℕ, ◌≤◌, arith, List, [], ◌++◌, length, refl, sym, ap, ◌∙◌, subst, inl, inr, ⊎_elim}
+use Rattle.std.specs.Prelude.{Option, IfSome, Ok, All}
 use Rattle.td_console.specs.Refusals.{keeper_fault}
 use Rattle.td_plan.specs.Lines.{Line}
 use Rattle.td_disk.specs.Disk.{DiskState, Rises, IsDurable}
@@ -13,9 +13,12 @@ use Rattle.td_standing.specs.Advanced.{states_by, HeldWhere}
 use Rattle.td_journal.specs.Numbers.{greatest}
 use Rattle.td_keeper.specs.Keeping.{Keeping, IsKeeping, EachKeepsTo, EverKeepsTo, KeepsSince}
 use Rattle.td_feed.specs.declared.order.Order.{Order}
-use Rattle.td_feed.specs.Held.{seen_after, first_seen, then_seen, GoesUpTo, KeepsTo}
+use Rattle.td_feed.specs.Held.{seen_after, first_seen, then_seen, TellsSeen, GoesUpTo, KeepsTo}
+use Rattle.td_feed.specs.Copied.{IsCopyOf}
+use Rattle.td_feed.specs.Said.{SaysFrom}
+use Rattle.td_feed.proofs.Copies.{with_none}
 use Rattle.td_feed.proofs.Held.{seen_on, seen_further}
-use Rattle.td_feed.specs.Orders.{submissions, notes_in, new_after}
+use Rattle.td_feed.specs.Orders.{submissions, new_after}
 use Rattle.td_standing.specs.Standing.{last_epoch, last_request}
 use Rattle.td_feed.specs.Asked.{Script, script_of}
 use Rattle.td_feed.specs.Placed.{placed}
@@ -26,7 +29,8 @@ use Rattle.td_feed.proofs.Newness.{last_of_history}
 use Rattle.td_feed.proofs.Placed.{still_sound, seen_placed}
 use Rattle.td_feed.proofs.Carrying.{as_long, in_some, ended_some, ended_all, none_more, still_each, found}
 use Rattle.td_feed.proofs.Counting.{as_err, fault_of, keeper_device, lack_no_device}
-use Rattle.td_feed.proofs.Lines.{fed_says, always_driven}
+use Rattle.td_feed.proofs.Lines.{fed_says, says_copies, always_driven}
+use Rattle.std.proofs.lemmas.List.Elements.{All-nil}
 use Rattle.td_feed.proofs.Refused.{refused}
 use Rattle.std.proofs.lemmas.Result.{on_ok_weaker}
 use Rattle.td_feed.proofs.Session.{known, in_some_is, left_of, disk_same, disk_then, disk_recovered}
@@ -87,36 +91,52 @@ returns-in-Err-recover-clause-fed g c = λ fits.
     in_some (g.I.Source.remaining c.args.reader)
     (λ input.
     record {
-      records = 0;
-      sound = tt;
-      no_gap = tt;
-      fed = record {
-        fed = tt;
-        safe = λ lawful history told.
-            let state = g.D.Disk.state in
-            let answers = g.L.Law.answers in
-            let old = c.args.disk in
-            let new = c.in-Err-recover.disk in
-            let plan = c.args.plan.now in
-            let safe : CrashSafe Unchanged (state old) (state new) = c.in-Err-recover.ensures.crash_safe_back lawful in
-            none_more answers plan history (new_after (greatest 0 history) (submissions (placed c.args.options.refuse (length history) (greatest 0 history) (script_of c.args.options.placing c.args.options.hold c.args.options.questions (limit_of c.args.options.refuse 0) plan input)).orders)) (state new)
-            (still_each answers plan history (state old) (state new) safe
-            (λ i image. g.met.D.Disk.counts_now new (state old).moment i (c.in-Err-recover.ensures.lawful_back.0 lawful) safe.later image) told);
-        said = inl (record {
-          refused = refused rose tells c.in-Err-recover.refusal c.from.result c.from.ensures recover.device recover.refused;
-          unwritten = recover.crash_safe_back;
-          said = refl;
-        });
+      streams = record {
+        records = 0;
+        sound = tt;
+        no_gap = tt;
+        fed = record {
+          fed = tt;
+          safe = λ lawful history told.
+              let state = g.D.Disk.state in
+              let answers = g.L.Law.answers in
+              let old = c.args.disk in
+              let new = c.in-Err-recover.disk in
+              let plan = c.args.plan.now in
+              let safe : CrashSafe Unchanged (state old) (state new) = c.in-Err-recover.ensures.crash_safe_back lawful in
+              none_more answers plan history (new_after (greatest 0 history) (submissions (placed c.args.options.refuse (length history) (greatest 0 history) (script_of c.args.options.placing c.args.options.hold c.args.options.questions c.args.options.copies (limit_of c.args.options.refuse 0) plan input)).orders)) (state new)
+              (still_each answers plan history (state old) (state new) safe
+              (λ i image. g.met.D.Disk.counts_now new (state old).moment i (c.in-Err-recover.ensures.lawful_back.0 lawful) safe.later image) told);
+          said = inl (record {
+            refused = refused rose tells c.in-Err-recover.refusal c.from.result c.from.ensures recover.device recover.refused;
+            unwritten = recover.crash_safe_back;
+            said = refl;
+          });
+        };
+        held = λ hold lawful kept each.
+            let safe : CrashSafe Unchanged (state c.args.disk) (state new) = recover.crash_safe_back lawful in
+            let orders = (script_of c.args.options.placing c.args.options.hold c.args.options.questions c.args.options.copies (limit_of c.args.options.refuse 0) c.args.plan.now input).orders in
+            beyond c.args.plan.now (state c.args.disk) (state new) kept (seen_after kept orders) safe
+            (λ i image. g.met.D.Disk.counts_now new (state c.args.disk).moment i (recover.lawful_back.0 lawful) safe.later image) (seen_on kept orders) each;
+        ever_held = λ hold lawful kept each.
+            let orders = (script_of c.args.options.placing c.args.options.hold c.args.options.questions c.args.options.copies (limit_of c.args.options.refuse 0) c.args.plan.now input).orders in
+            ever c.args.plan.now (state c.args.disk) (state new) (state new) kept (seen_after kept orders) (seen_after kept orders) (recover.crash_safe_back lawful) (λ t i le left. inl left) (seen_on kept orders) (omega arith) each;
       };
-      held = λ hold lawful kept each.
-          let safe : CrashSafe Unchanged (state c.args.disk) (state new) = recover.crash_safe_back lawful in
-          let orders = (script_of c.args.options.placing c.args.options.hold c.args.options.questions (limit_of c.args.options.refuse 0) c.args.plan.now input).orders in
-          beyond c.args.plan.now (state c.args.disk) (state new) kept (seen_after kept orders) safe
-          (λ i image. g.met.D.Disk.counts_now new (state c.args.disk).moment i (recover.lawful_back.0 lawful) safe.later image) (seen_on kept orders) each;
-      ever_held = λ hold lawful kept each.
-          let orders = (script_of c.args.options.placing c.args.options.hold c.args.options.questions (limit_of c.args.options.refuse 0) c.args.plan.now input).orders in
-          ever c.args.plan.now (state c.args.disk) (state new) (state new) kept (seen_after kept orders) (seen_after kept orders) (recover.crash_safe_back lawful) (λ t i le left. inl left) (seen_on kept orders) (omega arith) each;
+      copied = record {
+        made = [];
+        kept = sym (with_none (g.H.Host.copies c.args.host.now));
+        labelled = refl;
+        each = λ lawful history told.
+            All-nil (IsCopyOf g.H.New.Disk.is_lawful g.H.New.Disk.state g.L.Law.answers c.args.plan.now
+            (history ++ new_after (greatest 0 history) (submissions (placed c.args.options.refuse (length history) (greatest 0 history) (script_of c.args.options.placing c.args.options.hold c.args.options.questions c.args.options.copies (limit_of c.args.options.refuse 0) c.args.plan.now input)).orders)));
+      };
     })
+
+pub returns-in-Err-recover-clause-seen : goal.returns-in-Err-recover-clause-seen
+returns-in-Err-recover-clause-seen g c = λ fits. in_some (g.I.Source.remaining c.args.reader) (λ input. inl (refl, refl))
+
+pub returns-in-Err-clause-seen : goal.returns-in-Err-clause-seen
+returns-in-Err-clause-seen g c = λ none. absurd (let some = c.in-Err.ensures.err in cc)
 
 pub returns-clause-disk : goal.returns-clause-disk
 returns-clause-disk g c =
@@ -149,19 +169,23 @@ returns-clause-fed g c = λ fits.
     (λ input is.
     let fed = known _ remaining input is c.obey-keeper.ensures.fed in
     let script_at : Keeping g.row.D.Denot → Script =
-    λ k. placed refuse (last_epoch k.standing) (last_request k.standing) (script_of c.args.options.placing c.args.options.hold c.args.options.questions (limit_of refuse k.head.shape.m) plan input) in
+    λ k. placed refuse (last_epoch k.standing) (last_request k.standing) (script_of c.args.options.placing c.args.options.hold c.args.options.questions c.args.options.copies (limit_of refuse k.head.shape.m) plan input) in
     let keeps : KeepsTo (then_seen (first_seen c.args.options.hold keeper.standing.epoch) (script_at keeper).orders) keeper new =
     subst (λ (k : Keeping g.row.D.Denot). KeepsTo (then_seen (first_seen c.args.options.hold k.standing.epoch) (script_at k).orders) k new) c.watched-keeper.ensures.aside.1 (known _ remaining input is c.obey-keeper.ensures.held) in
     let limit : Option ℕ = limit_of refuse keeper.head.shape.m in
     let told : ℕ = last_epoch keeper.standing in
     let last : ℕ = last_request keeper.standing in
-    let raw : Script = script_of c.args.options.placing c.args.options.hold c.args.options.questions limit plan input in
+    let raw : Script = script_of c.args.options.placing c.args.options.hold c.args.options.questions c.args.options.copies limit plan input in
     let asked : Script = placed refuse told last raw in
     let wanted : List Submitted = submissions asked.orders in
     let more : List Submitted = new_to keeper wanted in
-    let whole : FeedsScript is_lawful state failures answers marks r u v keeper new asked =
-    subst (λ (k : Keeping g.row.D.Denot). FeedsScript is_lawful state failures answers marks r u v k new (script_at k)) c.watched-keeper.ensures.aside.1 fed in
-    let feeds = whole.fed in
+    let lawful_new = g.H.New.Disk.is_lawful in
+    let state_new = g.H.New.Disk.state in
+    let had = g.H.Host.copies c.args.host.now in
+    let has = g.H.Host.copies c.obey-keeper.new.host in
+    let whole : FeedsScript is_lawful state failures answers marks lawful_new state_new r u v had has keeper new asked =
+    subst (λ (k : Keeping g.row.D.Denot). FeedsScript is_lawful state failures answers marks lawful_new state_new r u v had has k new (script_at k)) c.watched-keeper.ensures.aside.1 fed in
+    let feeds = whole.fed.fed in
     let stands = λ (lawful : is_lawful old) (history : List Submitted) (told : EachTellsHistory answers plan history (state old)).
     let safe : CrashSafe Unchanged (state old) (state keeper.device) = c.in-Ok.ensures.crash_safe lawful in
     found answers plan history (state old) (state keeper.device) safe
@@ -176,7 +200,7 @@ returns-clause-fed g c = λ fits.
     let long = sym (as_long answers plan keeper.standing history is) in
     λ i. new_after (first i) (submissions (placed refuse (long i) (first i) raw).orders) in
     let left_lawful : is_lawful old → is_lawful new.device = λ lawful. c.obey-keeper.ensures.disk.lawful.0 (subst is_lawful (sym c.watched-keeper.ensures.device) (c.in-Ok.ensures.lawful.0 lawful)) in
-    let driven = always_driven is_lawful state failures answers marks r u v keeper new more (notes_in asked.orders) feeds.said in
+    let driven = always_driven is_lawful state failures answers marks r u v keeper new more whole.fed.done feeds.said in
     let goes = λ (hold : c.args.options.hold ≡ true). held_by {old = keeper} {new = new} c.args.options.hold keeper.standing.epoch asked.orders hold keeps in
     let most = λ (hold : c.args.options.hold ≡ true) (lawful : is_lawful old) (kept : ℕ) (each : EachKeepsTo plan kept (state old)).
     let safe : CrashSafe Unchanged (state old) (state keeper.device) = c.in-Ok.ensures.crash_safe lawful in
@@ -187,59 +211,103 @@ returns-clause-fed g c = λ fits.
     let on = seen_on kept asked.orders in
     let further = seen_further keeper.standing.epoch kept asked.orders low in
     (goes hold).base (seen_after kept asked.orders) further (omega (arith, base, low, on)) in
+    let from : SaysFrom is_lawful state failures answers marks r plan (c.args.workers == 1) old c.into_disk.result u v (wanted_by refuse limit raw) =
     record {
-      records = keeper.head.shape.m;
-      sound = on_ok_weaker r (λ (is : asked.is_sound ≡ true). still_sound raw.is_sound refuse told last raw.orders is) whole.sound;
-      no_gap = on_ok_weaker r (λ (is : asked.is_sound ≡ true) lawful history known.
-          let stood = stands lawful history known in
-          let first = sym (last_of_history answers plan keeper.standing history stood) in
-          let long = as_long answers plan keeper.standing history stood in
-          (λ i. (placed refuse (long i) (first i) raw).is_sound) ∙ is) whole.sound;
-      fed = record {
-        fed = on_ok_weaker r (λ (carries : Carries answers keeper new more) lawful history told.
-            let is = stands lawful history told in
-            subst (λ (l : List Submitted). EachTellsHistory answers plan (history ++ l) (state c.into_disk.result)) (also history is)
-            (subst (λ (d : g.row.D.Denot). EachTellsHistory answers plan (history ++ more) (state d)) (sym c.into_disk.ensures.disk)
-            (subst (λ (p : List Line). EachTellsHistory answers p (history ++ more) (state new.device)) c.in-Ok.ensures.plan
-            (ended_all is_lawful state answers c.told_in_parts.ensures.together keeper new history more (by_keeper history is) carries held (left_lawful lawful))))) feeds.carried;
-        safe = λ lawful history told.
-            let is = stands lawful history told in
-            subst (λ (l : List Submitted). EachTellsSome answers plan history l (state c.into_disk.result)) (also history is)
-            (subst (λ (d : g.row.D.Denot). EachTellsSome answers plan history more (state d)) (sym c.into_disk.ensures.disk)
-            (subst (λ (p : List Line). EachTellsSome answers p history more (state new.device)) c.in-Ok.ensures.plan
-            (ended_some is_lawful state answers c.told_in_parts.ensures.together keeper new history more (by_keeper history is) (left_of r feeds) held (left_lawful lawful))));
-        said = fed_says is_lawful state failures answers marks r plan (c.args.workers == 1) old c.into_disk.result u v (wanted_by refuse limit raw)
-            (record {
-              keeper = c.in-Ok.keeper;
-              fresh = c.in-Ok.ensures.fresh;
-              plan_is = c.in-Ok.ensures.plan;
-              told = c.in-Ok.ensures.told;
-              watch = c.watched-keeper.ensures.aside.0;
-              kept = subst (λ (k : Keeping g.row.D.Denot). IsKeeping k answers) c.watched-keeper.ensures.aside.1 c.each_is_kept.ensures;
-              lawful = c.in-Ok.ensures.lawful.0;
-              unwritten = c.in-Ok.ensures.crash_safe;
-              found = c.in-Ok.ensures.kept;
-              ended = new;
-              left_is = c.into_disk.ensures.disk;
-              lawful_left = λ lawful. subst is_lawful (sym c.into_disk.ensures.disk) (left_lawful lawful);
-              holds = subst (λ (d : g.row.D.Denot). is_lawful d → HeldWhere new.broken answers new.plan new.head new.side new.standing (state d)) (sym c.into_disk.ensures.disk) held;
-              limit = within c.args.options.refuse keeper.head.shape.m;
-              said = feeds.said;
-              all_out = λ is. c.obey-keeper.ensures.all_out (eqb-true c.args.workers 1 is);
-            });
+      keeper = c.in-Ok.keeper;
+      fresh = c.in-Ok.ensures.fresh;
+      plan_is = c.in-Ok.ensures.plan;
+      told = c.in-Ok.ensures.told;
+      watch = c.watched-keeper.ensures.aside.0;
+      kept = subst (λ (k : Keeping g.row.D.Denot). IsKeeping k answers) c.watched-keeper.ensures.aside.1 c.each_is_kept.ensures;
+      lawful = c.in-Ok.ensures.lawful.0;
+      unwritten = c.in-Ok.ensures.crash_safe;
+      found = c.in-Ok.ensures.kept;
+      ended = new;
+      left_is = c.into_disk.ensures.disk;
+      lawful_left = λ lawful. subst is_lawful (sym c.into_disk.ensures.disk) (left_lawful lawful);
+      holds = subst (λ (d : g.row.D.Denot). is_lawful d → HeldWhere new.broken answers new.plan new.head new.side new.standing (state d)) (sym c.into_disk.ensures.disk) held;
+      limit = within c.args.options.refuse keeper.head.shape.m;
+      notes = whole.fed.done;
+      came = whole.fed.came;
+      said = feeds.said;
+      all_out = λ is. c.obey-keeper.ensures.all_out (eqb-true c.args.workers 1 is);
+    } in
+    let copied = whole.fed.copied in
+    record {
+      streams = record {
+        records = keeper.head.shape.m;
+        sound = on_ok_weaker r (λ (is : asked.is_sound ≡ true). still_sound raw.is_sound refuse told last raw.orders is) whole.sound;
+        no_gap = on_ok_weaker r (λ (is : asked.is_sound ≡ true) lawful history known.
+            let stood = stands lawful history known in
+            let first = sym (last_of_history answers plan keeper.standing history stood) in
+            let long = as_long answers plan keeper.standing history stood in
+            (λ i. (placed refuse (long i) (first i) raw).is_sound) ∙ is) whole.sound;
+        fed = record {
+          fed = on_ok_weaker r (λ (carries : Carries answers keeper new more) lawful history told.
+              let is = stands lawful history told in
+              subst (λ (l : List Submitted). EachTellsHistory answers plan (history ++ l) (state c.into_disk.result)) (also history is)
+              (subst (λ (d : g.row.D.Denot). EachTellsHistory answers plan (history ++ more) (state d)) (sym c.into_disk.ensures.disk)
+              (subst (λ (p : List Line). EachTellsHistory answers p (history ++ more) (state new.device)) c.in-Ok.ensures.plan
+              (ended_all is_lawful state answers c.told_in_parts.ensures.together keeper new history more (by_keeper history is) carries held (left_lawful lawful))))) feeds.carried;
+          safe = λ lawful history told.
+              let is = stands lawful history told in
+              subst (λ (l : List Submitted). EachTellsSome answers plan history l (state c.into_disk.result)) (also history is)
+              (subst (λ (d : g.row.D.Denot). EachTellsSome answers plan history more (state d)) (sym c.into_disk.ensures.disk)
+              (subst (λ (p : List Line). EachTellsSome answers p history more (state new.device)) c.in-Ok.ensures.plan
+              (ended_some is_lawful state answers c.told_in_parts.ensures.together keeper new history more (by_keeper history is) (left_of r feeds) held (left_lawful lawful))));
+          said = fed_says is_lawful state failures answers marks r plan (c.args.workers == 1) old c.into_disk.result u v (wanted_by refuse limit raw) from;
+        };
+        held = λ hold lawful kept each.
+            let at_most = most hold lawful kept each in
+            let said = seen_placed raw.is_sound refuse told last raw.orders kept in
+            subst (λ (d : g.row.D.Denot). EachKeepsTo plan (seen_after kept raw.orders) (state d)) (sym c.into_disk.ensures.disk)
+            (subst (λ (p : List Line). EachKeepsTo p (seen_after kept raw.orders) (state new.device)) ((goes hold).plan ∙ c.in-Ok.ensures.plan)
+            (λ i image t told. let low = c.each_keeps_to_its_base.ensures (left_lawful lawful) i image t told in omega (arith, low, at_most, said)));
+        ever_held = λ hold lawful kept each.
+            let short = (c.driven_keeps_to_its_base.ensures driven.commands driven.replies keeper new (c.in-Ok.ensures.lawful.0 lawful) driven.driven).1 in
+            let at_most = most hold lawful kept each in
+            let said = seen_placed raw.is_sound refuse told last raw.orders kept in
+            let far : new.base ≤ seen_after kept raw.orders = omega (arith, at_most, said) in
+            subst (λ (d : g.row.D.Denot). EverKeepsTo plan (seen_after kept raw.orders) (state old).moment (state d)) (sym c.into_disk.ensures.disk)
+            (ever plan (state old) (state keeper.device) (state new.device) kept new.base (seen_after kept raw.orders) (c.in-Ok.ensures.crash_safe lawful)
+            (subst (λ (p : List Line). KeepsSince p new.base (state keeper.device) (state new.device)) c.in-Ok.ensures.plan short) (seen_on kept raw.orders) far each);
       };
-      held = λ hold lawful kept each.
-          let at_most = most hold lawful kept each in
-          let said = seen_placed raw.is_sound refuse told last raw.orders kept in
-          subst (λ (d : g.row.D.Denot). EachKeepsTo plan (seen_after kept raw.orders) (state d)) (sym c.into_disk.ensures.disk)
-          (subst (λ (p : List Line). EachKeepsTo p (seen_after kept raw.orders) (state new.device)) ((goes hold).plan ∙ c.in-Ok.ensures.plan)
-          (λ i image t told. let low = c.each_keeps_to_its_base.ensures (left_lawful lawful) i image t told in omega (arith, low, at_most, said)));
-      ever_held = λ hold lawful kept each.
-          let short = (c.driven_keeps_to_its_base.ensures driven.commands driven.replies keeper new (c.in-Ok.ensures.lawful.0 lawful) driven.driven).1 in
-          let at_most = most hold lawful kept each in
-          let said = seen_placed raw.is_sound refuse told last raw.orders kept in
-          let far : new.base ≤ seen_after kept raw.orders = omega (arith, at_most, said) in
-          subst (λ (d : g.row.D.Denot). EverKeepsTo plan (seen_after kept raw.orders) (state old).moment (state d)) (sym c.into_disk.ensures.disk)
-          (ever plan (state old) (state keeper.device) (state new.device) kept new.base (seen_after kept raw.orders) (c.in-Ok.ensures.crash_safe lawful)
-          (subst (λ (p : List Line). KeepsSince p new.base (state keeper.device) (state new.device)) c.in-Ok.ensures.plan short) (seen_on kept raw.orders) far each);
+      copied = record {
+        made = copied.made;
+        kept = copied.kept;
+        labelled = copied.labelled ∙ sym (says_copies is_lawful state failures answers marks r plan (c.args.workers == 1) old c.into_disk.result u v (wanted_by refuse limit raw) from);
+        each = λ lawful history told.
+            let is = stands lawful history told in
+            subst (λ (l : List Submitted). All (IsCopyOf lawful_new state_new answers plan (history ++ l)) copied.made) (also history is)
+            (subst (λ (p : List Line). All (IsCopyOf lawful_new state_new answers p (history ++ more)) copied.made) c.in-Ok.ensures.plan
+            (copied.each (c.in-Ok.ensures.lawful.0 lawful) history (by_keeper history is)));
+      };
     })
+
+pub returns-clause-seen : goal.returns-clause-seen
+returns-clause-seen g c = λ fits.
+    let is_lawful = g.D.Disk.is_lawful in
+    let state = g.D.Disk.state in
+    let plan = c.args.plan.now in
+    let old = c.args.disk in
+    let keeper : Keeping g.row.D.Denot = (record c.in-Ok.keeper { watch = c.watched-keeper.ensures.aside.0 }) in
+    let r = c.obey-keeper.result.1 in
+    let refuse = c.args.options.refuse in
+    let hold = c.args.options.hold in
+    let before = g.H.Host.seen c.args.host.now in
+    let after = g.H.Host.seen c.obey-keeper.new.host in
+    let remaining = g.I.Source.remaining c.args.reader in
+    in_some_is remaining
+    (λ input is.
+    let orders_at : Keeping g.row.D.Denot → List Order =
+    λ k. (placed refuse (last_epoch k.standing) (last_request k.standing) (script_of c.args.options.placing hold c.args.options.questions c.args.options.copies (limit_of refuse k.head.shape.m) plan input)).orders in
+    inr (record {
+      records = keeper.head.shape.m;
+      standing = keeper.standing;
+      told = λ lawful.
+          let safe : CrashSafe Unchanged (state old) (state keeper.device) = c.in-Ok.ensures.crash_safe lawful in
+          let sound = c.in-Ok.ensures.lawful.0 lawful in
+          let was = safe.each (state keeper.device).bytes (g.met.D.Disk.counts_now keeper.device (state old).moment (state keeper.device).bytes sound safe.later (g.met.D.Disk.reads_image keeper.device sound)) in
+          (was.0, was.1, subst (λ (i : List ℕ). Told plan i (Ok keeper.standing)) was.2 (c.in-Ok.ensures.told lawful));
+      seen = subst (λ (k : Keeping g.row.D.Denot). TellsSeen r (first_seen hold k.standing.epoch) (orders_at k) before after) c.watched-keeper.ensures.aside.1 (known _ remaining input is c.obey-keeper.ensures.seen);
+    }))

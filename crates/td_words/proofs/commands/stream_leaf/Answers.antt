@@ -17,4 +17,5 @@ returns-clause-app c =
     let grown_10 = c.in_ok-leaf-10.ensures.shape ∙ ap₂ with_rule grown_9 c.flag_arg-5.ensures.rule in
     let grown_11 = c.in_ok-leaf-11.ensures.shape ∙ ap₂ with_rule grown_10 c.flag_arg-6.ensures.rule in
     let grown_12 = c.in_ok-leaf-12.ensures.shape ∙ ap₂ with_rule grown_11 c.flag_arg-7.ensures.rule in
-    IfOk-weaker c.with_arg-13.result _ _ (λ m h. h ∙ ap₂ with_rule grown_12 c.file_arg.ensures.rule) c.with_arg-13.ensures.shape
+    let grown_13 = c.in_ok-leaf-13.ensures.shape ∙ ap₂ with_rule grown_12 c.file_arg.ensures.rule in
+    IfOk-weaker c.with_arg-14.result _ _ (λ m h. h ∙ ap₂ with_rule grown_13 c.folder_arg.ensures.rule) c.with_arg-14.ensures.shape

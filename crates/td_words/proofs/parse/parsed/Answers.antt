@@ -159,7 +159,7 @@ returns-in-Some-clause-stream c = λ e.
     let found = c.in-Ok-try_get_matches_from in
     let met : subcommand_rows_of found.matches ≡ subcommand_of td given = (found.ensures.matches (ap is_simple c.in-Ok.ensures ∙ td_is_simple)).1 ∙ ap (λ a. subcommand_of a given) c.in-Ok.ensures in
     let is = met ∙ ap (subcommand_of td) e in
-    (named_uncut (subcommand_rows_of found.matches) (ap (option_map (λ p. p.0)) is ∙ stream_is_named) false false false false false false false None refl c.in-Some.job c.in-Some.ensures.some (ap (option_map (λ p. stream_values p.1)) is ∙ stream_has), tt)
+    (named_uncut (subcommand_rows_of found.matches) (ap (option_map (λ p. p.0)) is ∙ stream_is_named) false false false false false false false None None refl c.in-Some.job c.in-Some.ensures.some (ap (option_map (λ p. stream_values p.1)) is ∙ stream_has), tt)
 
 pub returns-clause-stream : goal.returns-clause-stream
 returns-clause-stream c = λ e.
@@ -167,7 +167,7 @@ returns-clause-stream c = λ e.
     let found = c.in-Ok-try_get_matches_from in
     let met : subcommand_rows_of found.matches ≡ subcommand_of td given = (found.ensures.matches (ap is_simple c.in-Ok.ensures ∙ td_is_simple)).1 ∙ ap (λ a. subcommand_of a given) c.in-Ok.ensures in
     let is = met ∙ ap (subcommand_of td) e in
-    absurd (c.in-None.ensures.none (Stream (to (codes "d")) (to (codes "p")) 1 None None false false false false false false false None) (uncut_met (subcommand_rows_of found.matches) (ap (option_map (λ p. p.0)) is ∙ stream_is_named) false false false false false false false None refl (ap (option_map (λ p. stream_values p.1)) is ∙ stream_has)))
+    absurd (c.in-None.ensures.none (Stream (to (codes "d")) (to (codes "p")) 1 None None false false false false false false false None None) (uncut_met (subcommand_rows_of found.matches) (ap (option_map (λ p. p.0)) is ∙ stream_is_named) false false false false false false false None None refl (ap (option_map (λ p. stream_values p.1)) is ∙ stream_has)))
 
 pub returns-in-Err-clause-cutting : goal.returns-in-Err-clause-cutting
 returns-in-Err-clause-cutting c = λ e. memory_alone _ _ (only_memory _ _ c.asked_instead.ensures.ok c.asked_instead.ensures.err (c.in-Err.ensures.passes (ap₂ takes c.in-Ok.ensures e ∙ cutting_is_taken)))
@@ -186,7 +186,7 @@ returns-clause-cutting c = λ e.
     let found = c.in-Ok-try_get_matches_from in
     let met : subcommand_rows_of found.matches ≡ subcommand_of td given = (found.ensures.matches (ap is_simple c.in-Ok.ensures ∙ td_is_simple)).1 ∙ ap (λ a. subcommand_of a given) c.in-Ok.ensures in
     let is = met ∙ ap (subcommand_of td) e in
-    absurd (c.in-None.ensures.none (Stream (to (codes "d")) (to (codes "p")) 1 (Some 4) (Some 5) false false false false false false false None) (cutting_met (subcommand_rows_of found.matches) (ap (option_map (λ p. p.0)) is ∙ cutting_is_named) (ap (option_map (λ p. stream_values p.1)) is ∙ cutting_has)))
+    absurd (c.in-None.ensures.none (Stream (to (codes "d")) (to (codes "p")) 1 (Some 4) (Some 5) false false false false false false false None None) (cutting_met (subcommand_rows_of found.matches) (ap (option_map (λ p. p.0)) is ∙ cutting_is_named) (ap (option_map (λ p. stream_values p.1)) is ∙ cutting_has)))
 
 pub returns-in-Err-clause-telling : goal.returns-in-Err-clause-telling
 returns-in-Err-clause-telling c = λ e. memory_alone _ _ (only_memory _ _ c.asked_instead.ensures.ok c.asked_instead.ensures.err (c.in-Err.ensures.passes (ap₂ takes c.in-Ok.ensures e ∙ telling_is_taken)))
@@ -197,7 +197,7 @@ returns-in-Some-clause-telling c = λ e.
     let found = c.in-Ok-try_get_matches_from in
     let met : subcommand_rows_of found.matches ≡ subcommand_of td given = (found.ensures.matches (ap is_simple c.in-Ok.ensures ∙ td_is_simple)).1 ∙ ap (λ a. subcommand_of a given) c.in-Ok.ensures in
     let is = met ∙ ap (subcommand_of td) e in
-    (named_uncut (subcommand_rows_of found.matches) (ap (option_map (λ p. p.0)) is ∙ telling_is_named) true true true true true true true (Some (codes "s")) refl c.in-Some.job c.in-Some.ensures.some (ap (option_map (λ p. stream_values p.1)) is ∙ telling_has), tt)
+    (named_uncut (subcommand_rows_of found.matches) (ap (option_map (λ p. p.0)) is ∙ telling_is_named) true true true true true true true (Some (codes "s")) (Some (codes "f")) refl c.in-Some.job c.in-Some.ensures.some (ap (option_map (λ p. stream_values p.1)) is ∙ telling_has), tt)
 
 pub returns-clause-telling : goal.returns-clause-telling
 returns-clause-telling c = λ e.
@@ -205,7 +205,7 @@ returns-clause-telling c = λ e.
     let found = c.in-Ok-try_get_matches_from in
     let met : subcommand_rows_of found.matches ≡ subcommand_of td given = (found.ensures.matches (ap is_simple c.in-Ok.ensures ∙ td_is_simple)).1 ∙ ap (λ a. subcommand_of a given) c.in-Ok.ensures in
     let is = met ∙ ap (subcommand_of td) e in
-    absurd (c.in-None.ensures.none (Stream (to (codes "d")) (to (codes "p")) 1 None None true true true true true true true (Some (to (codes "s")))) (uncut_met (subcommand_rows_of found.matches) (ap (option_map (λ p. p.0)) is ∙ telling_is_named) true true true true true true true (Some (codes "s")) refl (ap (option_map (λ p. stream_values p.1)) is ∙ telling_has)))
+    absurd (c.in-None.ensures.none (Stream (to (codes "d")) (to (codes "p")) 1 None None true true true true true true true (Some (to (codes "s"))) (Some (to (codes "f")))) (uncut_met (subcommand_rows_of found.matches) (ap (option_map (λ p. p.0)) is ∙ telling_is_named) true true true true true true true (Some (codes "s")) (Some (codes "f")) refl (ap (option_map (λ p. stream_values p.1)) is ∙ telling_has)))
 
 pub returns-in-Err-clause-ok : goal.returns-in-Err-clause-ok
 returns-in-Err-clause-ok c =

@@ -6,40 +6,40 @@ use Rattle.td_words.proofs.StreamAsked.{only_stream, same_flag}
 use Rattle.td_words.proofs.parse.stream_job.Goals as goal
 
 pub returns-in_err-disk-clause-none : goal.returns-in_err-disk-clause-none
-returns-in_err-disk-clause-none c = when_none _ c.from_residual.ensures (λ job h. let only = only_stream (rows_of (found_of c.args.matches.now)) job h in lacks (codes "disk") (rows_of (found_of c.args.matches.now)) _ c.in_err-disk.ensures.none only.14.0)
+returns-in_err-disk-clause-none c = when_none _ c.from_residual.ensures (λ job h. only_stream (rows_of (found_of c.args.matches.now)) (λ _. ⊥) (λ f has. lacks (codes "disk") (rows_of (found_of c.args.matches.now)) _ c.in_err-disk.ensures.none has.0) job h)
 
 pub returns-in_err-plan-clause-none : goal.returns-in_err-plan-clause-none
-returns-in_err-plan-clause-none c = when_none _ c.from_residual-in_err-plan.ensures (λ job h. let only = only_stream (rows_of (found_of c.args.matches.now)) job h in lacks (codes "plan") (rows_of (found_of c.args.matches.now)) _ c.in_err-plan.ensures.none only.14.1)
+returns-in_err-plan-clause-none c = when_none _ c.from_residual-in_err-plan.ensures (λ job h. only_stream (rows_of (found_of c.args.matches.now)) (λ _. ⊥) (λ f has. lacks (codes "plan") (rows_of (found_of c.args.matches.now)) _ c.in_err-plan.ensures.none has.1) job h)
 
 pub returns-in_err-workers-clause-none : goal.returns-in_err-workers-clause-none
-returns-in_err-workers-clause-none c = when_none _ c.from_residual-in_err-workers.ensures (λ job h. let only = only_stream (rows_of (found_of c.args.matches.now)) job h in c.in_err-workers.ensures.none only.2 only.14.2)
+returns-in_err-workers-clause-none c = when_none _ c.from_residual-in_err-workers.ensures (λ job h. only_stream (rows_of (found_of c.args.matches.now)) (λ _. ⊥) (λ f has. c.in_err-workers.ensures.none f.2 has.2) job h)
 
 pub returns-in_err-cut_every-clause-none : goal.returns-in_err-cut_every-clause-none
-returns-in_err-cut_every-clause-none c = when_none _ c.from_residual-in_err-cut_every.ensures (λ job h. let only = only_stream (rows_of (found_of c.args.matches.now)) job h in c.in_err-cut_every.ensures.none only.3 only.14.3)
+returns-in_err-cut_every-clause-none c = when_none _ c.from_residual-in_err-cut_every.ensures (λ job h. only_stream (rows_of (found_of c.args.matches.now)) (λ _. ⊥) (λ f has. c.in_err-cut_every.ensures.none f.3 has.3) job h)
 
 pub returns-in_err-most-clause-none : goal.returns-in_err-most-clause-none
-returns-in_err-most-clause-none c = when_none _ c.from_residual-in_err-most.ensures (λ job h. let only = only_stream (rows_of (found_of c.args.matches.now)) job h in c.in_err-most.ensures.none only.4 only.14.4)
+returns-in_err-most-clause-none c = when_none _ c.from_residual-in_err-most.ensures (λ job h. only_stream (rows_of (found_of c.args.matches.now)) (λ _. ⊥) (λ f has. c.in_err-most.ensures.none f.4 has.4) job h)
 
 pub returns-in_err-progress-clause-none : goal.returns-in_err-progress-clause-none
-returns-in_err-progress-clause-none c = when_none _ c.from_residual-in_err-progress.ensures (λ job h. let only = only_stream (rows_of (found_of c.args.matches.now)) job h in c.in_err-progress.ensures.none only.5 only.14.5)
+returns-in_err-progress-clause-none c = when_none _ c.from_residual-in_err-progress.ensures (λ job h. only_stream (rows_of (found_of c.args.matches.now)) (λ _. ⊥) (λ f has. c.in_err-progress.ensures.none f.5 has.5) job h)
 
 pub returns-in_err-marks-clause-none : goal.returns-in_err-marks-clause-none
-returns-in_err-marks-clause-none c = when_none _ c.from_residual-in_err-marks.ensures (λ job h. let only = only_stream (rows_of (found_of c.args.matches.now)) job h in c.in_err-marks.ensures.none only.6 only.14.6)
+returns-in_err-marks-clause-none c = when_none _ c.from_residual-in_err-marks.ensures (λ job h. only_stream (rows_of (found_of c.args.matches.now)) (λ _. ⊥) (λ f has. c.in_err-marks.ensures.none f.6 has.6) job h)
 
 pub returns-in_err-refuse-clause-none : goal.returns-in_err-refuse-clause-none
-returns-in_err-refuse-clause-none c = when_none _ c.from_residual-in_err-refuse.ensures (λ job h. let only = only_stream (rows_of (found_of c.args.matches.now)) job h in c.in_err-refuse.ensures.none only.7 only.14.7)
+returns-in_err-refuse-clause-none c = when_none _ c.from_residual-in_err-refuse.ensures (λ job h. only_stream (rows_of (found_of c.args.matches.now)) (λ _. ⊥) (λ f has. c.in_err-refuse.ensures.none f.7 has.7) job h)
 
 pub returns-in_err-at-clause-none : goal.returns-in_err-at-clause-none
-returns-in_err-at-clause-none c = when_none _ c.from_residual-in_err-at.ensures (λ job h. let only = only_stream (rows_of (found_of c.args.matches.now)) job h in c.in_err-at.ensures.none only.8 only.14.8)
+returns-in_err-at-clause-none c = when_none _ c.from_residual-in_err-at.ensures (λ job h. only_stream (rows_of (found_of c.args.matches.now)) (λ _. ⊥) (λ f has. c.in_err-at.ensures.none f.8 has.8) job h)
 
 pub returns-in_err-hold-clause-none : goal.returns-in_err-hold-clause-none
-returns-in_err-hold-clause-none c = when_none _ c.from_residual-in_err-hold.ensures (λ job h. let only = only_stream (rows_of (found_of c.args.matches.now)) job h in c.in_err-hold.ensures.none only.9 only.14.9)
+returns-in_err-hold-clause-none c = when_none _ c.from_residual-in_err-hold.ensures (λ job h. only_stream (rows_of (found_of c.args.matches.now)) (λ _. ⊥) (λ f has. c.in_err-hold.ensures.none f.9 has.9) job h)
 
 pub returns-in_err-room-clause-none : goal.returns-in_err-room-clause-none
-returns-in_err-room-clause-none c = when_none _ c.from_residual-in_err-room.ensures (λ job h. let only = only_stream (rows_of (found_of c.args.matches.now)) job h in c.in_err-room.ensures.none only.10 only.14.10)
+returns-in_err-room-clause-none c = when_none _ c.from_residual-in_err-room.ensures (λ job h. only_stream (rows_of (found_of c.args.matches.now)) (λ _. ⊥) (λ f has. c.in_err-room.ensures.none f.10 has.10) job h)
 
 pub returns-in_err-ask-clause-none : goal.returns-in_err-ask-clause-none
-returns-in_err-ask-clause-none c = when_none _ c.from_residual-in_err-ask.ensures (λ job h. let only = only_stream (rows_of (found_of c.args.matches.now)) job h in c.in_err-ask.ensures.none only.11 only.14.11)
+returns-in_err-ask-clause-none c = when_none _ c.from_residual-in_err-ask.ensures (λ job h. only_stream (rows_of (found_of c.args.matches.now)) (λ _. ⊥) (λ f has. c.in_err-ask.ensures.none f.11 has.11) job h)
 
 not_both : (b : Bool) → b ≡ false → b ≡ true → ⊥
 not_both true is other = absurd (let no = is in cc)
@@ -49,10 +49,11 @@ not_both false is other = absurd (let no = other in cc)
 pub returns-then-not-may_hold-clause-none : goal.returns-then-not-may_hold-clause-none
 returns-then-not-may_hold-clause-none c job h =
     let rows = rows_of (found_of c.args.matches.now) in
-    let only = only_stream rows job h in
-    let marks : only.6 ≡ c.in_ok-marks.marks = same_flag only.6 c.in_ok-marks.marks (some_is (flag_text only.6) (flag_text c.in_ok-marks.marks) (one_of (codes "marks") rows) only.14.6 c.in_ok-marks.ensures.some) in
-    let hold : only.9 ≡ c.in_ok-hold.hold = same_flag only.9 c.in_ok-hold.hold (some_is (flag_text only.9) (flag_text c.in_ok-hold.hold) (one_of (codes "hold") rows) only.14.9 c.in_ok-hold.ensures.some) in
-    not_both c.may_hold.result c.if-not-may_hold.true (c.may_hold.ensures ∙ sym (ap₂ may_hold marks hold) ∙ only.14.13)
+    only_stream rows (λ _. ⊥)
+    (λ f has.
+    let marks : f.6 ≡ c.in_ok-marks.marks = same_flag f.6 c.in_ok-marks.marks (some_is (flag_text f.6) (flag_text c.in_ok-marks.marks) (one_of (codes "marks") rows) has.6 c.in_ok-marks.ensures.some) in
+    let hold : f.9 ≡ c.in_ok-hold.hold = same_flag f.9 c.in_ok-hold.hold (some_is (flag_text f.9) (flag_text c.in_ok-hold.hold) (one_of (codes "hold") rows) has.9 c.in_ok-hold.ensures.some) in
+    not_both c.may_hold.result c.if-not-may_hold.true (c.may_hold.ensures ∙ sym (ap₂ may_hold marks hold) ∙ has.14)) job h
 
 pub returns-clause-some : goal.returns-clause-some
-returns-clause-some c = (refl, (c.in_ok-disk.ensures.some, c.in_ok-plan.ensures.some, c.in_ok-workers.ensures.some, c.in_ok-cut_every.ensures.some, c.in_ok-most.ensures.some, c.in_ok-progress.ensures.some, c.in_ok-marks.ensures.some, c.in_ok-refuse.ensures.some, c.in_ok-at.ensures.some, c.in_ok-hold.ensures.some, c.in_ok-room.ensures.some, c.in_ok-ask.ensures.some, c.file_of-status.ensures, sym c.may_hold.ensures ∙ c.if-not-may_hold.false))
+returns-clause-some c = (refl, (c.in_ok-disk.ensures.some, c.in_ok-plan.ensures.some, c.in_ok-workers.ensures.some, c.in_ok-cut_every.ensures.some, c.in_ok-most.ensures.some, c.in_ok-progress.ensures.some, c.in_ok-marks.ensures.some, c.in_ok-refuse.ensures.some, c.in_ok-at.ensures.some, c.in_ok-hold.ensures.some, c.in_ok-room.ensures.some, c.in_ok-ask.ensures.some, c.file_of-status.ensures, c.file_of-copies.ensures, sym c.may_hold.ensures ∙ c.if-not-may_hold.false))

@@ -7,4 +7,5 @@ returns g c =
       lack = fed.lack;
       fits = fed.fits;
       fed = fed.fed;
+      seen = fed.seen;
     }

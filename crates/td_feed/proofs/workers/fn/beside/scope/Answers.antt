@@ -2,6 +2,7 @@ use Rattle.std.proofs.Common.{refl}
 use Rattle.std.proofs.lemmas.Option.{IfSome_then}
 use Rattle.td_standing.specs.Standing.{last_epoch, last_request}
 use Rattle.td_feed.proofs.Session.{disk_ended, fed_ended}
+use Rattle.td_feed.proofs.SeenAsked.{seen_ended}
 use Rattle.td_feed.proofs.workers.fn.beside.scope.Goals as goal
 
 pub returns : goal.returns
@@ -9,7 +10,9 @@ returns g c =
     let obeyed = c.obey_each-obeyed.ensures in
     let ended = c.ended_as.ensures in record {
       same_writer = refl;
+      same_host = refl;
       disk = disk_ended c.obey_each-obeyed.result c.ended_as.result c.loop-worker.worked ended.ok ended.err obeyed.disk;
       fed = IfSome_then (g.S.Asking.script (last_epoch c.captures.keeper.standing) (last_request c.captures.keeper.standing) c.captures.orders) obeyed.fed (λ s fed. fed_ended c.obey_each-obeyed.result c.ended_as.result c.loop-worker.worked ended.ok ended.err fed);
       held = obeyed.held;
+      seen = IfSome_then (g.S.Asking.script (last_epoch c.captures.keeper.standing) (last_request c.captures.keeper.standing) c.captures.orders) obeyed.seen (λ s seen. seen_ended c.obey_each-obeyed.result c.ended_as.result c.loop-worker.worked ended.ok seen);
     }

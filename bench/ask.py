@@ -1,0 +1,109 @@
+#!/usr/bin/env python3
+"""Takes the time of an epoch of `td stream`, while its disk is asked for its greatest totals and copied to a larger one.
+
+    bench/ask.py [--keys N,N..] [--td TD] [FOLDER]     needs crates/td/out/td (see the README)
+
+TOTAL on a file of FOLDER (by default of the system's folder for such files). For each number of kept keys a disk is fed that many, and cut; then a stream is
+fed 500 epochs of one record, each of which waits for its answer. After each tenth one it is asked for its top 10, and after the 250th it copies its disk to one
+with twice the room for keys. It prints:
+
+- the milliseconds of an epoch, in the middle, and the greatest, with how many times the one in the middle it is (wanted: at most 10, but of the epoch after the copy);
+- those of a question, in the middle and the greatest;
+- those of the copy, of which an epoch that comes meanwhile waits as long, and the size of the new disk."""
+
+import argparse
+import pathlib
+import statistics
+import subprocess
+import sys
+import time
+
+sys.dont_write_bytecode = True
+sys.path.insert(0, str(pathlib.Path(__file__).resolve().parent.parent / "tests"))
+import lib
+from lib import TOTAL
+
+# The records of a batch that fills a disk; the epochs that are timed, after how many of them a question comes, and after which the copy.
+BATCH, TIMED, EACH, COPIED = 1000, 500, 10, 250
+
+
+def fill(td, disk, plan, keys):
+    """Feeds a disk a record of each key, and a cut."""
+    with subprocess.Popen([td, "feed", disk, plan], stdin=subprocess.PIPE, stdout=subprocess.DEVNULL, text=True) as feed:
+        for begin in range(0, keys, BATCH):
+            feed.stdin.write("".join(f"0 {key} 1\n" for key in range(begin, min(begin + BATCH, keys))) + ".\n")
+        feed.stdin.write("cut\n")
+    if feed.returncode != 0:
+        lib.fail(f"td feed ended with status {feed.returncode}")
+
+
+class Stream:
+    """A stream under way that answers questions and makes copies, and whose producer waits for each answer."""
+
+    def __init__(self, td, disk, plan, copies):
+        self.child = subprocess.Popen([td, "stream", disk, plan, "--marks", "--ask", "--copies", copies], stdin=subprocess.PIPE, stdout=subprocess.PIPE)
+
+    def answer(self, text, last):
+        """The seconds until a line comes that begins so."""
+        begun = time.monotonic()
+        self.child.stdin.write(text)
+        self.child.stdin.flush()
+        while not (line := self.child.stdout.readline()).startswith(last):
+            if not line:
+                lib.fail(f"td stream ended with status {self.child.wait()}")
+        return time.monotonic() - begun
+
+    def end(self):
+        self.child.stdin.close()
+        self.child.stdout.read()
+        if self.child.wait() != 0:
+            lib.fail(f"td stream ended with status {self.child.returncode}")
+
+
+def time_keys(td, folder, keys):
+    """Of a disk with so many kept keys: the seconds of each epoch and question, of the copy, and the bytes of the new disk."""
+    disk, plan, copies = folder / "disk", folder / "plan", folder / "copies"
+    plan.write_text(TOTAL)
+    disk.unlink(missing_ok=True)
+    copies.mkdir(exist_ok=True)
+    subprocess.run([td, "format", disk, plan, str(BATCH), "1100", str(keys)], check=True)
+    fill(td, disk, plan, keys)
+    small, new = folder / "small", copies / f"of_{keys}"
+    small.unlink(missing_ok=True)
+    subprocess.run([td, "copy", disk, plan, small, "1", "4096", str(keys)], check=True)
+    disk.unlink()
+    stream = Stream(td, small, plan, copies)
+    stream.answer(b"0 0 1\n.\n", b"done ")
+    epochs, questions, copy = [], [], None
+    for number in range(1, TIMED + 1):
+        epochs.append(stream.answer(b"0 %d 1\n.\n" % (number * 7919 % keys), b"done "))
+        if number % EACH == 0:
+            questions.append(stream.answer(b"top 1 10\n", b"asked "))
+        if number == COPIED:
+            copy = stream.answer(f"copy {new.name} 1 4096 {min(2 * keys, 1048576)}\n".encode(), b"copied ")
+    stream.end()
+    size = new.stat().st_size
+    new.unlink()
+    return epochs, questions, copy, size
+
+
+def said(seconds):
+    """The one in the middle and the greatest, in milliseconds."""
+    usual, most = statistics.median(seconds), max(seconds)
+    return f"{usual * 1e3:.3f} ms, at most {most * 1e3:.3f} ms, {most / usual:.1f} times"
+
+
+def main():
+    words = argparse.ArgumentParser(description=__doc__, formatter_class=argparse.RawDescriptionHelpFormatter)
+    words.add_argument("--keys", default="1000,100000,1000000")
+    words.add_argument("--td", default=lib.TD, type=pathlib.Path)
+    words.add_argument("folder", nargs="?")
+    given = words.parse_args()
+    lib.built(given.td)
+    with lib.folder(within=given.folder) as folder:
+        for keys in map(int, given.keys.split(",")):
+            epochs, questions, copy, size = time_keys(given.td, folder, keys)
+            print(f"{keys:,} keys: an epoch {said(epochs)}; its top 10 {said(questions)}; a copy {copy * 1e3:.0f} ms, {size / 1e6:.0f} MB", flush=True)
+
+
+main()

@@ -1,0 +1,90 @@
+//! Copying the disk of a stream between two of its epochs.
+//!
+//! What the keeper stands for is in memory, so the stream's own disk is not read for it, and no fault of a copy is one of the stream.
+ghost use Rattle.std.specs.Prelude.{◌≡◌, ◌⊎◌, ◌+◌, ◌^◌, ◌<◌, Bool, false, [], ◌∷◌, length, None, IfOk, OnErr, IfErr};
+ghost use Rattle.td_standing.specs.Standing.{last_epoch};
+ghost use Rattle.td_standing.specs.Tells.{Keeps, first_head};
+ghost use Rattle.td_feed.specs.Copied.{with_copies};
+ghost use Rattle.td_feed.specs.Noted.Aside.{to_copy};
+ghost use Rattle.td_feed.specs.Session.{FeedsCopying};
+
+use crate::host::{Host, Why};
+use crate::order::CopyTo;
+use crate::saying::{say_copied, say_not_copied};
+use std::alloc::Global;
+use td_calls::Law;
+use td_console::{Fault, Sink};
+use td_copy::laws::told_rises;
+use td_copy::{check_room, write_told};
+use td_disk::Disk;
+use td_keeper::Keeper;
+use td_keeper::laws::each_disk_holds;
+use td_standing::{Recovered, laws};
+
+/// Copies what a keeper stands for to a new disk, and writes `copied NEW E`, with the epoch up to which it goes, or `not copied NEW: WHAT`.
+/// Refusals: `Memory`, where there was no room for the line, and `Output`.
+pub(crate) fn copy_aloud<D: Disk, L: Law, H: Host, W: Sink>(
+    alloc: Global,
+    keeper: &Keeper<D, L>,
+    copy: &CopyTo,
+    host: &mut H,
+    writer: &mut W,
+) -> Result<(), Fault>
+    requires whole { keeper.now.broken ≡ false }
+    ensures fed { (marks : Bool) → FeedsCopying D.is_lawful D.state D.failures L.answers marks H.New.is_lawful H.New.state result (W.contents writer.old) (W.contents writer.new)
+        (H.copies host.old) (H.copies host.new) keeper.now keeper.now [] (to_copy copy.now.name copy.now.shape None ∷ []) }
+    ensures seen { H.seen host.new ≡ H.seen host.old }
+    ensures refusals { IfErr result (λ f. (f ≡ Fault.Output) ⊎ (f ≡ Fault.Memory)) }
+{
+    laws::told_in_parts();
+    match copied(alloc, keeper, copy, host) {
+        Ok(epoch) => say_copied(alloc, &copy.name, epoch, writer),
+        Err(why) => say_not_copied(alloc, &copy.name, &why, writer),
+    }
+}
+
+/// Copies what a keeper stands for to a new disk, which its host keeps; answers up to which epoch it goes. Refusal: why not.
+fn copied<D: Disk, L: Law, H: Host>(
+    alloc: Global,
+    keeper: &Keeper<D, L>,
+    copy: &CopyTo,
+    host: &mut H,
+) -> Result<u64, Why>
+    requires whole { keeper.now.broken ≡ false }
+    // Whatever a crash leaves of the new disk tells what the keeper stands for.
+    ensures copied { IfOk result (λ epoch. (epoch ≡ last_epoch keeper.now.standing) × ((disk : H.New)
+        × (H.copies host.new ≡ with_copies (H.copies host.old) (record { name = copy.now.name; epoch = epoch; disk = disk } ∷ []))
+        × (D.is_lawful keeper.now.device → H.New.is_lawful disk → Keeps keeper.now.plan (first_head copy.now.shape) 0 keeper.now.standing (H.New.state disk)))) }
+    ensures none { OnErr result (H.copies host.new ≡ H.copies host.old) }
+    ensures seen { H.seen host.new ≡ H.seen host.old }
+{
+    told_rises();
+    each_disk_holds(keeper);
+    let told = match keeper.told() {
+        Ok(told) => told,
+        Err(_memory) => return Err(Why::Memory),
+    };
+    check_copy(alloc, copy, &told)?;
+    let mut disk = host.make(alloc, copy)?;
+    match write_told(alloc, &mut disk, keeper.plan(), copy.shape, &told) {
+        Ok(()) => {
+            let epoch = keeper.last_epoch();
+            host.keep(&copy.name, epoch, disk);
+            Ok(epoch)
+        }
+        Err(refusal) => {
+            drop(disk);
+            Err(host.give_up(alloc, refusal))
+        }
+    }
+}
+
+/// Whether a copy has room for this. Refusal: why not, in the words of `td_copy`.
+fn check_copy(alloc: Global, copy: &CopyTo, told: &Recovered) -> Result<(), Why>
+    requires small { told.now.checkpoint.epoch + length told.now.submitted.items < 2 ^ 63 }
+{
+    match check_room(copy.shape, told) {
+        Ok(()) => Ok(()),
+        Err(refusal) => Err(Why::Because(format!(in alloc; "{refusal}")?)),
+    }
+}
