@@ -1,12 +1,13 @@
 #!/usr/bin/env python3
-"""Counts the instructions and the syncs of an epoch, since no contract speaks of cost, and a clock says something else each day.
+"""Counts the instructions, the syncs and the reads of an epoch, and the reads of a full journal, since no contract speaks of cost, and a clock says something
+else each day.
 
     tests/counts.py [--all] [TD]        needs crates/td/out/td (see the README), or the program that is named; valgrind, or a `perf` that
                                         counts instructions; and strace. What the machine lacks is said, and is no failure
 
 What an epoch costs is the difference of two runs, one of as many epochs as stand below and one of twice as many: so what a start, a recovery and an end cost
 counts for nothing. Each case compares an epoch of two inputs, and the second may cost only so many times the first. The instructions are those of the whole
-process, all threads, without the kernel's. Syncs are counted exactly.
+process, all threads, without the kernel's. Syncs are counted exactly. Of what is read the bytes count.
 
 A case whose name stands in NOT_YET_HELD is wanted and was above its bound when it was written: `--all` alone counts it, and then it fails as the others do.
 To hold a case is to take its line out there.
@@ -113,6 +114,14 @@ SYNCS = {
     "td feed, 256 epochs at once": (Fed((1, 1_000, 8), 256), 2),
     "td feed, 256 epochs behind as many, on a ring that has come round": (Fed((1, 512, 8), 256, 512 * EPOCH + "cut\n"), 2),
 }
+# Epochs, and how many bytes they read at most: of one three gates, and the number in the cell behind it.
+READS = {
+    "td stream, 100 epochs, on a ring that has come round": (Awaited(250 * EPOCH + "cut\n", (1, 250, 8), 100), 100 * (3 + 8)),
+    "td feed, 256 epochs behind as many, on a ring that has come round": (Fed((1, 512, 8), 256, 512 * EPOCH + "cut\n"), 3 + 8),
+}
+# Journals that are full, by the records and the number of their cells: how many times its file `td show` may read of one.
+FULL = ((1, 65_536), (16, 16_384), (150, 1_024), (169, 1_024), (1_000, 256))
+MOST_READ = 1.1
 
 
 def run(command, talk):
@@ -151,6 +160,7 @@ class Counter(NamedTuple):
 VALGRIND = Counter(("valgrind", "--tool=cachegrind", "--cache-sim=no", "--cachegrind-out-file=/dev/null", "--log-file=FILE"), r"I +refs: +([\d,]+)")
 PERF = Counter(("perf", "stat", "-x", ";", "-o", "FILE", "-e", "instructions:u"), r"^(\d+);")
 STRACE = ["strace", "-f", "-qq", "-e", "signal=none", "-e", "trace=fsync,fdatasync", "-o"]
+TRACE_READS = ["strace", "-f", "-qq", "-e", "signal=none", "-e", "trace=pread64", "-o"]
 
 
 def wait_for_each(count):
@@ -210,6 +220,26 @@ def syncs(td, work, count):
         return len(re.findall(r"\bf(?:data)?sync\(", (folder / "calls").read_text()))
 
 
+def bytes_read(folder, command, talk):
+    """The bytes that a command reads at places of files: of its disk alone."""
+    run([*TRACE_READS, folder / "calls", *command], talk)
+    return sum(map(int, re.findall(r"(?m)\bpread64.* = (\d+)$", (folder / "calls").read_text())))
+
+
+def reads(td, work, count):
+    """The bytes that so many epochs read, with those before and behind them."""
+    with lib.folder(in_memory=True) as folder:
+        return bytes_read(folder, *command_of(td, work, count, folder))
+
+
+def shown(td, m, n):
+    """How many times its file `td show` reads of a full journal."""
+    with lib.folder(in_memory=True) as folder:
+        command_of(td, Fed((m, n, 8), n, n * EPOCH), n, folder)
+        read = bytes_read(folder, [td, "show", folder / "disk", folder / "plan"], give(""))
+        return read / (folder / "disk").stat().st_size
+
+
 def difference(pool, count, work):
     """What as many epochs cost as stand in a work: twice as many, less these; known once both have been counted."""
     once, twice = (pool.submit(count, work, times * work.epochs) for times in (1, 2))
@@ -246,12 +276,32 @@ def count_syncs(td, names, pool):
     return wrong
 
 
+def count_reads(td, pool):
+    """Counts what is read, writes a line for each case, and answers how many are above their bound."""
+    if not lib.is_traced():
+        lib.skip("the reads of counts, since there is no strace that may trace here")
+        return 0
+    wrong = 0
+    found = {name: difference(pool, lambda *run: reads(td, *run), work) for name, (work, _) in READS.items()}
+    journals = [pool.submit(shown, td, *shape) for shape in FULL]
+    for name, total in found.items():
+        got, most = total(), READS[name][1]
+        print(f"{name}: {got} bytes read, {most} at most{', TOO MANY' if got > most else ''}", flush=True)
+        wrong += got > most
+    for (m, n), journal in zip(FULL, journals):
+        times = journal.result()
+        print(f"td show, a full journal of {n:,} cells of {m:,} records: it reads {times:.3f} times the file, {MOST_READ:g} at most{', TOO MANY' if times > MOST_READ else ''}", flush=True)
+        wrong += times > MOST_READ
+    return wrong
+
+
 def main():
     words = [word for word in sys.argv[1:] if word != "--all"]
     td = lib.built(pathlib.Path(words[0]).resolve() if words else lib.TD)
     waiting = set() if "--all" in sys.argv[1:] else NOT_YET_HELD
     with concurrent.futures.ThreadPoolExecutor(len(os.sched_getaffinity(0))) as pool:
         wrong = count_syncs(td, [name for name in SYNCS if name not in waiting], pool)
+        wrong += count_reads(td, pool)
         wrong += count_instructions(td, [name for name in CASES if name not in waiting], pool)
     if waiting:
         print(f"not yet held, and not counted: {'; '.join(sorted(waiting))}")

@@ -603,16 +603,18 @@ def read_once(feed, words, disk):
 
 
 def read_each_once():
-    """Each command that reads a disk, on one that is greater than what is read ahead, with epochs in its last cell."""
-    feed = OnFile(FOLDS, "1000 7 6", [(records, number == 2) for number, (records, _) in enumerate(made_epochs(8), 1)])
-    with lib.folder(in_memory=True) as folder:
-        disk = folder / "disk"
-        feed.formatted(disk)
-        td(*feed.words(disk), text=text_of(feed.input_after(0)))
-        new = [disk.with_name("new"), "1000", "8", "6"]
-        counts = {words[0]: read_once(feed, words, disk) for words in (["show"], ["dump"], ["states"], ["feed"], ["stream"], ["copy", *new], ["upgrade"])}
-    reads = ", ".join(f"{name} {count}" for name, count in counts.items())
-    print(f"each read of a disk failing alone ({reads}): each command was refused, or told all that was acknowledged")
+    """Each command that reads a disk, on one with epochs in its last cell: with long cells, each of which is read by itself, and with short ones behind
+    slots that are longer than what is read ahead."""
+    for m, n, k in (("1000", "7", "6"), ("3", "7", "3000")):
+        feed = OnFile(FOLDS, f"{m} {n} {k}", [(records, number == 2) for number, (records, _) in enumerate(made_epochs(8), 1)])
+        with lib.folder(in_memory=True) as folder:
+            disk = folder / "disk"
+            feed.formatted(disk)
+            td(*feed.words(disk), text=text_of(feed.input_after(0)))
+            new = [disk.with_name("new"), m, "8", k]
+            counts = {words[0]: read_once(feed, words, disk) for words in (["show"], ["dump"], ["states"], ["feed"], ["stream"], ["copy", *new], ["upgrade"])}
+        reads = ", ".join(f"{name} {count}" for name, count in counts.items())
+        print(f"each read of a disk with {m} records in a cell failing alone ({reads}): each command was refused, or told all that was acknowledged")
 
 
 # Traces of calls that nobody may make: each has one that failed and was not the last.

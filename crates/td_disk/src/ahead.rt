@@ -1,33 +1,36 @@
-// A disk that is read a block at a time. It is lawful where the inner one is.
+// A disk that is read a block at a time until it is written. It is lawful where the inner one is.
 //
 // It is a disk over a disk, and no part of `FileDisk`, of which nothing is proved. A block that is answered after it was written
-// over would be lost data. A submit reads the gate of the cell behind and then its own. The second read takes a block, which is
-// dropped at the write.
-ghost use Rattle.std.specs.Prelude.{◌≡◌, ◌+◌, ◌≤◌, ◌↔◌, length, IfSome};
+// over would be lost data. A recovery reads much, one piece after another, and writes nothing. What is read later is a gate or
+// two before each write, for which a block would be read, and let go at that write.
+ghost use Rattle.std.specs.Prelude.{◌≡◌, ◌+◌, ◌≤◌, ◌↔◌, [], length, false, true, IfSome};
 ghost use Rattle.td_disk.specs.Disk.{bytes_at, NoNewImages, TimePasses};
 
 use crate::{Disk, Fault};
 use std::alloc::Global;
 
-/// How many bytes a block has, where the disk has as many.
+/// How many bytes a block has, where the disk has as many from its place on.
 const BLOCK: u64 = 1 << 16;
 
-/// How many of a block's bytes stand before the place that is asked for: what is read first may stand behind what is read next.
-const BEHIND: u64 = 1 << 14;
+/// How many bytes a read has at most for which a block is read. Where a block ends in the middle of what is asked for, the next
+/// one begins there anew, so a sixteenth of all is read twice at most. No block goes back for what stands before the gate that is
+/// read first: the payload of a head is longer than this, and there are two slots.
+const SMALL: usize = 1 << 12;
 
-/// A disk that is read a block at a time where reads follow one another with no write between them: each but the first is answered from
-/// the block around its place, which is read with one call of the inner disk. A write lets the block go, and its memory; so
-/// does a failure. What does not stand in one block is read by itself, and so is all where memory for a block is refused or the
-/// block cannot be read.
+/// A disk that is read a block at a time until something is written. A read of few bytes is answered from the block that begins at
+/// its place or at one before, which is read with one call of the inner disk. The first write lets the block go, and its memory,
+/// and from then on each read is one of the inner disk. A sync that fails lets it go, too. A longer read that does not stand in the block
+/// is one of the inner disk, and so is each where memory for a block is refused or the block cannot be read.
 #[derive(Drop)]
 pub struct ReadAhead<D: Disk> {
     alloc: Global,
     inner: D,
     block: Vec<u8>,
     start: u64,
-    follows_read: bool,
+    is_written: bool,
     failures: u64,
     ghost current: { D.is_lawful inner → block.items ≡ bytes_at start (length block.items) (D.state inner).bytes },
+    ghost let_go: { is_written ≡ true → block.items ≡ [] },
 }
 
 impl<D: Disk> ReadAhead<D> {
@@ -43,7 +46,7 @@ impl<D: Disk> ReadAhead<D> {
             inner,
             block: Vec::new(alloc),
             start: 0,
-            follows_read: false,
+            is_written: false,
             failures: 0,
         }
     }
@@ -67,7 +70,7 @@ impl<D: Disk> ReadAhead<D> {
         }
     }
 
-    // Reads the block around an offset where this read follows another and the block does not have so many bytes from there on.
+    // Reads the block from an offset on where nothing was written, and so many bytes are few and do not stand in the block.
     fn look_ahead(&mut self, at: u64, len: usize)
         requires { at ≤ D.capacity self.old.inner }
         ensures size { D.capacity self.new.inner ≡ D.capacity self.old.inner }
@@ -78,15 +81,15 @@ impl<D: Disk> ReadAhead<D> {
         ensures images { D.is_lawful self.old.inner → NoNewImages (D.state self.old.inner) (D.state self.new.inner) }
         ensures time { D.is_lawful self.old.inner → TimePasses (D.state self.old.inner) (D.state self.new.inner) }
     {
-        if self.follows_read && self.place_of(at, len).is_none() {
+        if !self.is_written && len <= SMALL && self.place_of(at, len).is_none() {
             self.take_block(at);
         }
-        self.follows_read = true;
     }
 
-    // Reads the block around an offset, or lets the block go.
+    // Reads the block from an offset on, or lets the block go.
     fn take_block(&mut self, at: u64)
-        requires { at ≤ D.capacity self.old.inner }
+        requires place { at ≤ D.capacity self.old.inner }
+        requires unwritten { self.old.is_written ≡ false }
         ensures size { D.capacity self.new.inner ≡ D.capacity self.old.inner }
         ensures lawful { D.is_lawful self.old.inner ↔ D.is_lawful self.new.inner }
         ensures failures { self.new.failures ≡ self.old.failures }
@@ -95,8 +98,7 @@ impl<D: Disk> ReadAhead<D> {
         ensures images { D.is_lawful self.old.inner → NoNewImages (D.state self.old.inner) (D.state self.new.inner) }
         ensures time { D.is_lawful self.old.inner → TimePasses (D.state self.old.inner) (D.state self.new.inner) }
     {
-        let start = at.saturating_sub(BEHIND);
-        let len = BLOCK.min(self.inner.size() - start) as usize;
+        let len = BLOCK.min(self.inner.size() - at) as usize;
         // (a block of this length is read over as it stands, and not filled with zeros first)
         if self.block.len() != len {
             self.block.clear();
@@ -104,8 +106,8 @@ impl<D: Disk> ReadAhead<D> {
                 return;
             }
         }
-        self.start = start;
-        if self.inner.read(start, &mut self.block).is_err() {
+        self.start = at;
+        if self.inner.read(at, &mut self.block).is_err() {
             self.block.clear();
         }
     }
@@ -157,7 +159,7 @@ impl<D: Disk> Disk for ReadAhead<D> {
     }
 
     fn write(&mut self, at: u64, bytes: &[u8]) -> Result<(), Fault> {
-        self.follows_read = false;
+        self.is_written = true;
         self.block = Vec::new(self.alloc);
         if self.failures == u64::MAX {
             return Err(Fault::Device);

@@ -1,5 +1,5 @@
 // Reading a region.
-ghost use Rattle.std.specs.Prelude.{◌≡◌, ◌==◌, ◌+◌, ◌≤◌, List, ℕ, length, IfOk};
+ghost use Rattle.std.specs.Prelude.{◌≡◌, ◌==◌, ◌+◌, ◌≤◌, List, ℕ, length, take, IfOk};
 ghost use Rattle.td_disk.specs.Disk.{CountsDevice, CountsFailures};
 ghost use Rattle.td_gate.specs.Reads.{IsRead};
 ghost use Rattle.td_gate.specs.Region.{gate_of, opened, start_of, payload_of, payload_in, HasLength, IsSettled};
@@ -28,21 +28,19 @@ impl Region {
         self.start_if_open(alloc, device, self.len)
     }
 
-    /// Whether the gate is open; where it is, the payload is read into `payload`, which has the region's length. It takes no
-    /// memory, so that one region after another is read with that of one. It refuses `Device`.
-    pub fn get_into<D: Disk>(&self, device: &mut D, payload: &mut [u8]) -> Result<bool, Fault>
+    /// Whether the gate is open; where it is, `bytes` begins with the payload. It has the region's length and one byte more, for the
+    /// gate, so that one call of the disk reads both. It takes no memory: one region after another is read with that of one. It
+    /// refuses `Device`.
+    pub fn get_into<D: Disk>(&self, device: &mut D, bytes: &mut [u8]) -> Result<bool, Fault>
         requires room { self.now.at + self.now.len + 1 ≤ D.capacity device.old }
-        requires len { length payload.old ≡ self.now.len }
+        requires len { length bytes.old ≡ self.now.len + 1 }
         ensures found { IfOk result (λ is. D.is_lawful device.old
-            → payload_in is payload.new ≡ opened self.now (D.state device.old).bytes) }
+            → payload_in is (take self.now.len bytes.new) ≡ opened self.now (D.state device.old).bytes) }
         ensures failures { CountsFailures result (D.failures device.old) (D.failures device.new) }
         ensures read { IsRead D.capacity D.is_lawful D.state device.old device.new }
     {
-        let is_open = self.is_open(device)?;
-        if is_open {
-            device.read(self.at, payload)?;
-        }
-        Ok(is_open)
+        device.read(self.at, bytes)?;
+        Ok(bytes[self.len as usize] == OPEN)
     }
 
     /// The first `count` bytes of the payload where the gate is open, else `None`: for a header

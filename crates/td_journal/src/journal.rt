@@ -122,8 +122,8 @@ impl Journal {
     }
 
     /// What is kept of what the ring has for an epoch, where the epochs before it have this floor: of what was submitted
-    /// as it, or nothing. `payload` has a cell's length, and any bytes before and after. It refuses `Damaged`, `Device`
-    /// and `Memory`.
+    /// as it, or nothing. `bytes` has room for a cell's payload and its gate, and any bytes before and after. It refuses `Damaged`,
+    /// `Device` and `Memory`.
     fn kept_at<K: Keeping, D: Disk>(
         &self,
         alloc: Global,
@@ -131,12 +131,12 @@ impl Journal {
         inputs: &[u8],
         floor: Option<u64>,
         epoch: u64,
-        payload: &mut [u8],
+        bytes: &mut [u8],
     ) -> Result<Option<K::Kept>, JournalError>
         requires cells { 0 < self.now.n }
         requires records { self.now.m ≤ 65536 }
         requires room { self.now.at + ring_len self.now.m self.now.n ≤ D.capacity device.old }
-        requires len { length payload.old ≡ cell_len self.now.m }
+        requires len { length bytes.old ≡ cell_len self.now.m + 1 }
         ensures found { IfOk result (λ kept. IsKept K.kept_of inputs.now
             (λ f. D.is_lawful device.old → found inputs.now self.now (D.state device.old).bytes floor epoch ≡ f) kept) }
         ensures small { IfOk result (λ kept. IfSome kept (λ _. epoch < 2 ^ 63)) }
@@ -150,9 +150,12 @@ impl Journal {
         }
         let _size = device.size();
         let cell = self.cell_of(epoch);
-        if !cell.get_into(device, payload)? {
+        // One call reads the whole cell, also one that is closed or bears another epoch: such a cell ends the list, so that a recovery
+        // reads one of them at most.
+        if !cell.get_into(device, bytes)? {
             return Ok(None);
         }
+        let payload = &bytes[..cell.len as usize];
         if u64_at(payload, 0) != epoch {
             return Ok(None);
         }
@@ -187,12 +190,12 @@ impl Journal {
         ensures read { IsRead D.capacity D.is_lawful D.state device.old device.new }
     {
         td_gate::laws::reads_in_turn::<D>();
-        let mut payload = vec![in alloc; 0; FRONT_LEN + ENTRY_LEN * self.m as usize]?;
+        let mut bytes = vec![in alloc; 0; FRONT_LEN + ENTRY_LEN * self.m as usize + 1]?;
         let mut told = Vec::new(alloc);
         let mut greatest = floor;
         for i in 0..self.n {
             let epoch = checkpoint + 1 + u64::from(i);
-            match self.kept_at::<K, D>(alloc, device, inputs, greatest, epoch, &mut payload) {
+            match self.kept_at::<K, D>(alloc, device, inputs, greatest, epoch, &mut bytes) {
                 Ok(Some(kept)) => {
                     greatest = floor_past(greatest, K::request(&kept));
                     told.push(kept)?;
@@ -240,7 +243,7 @@ impl Journal {
     }
 
     /// The counts of what `read_from` gives, whose refusals it has: each payload is read and found valid as there, and none of
-    /// its records is kept. Beside the answer it takes memory for one payload.
+    /// its records is kept. Beside the answer it takes memory for one cell.
     pub fn read_counts<D: Disk>(
         &self,
         alloc: Global,

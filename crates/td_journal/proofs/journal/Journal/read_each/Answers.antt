@@ -21,7 +21,7 @@ loop-i-init g c =
     let find : Option ℕ → ℕ → Found = found c.args.inputs.now c.args.self.now (g.D.Disk.state c.args.device.now).bytes in
     record {
       told = ([], sym c.new-told.ensures.items, All-nil (λ x. is_batch c.args.inputs.now x.batch ≡ true), λ lawful. left_first find c.args.self.now.n c.args.checkpoint c.args.floor);
-      size = omega (arith, c.in_ok-payload.ensures.len);
+      size = omega (arith, c.in_ok-bytes.ensures.len);
       count = ap length c.new-told.ensures.items;
       below = omega (arith, c.requires.small);
       count_stays = refl;
@@ -116,7 +116,7 @@ loop-i-preserved g c =
             ∙ sym (joined_push w s (left_from find c.args.self.now.n c.args.checkpoint (raised floor s.request) (i + 1)))
             ∙ ap (λ (o : Option ℕ). joined (w ++ s ∷ []) (left_from find c.args.self.now.n c.args.checkpoint o (i + 1))) number,
       );
-      size = written_over c.loop-i.payload.len c.kept_at.new.payload c.loop-i.payload.items (sym c.loop-i.payload.ok.0) ∙ c.loop-i.payload.ok.0 ∙ inv.size;
+      size = written_over c.loop-i.bytes.len c.kept_at.new.bytes c.loop-i.bytes.items (sym c.loop-i.bytes.ok.0) ∙ c.loop-i.bytes.ok.0 ∙ inv.size;
       count = ap length c.in_ok-push-in-Ok-Some.ensures.items ∙ length-append told (kept ∷ []) ∙ ap (λ (n : ℕ). n + 1) inv.count;
       below = omega (arith, looked_for, c.from.ensures);
       count_stays = not_failed c.in-Ok-Some.field-0 Device (g.D.Disk.failures c.kept_at.new.device) (g.D.Disk.failures c.loop-i.device) c.in-Ok-Some.ensures.failures.stays ∙ inv.count_stays;

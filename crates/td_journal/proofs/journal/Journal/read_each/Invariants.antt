@@ -11,7 +11,7 @@ invariant-loop-i g l = record {
   told : AreKept g.K.Keeping.kept_of l.inputs
       (λ w. g.D.Disk.is_lawful l.fn.device → told_after l.inputs l.self (g.D.Disk.state l.fn.device).bytes l.fn.floor l.checkpoint
       ≡ joined w (left_from (found l.inputs l.self (g.D.Disk.state l.fn.device).bytes) l.self.n l.checkpoint l.greatest l.i)) l.told.items;
-  size : length l.payload.items ≡ cell_len l.self.m;
+  size : length l.bytes.items ≡ cell_len l.self.m + 1;
   count : length l.told.items ≡ l.i;
   below : l.checkpoint + l.i < 2 ^ 63;
   count_stays : g.D.Disk.failures l.device ≡ g.D.Disk.failures l.fn.device;
