@@ -33,7 +33,7 @@ use td_standing::{KeeperError, laws, ring_of};
 impl<D: Disk, L: Law> Keeper<D, L> {
     /// Puts a group of batches on the journal at once, as the next epochs in this order, and answers the number of the first: from
     /// then on all of them are acknowledged, and whatever a crash leaves of the disk tells them. A stop before that leaves none of them
-    /// or all. It takes three to five syncs, whatever the size of the group, and writes 25 + 24 M bytes for each batch and a journal of
+    /// or all. It takes two to four syncs, whatever the size of the group, and writes 25 + 24 M bytes for each batch and a journal of
     /// M records an epoch; a group of one is put as `submit` puts it, and one of none is answered without a look at the disk. A writer
     /// that is attached publishes the last of them.
     ///
