@@ -77,7 +77,7 @@ def compiled(source, program, *words):
     compiler = next(filter(None, map(shutil.which, ("cc", "gcc", "clang"))), None)
     if compiler is None:
         return None
-    subprocess.run([compiler, "-O2", *words, "-o", program, source], check=True)
+    subprocess.run([compiler, "-O2", "-o", program, source, *words], check=True)
     return program
 
 
