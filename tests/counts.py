@@ -105,11 +105,12 @@ CASES = {
 }
 # Those that are not counted yet, one line each.
 NOT_YET_HELD = set()
-# Epochs, and how many syncs they take exactly. An epoch into a closed cell takes two, into one that is open from the last round three; a cut takes
-# three, and a stream closes the freed cells that come next with one more. A feed puts 256 epochs as a group, by two, also behind a group: that closed the next cell ahead.
+# Epochs, and how many syncs they take exactly. An epoch takes two, since the one before closed its cell ahead; where that is open from the last round, as after a
+# start and after a full ring, it takes three. A cut takes three, and a stream closes the freed cells that come next with one more. A feed puts 256 epochs as a group,
+# by two.
 SYNCS = {
     "td stream, 100 epochs, on a ring that was never full": (Awaited("", (1, 1_000, 8), 100), 200),
-    "td stream, 100 epochs, on a ring that has come round": (Awaited(250 * EPOCH + "cut\n", (1, 250, 8), 100), 300),
+    "td stream, 100 epochs, on a ring that has come round": (Awaited(250 * EPOCH + "cut\n", (1, 250, 8), 100), 200),
     "td stream, 100 epochs, a cut at each 10, where the ring is full": (Awaited(3 * (10 * EPOCH + "cut\n"), (1, 10, 8), 100), 240),
     "td feed, 256 epochs at once": (Fed((1, 1_000, 8), 256), 2),
     "td feed, 256 epochs behind as many, on a ring that has come round": (Fed((1, 512, 8), 256, 512 * EPOCH + "cut\n"), 2),

@@ -1,7 +1,7 @@
 //! The cells of a group, all but the first gate: they are written, and synced once.
 //!
 //! A cell behind the first may be torn and open, as long as the first is closed. That no payload is written over an open gate
-//! holds for each cell that may count: the first one, and one that is put alone.
+//! holds for each cell that may count: the first one, and one that is put alone (`td_standing::submit_batch`).
 //!
 //! Epochs that follow one another stand in neighbouring cells, up to the ring's end, and one write does for such a run. The first
 //! payload has a write of its own: one that goes on into the next cell goes over the first gate, and torn it could open that.
@@ -71,7 +71,7 @@ fn cells_to_end(journal: &Journal, epoch: u64) -> usize
 }
 
 /// Writes the cells of `count` epochs from `first` on, of which none lies beyond the ring's end, by one write and no sync: of `bytes` a piece for
-/// each, its gate too.
+/// each, its gate too. For no epoch it writes nothing.
 fn write_run<D: Disk>(
     journal: &Journal,
     device: &mut D,
@@ -93,6 +93,10 @@ fn write_run<D: Disk>(
         → ChangesCells journal.now first count (D.state device.old).bytes (D.state device.new).bytes }
     ensures written { OnOk result (D.is_lawful device.old → HasPieces journal.now (D.state device.new).bytes first count bytes.now) }
 {
+    td_gate::laws::unchanged::<D>();
+    if count == 0 {
+        return Ok(());
+    }
     let _size = device.size();
     let len = count * cell_size(journal);
     device.write(journal.cell_of(first).at, &bytes[..len])

@@ -3,8 +3,9 @@
 //! The cell behind the group is cleared first, unless the group fills the ring. That cell is then of an epoch that counts, or of
 //! the group, and bears another number. The first cell is closed before its payload is written, which then goes with the other
 //! cells into one sync. Its gate is opened last, by a sync of its own, and with that the gate of the next epoch's cell is closed,
-//! where the ring has one that is free: so what is put next finds its first cell closed.
-ghost use Rattle.std.specs.Prelude.{◌≡◌, ◌⊎◌, ◌↔◌, ◌+◌, ◌-◌, ◌^◌, ◌<◌, ◌≤◌, ◌==◌, ◌∷◌, nat_le, ℕ, suc, List, length, false, true, OnOk, IfErr, IsErrOf};
+//! where the ring has one that is free: so what is put next finds its first cell closed. An epoch by itself may leave that cell as
+//! it is (`NextCell::Left`).
+ghost use Rattle.std.specs.Prelude.{◌≡◌, ◌⊎◌, ◌↔◌, ◌+◌, ◌-◌, ◌^◌, ◌<◌, ◌≤◌, ◌==◌, ◌∷◌, nat_le, ℕ, suc, List, length, false, OnOk, IfErr, IsErrOf, IsTrue};
 ghost use Rattle.td_disk.specs.Disk.{CountsFailures, IsDurable, Rises};
 ghost use Rattle.td_gate.specs.CrashSafe.{CrashSafe, Unchanged};
 ghost use Rattle.td_gate.specs.Region.{IsFilled};
@@ -24,6 +25,15 @@ use std::alloc::Global;
 use td_disk::{Disk, Fault};
 use td_journal::{Journal, JournalError, Submitted};
 use td_standing::submit_batch;
+
+/// What becomes of the cell behind a group, where it is open and no epoch uses it.
+#[derive(Clone, Copy, Drop)]
+pub enum NextCell {
+    /// It is closed with the last sync of the group, so that what is put next takes two syncs.
+    Closed,
+    /// It is left as it is, where the group is one epoch.
+    Left,
+}
 
 /// Closes the cell behind a group of `count` epochs where it bears the epoch behind it, unless the ring is full with the group. It refuses
 /// `Memory`, and then has written nothing; then `Device`.
@@ -161,15 +171,26 @@ fn is_full(journal: &Journal, last: u64) -> bool
     journal.kept + u64::from(journal.n) <= last
 }
 
-/// Puts a group of epochs on a ring, of which `first` is the number of the first, so that no stop leaves a part of it. A group of one is put as
-/// `submit_batch` puts it; a greater one takes two to four syncs, whatever its size. It refuses `Memory`, and then has written nothing; then
-/// `Device`.
+/// Whether a group is put as one epoch that leaves the next cell as it is.
+fn is_alone(others: &[Submitted], next: NextCell) -> bool
+    ensures { IsTrue result → length others.now ≡ 0 }
+{
+    match next {
+        NextCell::Left => others.is_empty(),
+        NextCell::Closed => false,
+    }
+}
+
+/// Puts a group of epochs on a ring, of which `first` is the number of the first, so that no stop leaves a part of it. It takes two to four
+/// syncs, whatever its size. One epoch that leaves the next cell as it is goes as `submit_batch` puts it. It refuses `Memory`, and then has
+/// written nothing; then `Device`.
 pub fn submit_group<D: Disk>(
     alloc: Global,
     journal: &Journal,
     device: &mut D,
     first: u64,
     group: &[Submitted],
+    next: NextCell,
 ) -> Result<(), JournalError>
     requires cells { 0 < journal.now.n }
     requires records { journal.now.m ≤ 65536 }
@@ -214,7 +235,7 @@ pub fn submit_group<D: Disk>(
     let Some((head, others)) = group.split_first() else {
         return Ok(());
     };
-    if others.is_empty() {
+    if is_alone(others, next) {
         return submit_batch(alloc, journal, device, first, head.request, &head.batch);
     }
     put_group(alloc, journal, device, first, head, others)

@@ -17,4 +17,4 @@ mod group;
 pub mod laws;
 
 pub use free::close_free;
-pub use group::submit_group;
+pub use group::{NextCell, submit_group};

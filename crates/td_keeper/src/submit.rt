@@ -17,6 +17,7 @@ use crate::receipt::Receipt;
 use crate::submit_all::is_accepted;
 use td_calls::Law;
 use td_disk::Disk;
+use td_group::NextCell;
 use td_journal::Submitted;
 use td_stamp::{Batch, EPOCHS_END};
 use td_standing::{KeeperError, laws};
@@ -202,7 +203,7 @@ impl<D: Disk, L: Law> Keeper<D, L> {
             return Err((KeeperError::Memory, batch));
         };
         group.push_reserved(Submitted { request, batch });
-        match self.put_next(group) {
+        match self.put_next(group, NextCell::Left) {
             Ok(epoch) => Ok(epoch),
             Err((refusal, group)) => Err((refusal, only_batch(group))),
         }

@@ -24,7 +24,7 @@ use crate::submit::NUMBERED;
 use crate::watch::{publish, words_at};
 use td_calls::Law;
 use td_disk::Disk;
-use td_group::submit_group;
+use td_group::{NextCell, submit_group};
 use td_journal::{JournalError, Submitted, greatest_request};
 use td_plan::Plan;
 use td_stamp::{Batch, EPOCHS_END};
@@ -34,8 +34,8 @@ impl<D: Disk, L: Law> Keeper<D, L> {
     /// Puts a group of batches on the journal at once, as the next epochs in this order, and answers the number of the first: from
     /// then on all of them are acknowledged, and whatever a crash leaves of the disk tells them. A stop before that leaves none of them
     /// or all. It takes two to four syncs, whatever the size of the group, and writes 25 + 24 M bytes for each batch and a journal of
-    /// M records an epoch; a group of one is put as `submit` puts it, and one of none is answered without a look at the disk. A writer
-    /// that is attached publishes the last of them.
+    /// M records an epoch. It closes the cell behind the group, so that what is put next takes two. A group of none is answered
+    /// without a look at the disk. A writer that is attached publishes the last of them.
     ///
     /// Refusals, with the group handed back, the first that holds: `Broken`; `OldVersion`, where a batch has a request number and the
     /// disk is of version 1 of the format (`upgrade`); `Repeated`, where a request number is not above all before it, on the disk and in
@@ -97,18 +97,19 @@ impl<D: Disk, L: Law> Keeper<D, L> {
         if group.as_slice().is_empty() {
             return Ok(self.last_epoch() + 1);
         }
-        match self.put_next(group.into_vec()) {
+        match self.put_next(group.into_vec(), NextCell::Closed) {
             Ok(first) => Ok(first),
             Err((refusal, group)) => { Err((GroupError::Keeper(refusal), Group::from_vec(group))) }
         }
     }
 
     /// Puts a group that may come next on the journal, and answers the number of its first epoch. Refusals, with the group handed
-    /// back: `Memory`, and nothing is written; `Device`. `submit` and `submit_as` put a group of one by it, at a small allocation
-    /// each beside their syncs.
+    /// back: `Memory`, and nothing is written; `Device`. `submit` and `submit_as` put a group of one by it, which leaves the next cell
+    /// as it is, at a small allocation each beside their syncs.
     pub(crate) fn put_next(
         &mut self,
         group: Vec<Submitted>,
+        next: NextCell,
     ) -> Result<u64, (KeeperError, Vec<Submitted>)>
         requires some { 0 < length group.items }
         requires whole { self.old.broken ≡ false }
@@ -152,7 +153,7 @@ impl<D: Disk, L: Law> Keeper<D, L> {
         if self.submitted.reserve(group.len()).is_err() {
             return Err((KeeperError::Memory, group));
         }
-        match submit_group(self.alloc, &journal, &mut self.device, first, &group) {
+        match submit_group(self.alloc, &journal, &mut self.device, first, &group, next) {
             Ok(()) => {
                 self.last_request = greatest_request(self.last_request, &group);
                 append(&mut self.submitted, group);

@@ -1,10 +1,31 @@
-use Rattle.std.proofs.Common.{◌+◌, ◌*◌, ◌≤◌, length, take, sym, subst, arith}
+use Rattle.std.proofs.Common.{List, ℕ, ◌+◌, ◌*◌, ◌≤◌, length, take, sym, subst, arith}
+use Rattle.td_gate.specs.CrashSafe.{Unchanged}
 use Rattle.td_gate.specs.declared.region.Region.{Region}
 use Rattle.td_journal.specs.Cell.{cell_len}
 use Rattle.td_group.proofs.Kept.{at_ok}
-use Rattle.td_group.proofs.Moments.{HasClock}
+use Rattle.td_group.proofs.Moments.{HasClock, weaker_step}
 use Rattle.td_group.proofs.Neighbours.{run_room, run_long, run_step, run_safe, run_written}
+use Rattle.td_group.proofs.Places.{no_change}
+use Rattle.td_group.specs.Groups.{ChangesCells}
 use Rattle.td_group.proofs.cells.write_run.Goals as goal
+
+-- for no epoch
+pub returns-then-count-eq0-clause-crash_safe : goal.returns-then-count-eq0-clause-crash_safe
+returns-then-count-eq0-clause-crash_safe g c lawful =
+    let j = c.args.journal.now in
+    let e = c.args.first in
+    let n = c.args.count in
+    let state = g.D.Disk.state c.args.device.now in
+    weaker_step Unchanged (ChangesCells j e n) state state (c.unchanged.ensures.none c.args.device.now lawful)
+    (λ d f same. subst (λ (l : List ℕ). ChangesCells j e n d l) (sym same) (no_change j e n d))
+
+pub returns-then-count-eq0-clause-others : goal.returns-then-count-eq0-clause-others
+returns-then-count-eq0-clause-others g c lawful = no_change c.args.journal.now c.args.first c.args.count (g.D.Disk.state c.args.device.now).bytes
+
+pub returns-then-count-eq0-clause-written : goal.returns-then-count-eq0-clause-written
+returns-then-count-eq0-clause-written g c lawful k lt = absurd (omega (arith, lt, c.if-count-eq0.true))
+
+-- for some
 
 pub write-requires : goal.write-requires
 write-requires g c =

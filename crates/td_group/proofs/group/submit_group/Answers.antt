@@ -9,22 +9,19 @@ use Rattle.td_group.specs.Groups.{AreBatches, HasRoomFor, may_follow}
 use Rattle.td_group.proofs.Kept.{at_ok}
 use Rattle.td_group.proofs.group.submit_group.Goals as goal
 
-is_zero : (n : ℕ) → (n == 0) ≡ true → n ≡ 0
-is_zero n is = grind (arith, is)
-
-none_left : {A : Type 0} (l : List A) → (length l == 0) ≡ true → l ≡ []
+none_left : {A : Type 0} (l : List A) → length l ≡ 0 → l ≡ []
 none_left [] is = refl
-none_left (x ∷ l) is = absurd (let no = is_zero (length (x ∷ l)) is in omega (arith, no))
+none_left (x ∷ l) is = absurd (omega (arith, is))
 
 first_of : (a b : Bool) → (a && b) ≡ true → a ≡ true
 first_of true b is = refl
 first_of false b is = absurd (let no : false ≡ true = is in cc)
 
-pub returns-then-is_empty-clause-begun : goal.returns-then-is_empty-clause-begun
-returns-then-is_empty-clause-begun g c lawful plan h side s ring room fresh valid keeps t f le left =
+pub returns-then-is_alone-clause-begun : goal.returns-then-is_alone-clause-begun
+returns-then-is_alone-clause-begun g c lawful plan h side s ring room fresh valid keeps t f le left =
     let state = g.D.Disk.state in
     let x : Submitted = c.in-Some.head.now in
-    let alone : c.args.group.now ≡ x ∷ [] = c.in-Some.ensures.cases.0 ∙ ap (λ (l : List Submitted). x ∷ l) (none_left c.in-Some.others.now (sym c.is_empty.ensures ∙ c.if-is_empty.true)) in
+    let alone : c.args.group.now ≡ x ∷ [] = c.in-Some.ensures.cases.0 ∙ ap (λ (l : List Submitted). x ∷ l) (none_left c.in-Some.others.now (c.is_alone.ensures c.if-is_alone.true)) in
     let one : length c.args.group.now ≡ 1 = ap length alone in
     let has : HasRoom h.shape s c.args.first = record { room = omega (arith, room.room, one); epoch = room.epoch; small = omega (arith, room.small, one) } in
     let new : may_come (floor_of h.version (last_request s)) x.request ≡ true =
@@ -33,11 +30,11 @@ returns-then-is_empty-clause-begun g c lawful plan h side s ring room fresh vali
     subst (λ (l : List Submitted). (state c.args.device.now).since t f ⊎ (Tells plan h side s f ⊎ Tells plan h side (with_more s l) f)) (sym alone)
     (c.submit_batch.ensures.begun lawful plan h side s ring has new batch keeps t f le left)
 
-pub returns-then-is_empty-clause-done : goal.returns-then-is_empty-clause-done
-returns-then-is_empty-clause-done g c =
+pub returns-then-is_alone-clause-done : goal.returns-then-is_alone-clause-done
+returns-then-is_alone-clause-done g c =
     let state = g.D.Disk.state in
     let x : Submitted = c.in-Some.head.now in
-    let alone : c.args.group.now ≡ x ∷ [] = c.in-Some.ensures.cases.0 ∙ ap (λ (l : List Submitted). x ∷ l) (none_left c.in-Some.others.now (sym c.is_empty.ensures ∙ c.if-is_empty.true)) in
+    let alone : c.args.group.now ≡ x ∷ [] = c.in-Some.ensures.cases.0 ∙ ap (λ (l : List Submitted). x ∷ l) (none_left c.in-Some.others.now (c.is_alone.ensures c.if-is_alone.true)) in
     let one : length c.args.group.now ≡ 1 = ap length alone in
     at_ok c.submit_batch.result _ _
     (λ done lawful plan h side s ring room fresh valid keeps.
