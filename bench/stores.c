@@ -132,7 +132,7 @@ static void check(int status) {
 static void open_store(const char *file, uint64_t keys) {
     (void)keys;
     check(mdb_env_create(&base));
-    check(mdb_env_set_mapsize(base, (size_t)1 << 32));
+    check(mdb_env_set_mapsize(base, (size_t)1 << 34));
     check(mdb_env_open(base, file, MDB_NOSUBDIR, 0644));
     check(mdb_txn_begin(base, NULL, 0, &transaction));
     check(mdb_dbi_open(transaction, NULL, MDB_INTEGERKEY | MDB_CREATE, &table));

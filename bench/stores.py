@@ -9,9 +9,10 @@ on the disk is taken by itself, and taken off. The stores (bench/stores.c) have 
 stands before the first epoch is not timed.
 
 It prints epochs a second, of each the median of five rounds, one after the other in each, and those of `td` over each store's. Wanted: above 1 beside sqlite3 and
-RocksDB; beside LMDB above 0.5 with 10 records and above 1 with 1,000. A store whose library is not there is left out."""
+RocksDB; beside LMDB above 0.5 with 10 records and above 1 with 1,000. A store whose library is not there is left out, and `nan` stands for one that fails."""
 
 import argparse
+import math
 import pathlib
 import shutil
 import statistics
@@ -69,12 +70,13 @@ def time_feed(td, folder, keys, size, cut_every):
 
 
 def time_store(program, folder, keys, size):
+    """The seconds of a store, or none where it fails: LMDB 0.9.24 aborts by an assertion of its own with 1,000,000 keys and 43,000 changes a transaction."""
     place = folder / "store"
     place.mkdir()
     words = [program, place / "totals", *map(str, (keys, size, epochs_of(size), group_of(size)))]
-    seconds = float(subprocess.run(words, check=True, capture_output=True, text=True).stdout)
+    ran = subprocess.run(words, capture_output=True, text=True)
     shutil.rmtree(place)
-    return seconds
+    return float(ran.stdout) if ran.returncode == 0 else math.nan
 
 
 def stores(folder):
