@@ -27,16 +27,6 @@ from lib import TOTAL
 BATCH, TIMED, EACH, COPIED = 1000, 500, 10, 250
 
 
-def fill(td, disk, plan, keys):
-    """Feeds a disk a record of each key, and a cut."""
-    with subprocess.Popen([td, "feed", disk, plan], stdin=subprocess.PIPE, stdout=subprocess.DEVNULL, text=True) as feed:
-        for begin in range(0, keys, BATCH):
-            feed.stdin.write("".join(f"0 {key} 1\n" for key in range(begin, min(begin + BATCH, keys))) + ".\n")
-        feed.stdin.write("cut\n")
-    if feed.returncode != 0:
-        lib.fail(f"td feed ended with status {feed.returncode}")
-
-
 class Stream:
     """A stream under way that answers questions and makes copies, and whose producer waits for each answer."""
 
@@ -67,7 +57,7 @@ def time_keys(td, folder, keys):
     disk.unlink(missing_ok=True)
     copies.mkdir(exist_ok=True)
     subprocess.run([td, "format", disk, plan, str(BATCH), "1100", str(keys)], check=True)
-    fill(td, disk, plan, keys)
+    lib.fill(td, disk, plan, keys, BATCH)
     small, new = folder / "small", copies / f"of_{keys}"
     small.unlink(missing_ok=True)
     subprocess.run([td, "copy", disk, plan, small, "1", "4096", str(keys)], check=True)

@@ -31,16 +31,6 @@ BATCH = 1000
 TIMED = 500
 
 
-def fill(td, disk, plan, keys):
-    """Feeds a disk a record of each key, and a cut."""
-    with subprocess.Popen([td, "feed", disk, plan], stdin=subprocess.PIPE, stdout=subprocess.DEVNULL, text=True) as feed:
-        for begin in range(0, keys, BATCH):
-            feed.stdin.write("".join(f"0 {key} 1\n" for key in range(begin, min(begin + BATCH, keys))) + ".\n")
-        feed.stdin.write("cut\n")
-    if feed.returncode != 0:
-        lib.fail(f"td feed ended with status {feed.returncode}")
-
-
 class Stream:
     """A stream under way, whose producer waits for each answer."""
 
@@ -76,7 +66,7 @@ def time_keys(td, folder, keys):
     plan.write_text(TOTAL)
     disk.unlink(missing_ok=True)
     subprocess.run([td, "format", disk, plan, str(BATCH), "1100", str(max(keys, 1))], check=True)
-    fill(td, disk, plan, keys)
+    lib.fill(td, disk, plan, keys, BATCH)
     # A stream's cells have room for one record alone, as sqlite3 writes one.
     small = folder / "small"
     small.unlink(missing_ok=True)

@@ -114,6 +114,16 @@ def build_beside(crates, source, place, name=None, more=(), parts=(), given=""):
     return own / "out" / name
 
 
+def fill(program, disk, plan, keys, batch):
+    """Feeds a disk a record of each key, so many a batch, and a cut."""
+    with subprocess.Popen([program, "feed", disk, plan], stdin=subprocess.PIPE, stdout=subprocess.DEVNULL, text=True) as feed:
+        for begin in range(0, keys, batch):
+            feed.stdin.write("".join(f"0 {key} 1\n" for key in range(begin, min(begin + batch, keys))) + ".\n")
+        feed.stdin.write("cut\n")
+    if feed.returncode != 0:
+        fail(f"td feed ended with status {feed.returncode}")
+
+
 def states_after(epochs):
     """The lines of the states that the feeds' plan keeps after epochs, each its records and its outputs (vertex, key, value): of fold 1 the last total
     of a key and how many records it had, of fold 2 the greatest value of the epoch in which it last sent 1, where it did not send 0 since."""
