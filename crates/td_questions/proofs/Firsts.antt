@@ -1,7 +1,11 @@
 -- The first of a set into which others are put one by one: of what is left out, none comes back.
-use Rattle.std.proofs.Common.{◌≡◌, ℕ, zero, suc, ◌+◌, ◌≤◌, ◌<◌, List, [], ◌∷◌, ◌++◌, map, take, length, Option, Some, None, refl, ap, sym, ◌∙◌, arith}
+use Rattle.std.proofs.Common.{true, false, ◌≡◌, ℕ, zero, suc, ◌+◌, ◌≤◌, ◌<◌, List, [], ◌∷◌, ◌++◌, map, take, length, Option, Some, None, refl, ap, sym, ◌∙◌, arith}
 use Rattle.std.specs.Prelude.{IfSome, IsSome, ◌↔◌}
 use Rattle.std.specs.BTreeSet.{insert_key}
+use Rattle.std.specs.List.{AllByRecursion}
+use Rattle.std.specs.Ordering.{is_lt, is_le}
+use Rattle.std.specs.Cmp.{IsTotalOrder}
+use Rattle.std.specs.FinMap.{IsAntisymmetric}
 use Rattle.std.specs.declared.cmp.Ordering.{Ordering}
 use Rattle.std.specs.declared.cmp.Ordering.TheVariants.{Less, Equal, Greater}
 use Rattle.td_stamp.specs.Bag.{set_insert, set_of}
@@ -29,6 +33,10 @@ module _ {X : Type 0} where
   take_few zero (x ∷ xs) h = absurd (omega (arith, h))
   take_few (suc n) [] h = refl
   take_few (suc n) (x ∷ xs) h = ap (λ l. x ∷ l) (take_few n xs (omega (arith, h)))
+
+  take_all : (xs : List X) → take (length xs) xs ≡ xs
+  take_all [] = refl
+  take_all (x ∷ xs) = ap (λ l. x ∷ l) (take_all xs)
 
   take_before : (xs ys : List X) → take (length xs) (xs ++ ys) ≡ xs
   take_before [] ys = refl
@@ -87,6 +95,16 @@ module _ {X : Type 0} (cmp : X → X → Ordering) where
       by Less e rest = rw (e, set_insert) (omega arith)
       by Equal e rest = rw (e, set_insert) (omega arith)
       by Greater e rest = rw (e, set_insert) (omega (arith, rest))
+
+  -- one that stands before none of so many is left out
+  pub put_behind : (x : X) (ys : List X) → AllByRecursion (λ y. is_lt (cmp x y) ≡ false) ys → take (length ys) (set_insert cmp x ys) ≡ ys
+  put_behind x [] h = refl
+  put_behind x (y ∷ ys) h = by (cmp x y) refl h.0 (put_behind x ys h.1)
+    where
+      by : (r : Ordering) → cmp x y ≡ r → is_lt (cmp x y) ≡ false → take (length ys) (set_insert cmp x ys) ≡ ys → take (suc (length ys)) (set_insert cmp x (y ∷ ys)) ≡ y ∷ ys
+      by Less e n rest = let no : true ≡ false = sym (ap is_lt e) ∙ n in cc
+      by Equal e n rest = rw (e, set_insert) (ap (λ l. y ∷ l) (take_all ys))
+      by Greater e n rest = rw (e, set_insert) (ap (λ l. y ∷ l) rest)
 
   put_take : (n : ℕ) (x : X) (ys : List X) → take n (set_insert cmp x (take n ys)) ≡ take n (set_insert cmp x ys)
   put_take zero x ys = refl
@@ -152,3 +170,29 @@ module _ {X Y : Type 0} (f : X → Y) where
   pub map_back : (g : Y → X) → ((x : X) → g (f x) ≡ x) → (xs : List X) → map g (map f xs) ≡ xs
   map_back g back [] = refl
   map_back g back (x ∷ xs) = λ i. back x i ∷ map_back g back xs i
+
+-- of three in a total order
+module _ {X : Type 0} (cmp : X → X → Ordering) (total : IsTotalOrder cmp) (apart : IsAntisymmetric cmp) where
+  pub not_before : (x y z : X) → is_le (cmp x y) ≡ true → is_lt (cmp x z) ≡ false → is_lt (cmp y z) ≡ false
+  not_before x y z le n = by (cmp y z) refl
+    where
+      by : (r : Ordering) → cmp y z ≡ r → is_lt (cmp y z) ≡ false
+      by Equal e = ap is_lt e
+      by Greater e = ap is_lt e
+      by Less e = at (cmp x y) refl
+        where
+          at : (r : Ordering) → cmp x y ≡ r → is_lt (cmp y z) ≡ false
+          at Less f = let no : true ≡ false = sym (ap is_lt (total.trans x y z f e)) ∙ n in cc
+          at Equal f = let no : true ≡ false = sym (ap is_lt e) ∙ (ap (λ w. is_lt (cmp w z)) (sym (apart x y f)) ∙ n) in cc
+          at Greater f = let no : false ≡ true = sym (ap is_le f) ∙ le in cc
+
+all_weaker : {X : Type 0} (P Q : X → Type 0) → ((x : X) → P x → Q x) → (xs : List X) → AllByRecursion P xs → AllByRecursion Q xs
+all_weaker P Q f [] h = tt
+all_weaker P Q f (x ∷ xs) h = (f x h.0, all_weaker P Q f xs h.1)
+
+-- of a set that has so many, of which the last stands no later than x, x is left out
+pub behind : {X : Type 0} (cmp : X → X → Ordering) → IsTotalOrder cmp → IsAntisymmetric cmp → (most : ℕ) (x last : X) (set : List X) → most ≡ length set
+    → is_le (cmp last x) ≡ true → AllByRecursion (λ y. is_lt (cmp last y) ≡ false) set → take most (set_insert cmp x set) ≡ set
+behind cmp total apart most x last set many le h =
+    ap (λ n. take n (set_insert cmp x set)) many
+    ∙ put_behind cmp x set (all_weaker (λ y. is_lt (cmp last y) ≡ false) (λ y. is_lt (cmp x y) ≡ false) (λ y n. not_before cmp total apart last x y le n) set h)

@@ -1,3 +1,4 @@
 pub mod Firsts
 pub mod Weights
 pub mod Listing
+mod Unordered

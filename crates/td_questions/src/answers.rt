@@ -14,10 +14,10 @@ use td_stamp::State;
 /// A state at its vertex and key.
 pub type Entry = ((u8, u64), State);
 
-/// The entries that answer what is wanted of a vertex, of the states after an epoch. The state of a key costs a look-up. What else is
-/// wanted costs O(v log v) with v keys for which folds left something since the base, and a look-up for each state that is gone
-/// through. It takes memory for those v keys and for the entries of the answer; a percentile, for all entries of the vertex. Refusal:
-/// `Memory`.
+/// The entries that answer what is wanted of a vertex, of the states after an epoch. The state of a key costs a look-up. A list costs
+/// O(v log v) with v keys for which folds left something since the base, a look-up for each state up to the last one that it has, and
+/// memory for those v keys. The others go through the states as they lie, and each state costs a look-up among those v keys. Each takes
+/// memory for the entries of the answer; a percentile, for all entries of the vertex. Refusal: `Memory`.
 pub fn answer(
     alloc: Global,
     states: &StatesAfter<'_>,
@@ -33,16 +33,13 @@ pub fn answer(
             entries_from(alloc, &states, vertex, from, count)
         }
         Wanted::Top(count) => {
-            let states = states.in_order()?;
-            first_entries(alloc, &states, vertex, Order::FromGreatest, Some(count))
+            first_entries(alloc, states, vertex, Order::FromGreatest, Some(count))
         }
         Wanted::Least(count) => {
-            let states = states.in_order()?;
-            first_entries(alloc, &states, vertex, Order::FromLeast, Some(count))
+            first_entries(alloc, states, vertex, Order::FromLeast, Some(count))
         }
         Wanted::Rank(percent) => {
-            let states = states.in_order()?;
-            let all = first_entries(alloc, &states, vertex, Order::FromLeast, None)?;
+            let all = first_entries(alloc, states, vertex, Order::FromLeast, None)?;
             at_percentile(alloc, all.as_slice(), percent)
         }
     }

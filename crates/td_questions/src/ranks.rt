@@ -1,7 +1,9 @@
 //! The first of some entries, in one of two orders.
 //!
-//! They are kept in a set of no more than are wanted, so that entries may come in any order, and each costs a step in a small tree.
+//! They are kept in a set of no more than are wanted, so that entries may come in any order. One that stands behind all of a full set
+//! costs a comparison, and each other one a step in a small tree.
 ghost use Rattle.std.specs.Prelude.{◌≡◌, ◌≤◌, map, length, IfOk, OnOk};
+ghost use Rattle.std.specs.Bool.{OnTrue};
 ghost use Rattle.td_stamp.specs.Bag.{set_insert, set_of};
 ghost use Rattle.td_stamp.specs.BagLaws.{SetLaws};
 ghost use Rattle.td_questions.specs.Asked.{at_most, kept_by};
@@ -12,7 +14,7 @@ use crate::answers::Entry;
 use crate::error::QuestionError;
 use std::alloc::Global;
 use std::collections::BTreeSet;
-use td_shard::StatesInOrder;
+use td_shard::StatesAfter;
 use td_stamp::State;
 
 /// An order of entries: of one a from the least key on.
@@ -67,11 +69,11 @@ impl Ranked {
     }
 }
 
-/// The first entries of a vertex in an order, so many where a number is given. Of no more it takes memory. Each costs O(log n) with n
-/// wanted. Refusal: `Memory`.
+/// The first entries of a vertex in an order, so many where a number is given. Of no more it takes memory. The states come as they lie,
+/// and each costs O(log n) with n wanted. Refusal: `Memory`.
 pub(crate) fn first_entries(
     alloc: Global,
-    states: &StatesInOrder<'_>,
+    states: &StatesAfter<'_>,
     vertex: u8,
     order: Order,
     count: Option<u64>,
@@ -80,7 +82,7 @@ pub(crate) fn first_entries(
 {
     rank_laws();
     let mut first = BTreeSet::new(alloc);
-    for (place, state) in states.list() {
+    for (place, state) in states.unordered() {
         if place.0 == vertex {
             keep_first(&mut first, Ranked::of(order, place, state), count)?;
         }
@@ -98,6 +100,9 @@ fn keep_first(
     ensures kept { OnOk result (first.new.keys ≡ at_most count (set_insert ranked_cmp one first.old.keys)) }
     ensures few { OnOk result (IsFew count first.new.keys) }
 {
+    if is_behind(first, &one, count) {
+        return Ok(());
+    }
     first.insert(one)?;
     if let Some(most) = count
         && most < first.len() as u64
@@ -105,6 +110,17 @@ fn keep_first(
         first.pop_last();
     }
     Ok(())
+}
+
+/// Whether as many as are wanted stand before it, or one that is the same among them.
+fn is_behind(first: &BTreeSet<Ranked>, one: &Ranked, count: Option<u64>) -> bool
+    requires few { IsFew count first.now.keys }
+    ensures { OnTrue result (at_most count (set_insert ranked_cmp one.now first.now.keys) ≡ first.now.keys) }
+{
+    match (count, first.last()) {
+        (Some(most), Some(last)) => most <= first.len() as u64 && last.cmp(one).is_le(),
+        _ => false,
+    }
 }
 
 /// The entries of a set, in its order. Refusal: `Memory`.

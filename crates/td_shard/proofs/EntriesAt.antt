@@ -1,5 +1,6 @@
 -- The states that are found at the places of two lists are those of which a look-up tells, where each of these has its place in one of them.
 use Rattle.std.proofs.Common.{◌≡◌, ℕ, ◌||◌, List, [], ◌∷◌, ◌++◌, refl, ap, sym, ◌∙◌, Bool, true, false, cond, Option, Some, None, filter}
+use Rattle.std.specs.Prelude.{is_some}
 use Rattle.std.specs.Option.{option_map}
 use Rattle.std.specs.List.{AllByRecursion, cons_option}
 use Rattle.std.specs.List.Sorted.{IsStrictlySortedBy}
@@ -15,7 +16,9 @@ use Rattle.td_stamp.specs.ProvedOrders.{state_key_apart}
 use Rattle.td_stamp.specs.States.{StateList, state_of, AreStates}
 use Rattle.td_machine.specs.declared.records.StateLeft.{StateLeft}
 use Rattle.td_machine.specs.State.{with_left}
-use Rattle.td_shard.specs.After.{entries_at, places_of}
+use Rattle.td_shard.specs.declared.version.Version.{Version}
+use Rattle.td_shard.specs.After.{states_after, entries_at, places_of, AreFound}
+use Rattle.td_shard.specs.Versions.{IsLatestAt}
 use Rattle.td_shard.proofs.KeptStates.{InOrder, left_keeps, states_in_order, same_states}
 use Rattle.td_shard.proofs.LeftStates.{ended, is_here, look_left}
 
@@ -113,6 +116,10 @@ neither : (b d : Bool) → (b || d) ≡ false → (b ≡ false) × (d ≡ false)
 neither true d h = cc
 neither false d h = (refl, h)
 
+set_has_them : SetLaws state_key_cmp → (q : Place) (xs : List Place) → has state_key_cmp q (set_of state_key_cmp xs) ≡ has state_key_cmp q xs
+set_has_them laws q [] = refl
+set_has_them laws q (x ∷ xs) = laws.found_inserted q x (set_of state_key_cmp xs) ∙ ap (λ b. is_eq (state_key_cmp q x) || b) (set_has_them laws q xs)
+
 module _ (laws : SetLaws state_key_cmp) (base : StateList) (left : List StateLeft) (ordered : AreStates base) where
   abbrev after : StateList
   after = with_left base left
@@ -139,9 +146,54 @@ module _ (laws : SetLaws state_key_cmp) (base : StateList) (left : List StateLef
       (found_in_order after (places_of base lone) (laws.sorted (keys_of base ++ keys_of lone)))
       (left_keeps left base (states_in_order base ordered))
       (λ q. look_found after q (places_of base lone)
-      ∙ (ap (λ b. cond b (state_of after q.0 q.1) None) (set_has_has q (keys_of base ++ keys_of lone))
+      ∙ (ap (λ b. cond b (state_of after q.0 q.1) None) (set_has_them laws q (keys_of base ++ keys_of lone))
       ∙ found q (has state_key_cmp q (keys_of base ++ keys_of lone)) refl))
-    where
-      set_has_has : (q : Place) (xs : List Place) → has state_key_cmp q (set_of state_key_cmp xs) ≡ has state_key_cmp q xs
-      set_has_has q [] = refl
-      set_has_has q (x ∷ xs) = laws.found_inserted q x (set_of state_key_cmp xs) ∙ ap (λ b. is_eq (state_key_cmp q x) || b) (set_has_has q xs)
+
+-- a look-up tells whether there is a state at a place
+told : (q : Place) (states : StateList) → has state_key_cmp q (keys_of states) ≡ is_some (state_of states q.0 q.1)
+told q [] = refl
+told q (e ∷ states) = by (is_eq (state_key_cmp q e.0)) (told q states)
+  where
+    by : (b : Bool) → has state_key_cmp q (keys_of states) ≡ is_some (state_of states q.0 q.1)
+        → (b || has state_key_cmp q (keys_of states)) ≡ is_some (cond b (Some e.1) (state_of states q.0 q.1))
+    by true rest = refl
+    by false rest = rest
+
+abbrev pub Found : StateList → Place × State → Type 0
+Found states e = state_of states e.0.0 e.0.1 ≡ Some e.1
+
+-- each is found where it says
+pub each_found : (states : StateList) (places : List Place) → AreFound states (entries_at states places)
+each_found states [] = tt
+each_found states (p ∷ places) = by (state_of states p.0 p.1) refl (each_found states places)
+  where
+    by : (s : Option State) → state_of states p.0 p.1 ≡ s → AreFound states (entries_at states places)
+        → AreFound states (cons_option (option_map (λ t. (p, t)) s) (entries_at states places))
+    by None e rest = rest
+    by (Some s) e rest = (e, rest)
+
+module _ (laws : SetLaws state_key_cmp) where
+  module _ (states : StateList) (ordered : AreStates states) (places : List Place) (others : (q : Place) → has state_key_cmp q places ≡ false → state_of states q.0 q.1 ≡ None) where
+    there : (q : Place) (b : Bool) → has state_key_cmp q places ≡ b → cond b (state_of states q.0 q.1) None ≡ state_of states q.0 q.1
+    there q true e = refl
+    there q false e = sym (others q e)
+
+    -- THE PLACES of what is found at some that leave none out
+    pub places_found : set_of state_key_cmp (keys_of (entries_at states places)) ≡ keys_of states
+    places_found =
+        laws.alike (set_of state_key_cmp (keys_of (entries_at states places))) (keys_of states) (laws.sorted (keys_of (entries_at states places))) ordered
+        (λ q.
+        set_has_them laws q (keys_of (entries_at states places))
+        ∙ (told q (entries_at states places)
+        ∙ (ap is_some (look_found states q places ∙ there q (has state_key_cmp q places) refl)
+        ∙ sym (told q states))))
+
+  -- places of a base in no order, and those of last versions, leave none out
+  module _ (epoch : ℕ) (base : StateList) (left : List StateLeft) (ordered : AreStates base) (kept : StateList) (latest : List ((ℕ × ℕ) × Option Version))
+      (all : set_of state_key_cmp (keys_of kept) ≡ keys_of base)
+      (others : (q : Place) → has state_key_cmp q (keys_of latest) ≡ false → IsLatestAt epoch left q None) where
+    pub none_elsewhere : (q : Place) → has state_key_cmp q (keys_of kept ++ keys_of latest) ≡ false → state_of (states_after epoch base left) q.0 q.1 ≡ None
+    none_elsewhere q h =
+        let n = neither (has state_key_cmp q (keys_of kept)) (has state_key_cmp q (keys_of latest)) (sym (has_either q (keys_of kept) (keys_of latest)) ∙ h) in
+        others q n.1 base ordered
+        ∙ no_state q base (sym (sym (set_has_them laws q (keys_of kept)) ∙ ap (has state_key_cmp q) all) ∙ n.0)

@@ -18,7 +18,7 @@ use Rattle.td_batch.specs.Meaning.{with_kept}
 use Rattle.td_machine.specs.declared.records.StateLeft.{StateLeft}
 use Rattle.td_machine.specs.State.{left_cmp, with_left}
 use Rattle.td_shard.specs.declared.version.Version.{Version}
-use Rattle.td_shard.specs.Versions.{VersionList, left_of, left_in, version_cmp, later, latest, up_to, with_version, with_latest}
+use Rattle.td_shard.specs.Versions.{VersionList, left_of, left_in, version_cmp, later, latest, up_to, version_or, with_version, with_latest}
 use Rattle.td_stamp.specs.ProvedOrders.{state_key_apart}
 use Rattle.td_shard.proofs.LeftOrders.{left_total, left_of-cmp}
 use Rattle.td_shard.proofs.LeftBags.{AreApart, left_in-bag, left_in-filter, join-bag, none_again}
@@ -127,10 +127,6 @@ later-left place (Some x) v = ap (λ o. Some (cond (is_gt o) (left_of place v) (
 fold-left : (place : ℕ × ℕ) (vs : List Version) (o : Option Version) → fold above_of (option_map (left_of place) o) (map (left_of place) vs) ≡ option_map (left_of place) (fold later o vs)
 fold-left place [] o = refl
 fold-left place (v ∷ vs) o = ap (λ l. fold above_of l (map (left_of place) vs)) (later-left place o v) ∙ fold-left place vs (later o v)
-
-abbrev pub version_or : Option Version → Option State → Option State
-version_or None s = s
-version_or (Some v) s = v.state
 
 -- a place's last version up to an epoch
 abbrev pub latest_at : ℕ → Option (List Version) → Option Version

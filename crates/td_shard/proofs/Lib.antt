@@ -11,6 +11,7 @@ pub mod Placed
 pub mod Trimmed
 pub mod Viewed
 pub mod LeftOrders
+mod LatestVersions
 pub mod LeftBags
 pub mod KeptStates
 pub mod LeftStates
@@ -25,3 +26,4 @@ pub mod Parted
 pub mod EachKept
 pub mod TwoLists
 pub mod EntriesAt
+mod UnorderedParts

@@ -1,14 +1,15 @@
 -- What folds left for their keys above a base: the versions, each kept with its vertex and key.
-use Rattle.std.specs.Prelude.{◌≢◌, ℕ, cond, List, [], ◌∷◌, map, filter, fold, nat_le, Option, Some, None}
+use Rattle.std.specs.Prelude.{◌≡◌, ◌≢◌, ℕ, cond, List, [], ◌∷◌, map, filter, fold, nat_le, Option, Some, None}
 use Rattle.std.specs.declared.cmp.Ordering.{Ordering}
 use Rattle.std.specs.Ordering.{ordering_then, nat_cmp, is_gt}
 use Rattle.std.specs.Option.{option_cmp}
 use Rattle.td_stamp.specs.Bag.{bag_remove, join}
 use Rattle.td_stamp.specs.Rises.{Rises}
-use Rattle.td_stamp.specs.States.{StateList}
+use Rattle.td_stamp.specs.declared.values.State.{State}
+use Rattle.td_stamp.specs.States.{StateList, state_of, AreStates}
 use Rattle.td_batch.specs.Meaning.{with_kept}
 use Rattle.td_machine.specs.declared.records.StateLeft.{StateLeft}
-use Rattle.td_machine.specs.State.{state_cmp, left_cmp}
+use Rattle.td_machine.specs.State.{state_cmp, left_cmp, with_left}
 use Rattle.td_shard.specs.declared.version.Version.{Version}
 
 -- vertices and keys in order, each with its versions
@@ -46,6 +47,11 @@ later (Some x) y = Some (cond (is_gt (version_cmp y x)) y x)
 abbrev pub latest : List Version → Option Version
 latest versions = fold later None versions
 
+-- a state, or what a version says in its place
+abbrev pub version_or : Option Version → Option State → Option State
+version_or None s = s
+version_or (Some v) s = v.state
+
 -- those up to an epoch
 abbrev pub up_to : ℕ → List Version → List Version
 up_to epoch versions = filter (λ k. nat_le k.epoch epoch) versions
@@ -63,3 +69,8 @@ with_latest epoch states (e ∷ es) = with_latest epoch (with_version states e.0
 -- what was left, without some of it
 abbrev pub taken_back : List StateLeft → List StateLeft → List StateLeft
 taken_back left some = fold (λ rest one. bag_remove left_cmp one rest) left some
+
+-- that this is the last version of a place up to an epoch, if there is one: of any states it alone decides which state stands there after what was left
+abbrev pub IsLatestAt : ℕ → List StateLeft → ℕ × ℕ → Option Version → Type 0
+IsLatestAt epoch left place version =
+    (states : StateList) → AreStates states → state_of (with_left states (filter (λ k. nat_le k.epoch epoch) left)) place.0 place.1 ≡ version_or version (state_of states place.0 place.1)

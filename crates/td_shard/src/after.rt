@@ -2,19 +2,21 @@
 //!
 //! A state is looked up at its place. To list all, the places of the base and those for which folds left a state are gone through
 //! side by side, each list in its order. So the base is not copied: only what folds left since is gathered in order.
-ghost use Rattle.std.specs.Prelude.{◌≡◌, ◌∷◌, [], length, drop, IfOk, MatchOption};
+ghost use Rattle.std.specs.Prelude.{◌≡◌, ◌∷◌, [], length, drop, Some, IfOk, MatchOption};
 ghost use Rattle.std.specs.Iterator.{at_most, YieldsFirst};
+ghost use Rattle.std.specs.List.{All};
 ghost use Rattle.std.specs.Map.{keys_of};
+ghost use Rattle.td_stamp.specs.Bag.{set_of};
 ghost use Rattle.td_stamp.specs.BagLaws.{SetLaws};
 ghost use Rattle.td_stamp.specs.Orders.{state_key_cmp};
 ghost use Rattle.td_stamp.specs.States.{state_of, AreStates};
 ghost use Rattle.td_shard.specs.After.{states_after};
 
 use crate::error::ShardError;
-use crate::versions::Versions;
+use crate::versions::{LatestOfEach, Versions};
 use std::cmp::Ordering;
 use std::marker::Model;
-use td_stamp::{State, States, StatesIterator};
+use td_stamp::{State, States, StatesIterator, UnorderedStates};
 
 /// The states after an epoch: those of a base, and then what folds left up to the epoch. Contracts see them as their list.
 #[derive(Drop)]
@@ -51,6 +53,26 @@ impl<'a> StatesAfter<'a> {
         ensures { result ≡ state_of self.now vertex key }
     {
         self.versions.state_at(self.epoch, vertex, key, self.base)
+    }
+
+    /// The states as they lie, each as ((vertex, key), state): in no order, and one for which a fold left something may come twice. One
+    /// of the base costs a look-up among what folds left, and each other one O(log v) with its v versions. Takes no memory.
+    pub fn unordered(&self) -> UnorderedAfter<'a>
+        ensures found { All (λ e. state_of self.now e.0.0 e.0.1 ≡ Some e.1) result }
+        ensures all { set_of state_key_cmp (keys_of result) ≡ keys_of self.now }
+        ensures ordered { AreStates self.now }
+    {
+        place_laws();
+        let (versions, base) = (self.versions, self.base);
+        // Its contract says that the states stand in order.
+        let _in_order = base.list();
+        UnorderedAfter {
+            versions,
+            base,
+            epoch: self.epoch,
+            kept: base.unordered(),
+            left: versions.latest_of_each(self.epoch),
+        }
     }
 
     /// The same states, to be listed. What folds left is gathered in order: O(v log v) with v keys for which they did. Refusal:
@@ -140,6 +162,59 @@ impl<'a> Iterator for StatesAfterIterator<'a> {
             let found = self
                 .versions
                 .state_at(self.epoch, place.0, place.1, self.base);
+            if let Some(state) = found {
+                return Some((place, state));
+            }
+        }
+        None
+    }
+}
+
+/// An iterator over the states after an epoch, in no order: at the places of the base, and then at those for which folds left something.
+#[derive(Drop)]
+pub struct UnorderedAfter<'a> {
+    versions: &'a Versions,
+    base: &'a States,
+    epoch: u64,
+    kept: UnorderedStates<'a>,
+    left: LatestOfEach<'a>,
+}
+
+impl<'a> Model for UnorderedAfter<'a> {
+    ghost use Rattle.std.specs.Prelude.{◌++◌};
+    ghost use Rattle.std.specs.Map.{keys_of};
+    ghost use Rattle.td_stamp.specs.States.{StateList};
+    ghost use Rattle.td_shard.specs.After.{states_after, entries_at, AreParts};
+
+    ghost Value = { StateList };
+
+    ghost view = { λ s. entries_at (states_after s.epoch s.base.now s.versions.now) (keys_of s.kept ++ keys_of s.left) };
+
+    ghost invariant = { λ s. AreParts s.epoch s.base.now s.versions.now s.kept s.left };
+}
+
+impl<'a> Iterator for UnorderedAfter<'a> {
+    type Item = ((u8, u64), State);
+
+    ghost next_gives = { YieldsFirst (λ s. s) };
+
+    ghost remaining = { λ s. at_most (length s) };
+
+    fn next(&mut self) -> Option<((u8, u64), State)> {
+        while let Some((place, kept)) = self.kept.next() {
+            let found = match self.versions.latest_at(self.epoch, place.0, place.1) {
+                Some(version) => version.state,
+                None => Some(kept),
+            };
+            if let Some(state) = found {
+                return Some((place, state));
+            }
+        }
+        while let Some((place, latest)) = self.left.next() {
+            let found = match latest {
+                Some(version) => version.state,
+                None => self.base.get(place.0, place.1),
+            };
             if let Some(state) = found {
                 return Some((place, state));
             }

@@ -23,7 +23,7 @@ mod version;
 mod versions;
 mod waiting;
 
-pub use after::{StatesAfter, StatesAfterIterator, StatesInOrder};
+pub use after::{StatesAfter, StatesAfterIterator, StatesInOrder, UnorderedAfter};
 pub use error::ShardError;
 pub use mailbox::{Mailbox, Taken};
 pub use noted::Noted;

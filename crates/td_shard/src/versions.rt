@@ -1,16 +1,20 @@
 //! What folds left for their keys above the base of a hall.
-ghost use Rattle.std.specs.Prelude.{◌≡◌, [], filter, nat_le, nat_lt, OnOk, OnErr, IfOk};
-ghost use Rattle.td_stamp.specs.Bag.{bag_insert, bag_remove, join};
+ghost use Rattle.std.specs.Prelude.{◌≡◌, ℕ, [], false, filter, length, nat_le, nat_lt, None, OnOk, OnErr, IfOk};
+ghost use Rattle.std.specs.Iterator.{at_most, YieldsFirst};
+ghost use Rattle.std.specs.List.{AllByRecursion};
+ghost use Rattle.std.specs.Map.{keys_of};
+ghost use Rattle.td_stamp.specs.Bag.{bag_insert, bag_remove, has, join};
 ghost use Rattle.td_stamp.specs.BagLaws.{BagLaws};
+ghost use Rattle.td_stamp.specs.Orders.{state_key_cmp};
 ghost use Rattle.td_stamp.specs.States.{state_of};
 ghost use Rattle.td_batch.specs.Meaning.{with_kept};
 ghost use Rattle.td_machine.specs.State.{left_cmp, with_left};
-ghost use Rattle.td_shard.specs.Versions.{taken_back};
+ghost use Rattle.td_shard.specs.Versions.{taken_back, IsLatestAt};
 
 use crate::error::ShardError;
 use crate::version::{Version, keep_after, latest, put_in, take_out};
 use std::alloc::Global;
-use std::collections::HashMap;
+use std::collections::{HashMap, hash_map};
 use std::marker::Model;
 use td_machine::StateLeft;
 use td_stamp::{State, States};
@@ -60,15 +64,34 @@ impl Versions {
     pub fn state_at(&self, epoch: u64, vertex: u8, key: u64, base: &States) -> Option<State>
         ensures { result ≡ state_of (with_left base.now (filter (λ k. nat_le k.epoch epoch) self.now)) vertex key }
     {
-        version_laws();
         // Its contract says that the states stand in order.
         let _in_order = base.list();
-        let Some(versions) = self.versions.get(&(vertex, key)) else {
-            return base.get(vertex, key);
-        };
-        match latest(versions.as_slice(), epoch) {
+        match self.latest_at(epoch, vertex, key) {
             Some(version) => version.state,
             None => base.get(vertex, key),
+        }
+    }
+
+    /// The last version of a key up to an epoch, if there is one. Costs O(log v) with v versions of this key, where its hash is met by
+    /// few others. Takes no memory.
+    pub(crate) fn latest_at(&self, epoch: u64, vertex: u8, key: u64) -> Option<Version>
+        ensures { IsLatestAt epoch self.now (vertex, key) result }
+    {
+        version_laws();
+        let versions = self.versions.get(&(vertex, key))?;
+        latest(versions.as_slice(), epoch)
+    }
+
+    /// The vertices and keys for which something was left, each with its last version up to an epoch, if there is one: as they lie, in
+    /// no order. Each costs O(log v) with its v versions, and no look-up. Takes no memory.
+    pub(crate) fn latest_of_each(&self, epoch: u64) -> LatestOfEach<'_>
+        ensures latest { AllByRecursion (λ e. IsLatestAt epoch self.now e.0 e.1) result }
+        ensures others { (place : ℕ × ℕ) → has state_key_cmp place (keys_of result) ≡ false → IsLatestAt epoch self.now place None }
+    {
+        version_laws();
+        LatestOfEach {
+            versions: self.versions.iter(),
+            epoch,
         }
     }
 
@@ -154,6 +177,38 @@ impl Versions {
         for one in left {
             self.take_one_back(one);
         }
+    }
+}
+
+/// An iterator over the last version of each vertex and key, up to an epoch.
+#[derive(Drop)]
+pub(crate) struct LatestOfEach<'a> {
+    versions: hash_map::Iter<'a, (u8, u64), Vec<Version>>,
+    epoch: u64,
+}
+
+impl<'a> Model for LatestOfEach<'a> {
+    ghost use Rattle.std.specs.Prelude.{ℕ, List, Option, map};
+    ghost use Rattle.td_shard.specs.declared.version.Version.{Version as OneVersion};
+    ghost use Rattle.td_shard.specs.Versions.{AreKept, latest, up_to};
+
+    ghost Value = { List ((ℕ × ℕ) × Option OneVersion) };
+
+    ghost view = { λ s. map (λ e. (e.0, latest (up_to s.epoch e.1.items))) s.versions };
+
+    ghost invariant = { λ s. AreKept (map (λ e. (e.0, e.1.items)) s.versions) };
+}
+
+impl<'a> Iterator for LatestOfEach<'a> {
+    type Item = ((u8, u64), Option<Version>);
+
+    ghost next_gives = { YieldsFirst (λ s. s) };
+
+    ghost remaining = { λ s. at_most (length s) };
+
+    fn next(&mut self) -> Option<((u8, u64), Option<Version>)> {
+        let (place, versions) = self.versions.next()?;
+        Some((*place, latest(versions.as_slice(), self.epoch)))
     }
 }
 

@@ -10,6 +10,7 @@ use Rattle.td_stamp.specs.Bag.{bag_insert, set_insert, set_has, join, bag_of, ha
 use Rattle.td_stamp.specs.BagLaws.{BagLaws, SetLaws}
 use Rattle.td_stamp.proofs.Bags.{insert_past, insert_before_less, insert_before_equal, set_insert_past, set_insert_less, set_insert_equal, set_has_less, set_has_equal, set_has_past, join-IsBag, join-assoc, join-swap, join-append, join-middle, join_cancel, bag_remove-bag_insert, has-bag_insert, length-join, set-middle, set_insert-set_insert, set_has-set_of}
 use Rattle.td_stamp.proofs.Rising.{all_weaker, IsBag-filter, IsBag-from_Rises, Rises-from_IsBag}
+use Rattle.td_stamp.proofs.SameSets.{same_members}
 use Rattle.td_stamp.proofs.Sets.{all_set_insert, all_set_of, set_of-IsStrictlySortedBy}
 
 -- a list has each of its elements
@@ -122,4 +123,5 @@ module _ {X : Type 0} (cmp : X → X → Ordering) (total : IsTotalOrder cmp) (s
     sorted = set_of-IsStrictlySortedBy cmp total same;
     inserted = λ x ys. all_set_insert cmp total same (λ z. (z ≡ x) ⊎ Contains ys z) x ys (inl refl) (all_weaker (Contains ys) (λ z. (z ≡ x) ⊎ Contains ys z) (λ z c. inr c) ys (contains_itself ys));
     members = λ xs. all_set_of cmp total same (Contains xs) xs (contains_itself xs);
+    alike = same_members cmp total same;
   }

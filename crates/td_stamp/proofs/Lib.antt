@@ -9,6 +9,8 @@ pub mod Placed
 pub mod Rising
 pub mod Runs
 pub mod SameMembers
+pub mod SameSets
 pub mod Sets
 pub mod Sorted
 pub mod TimeLaws
+pub mod Unordered

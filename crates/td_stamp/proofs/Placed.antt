@@ -18,7 +18,7 @@ use Rattle.td_stamp.specs.Orders.{state_key_cmp}
 use Rattle.td_stamp.specs.ProvedOrders.{state_key_total, state_key_apart, places_tied}
 use Rattle.td_stamp.specs.States.{AreStates, same_place, found_at, listed}
 
-abbrev is_there : ℕ × ℕ → ℕ × ℕ → Bool
+abbrev pub is_there : ℕ × ℕ → ℕ × ℕ → Bool
 is_there p = is_at (state_key_cmp p)
 
 -- a place that the test finds is the one

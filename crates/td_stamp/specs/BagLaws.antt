@@ -42,3 +42,5 @@ module _ {X : Type 0} (cmp : X → X → Ordering) where
     -- nothing else stands there
     pub inserted : (x : X) (ys : List X) → AllByRecursion (λ z. (z ≡ x) ⊎ Contains ys z) (set_insert cmp x ys)
     pub members : (xs : List X) → AllByRecursion (Contains xs) (set_of cmp xs)
+    -- and sets with the same members are the same
+    pub alike : (xs ys : List X) → IsStrictlySortedBy cmp xs → IsStrictlySortedBy cmp ys → ((z : X) → has cmp z xs ≡ has cmp z ys) → xs ≡ ys

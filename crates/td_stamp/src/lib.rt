@@ -31,6 +31,6 @@ pub use error::StampError;
 pub use groups::Group;
 pub use member::Member;
 pub use members::Members;
-pub use states::{States, StatesIterator};
+pub use states::{States, StatesIterator, UnorderedStates};
 pub use time::{EPOCHS_END, LEVELS, Time};
 pub use values::{Arrival, Entry, FEW, Few, Item, Output, Rec, State};

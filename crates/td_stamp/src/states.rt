@@ -1,12 +1,16 @@
 //! The states that the folds of a plan keep.
-ghost use Rattle.std.specs.Prelude.{◌≡◌, ◌↔◌, OnOk, OnErr, IfOk, IsTrue, [], length};
+ghost use Rattle.std.specs.Prelude.{◌≡◌, ◌↔◌, OnOk, OnErr, IfOk, IsTrue, Some, [], length};
 ghost use Rattle.std.specs.Iterator.{at_most, YieldsFirst};
+ghost use Rattle.std.specs.List.{All};
+ghost use Rattle.std.specs.Map.{keys_of};
+ghost use Rattle.td_stamp.specs.Bag.{set_of};
+ghost use Rattle.td_stamp.specs.Orders.{state_key_cmp};
 ghost use Rattle.td_stamp.specs.States.{state_of, with_state, without_state, AreStates};
 
 use crate::error::StampError;
 use crate::values::State;
 use std::alloc::Global;
-use std::collections::{BTreeSet, HashMap, btree_set};
+use std::collections::{BTreeSet, HashMap, btree_set, hash_map};
 use std::marker::Model;
 
 /// The states that folds keep, by vertex and key. A state is found by the hash of these, at a cost that does not grow with how many
@@ -115,6 +119,18 @@ impl States {
             kept: &self.kept,
         }
     }
+
+    /// The states as they lie in memory, each as ((vertex, key), state): in no order, and without a look-up. Takes no memory.
+    pub fn unordered(&self) -> UnorderedStates<'_>
+        ensures found { All (λ e. state_of self.now e.0.0 e.0.1 ≡ Some e.1) result }
+        ensures all { set_of state_key_cmp (keys_of result) ≡ keys_of self.now }
+    {
+        // Its contract says that the vertices and keys stand in order.
+        let _in_order = self.order.iter();
+        UnorderedStates {
+            entries: self.kept.iter(),
+        }
+    }
 }
 
 /// An iterator over kept states in the order of (vertex, key).
@@ -148,5 +164,32 @@ impl<'a> Iterator for StatesIterator<'a> {
             .copied()
             .unwrap_or(State { a: 0, b: 0 });
         Some((place, state))
+    }
+}
+
+/// An iterator over kept states in no order.
+#[derive(Drop)]
+pub struct UnorderedStates<'a> {
+    entries: hash_map::Iter<'a, (u8, u64), State>,
+}
+
+impl<'a> Model for UnorderedStates<'a> {
+    ghost use Rattle.td_stamp.specs.States.{StateList};
+
+    ghost Value = { StateList };
+
+    ghost view = { λ s. s.entries };
+}
+
+impl<'a> Iterator for UnorderedStates<'a> {
+    type Item = ((u8, u64), State);
+
+    ghost next_gives = { YieldsFirst (λ s. s) };
+
+    ghost remaining = { λ s. at_most (length s) };
+
+    fn next(&mut self) -> Option<((u8, u64), State)> {
+        let (place, state) = self.entries.next()?;
+        Some((*place, *state))
     }
 }

@@ -1,4 +1,5 @@
-use Rattle.std.proofs.Common.{◌≡◌, ◌==◌, true, Result, Ok, Err, IfOk, Vec, Global, sym, ap, ◌∙◌, arith}
+use Rattle.std.proofs.Common.{◌≡◌, ◌==◌, true, [], Result, Ok, Err, IfOk, Vec, Global, sym, ap, ◌∙◌, arith}
+use Rattle.std.proofs.lemmas.List.Elements.{recursion_from_All}
 use Rattle.std.proofs.lemmas.Bool.Decides.{nat_tests}
 use Rattle.td_stamp.specs.Bag.{set_insert}
 use Rattle.td_stamp.specs.States.{StateList}
@@ -6,6 +7,7 @@ use Rattle.td_questions.specs.declared.error.QuestionError.{QuestionError}
 use Rattle.td_questions.specs.Asked.{Entry, at_most}
 use Rattle.td_questions.specs.Ranks.{ranked_cmp}
 use Rattle.td_questions.proofs.Weights.{in_all, put_one, entries_are}
+use Rattle.td_questions.proofs.Unordered.{Found, same_in_all}
 use Rattle.td_questions.proofs.ranks.first_entries.Goals as goal
 
 pub loop-place-preserved-in-Continue-1 : goal.loop-place-preserved-in-Continue-1
@@ -27,7 +29,14 @@ carried xs ys is (Err why) h = tt
 pub returns : goal.returns
 returns c =
     let keys = c.loop-place.first.keys in
+    let lying = c.unordered-place-items.result in
+    let states = c.args.states.now in
+    let laws = c.rank_laws.ensures in
     carried _ _
-    (entries_are c.args.order c.args.count c.args.vertex c.rank_laws.ensures c.args.states.now keys c.loop-place.invariant.few
-    (ap (λ l. in_all c.args.order c.args.count c.args.vertex l keys) (sym c.in-None.ensures.steps.0) ∙ c.loop-place.invariant.so_far))
+    (entries_are c.args.order c.args.count c.args.vertex laws states keys c.loop-place.invariant.few
+    (ap (λ l. in_all c.args.order c.args.count c.args.vertex l keys) (sym c.in-None.ensures.steps.0)
+    ∙ (c.loop-place.invariant.so_far
+    ∙ (ap (λ l. in_all c.args.order c.args.count c.args.vertex l []) c.into_iter-place-iterator.ensures.into_iter_gives
+    ∙ same_in_all c.args.order c.args.vertex states c.args.count laws c.unordered-place-items.ensures.ordered lying
+    (recursion_from_All (Found states) lying c.unordered-place-items.ensures.found) c.unordered-place-items.ensures.all))))
     c.entries_of.result c.entries_of.ensures

@@ -30,3 +30,6 @@ returns-in_default-clause-kept c =
           let size : length c.insert.new.self.keys ≡ length set = ap length put in
           sym (few_are_all c.args.count set (subst (λ o. IsFew o set) (sym w.in-Some.is) (omega (arith, size, w.len.ensures.len, w.if-most-len.false))))
     ]
+
+pub returns-then-is_behind-clause-kept : goal.returns-then-is_behind-clause-kept
+returns-then-is_behind-clause-kept c = sym c.if-is_behind.ensures
