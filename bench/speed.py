@@ -4,8 +4,9 @@
     bench/speed.py [--rounds N] [TD..]      needs rustc and a `td` that `rt run` built, or these programs, each as `td`
 
 All read the same text in turn, and their outputs must be equal. The median of the rounds counts, five by default: of the processor time,
-with the system's, and of the most that was resident at once. Then plans are compared with each other: twice as many records with as many,
-and COUNT beside 20 maps that nobody reads with COUNT alone; the two of each in turn as well."""
+with the system's, and of the most that was resident at once. Then `td run`, with 1 and 4 shards, is compared with `td batch` where several vertices read
+one input. Last, plans are compared with each other: twice as many records with as many, and COUNT beside 20 maps that nobody reads with
+COUNT alone; the two of each in turn as well."""
 
 import argparse
 import pathlib
@@ -23,6 +24,17 @@ CASES = [
     ("TOTAL, 1,000,000 records, 100,000 keys, 1,000 epochs", "total", TOTAL, 1000),
 ]
 
+# 48 maps of an input, of which each fold of six reads eight: a vertex reads no more.
+MAPS = ("0 input\n" + "".join(f"{number} map 1 0\n" for number in range(1, 49))
+        + "".join(f"{49 + fold} fold 40 {' '.join(str(8 * fold + number) for number in range(1, 9))}\n" for fold in range(6))
+        + "".join(f"{55 + fold} output {49 + fold}\n" for fold in range(6)))
+COUNT_AND_SUM = "0 input\n1 group 20 0\n2 group 21 0\n3 output 1\n4 output 2\n"
+# Plans in which several vertices read one input, with records, keys and epochs.
+READ_BY_SEVERAL = [
+    ("48 maps of an input that folds read, 20,000 epochs of 1 record, 1,000 keys", MAPS, (20_000, 1_000, 20_000)),
+    ("48 maps of an input that folds read, 1,000 epochs of 100 records, 10,000 keys", MAPS, (100_000, 10_000, 1_000)),
+    ("COUNT and SUM of one input, 1,000,000 records, 100,000 keys, 1 epoch", COUNT_AND_SUM, (1_000_000, 100_000, 1)),
+]
 
 # Plans beside each other: of both a name, a plan, and records, keys, epochs and values.
 MILLION = ("COUNT, 1,000,000 records", COUNT, (1_000_000, 100_000, 1), {})
@@ -95,6 +107,14 @@ def main():
             base = medians["tuned"]
             for who, (seconds, megabytes) in medians.items():
                 print(f"| {name} | {who} | {seconds:.2f} | {seconds / base[0]:.1f} | {megabytes:.0f} | {megabytes / base[1]:.1f} |", flush=True)
+        print("\n| Case | Program | s | times `td batch` | MB | times `td batch` |\n|---|---|---|---|---|---|")
+        for name, plan, sizes in READ_BY_SEVERAL:
+            text.write_text(plan + "--\n" + "".join(records(*sizes, 1)))
+            for td in tds:
+                medians = measure(name, {"`td batch`": [td, "batch"], "`td run`": [td, "run"], "`td run` with 4 shards": [td, "run", "--workers", "4"]}, text, place, given.rounds)
+                base = medians["`td batch`"]
+                for who, (seconds, megabytes) in medians.items():
+                    print(f"| {name} | {who} of {td.name} | {seconds:.2f} | {seconds / base[0]:.1f} | {megabytes:.0f} | {megabytes / base[1]:.1f} |", flush=True)
         print("\n| Plan | Program | s | MB | Plan | s | times | MB | times |\n|---|---|---|---|---|---|---|---|---|")
         for td in tds:
             for pair in PAIRS:
