@@ -3,7 +3,7 @@ use crate::error::StepError;
 use crate::hands::Hands;
 use td_calls::Stock;
 use td_core::{Cut, Hall, HallError};
-use td_stamp::{Batch, EpochOut, Rec, States, Time};
+use td_stamp::{Batch, EpochOut, Rec, State, States, Time};
 use td_task::{Done, KeyAt, KeyedItems, Task, Work};
 
 /// Why a batch came back, and its entries.
@@ -135,15 +135,23 @@ pub(crate) fn print_epoch(rt: &impl Print, out: &EpochOut) -> Result<(), StepErr
 /// `cut EPOCH:`, and the states.
 pub(crate) fn print_cut(rt: &impl Print, cut: &Cut) -> Result<(), StepError> {
     print!(rt; "cut {}:", cut.epoch)?;
-    print_states(rt, &cut.states)
+    for (place, state) in cut.states.list() {
+        print_state(rt, place, state)?;
+    }
+    Ok(println!(rt; "")?)
 }
 
 /// ` (VERTEX KEY A B)` for each, and the end of the line.
 pub(crate) fn print_states(rt: &impl Print, states: &States) -> Result<(), StepError> {
-    for ((vertex, key), state) in states.list() {
-        print!(rt; " ({vertex} {key} {} {})", state.a, state.b)?;
+    for (place, state) in states.list() {
+        print_state(rt, place, state)?;
     }
     Ok(println!(rt; "")?)
+}
+
+fn print_state(rt: &impl Print, place: (u8, u64), state: State) -> Result<(), StepError> {
+    let (vertex, key) = place;
+    Ok(print!(rt; " ({vertex} {key} {} {})", state.a, state.b)?)
 }
 
 /// `unpassed EPOCH`, or `none`.

@@ -61,12 +61,12 @@ fn print_output(text: &mut String, epoch: u64, output: Output) -> Result<(), Fau
 {
     let mut number = Buffer::new();
     text.push_str(number.format(epoch))?;
-    text.push_str(" ")?;
+    text.push(' ')?;
     text.push_str(number.format(output.vertex))?;
-    text.push_str(" ")?;
+    text.push(' ')?;
     text.push_str(number.format(output.rec.key))?;
-    text.push_str(" ")?;
+    text.push(' ')?;
     text.push_str(number.format(output.rec.val))?;
-    text.push_str("\n")?;
+    text.push('\n')?;
     Ok(())
 }

@@ -15,13 +15,13 @@ use std::collections::VecDeque;
 use td_calls::Law;
 use td_machine::laws::{base_has_passed, reached, reached_in_order};
 use td_progress::laws::in_any_order;
-use td_stamp::{Batch, States};
+use td_stamp::{Batch, OrderedStates};
 
 /// The states that folds keep after an epoch.
 #[derive(Debug, Drop)]
 pub struct Cut {
     pub epoch: u64,
-    pub states: States,
+    pub states: OrderedStates,
 }
 
 impl<L: Law> Hall<L> {
@@ -80,7 +80,7 @@ fn cut_floor(floor: &mut Floor, epoch: u64) -> Result<Cut, HallError>
     ensures memory { IfErr result (λ e. e ≡ Memory) }
 {
     let states = floor.versions.states_at(epoch, floor.states.copy()?)?;
-    let handed_out = states.copy()?;
+    let handed_out = OrderedStates::of(floor.alloc, &states)?;
     drop_first(&mut floor.batches, epoch - floor.base);
     floor.seen.let_go(epoch);
     floor.versions.let_go(epoch);

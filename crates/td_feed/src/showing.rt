@@ -19,7 +19,7 @@ use td_disk::Disk;
 use td_journal::{Counts, greatest_counted};
 use td_plan::Plan;
 use td_slots::Checkpoint;
-use td_stamp::{State, States};
+use td_stamp::{OrderedStates, State};
 use td_standing::{Counted, count_device, laws};
 
 /// Writes what a disk tells for a plan: `kept C`, the epoch of its checkpoint; `told T`, the last epoch on it; `last Q`, the
@@ -92,7 +92,7 @@ fn print_last(text: &mut String, last: u64) -> Result<(), Fault>
 }
 
 /// Appends the lines of states. Refusal: `Memory`.
-fn print_states(text: &mut String, states: &States) -> Result<(), Fault>
+fn print_states(text: &mut String, states: &OrderedStates) -> Result<(), Fault>
     ensures ok { OnOk result (string_bytes text.new ≡ string_bytes text.old ++ state_lines states.now) }
     ensures err { IfErr result (λ f. f ≡ Fault.Memory) }
 {

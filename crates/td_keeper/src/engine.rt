@@ -190,7 +190,7 @@ impl<D: Disk, L: Law> Keeper<D, L> {
     {
         each_is_kept(self);
         let (epoch, states) = self.base();
-        let states = states.copy()?;
+        let states = states.to_states(alloc)?;
         match Hall::open(alloc, &self.plan, states, epoch + 1, 1) {
             Ok(hall) => Ok(hall),
             Err(_memory) => Err(KeeperError::Memory),

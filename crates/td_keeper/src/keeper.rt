@@ -20,7 +20,7 @@ use td_head::{Head, Shape};
 use td_journal::{Submitted, greatest_request};
 use td_plan::Plan;
 use td_slots::Checkpoint;
-use td_stamp::{Batch, EpochOut, States};
+use td_stamp::{Batch, EpochOut, OrderedStates, States};
 use td_standing::{KeeperError, Recovered, format_device, laws, recover_device};
 use td_watch::Writer;
 
@@ -28,7 +28,7 @@ use td_watch::Writer;
 #[derive(Drop)]
 pub(crate) struct Taken {
     pub epoch: u64,
-    pub states: States,
+    pub states: OrderedStates,
     pub waits: bool,
 }
 
@@ -188,7 +188,7 @@ impl<D: Disk, L: Law> Keeper<D, L> {
         ensures batches { IfOk result (λ o. o.2.items ≡ batches_of self.now.standing.submitted) }
         ensures refusals { IfErr result (λ e. e ≡ KeeperError.Memory) }
     {
-        let states = self.checkpoint.states.copy()?;
+        let states = self.checkpoint.states.to_states(self.alloc)?;
         let mut batches = Vec::with_capacity(self.alloc, self.submitted.len())?;
         for i in 0..self.submitted.len() {
             batches.push(self.submitted[i].batch.copy()?)?;

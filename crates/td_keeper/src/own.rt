@@ -15,7 +15,7 @@ use td_core::Hall;
 use td_disk::Disk;
 use td_journal::Submitted;
 use td_pool::AnyHall;
-use td_stamp::{Batch, States};
+use td_stamp::{Batch, OrderedStates};
 
 impl<D: Disk, L: Law> Keeper<D, L> {
     /// Whether what is lent is one of this keeper's halls.
@@ -35,8 +35,7 @@ impl<D: Disk, L: Law> Keeper<D, L> {
         if of_hall != epoch || hall.collected() != self.collected {
             return false;
         }
-        let same_states = *states_of_hall == *states;
-        if !same_states {
+        if !states.are(states_of_hall) {
             return false;
         }
         let same_plan = hall.plan().same(&self.plan);
@@ -47,7 +46,7 @@ impl<D: Disk, L: Law> Keeper<D, L> {
     }
 
     /// The epoch of the keeper's base, and its states.
-    pub(crate) fn base(&self) -> (u64, &States)
+    pub(crate) fn base(&self) -> (u64, &OrderedStates)
         ensures epoch { result.0 ≡ self.now.base }
         ensures states { result.1.now ≡ self.now.base_states }
     {

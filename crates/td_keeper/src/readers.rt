@@ -72,7 +72,7 @@ impl<D: Disk, L: Law> Keeper<D, L> {
         ensures states { IfOk result (λ s. s ≡ self.now.standing.states) }
         ensures refusals { IfErr result (λ e. e ≡ KeeperError.Memory) }
     {
-        Ok(self.checkpoint.states.copy()?)
+        Ok(self.checkpoint.states.to_states(self.alloc)?)
     }
 
     /// The plan.

@@ -1,11 +1,10 @@
 -- Kept states rise strictly by vertex and key.
-use Rattle.std.proofs.Common.{◌≡◌, ℕ, Bool, true, false, List, [], ◌∷◌, ◌++◌, Some, refl, ap, ◌∙◌}
+use Rattle.std.proofs.Common.{◌≡◌, ℕ, Bool, true, false, List, [], ◌∷◌, ◌++◌, Some, refl, ap}
 use Rattle.std.proofs.lemmas.Bool.{and_parts, and_from, and_left, and_right}
 use Rattle.std.specs.declared.cmp.Ordering.{Ordering}
 use Rattle.std.specs.declared.cmp.Ordering.TheVariants.{Less, Equal, Greater}
-use Rattle.std.specs.Ordering.{is_lt, ordering_reverse, match_ordering}
+use Rattle.std.specs.Ordering.{is_lt}
 use Rattle.std.specs.Map.{keys_of}
-use Rattle.std.specs.BTreeMap.{insert_entry}
 use Rattle.std.specs.List.{AllByRecursion}
 use Rattle.std.specs.List.Sorted.{IsStrictlySortedBy}
 use Rattle.td_stamp.specs.declared.values.State.{State}
@@ -45,23 +44,6 @@ unfolding IsStrictlySortedBy
 states_from_chain [] chain = tt
 states_from_chain (x ∷ []) chain = (tt, tt)
 states_from_chain (x ∷ y ∷ ys) chain = (below_all x (y ∷ ys) chain, states_from_chain (y ∷ ys) (and_parts (is_lt (state_key_cmp x.0 y.0)) (ordered (y ∷ ys)) chain).1)
-
--- a state put after the last one
-first_below : (x : (ℕ × ℕ) × State) (xs : StateList) (p : ℕ × ℕ) → ordered (x ∷ xs) ≡ true → may_come_after (last_place (x ∷ xs)) p ≡ true → state_key_cmp x.0 p ≡ Less
-first_below x [] p chain last = less_from (state_key_cmp x.0 p) last
-first_below x (y ∷ ys) p chain last =
-    let parts = and_parts (is_lt (state_key_cmp x.0 y.0)) (ordered (y ∷ ys)) chain in
-    state_key_total.trans x.0 y.0 p (less_from (state_key_cmp x.0 y.0) parts.0) (first_below y ys p parts.1 last)
-
-above_first : (x : (ℕ × ℕ) × State) (xs : StateList) (p : ℕ × ℕ) → ordered (x ∷ xs) ≡ true → may_come_after (last_place (x ∷ xs)) p ≡ true → state_key_cmp p x.0 ≡ Greater
-above_first x xs p chain last = state_key_total.antisymm p x.0 ∙ ap ordering_reverse (first_below x xs p chain last)
-
-pub set_last : (xs : StateList) (p : ℕ × ℕ) (s : State) → ordered xs ≡ true → may_come_after (last_place xs) p ≡ true → insert_entry state_key_cmp xs p s ≡ xs ++ (p, s) ∷ []
-set_last [] p s chain last = refl
-set_last (x ∷ []) p s chain last = ap (λ (o : Ordering). match_ordering o ((p, s) ∷ x ∷ []) ((x.0, s) ∷ []) (x ∷ (p, s) ∷ [])) (above_first x [] p chain last)
-set_last (x ∷ y ∷ ys) p s chain last =
-    ap (λ (o : Ordering). match_ordering o ((p, s) ∷ x ∷ y ∷ ys) ((x.0, s) ∷ y ∷ ys) (x ∷ insert_entry state_key_cmp (y ∷ ys) p s)) (above_first x (y ∷ ys) p chain last)
-    ∙ ap (λ (l : StateList). x ∷ l) (set_last (y ∷ ys) p s (and_parts (is_lt (state_key_cmp x.0 y.0)) (ordered (y ∷ ys)) chain).1 last)
 
 pub last_pushed : (xs : StateList) (x : (ℕ × ℕ) × State) → last_place (xs ++ x ∷ []) ≡ Some x.0
 last_pushed [] x = refl

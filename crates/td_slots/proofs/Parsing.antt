@@ -4,14 +4,12 @@ use Rattle.std.specs.List.{list_all, list_any}
 use Rattle.std.proofs.lemmas.List.{append_assoc, drop-drop}
 use Rattle.std.proofs.lemmas.List.Folds.{list_all-append}
 use Rattle.std.proofs.lemmas.Bool.{and_from, and_parts, and_left, and_right}
-use Rattle.std.specs.BTreeMap.{insert_entry}
 use Rattle.td_stamp.specs.declared.values.State.{State}
-use Rattle.td_stamp.specs.Orders.{state_key_cmp}
 use Rattle.td_stamp.specs.States.{StateList}
 use Rattle.td_gate.specs.Fields.{front_in, each_in}
 use Rattle.td_slots.specs.Slot.{state_in, states_in, are_states}
 use Rattle.td_slots.specs.Parsed.{last_place, may_come_after}
-use Rattle.td_slots.proofs.Order.{ordered, ordered_more, last_pushed, broken, before, set_last}
+use Rattle.td_slots.proofs.Order.{ordered, ordered_more, last_pushed, broken, before}
 
 abbrev pub names : List ℕ → (ℕ × ℕ) × State → Bool
 names folds e = list_any (λ v. v == e.0.0) folds
@@ -113,10 +111,12 @@ module _ (folds : List ℕ) (count : ℕ) (bytes : List ℕ) where
         let behind = and_parts (list_all (names folds) es) (list_all (names folds) (this ∷ left count (i + 1) bytes)) (sym (list_all-append (names folds) es (this ∷ left count (i + 1) bytes)) ∙ split.0) in
         (and_parts (names folds this) (list_all (names folds) (left count (i + 1) bytes)) behind.1).0
 
-    pub taken : (new : StateList) → new ≡ insert_entry state_key_cmp es this.0 this.1 → states_in bytes ≡ new ++ left count (i + 1) bytes
-    taken new is =
-        let may = before es (left count (i + 1) bytes) this split.1 in
-        read_more count i bytes es lt read ∙ ap (λ (l : StateList). l ++ left count (i + 1) bytes) (sym (is ∙ set_last es this.0 this.1 may.0 may.1))
+    -- with those before it, it is in order
+    pub rises : ordered (es ++ this ∷ []) ≡ true
+    rises = let may = before es (left count (i + 1) bytes) this split.1 in ordered_more es this may.0 may.1
+
+    pub taken : (new : StateList) → new ≡ es ++ this ∷ [] → states_in bytes ≡ new ++ left count (i + 1) bytes
+    taken new is = read_more count i bytes es lt read ∙ ap (λ (l : StateList). l ++ left count (i + 1) bytes) (sym is)
 
   pub all_taken : (i : ℕ) (es : StateList) → i ≡ count → states_in bytes ≡ es ++ left count i bytes → es ≡ states_in bytes
   all_taken i es done read =

@@ -2,6 +2,9 @@
 ghost use Rattle.std.specs.Prelude.{◌≡◌, ◌⊎◌, ◌+◌, ◌-◌, ◌*◌, ◌^◌, ◌<◌, ◌≤◌, ℕ, true, ◌==◌, List, length, Ok};
 ghost use Rattle.td_stamp.specs.States.{StateList, AreStates};
 ghost use Rattle.std.specs.List.{list_all, list_any};
+ghost use Rattle.std.specs.Ordering.{is_lt};
+ghost use Rattle.td_gate.specs.Fields.{is_chain};
+ghost use Rattle.td_stamp.specs.Orders.{state_key_cmp};
 ghost use Rattle.td_gate.specs.Region.{Puts};
 ghost use Rattle.td_gate.specs.Regions.{Apart, Replaces};
 ghost use Rattle.td_slots.specs.declared.slots.Slots.{Slots as AnySlots};
@@ -60,6 +63,7 @@ pub fn states_are_in_order()
     ensures read { (folds : List ℕ) (states : StateList) → are_states folds states ≡ true → AreStates states }
     ensures named { (folds : List ℕ) (states : StateList)
         → are_states folds states ≡ true → list_all (λ s. list_any (λ v. v == s.0.0) folds) states ≡ true }
+    ensures rises { (states : StateList) → is_chain (λ x y. is_lt (state_key_cmp x.0 y.0)) states ≡ true → AreStates states }
 {}
 
 /// The newest checkpoint of any version of the format is that of version 2.

@@ -9,7 +9,7 @@ ghost use Rattle.td_slots.specs.Parsed.{may_come_after};
 use crate::payload::STATE_LEN;
 use std::alloc::Global;
 use td_gate::fields::{FRONT_LEN, Front, i64_at, named, u64_at};
-use td_stamp::{EPOCHS_END, StampError, State, States};
+use td_stamp::{EPOCHS_END, OrderedStates, StampError, State};
 
 /// Where the state at a place of a payload is kept, if by a fold.
 fn kept_at(folds: &[u8], payload: &[u8], at: usize) -> Option<(u8, u64)>
@@ -83,16 +83,20 @@ pub(crate) fn is_slot(version: u32, folds: &[u8], k: u32, payload: &[u8]) -> boo
 }
 
 /// The states of a payload that is valid.
-pub(crate) fn states_of(alloc: Global, folds: &[u8], payload: &[u8]) -> Result<States, StampError>
+pub(crate) fn states_of(
+    alloc: Global,
+    folds: &[u8],
+    payload: &[u8],
+) -> Result<OrderedStates, StampError>
     requires room { slot_len (front_in payload.now).count ≤ length payload.now }
     requires valid { are_states_of folds.now (states_in payload.now) ≡ true }
     ensures { IfOk result (λ states. states ≡ states_in payload.now) }
 {
-    let mut states = States::new(alloc);
+    let mut states = OrderedStates::new(alloc);
     for i in 0..Front::read(payload).count {
         let at = FRONT_LEN + STATE_LEN * i as usize;
         if let Some(place) = kept_at(folds, payload, at) {
-            states.set(place.0, place.1, state_at(payload, at))?;
+            states.push(place.0, place.1, state_at(payload, at))?;
         }
     }
     Ok(states)

@@ -5,7 +5,7 @@ ghost use Rattle.td_slots.specs.Slot.{state_bytes, slot_bytes, FitsState};
 
 use std::alloc::{AllocError, Global};
 use td_gate::fields::{FRONT_LEN, Front, push_i64, push_u64};
-use td_stamp::{State, States};
+use td_stamp::{OrderedStates, State};
 
 /// How many bytes a kept state has.
 pub(crate) const STATE_LEN: usize = 32;
@@ -22,7 +22,7 @@ fn push_state(payload: &mut Vec<u8>, vertex: u8, key: u64, state: State) -> Resu
 }
 
 /// Puts kept states at the end.
-fn push_states(payload: &mut Vec<u8>, states: &States) -> Result<(), AllocError>
+fn push_states(payload: &mut Vec<u8>, states: &OrderedStates) -> Result<(), AllocError>
     ensures ok { OnOk result (payload.new.items ≡ payload.old.items ++ flat_map state_bytes states.now) }
     ensures fits { OnOk result (Each FitsState states.now) }
 {
@@ -38,7 +38,7 @@ pub(crate) fn slot_payload(
     k: u32,
     epoch: u64,
     last: u64,
-    states: &States,
+    states: &OrderedStates,
 ) -> Result<Vec<u8>, AllocError>
     requires limit { k ≤ 1048576 }
     requires few { length states.now ≤ k }

@@ -16,7 +16,7 @@ use std::alloc::Global;
 use td_disk::Disk;
 use td_gate::Region;
 use td_gate::fields::{FRONT_LEN, Front};
-use td_stamp::States;
+use td_stamp::OrderedStates;
 
 /// A checkpoint: the slot in which it stands, its epoch, the greatest request number of the epochs up to it (0 for none), and the
 /// kept states after it. It is also the definition's answer, so the clause of `newest` is one equation.
@@ -25,7 +25,7 @@ pub struct Checkpoint {
     pub slot: u8,
     pub epoch: u64,
     pub last: u64,
-    pub states: States,
+    pub states: OrderedStates,
 }
 
 /// Two slots from the offset `at` on, each for at most `k` states.
@@ -83,7 +83,7 @@ impl Slots {
         newest: u8,
         epoch: u64,
         last: u64,
-        states: &States,
+        states: &OrderedStates,
     ) -> Result<(), SlotsError>
         requires which { newest ≤ 1 }
         requires limit { self.now.k ≤ 1048576 }

@@ -2,6 +2,7 @@ pub mod AnyOrder
 pub mod Bags
 pub mod Batches
 pub mod Counts
+pub mod FoundBehind
 pub mod Listed
 pub mod Packing
 pub mod Parts

@@ -12,11 +12,11 @@ use Rattle.std.specs.declared.cmp.Ordering.{Ordering}
 use Rattle.std.specs.declared.cmp.Ordering.TheVariants.{Less, Equal, Greater}
 use Rattle.std.specs.Ordering.{is_eq}
 use Rattle.std.proofs.lemmas.Map.Keys.{sorted_head, sorted_tail}
-use Rattle.std.proofs.lemmas.Cmp.{tied_itself}
+use Rattle.std.proofs.lemmas.Cmp.{tied_itself, eq_by_cmp_equiv}
 use Rattle.td_stamp.specs.declared.values.State.{State}
 use Rattle.td_stamp.specs.Orders.{state_key_cmp}
 use Rattle.td_stamp.specs.ProvedOrders.{state_key_total, state_key_apart, places_tied}
-use Rattle.td_stamp.specs.States.{AreStates, same_place, found_at, listed}
+use Rattle.td_stamp.specs.States.{StateList, AreStates, same_place, found_at, listed}
 
 abbrev pub is_there : ℕ × ℕ → ℕ × ℕ → Bool
 is_there p = is_at (state_key_cmp p)
@@ -154,3 +154,25 @@ AreThose places find = (q : ℕ × ℕ) → list_any (is_there q) places ≡ is_
 -- the same states are found
 pub listed_alike : (places : List (ℕ × ℕ)) (find after : ℕ × ℕ → Option State) → ((q : ℕ × ℕ) → after q ≡ find q) → listed places after ≡ listed places find
 listed_alike places find after h = ap (listed places) (λ i q. h q i)
+
+-- ---- what is found as in a list that is such a map, at its places, is that list
+
+pub seen_from : (q p : ℕ × ℕ) → is_there q p ≡ same_place p q
+seen_from q p = (eq_by_cmp_equiv state_key_total).symm q p ∙ places_tied p q
+
+pub relisted : (states : StateList) (find : ℕ × ℕ → Option State) → AreStates states → ((q : ℕ × ℕ) → find q ≡ lookup (is_there q) states) → listed (keys_of states) find ≡ states
+relisted [] find ordered found = refl
+relisted (e ∷ states) find ordered found =
+    λ i. ((e.0, here i) ∷ (sym stay ∙ relisted states rest (sorted_tail state_key_cmp e.0 (keys_of states) ordered) (λ q. refl)) i)
+  where
+    rest : ℕ × ℕ → Option State
+    rest q = lookup (is_there q) states
+
+    here : found_at find e.0 ≡ e.1
+    here = ap (λ o. unwrap_or o (record { a = pos 0; b = pos 0 })) (found e.0 ∙ ap (λ b. cond b (Some e.1) (rest e.0)) (ap is_eq (tied_itself state_key_total e.0)))
+
+    agree : (q : ℕ × ℕ) → find q ≡ cond (same_place e.0 q) (Some e.1) (rest q)
+    agree q = found q ∙ ap (λ b. cond b (Some e.1) (rest q)) (seen_from q e.0)
+
+    stay : listed (keys_of states) rest ≡ listed (keys_of states) find
+    stay = others_stay rest find e.0 (Some e.1) agree (keys_of states) (others_above e.0 (keys_of states) (sorted_head state_key_cmp e.0 (keys_of states) ordered))

@@ -14,7 +14,7 @@ use Rattle.td_stamp.proofs.Placed.{is_there}
 use Rattle.td_stamp.proofs.SameSets.{same_members}
 use Rattle.td_stamp.proofs.Sets.{set_of-IsStrictlySortedBy}
 
-has_any : (p : ℕ × ℕ) (places : List (ℕ × ℕ)) → has state_key_cmp p places ≡ list_any (is_there p) places
+pub has_any : (p : ℕ × ℕ) (places : List (ℕ × ℕ)) → has state_key_cmp p places ≡ list_any (is_there p) places
 has_any p [] = refl
 has_any p (q ∷ places) = ap (λ b. is_eq (state_key_cmp p q) || b) (has_any p places)
 
@@ -24,7 +24,7 @@ set_has_them p (q ∷ places) =
     has-set_insert state_key_cmp state_key_total state_key_apart p q (set_of state_key_cmp places) ∙ ap (λ b. is_eq (state_key_cmp p q) || b) (set_has_them p places)
 
 -- a look-up tells whether a place is there
-told : (p : ℕ × ℕ) (states : StateList) → has state_key_cmp p (keys_of states) ≡ is_some (lookup (is_there p) states)
+pub told : (p : ℕ × ℕ) (states : StateList) → has state_key_cmp p (keys_of states) ≡ is_some (lookup (is_there p) states)
 told p [] = refl
 told p (e ∷ states) = by (is_there p e.0) (told p states)
   where

@@ -24,8 +24,8 @@ use std::marker::Model;
 /// which no call here has, and two runs would differ.
 #[derive(Debug, Drop)]
 pub struct States {
-    kept: HashMap<(u8, u64), State>,
-    order: BTreeSet<(u8, u64)>,
+    pub(crate) kept: HashMap<(u8, u64), State>,
+    pub(crate) order: BTreeSet<(u8, u64)>,
 }
 
 impl Model for States {

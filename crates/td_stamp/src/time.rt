@@ -112,8 +112,10 @@ impl Time {
     pub fn total_cmp(&self, other: &Time) -> Ordering
         ensures { result ≡ time_cmp self.now other.now }
     {
-        let epochs = self.epoch.cmp(&other.epoch);
-        epochs.then(self.turns().cmp(&other.turns()))
+        match self.epoch.cmp(&other.epoch) {
+            Ordering::Equal => self.turns().cmp(&other.turns()),
+            apart => apart,
+        }
     }
 
     /// The time in a loop that is entered now: one more counter, 0.

@@ -13,7 +13,7 @@ use td_disk::Disk;
 use td_head::Shape;
 use td_plan::Plan;
 use td_slots::Checkpoint;
-use td_stamp::States;
+use td_stamp::OrderedStates;
 
 /// Formats a disk, and gives what its keeper has in memory: a copy of the plan, and the checkpoint of no epochs.
 pub fn format_device<D: Disk>(
@@ -39,7 +39,7 @@ pub fn format_device<D: Disk>(
     let Ok(copy) = plan.copy() else {
         return Err(KeeperError::Memory);
     };
-    let states = States::new(alloc);
+    let states = OrderedStates::new(alloc);
     laws::formatted();
     laws::parts_are_apart();
     td_gate::laws::put_leaves_others();

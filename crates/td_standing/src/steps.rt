@@ -21,7 +21,7 @@ use td_head::{Head, HeadError};
 use td_journal::{Journal, JournalError};
 use td_plan::Plan;
 use td_slots::{Slots, SlotsError};
-use td_stamp::{Batch, States};
+use td_stamp::{Batch, OrderedStates};
 
 /// Puts the next epoch's batch and its request number (0 for none) into its cell, after the cell behind it was closed
 /// where it bears the epoch behind it. It refuses `Memory`, and then has written nothing; then `Device`.
@@ -97,7 +97,7 @@ pub fn write_states<D: Disk>(
     newest: u8,
     epoch: u64,
     last: u64,
-    states: &States,
+    states: &OrderedStates,
 ) -> Result<(), SlotsError>
     requires which { newest ≤ 1 }
     requires limit { slots.now.k ≤ 1048576 }

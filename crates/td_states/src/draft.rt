@@ -11,7 +11,7 @@ use std::alloc::Global;
 use std::marker::Model;
 use td_gate::fields::named;
 use td_slots::Checkpoint;
-use td_stamp::{EPOCHS_END, State, States};
+use td_stamp::{EPOCHS_END, OrderedStates, State};
 
 /// A checkpoint of which some lines were read, and where the last of its states is kept. Contracts see the checkpoint.
 #[derive(Drop)]
@@ -41,7 +41,7 @@ impl Draft {
                 slot: 0,
                 epoch,
                 last: 0,
-                states: States::new(alloc),
+                states: OrderedStates::new(alloc),
             },
             place: None,
         }
@@ -110,10 +110,11 @@ impl Draft {
             mut checkpoint,
             place,
         } = self;
+        td_slots::laws::states_are_in_order();
         if !may_come(place, (fold, key)) {
             return Err(StatesError::Line(number, StatesFault::Order));
         }
-        checkpoint.states.set(fold, key, state)?;
+        checkpoint.states.push(fold, key, state)?;
         Ok(Some(Draft {
             checkpoint,
             place: Some((fold, key)),

@@ -15,7 +15,7 @@ use td_console::{Fault, Sink, write_answer};
 use td_disk::Disk;
 use td_plan::Plan;
 use td_slots::Checkpoint;
-use td_stamp::{State, States};
+use td_stamp::{OrderedStates, State};
 use td_standing::count_device;
 
 /// Writes the checkpoint of a disk for a plan, as text that `read_states` takes: `kept E`, `last Q` where there is a request number, and a
@@ -73,7 +73,7 @@ fn print_last(text: &mut String, last: u64) -> Result<(), Fault>
 }
 
 /// Appends the lines of states. Refusal: `Memory`.
-fn print_states(text: &mut String, states: &States) -> Result<(), Fault>
+fn print_states(text: &mut String, states: &OrderedStates) -> Result<(), Fault>
     ensures ok { OnOk result (string_bytes text.new ≡ string_bytes text.old ++ flat_map state_line states.now) }
     ensures fits { OnOk result (Each FitsState states.now) }
     ensures err { IfErr result (λ f. f ≡ Fault.Memory) }

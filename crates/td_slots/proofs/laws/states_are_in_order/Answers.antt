@@ -11,5 +11,6 @@ pub returns : goal.returns
 returns c = record {
   written = λ folds states sorted names. and_from (list_all (λ s. list_any (λ v. v == s.0.0) folds) states) (is_chain (λ x y. is_lt (state_key_cmp x.0 y.0)) states) names (chain_from_states states sorted);
   read = λ folds states are. states_from_chain states (and_parts (list_all (λ s. list_any (λ v. v == s.0.0) folds) states) (ordered states) are).1;
+  rises = states_from_chain;
   named = λ folds states are. (and_parts (list_all (λ s. list_any (λ v. v == s.0.0) folds) states) (ordered states) are).0;
 }

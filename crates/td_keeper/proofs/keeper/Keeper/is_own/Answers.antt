@@ -5,10 +5,10 @@ use Rattle.td_keeper.specs.Keeping.{Keeping, since_base}
 use Rattle.td_keeper.specs.Halls.{Begin}
 use Rattle.td_keeper.proofs.keeper.Keeper.is_own.Goals as goal
 
-pub returns-then-not-same_states : goal.returns-then-not-same_states
-returns-then-not-same_states g c = (
+pub returns-then-not-are : goal.returns-then-not-are
+returns-then-not-are g c = (
   λ f. absurd (true≢false (sym f)),
-  λ own. absurd (true≢false (sym (c.eq-same_states.ensures.same.1 (c.base-of_hall.ensures.states ∙ (own.base_states ∙ sym c.base-epoch.ensures.states))) ∙ c.if-not-same_states.true)),
+  λ own. absurd (true≢false (sym (c.are.ensures.1 (c.base-epoch.ensures.states ∙ (sym own.base_states ∙ sym c.base-of_hall.ensures.states))) ∙ c.if-not-are.true)),
 )
 
 pub returns-then-not-same_plan : goal.returns-then-not-same_plan
@@ -23,7 +23,7 @@ returns g c =
       λ t. record {
         plan = sym c.plan.ensures ∙ (c.same-same_plan.ensures.0 c.if-not-same_plan.false ∙ ap (λ (q : Keeping g.row.D.Denot). q.plan) c.self.view_is);
         base = sym c.base-of_hall.ensures.epoch ∙ (c.if-of_hall-epoch.false ∙ c.base-epoch.ensures.epoch);
-        base_states = sym c.base-of_hall.ensures.states ∙ (c.eq-same_states.ensures.same.0 c.if-not-same_states.false ∙ c.base-epoch.ensures.states);
+        base_states = sym c.base-of_hall.ensures.states ∙ (sym (c.are.ensures.0 c.if-not-are.false) ∙ c.base-epoch.ensures.states);
         collected = sym c.collected.ensures ∙ (c.if-collected-self.false ∙ ap (λ (q : Keeping g.row.D.Denot). q.collected) c.self.view_is);
         batches = subst (λ (l : List (List Entry)). Begin l (since_base c.args.self.now)) c.inputs.ensures
             (subst (λ n. Begin c.inputs.result.now.items (drop n (batches_of c.args.self.now.standing.submitted))) c.past.ensures
