@@ -11,6 +11,7 @@ use std::thread::Threads;
 use td_calls::{Closures, Stock};
 use td_console::StdWriter;
 use td_disk::{Disk, Fill, FuseDisk, MemoryDisk};
+use td_feed::Session;
 use td_head::Shape;
 use td_keeper::Keeper;
 use td_plan::Plan;
@@ -213,15 +214,12 @@ impl Stage {
         if !(1..=16).contains(&workers) {
             return Err(StepError::Syntax);
         }
-        let (device, ended) = td_feed::feed::<_, _, _, Stock, C, _>(
-            rt,
-            self.alloc,
-            self.take()?,
-            &self.plan,
-            workers,
+        let disk = self.take()?;
+        let session = Session::<Stock, C, _>::new(rt, self.alloc, &self.plan, workers, calls);
+        let (device, ended) = session.feed(
+            disk,
             &mut input.as_bytes(),
             &mut StdWriter(io::writer(rt)),
-            calls,
         );
         self.put_back(device);
         print_ended(rt, ended)

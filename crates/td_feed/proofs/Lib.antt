@@ -24,5 +24,5 @@ pub mod BringsOn
 pub mod Obeyed
 mod Shown
 pub mod Acknowledged
-pub mod Session
+pub mod Sessions
 pub mod Moments

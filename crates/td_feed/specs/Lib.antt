@@ -13,3 +13,4 @@ pub mod Upgraded
 pub mod Asked
 pub mod Placed
 pub mod Session
+pub mod Working

@@ -1,8 +1,8 @@
 -- What a call does with a disk, with a keeper at work and with a writer, by its answer.
-use Rattle.std.specs.Prelude.{◌≡◌, ◌⊎◌, ◌↔◌, ℕ, Bool, false, true, List, [], ◌∷◌, ◌++◌, length, All, Option, Some, None, Result, Ok, OnOk, OnErr, IsErr}
+use Rattle.std.specs.Prelude.{◌≡◌, ◌⊎◌, ℕ, Bool, false, true, List, [], ◌∷◌, ◌++◌, length, All, Option, Some, None, Result, Ok, OnOk, OnErr, IsErr}
 use Rattle.td_plan.specs.Lines.{Line as PlanLine}
 use Rattle.td_calls.specs.Answers.{Answers}
-use Rattle.td_disk.specs.Disk.{DiskState, CountsDevice}
+use Rattle.td_disk.specs.Disk.{DiskState}
 use Rattle.td_journal.specs.declared.submitted.Submitted.{Submitted as AnySubmitted}
 use Rattle.td_journal.specs.Numbers.{greatest}
 use Rattle.td_standing.specs.declared.error.KeeperError.TheVariants.{Device}
@@ -10,6 +10,7 @@ use Rattle.td_standing.specs.Standing.{Standing, last_epoch, last_request}
 use Rattle.td_standing.specs.Told.{Told}
 use Rattle.td_keeper.specs.declared.command.Command.{Command}
 use Rattle.td_keeper.specs.declared.command.Reply.{Reply}
+use Rattle.td_keeper.specs.Calls.{KeepsDevice}
 use Rattle.td_keeper.specs.Keeping.{Keeping, EachKeepsTo, EverKeepsTo}
 use Rattle.td_keeper.specs.Driven.{submitted_in, Obeys, Driven}
 use Rattle.td_console.specs.declared.faults.Fault.{Fault}
@@ -38,10 +39,8 @@ wanted_by refuse limit script = record {
 }
 
 -- THE DISK IS KEPT: it is as large as it was, and as lawful; and its device is told to have failed exactly where it did
-pub record KeepsDisk {D T : Type 0} (capacity : D → ℕ) (is_lawful : D → Type 0) (failures : D → ℕ) (result : Result T Fault) (old new : D) : Type 0 where
-  pub size : capacity new ≡ capacity old
-  pub lawful : is_lawful old ↔ is_lawful new
-  pub counts : CountsDevice result (Keeper Device) (failures old) (failures new)
+abbrev pub KeepsDisk : {D T : Type 0} → (D → ℕ) → (D → Type 0) → (D → ℕ) → Result T Fault → D → D → Type 0
+KeepsDisk capacity is_lawful failures result old new = KeepsDevice capacity is_lawful failures (Keeper Device) result old new
 
 module _ {D : Type 0} (is_lawful : D → Type 0) (state : D → DiskState) (failures : D → ℕ) (answers : Answers) where
   -- ONE COMMAND WAS OBEYED: the reply is no refusal, and the keeper goes on with what it submitted

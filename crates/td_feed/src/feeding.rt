@@ -30,17 +30,8 @@ use td_keeper::laws::each_is_kept;
 use td_plan::Plan;
 use td_standing::laws;
 
-/// Recovers a disk, and does what the input asks for, line by line: each epoch is put on the disk, `ack E` is written, and it
-/// is released into a hall of so many shards, each with a worker in a thread of its own. An epoch whose request number is not
-/// above all on the disk is passed over, and `again Q` is written for it. A line `cut`, and the end of the input,
-/// settle and write the output lines of the epochs after the disk's checkpoint that were not written before; a `cut` then cuts,
-/// writes the cut to the disk, and prints `cut E`. What was written before a refusal stays written, and nothing more is written
-/// after it. The workers have ended when the disk comes back.
-///
-/// Refusals: a missing closure, before anything else; what the disk refuses as it is recovered; with the whole input read, its
-/// first fault; and then what the keeper or the writer refuse, line by line. Where a worker refused, the others stop, and what it
-/// refused is answered in place of epochs that then do not pass. `Memory` also where a thread could not be made.
-pub fn feed<
+/// What `Session::feed` does.
+pub(crate) fn feed<
     D: Disk + Drop,
     I: Source,
     W: Voice,

@@ -9,6 +9,7 @@ ghost use Rattle.td_standing.specs.Read.{Refused};
 ghost use Rattle.td_standing.specs.Told.{Told};
 ghost use Rattle.td_standing.specs.declared.error.KeeperError.TheVariants.{Device};
 ghost use Rattle.td_feed.specs.Shown.{counted_lines, counted_head, last_line, state_line, state_lines, count_line, count_lines};
+ghost use Rattle.td_feed.specs.Session.{KeepsDisk};
 ghost use Rattle.td_feed.specs.Shown.{ShowsTold, IsRefusedAs};
 
 use itoa::Buffer;
@@ -35,8 +36,7 @@ pub fn show<D: Disk, W: Sink>(
     plan: &Plan,
     writer: &mut W,
 ) -> Result<(), Fault>
-    ensures size { D.capacity disk.new ≡ D.capacity disk.old }
-    ensures lawful { D.is_lawful disk.old ↔ D.is_lawful disk.new }
+    ensures disk { KeepsDisk D.capacity D.is_lawful D.failures result disk.old disk.new }
     ensures shown { OnOk result ((s : Standing) × ShowsTold (W.contents writer.old) (W.contents writer.new) s
         × (D.is_lawful disk.old → IsDurable (D.state disk.new) × Told plan.now (D.state disk.new).bytes (Ok s))) }
     ensures refused { IfErr result (λ f. (f ≡ Fault.Output) ⊎ ((f ≡ Fault.Memory)

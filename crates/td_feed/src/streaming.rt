@@ -54,44 +54,8 @@ pub struct StreamOptions {
     pub copies: bool,
 }
 
-/// Does what `feed` does, order by order as the input comes. The output lines of the epochs that the disk tells are written first.
-/// When an epoch is closed it is put on the disk, and with it, as one group, those behind it that the input has given already: all or
-/// none of a group is there after any stop. `ack E` of each is written, or `again Q`, and once they have passed their output lines
-/// are written, all before more of the input is waited for. A cut is taken and written at a line `cut`; where `cut_every` epochs
-/// stand after the last one, if that is given; and where the journal is full, so that one more epoch finds room wherever the cut's
-/// states do. A group ends at a cut, at 256 epochs, at 1 MiB of cells, and before an epoch that is refused or repeated. Of the input no
-/// more is in memory than a piece of 64 KiB, a line, the epoch that it is in, and those that were read ahead of a piece: a line has at
-/// most 4,096 bytes, and an epoch is refused once it has more records than a cell of the disk holds. How far it has
-/// come is published by the writer of a watch, where one is given: first once the disk is recovered, and then as `Keeper::attach` says.
-///
-/// Where `most` is given, it ends with `NotPassed` of the first epoch that has not passed, once the epochs that were released together
-/// have taken more than so many tasks each: a task has up to 64 records of one edge and time, or is a notification. What stands on the
-/// disk stays there.
-///
-/// Where epochs are refused, one with a faulty line, or with more records than a cell of the disk holds, is not put on the disk: at its
-/// `.` a line `no Q L: WHAT: TEXT` is written, with its request number Q, or `-`, the number L of the line and its beginning, and the stream goes on.
-///
-/// Where outputs are held, a line `seen E` between two epochs says that the outputs of all epochs up to E were stored. No cut is taken
-/// beyond the last epoch that was seen, at first the one that the disk keeps; so a later stream of the disk writes again the outputs of
-/// each epoch that was not seen. Where the journal is full and nothing more was seen, `full E` is written, with its last epoch E.
-///
-/// Where epochs may have places, a line `at E` before an epoch's records says that it is the epoch E. It is put on the disk where the last
-/// epoch there is E - 1. Else it is not: where the disk has E already, a line `there E` is written at its `.`. Where the disk lacks an
-/// epoch before E, the stream ends with `Gap` of the line `at E`; or it writes `gap E` and goes on, where epochs are refused.
-///
-/// Where questions are answered, a line between two epochs may ask for what a fold keeps (`td_questions`). It is answered at once, of the
-/// states after the last epoch on the disk, which has passed: `state E V KEY A B` of each state that answers, or `none E V KEY`, and
-/// `asked E` at the end.
-///
-/// Where copies are made, a line `copy NEW M N K` between two epochs asks for one. What the disk tells is put on a new disk of that shape,
-/// which the host makes and keeps, and `copied NEW E` is written, with the last epoch E. Where it has no room for that, or the host or the
-/// new disk refuses, `not copied NEW: WHAT` is written, and the stream goes on. The host is told each epoch of a line `seen E`, too.
-///
-/// Refusals: a missing closure, before anything else; what the disk refuses as it is recovered; and then the first of what a line,
-/// the reader, the keeper, a worker or the writer refuse, after all that was asked for before it; but want of memory, where epochs are
-/// read ahead, may come before these are put on the disk. What was written stays written. `Memory` also where a thread could not be
-/// made.
-pub fn stream<
+/// What `Session::stream` does.
+pub(crate) fn stream<
     D: Disk + Drop,
     I: Source + Drop,
     W: Voice,

@@ -5,6 +5,7 @@ ghost use Rattle.td_disk.specs.Disk.{Rises};
 ghost use Rattle.td_journal.specs.declared.submitted.Submitted.{Submitted as AnySubmitted};
 ghost use Rattle.td_standing.specs.declared.error.KeeperError.TheVariants.{Device};
 ghost use Rattle.td_feed.specs.Fed.{EachTellsHistory};
+ghost use Rattle.td_feed.specs.Session.{KeepsDisk};
 ghost use Rattle.td_feed.specs.Upgraded.{version_line, IsNumbered};
 
 use std::alloc::Global;
@@ -28,8 +29,7 @@ pub fn upgrade<D: Disk, L: Law, W: Sink>(
     plan: &Plan,
     writer: &mut W,
 ) -> (D, Result<(), Fault>)
-    ensures size { D.capacity result.0 ≡ D.capacity disk }
-    ensures lawful { D.is_lawful disk ↔ D.is_lawful result.0 }
+    ensures disk { KeepsDisk D.capacity D.is_lawful D.failures result.1 disk result.0 }
 
     // A DISK THAT STOOD FOR A HISTORY, whatever a crash had left of it, stands for it at any answer.
     ensures same { D.is_lawful disk → (history : List AnySubmitted) → EachTellsHistory L.answers plan.now history (D.state disk)
@@ -39,10 +39,6 @@ pub fn upgrade<D: Disk, L: Law, W: Sink>(
     ensures raised { OnOk result.1 (D.is_lawful disk → IsNumbered plan.now (D.state result.0)) }
     ensures said { OnOk result.1 (Appends (W.contents writer.old) (W.contents writer.new) version_line) }
     ensures unsaid { IfErr result.1 (λ f. (f ≡ Fault.Output) ⊎ (writer.new ≡ writer.old)) }
-
-    // The device is told to have failed only where its count of failures rose, and with any other answer that stays.
-    ensures device { IsErrOf result.1 (Fault.Keeper Device) → Rises (D.failures disk) (D.failures result.0) }
-    ensures stays { IsErrOf result.1 (Fault.Keeper Device) ⊎ (D.failures result.0 ≡ D.failures disk) }
 {
     laws::told_in_parts();
     let mut keeper = match Keeper::<D, L>::recover(alloc, disk, plan) {

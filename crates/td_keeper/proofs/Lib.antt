@@ -10,6 +10,7 @@ mod Releasing
 mod Rows
 mod Runs
 mod Since
+mod Leaving
 mod Submitting
 mod Driving
 mod Short

@@ -21,7 +21,6 @@ use Rattle.td_standing.specs.declared.error.KeeperError.TheVariants.{Foreign, No
 use Rattle.td_journal.specs.declared.submitted.Submitted.{Submitted as AnySubmitted}
 use Rattle.td_standing.specs.Standing.{last_epoch, batches_of, submission}
 use Rattle.td_standing.specs.Advanced.{AdvancesSince, SinceAdvance}
-use Rattle.td_keeper.specs.declared.receipt.Receipt.{Receipt}
 use Rattle.td_keeper.specs.declared.receipt.Receipt.TheVariants.{New}
 use Rattle.td_keeper.specs.declared.command.Command.{Command}
 use Rattle.td_keeper.specs.declared.command.Command.TheVariants.{Submit, SubmitAs, SubmitAll, Release, Settle, Collect, NextOut, Cut, CutUpTo, Answer, WriteCut, CloseFree}
@@ -29,9 +28,10 @@ use Rattle.td_keeper.specs.declared.command.Reply.{Reply}
 use Rattle.td_keeper.specs.declared.command.Reply.TheVariants.{Submitted, SubmittedAs, SubmittedAll, Released, Settled, Collected, Out, CutTaken, Answered, Written, Closed, Refused, RefusedAll}
 use Rattle.td_keeper.specs.declared.group.GroupError.{GroupError}
 use Rattle.td_keeper.specs.declared.group.GroupError.TheVariants.{Repeated, Keeper}
-use Rattle.td_keeper.specs.Keeping.{Keeping, IsKeeping, KeepsSince, since_base, with_batch, with_group, with_checkpoint, FreeAreShut}
+use Rattle.td_keeper.specs.Keeping.{Keeping, IsKeeping, KeepsSince, since_base}
 use Rattle.td_keeper.specs.Refused.{is_new, submit_refusal, submit_as_refusal, group_refusal, write_refusal, close_refusal, cut_refusal}
-use Rattle.td_keeper.specs.Received.{IsReceived, received_in}
+use Rattle.td_keeper.specs.Received.{received_in}
+use Rattle.td_keeper.specs.Calls.{IsSubmitted, IsAnswered, IsAllSubmitted, IsWritten, IsClosed}
 use Rattle.td_keeper.specs.Grouped.{AllOrNone}
 use Rattle.td_keeper.specs.Halls.{IsOwn, IsDone, lacking, with_released, with_collected, with_cut, collected_hall, cut_hall_up_to, cut_place, meant_outs, last_states, LacksLast}
 
@@ -157,13 +157,8 @@ module _ {D : Type 0} (is_lawful : D → Type 0) (state : D → DiskState) (fail
     pub broken : new.broken ≡ true
     pub risen : Rises (failures old.device) (failures new.device)
 
-  -- TO SUBMIT: the batch is acknowledged as the last epoch
-  pub record IsSubmitted (batch : List Entry) (epoch : ℕ) (old new : Keeping D) : Type 0 where
-    pub accepted : submit_refusal old batch ≡ None
-    pub submitted : new ≡ with_batch old new.device 0 batch
-    pub last : epoch ≡ last_epoch new.standing
-
-  -- or it comes back, by the first cause of these or for want of memory or of the device, and what was kept in memory is as it was
+  -- TO SUBMIT: the batch is acknowledged (`IsSubmitted`); or it comes back, by the first cause of these or for want of memory or of the device,
+  -- and what was kept in memory is as it was
   pub record IsNotSubmitted (refusal : Option KeeperError) (batch : List Entry) (error : KeeperError) (back : Option (List Entry)) (old new : Keeping D) : Type 0 where
     pub batch_back : back ≡ Some batch
     pub cause : (refusal ≡ Some error) ⊎ ((refusal ≡ None) × ((error ≡ Memory) ⊎ (error ≡ Device)))
@@ -176,12 +171,7 @@ module _ {D : Type 0} (is_lawful : D → Type 0) (state : D → DiskState) (fail
   Submits batch (Refused error back) old new = IsNotSubmitted (submit_refusal old batch) batch error back old new
   Submits batch _ old new = ⊥
 
-  -- TO SUBMIT UNDER A REQUEST NUMBER: the batch is acknowledged, or the number is there already
-  pub record IsAnswered (request : ℕ) (batch : List Entry) (receipt : Receipt) (old new : Keeping D) : Type 0 where
-    pub accepted : submit_as_refusal old request batch ≡ None
-    pub received : IsReceived request batch receipt old new
-
-  -- or it is refused; one that is not new for two causes alone
+  -- TO SUBMIT UNDER A REQUEST NUMBER: it is answered (`IsAnswered`); or it is refused, one that is not new for two causes alone
   pub record IsNotAnswered (request : ℕ) (batch : List Entry) (error : KeeperError) (back : Option (List Entry)) (old new : Keeping D) : Type 0 where
     pub refused : IsNotSubmitted (submit_as_refusal old request batch) batch error back old new
     pub repeated : is_new old.standing request ≡ false → (error ≡ Broken) ⊎ (error ≡ OldVersion)
@@ -191,14 +181,8 @@ module _ {D : Type 0} (is_lawful : D → Type 0) (state : D → DiskState) (fail
   SubmitsAs request batch (Refused error back) old new = IsNotAnswered request batch error back old new
   SubmitsAs request batch _ old new = ⊥
 
-  -- TO SUBMIT A GROUP: all of it is acknowledged, as the epochs from the first up to the end
-  pub record IsAllSubmitted (group : List AnySubmitted) (first end : ℕ) (old new : Keeping D) : Type 0 where
-    pub accepted : group_refusal old group ≡ None
-    pub submitted : new ≡ with_group old new.device group
-    pub first_is : first ≡ last_epoch old.standing + 1
-    pub end_is : end ≡ last_epoch new.standing + 1
-
-  -- or it comes back, by the first cause of these or for want of memory or of the device, and what was kept in memory is as it was
+  -- TO SUBMIT A GROUP: all of it is acknowledged (`IsAllSubmitted`); or it comes back, by the first cause of these or for want of memory or of
+  -- the device, and what was kept in memory is as it was
   pub record IsNoneSubmitted (group : List AnySubmitted) (error : GroupError) (back : List AnySubmitted) (old new : Keeping D) : Type 0 where
     pub group_back : back ≡ group
     pub cause : (group_refusal old group ≡ Some error) ⊎ ((group_refusal old group ≡ None) × ((error ≡ Keeper Memory) ⊎ (error ≡ Keeper Device)))
@@ -297,12 +281,7 @@ module _ {D : Type 0} (is_lawful : D → Type 0) (state : D → DiskState) (fail
       ⊎ ((e : ℕ) × (error ≡ NotPassed e) × Finds (λ S. IsOwn old S × LacksLast old S) old new))
   Asks vertex wanted _ old new = ⊥
 
-  -- TO WRITE THE CUT that waits: it is the checkpoint
-  pub record IsWritten (written : Option ℕ) (old new : Keeping D) : Type 0 where
-    pub accepted : write_refusal old ≡ None
-    pub cut : ((written ≡ None) × (old.waiting ≡ false) × (new ≡ old)) ⊎ ((written ≡ Some old.base) × (new ≡ with_checkpoint old new.device))
-
-  -- or it is refused, and waits still where memory ran out
+  -- TO WRITE THE CUT that waits: it is the checkpoint (`IsWritten`); or it is refused, and waits still where memory ran out
   pub record IsNotWritten (error : KeeperError) (back : Option (List Entry)) (old new : Keeping D) : Type 0 where
     pub no_batch : back ≡ None
     pub cause : (write_refusal old ≡ Some error) ⊎ ((write_refusal old ≡ None) × ((error ≡ Memory) ⊎ (error ≡ Device)))
@@ -314,13 +293,7 @@ module _ {D : Type 0} (is_lawful : D → Type 0) (state : D → DiskState) (fail
   Writes (Refused error back) old new = IsNotWritten error back old new
   Writes _ old new = ⊥
 
-  -- TO CLOSE CELLS that no epoch uses, so many of those that come next: they are, and nothing else changed
-  pub record IsClosed (most : ℕ) (old new : Keeping D) : Type 0 where
-    pub accepted : close_refusal old ≡ None
-    pub same : new ≡ record old { device = new.device }
-    pub closed : is_lawful old.device → FreeAreShut old most (state new.device).bytes
-
-  -- or it is refused
+  -- TO CLOSE CELLS that no epoch uses: they are (`IsClosed`); or it is refused
   pub record IsNotClosed (error : KeeperError) (back : Option (List Entry)) (old new : Keeping D) : Type 0 where
     pub no_batch : back ≡ None
     pub cause : (close_refusal old ≡ Some error) ⊎ ((close_refusal old ≡ None) × (error ≡ Device))
@@ -328,7 +301,7 @@ module _ {D : Type 0} (is_lawful : D → Type 0) (state : D → DiskState) (fail
     pub device : error ≡ Device → Fails old new
 
   abbrev pub ClosesFree : ℕ → Reply → Keeping D → Keeping D → Type 0
-  ClosesFree most Closed old new = IsClosed most old new
+  ClosesFree most Closed old new = IsClosed is_lawful state most old new
   ClosesFree most (Refused error back) old new = IsNotClosed error back old new
   ClosesFree most _ old new = ⊥
 
@@ -353,6 +326,22 @@ module _ {D : Type 0} (is_lawful : D → Type 0) (state : D → DiskState) (fail
   Driven [] (reply ∷ replies) old new = ⊥
   Driven (command ∷ commands) [] old new = ⊥
   Driven (command ∷ commands) (reply ∷ replies) old new = (mid : Keeping D) × IsKeeping mid answers × Obeys command reply old mid × Driven commands replies mid new
+
+  -- A KEEPER IS DRIVEN by these commands, with these replies
+  pub record Drives (commands : List Command) (replies : List Reply) (old new : Keeping D) : Type 0 where
+    pub driven : Driven commands replies old new
+    -- the device failed in one of them exactly where a reply says so: then the keeper is broken, and the count of failures rose; else the
+    -- keeper is as whole as it was, and the count stays
+    pub fails : some_failed replies ≡ true → Fails old new
+    pub whole : some_failed replies ≡ false → (new.broken ≡ old.broken) × (failures new.device ≡ failures old.device)
+    -- the outputs handed out, followed by the queue left, are the queue found, followed by those that the batch meaning has of the epochs
+    -- collected since, each once
+    pub outputs : HandsOn answers old new (submitted_by commands replies) (handed_out replies)
+    -- in each image since the start, and since an earlier moment, the disk tells an advance of the standing with all that was submitted, which
+    -- holds every epoch of the standing
+    pub images : is_lawful old.device → old.broken ≡ false
+        → SinceAdvance answers old.plan old.standing (submitted_by commands replies) (last_epoch old.standing) (state old.device).moment (state new.device)
+    pub further : is_lawful old.device → old.broken ≡ false → Advances old new (submitted_by commands replies)
 
   -- ONE COMMAND AND ITS REPLY, of a keeper whose memory is right. The device failed in it exactly where the reply says so. In each image
   -- since its start, and since an earlier moment, the disk tells an advance of the standing with what it submitted

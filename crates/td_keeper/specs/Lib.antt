@@ -2,6 +2,7 @@ pub mod Keeping
 pub mod Refused
 pub mod Received
 pub mod Grouped
+pub mod Calls
 pub mod Halls
 pub mod Driven
 pub mod Acknowledged

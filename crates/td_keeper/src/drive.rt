@@ -1,12 +1,9 @@
 //! A keeper beside the workers of a pool.
 ghost use Rattle.std.specs.Prelude.{◌≡◌, ◌↔◌, ◌≤◌, true, false, IfOk, IfErr};
-ghost use Rattle.td_disk.specs.Disk.{Rises};
 ghost use Rattle.td_machine.specs.State.{HallState};
-ghost use Rattle.td_standing.specs.Standing.{last_epoch, last_request};
-ghost use Rattle.td_standing.specs.Advanced.{SinceAdvance};
-ghost use Rattle.td_keeper.specs.Keeping.{IsKeeping};
+ghost use Rattle.td_standing.specs.Standing.{last_request};
 ghost use Rattle.td_keeper.specs.Halls.{IsOwn};
-ghost use Rattle.td_keeper.specs.Driven.{submitted_by, handed_out, some_failed, needs_hall, HandsOn, Advances, Obeys, Driven};
+ghost use Rattle.td_keeper.specs.Driven.{needs_hall, Obeys, Drives};
 ghost use Rattle.td_standing.specs.declared.error.KeeperError.TheVariants.{Memory};
 
 use crate::command::{Command, Reply};
@@ -33,15 +30,10 @@ impl<D: Disk, L: Law> Keeper<D, L> {
         pool: &Pool<K, L>,
         commands: Vec<Command>,
     ) -> Result<Vec<Reply>, (KeeperError, Vec<Command>)>
-        ensures driven { IfOk result (λ replies. Driven D.is_lawful D.state D.failures L.answers commands.items replies.items self.old self.new) }
+        ensures driven { IfOk result (λ replies. Drives D.is_lawful D.state D.failures L.answers commands.items replies.items self.old self.new) }
         ensures refused { IfErr result (λ e. (e.0 ≡ Memory) × (e.1 ≡ commands) × (self.new ≡ self.old)) }
         ensures size { D.capacity self.new.device ≡ D.capacity self.old.device }
         ensures lawful { D.is_lawful self.old.device ↔ D.is_lawful self.new.device }
-
-        // The device failed in one of the commands exactly where a reply says so: then the keeper is broken, and the count of
-        // failures rose; else the keeper is as whole as it was, and the count stays.
-        ensures device { IfOk result (λ replies. some_failed replies.items ≡ true → (self.new.broken ≡ true) × Rises (D.failures self.old.device) (D.failures self.new.device)) }
-        ensures whole { IfOk result (λ replies. some_failed replies.items ≡ false → (self.new.broken ≡ self.old.broken) × (D.failures self.new.device ≡ D.failures self.old.device)) }
         ensures counted { D.failures self.old.device ≤ D.failures self.new.device }
 
         // The greatest request number never falls.
@@ -49,19 +41,6 @@ impl<D: Disk, L: Law> Keeper<D, L> {
 
         // A keeper that is broken writes nothing, whatever it is told.
         ensures broken { self.old.broken ≡ true → self.new.device ≡ self.old.device }
-
-        // The outputs handed out, followed by the queue left, are the queue found, followed by those that the batch meaning has of
-        // the epochs collected since, each once.
-        ensures outputs { IfOk result (λ replies. HandsOn L.answers self.old self.new (submitted_by commands.items replies.items) (handed_out replies.items)) }
-
-        // In each image since the start of the call the disk tells an advance of the standing with all that was submitted, which
-        // holds every epoch of the standing.
-        ensures images { IfOk result (λ replies. D.is_lawful self.old.device → self.old.broken ≡ false
-            → SinceAdvance L.answers self.old.plan self.old.standing (submitted_by commands.items replies.items) (last_epoch self.old.standing) (D.state self.old.device).moment (D.state self.new.device)) }
-
-        // Each image since an earlier moment was one by the start of the call, or the disk tells such an advance in it.
-        ensures further { IfOk result (λ replies. D.is_lawful self.old.device → self.old.broken ≡ false
-            → Advances D.is_lawful D.state D.failures L.answers self.old self.new (submitted_by commands.items replies.items)) }
     {
         laws::told_in_parts();
         laws::standings_advance::<L>();

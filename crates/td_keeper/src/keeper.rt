@@ -1,6 +1,6 @@
 //! A keeper of epochs on a disk.
-ghost use Rattle.std.specs.Prelude.{◌≡◌, ◌⊎◌, ◌↔◌, ◌≤◌, IfOk, IfErr};
-ghost use Rattle.td_disk.specs.Disk.{IsDurable, Rises};
+ghost use Rattle.std.specs.Prelude.{◌≡◌, ◌⊎◌, ◌≤◌, IfOk, IfErr};
+ghost use Rattle.td_disk.specs.Disk.{IsDurable};
 ghost use Rattle.td_gate.specs.CrashSafe.{CrashSafe, Unchanged};
 ghost use Rattle.td_head.specs.Layout.{size_of};
 ghost use Rattle.td_standing.specs.Standing.{batches_of, nothing_told};
@@ -9,6 +9,8 @@ ghost use Rattle.td_standing.specs.Tells.{Keeps, first_head};
 ghost use Rattle.td_standing.specs.Read.{MayStand, standing_of, Stood, Refused};
 ghost use Rattle.td_standing.specs.Advanced.{HeldWhere};
 ghost use Rattle.td_keeper.specs.Keeping.{Keeping, IsFreshlyOpened};
+ghost use Rattle.td_keeper.specs.Calls.{KeepsDevice, outcome, disk_in};
+ghost use Rattle.td_standing.specs.declared.error.KeeperError.TheVariants.{Device};
 
 use crate::laws::each_is_kept;
 use std::alloc::Global;
@@ -85,21 +87,14 @@ impl<D: Disk, L: Law> Keeper<D, L> {
         shape: Shape,
     ) -> Result<Keeper<D, L>, (KeeperError, D)>
         requires { size_of shape ≤ D.capacity disk }
-        ensures size { IfOk result (λ k. D.capacity k.device ≡ D.capacity disk) }
-        ensures size_back { IfErr result (λ e. D.capacity e.1 ≡ D.capacity disk) }
-        ensures lawful { IfOk result (λ k. D.is_lawful disk ↔ D.is_lawful k.device) }
-        ensures lawful_back { IfErr result (λ e. D.is_lawful disk ↔ D.is_lawful e.1) }
+        ensures device { KeepsDevice D.capacity D.is_lawful D.failures Device (outcome result) disk (disk_in result) }
         ensures plan { IfOk result (λ k. k.plan ≡ plan.now) }
-        ensures head { IfOk result (λ k. k.head ≡ first_head shape) }
-        ensures side { IfOk result (λ k. k.side ≡ 0) }
+        ensures head { IfOk result (λ k. (k.head ≡ first_head shape) × (k.side ≡ 0)) }
         ensures standing { IfOk result (λ k. k.standing ≡ nothing_told) }
         ensures fresh { IfOk result IsFreshlyOpened }
         ensures kept { IfOk result (λ k. D.is_lawful disk
             → Keeps plan.now (first_head shape) 0 nothing_told (D.state k.device)) }
         ensures refusals { IfErr result (λ e. (e.0 ≡ KeeperError.Memory) ⊎ (e.0 ≡ KeeperError.Device)) }
-        ensures device { IfErr result (λ e. e.0 ≡ KeeperError.Device → Rises (D.failures disk) (D.failures e.1)) }
-        ensures stays { IfOk result (λ k. D.failures k.device ≡ D.failures disk) }
-        ensures stays_back { IfErr result (λ e. (e.0 ≡ KeeperError.Device) ⊎ (D.failures e.1 ≡ D.failures disk)) }
     {
         let mut device = disk;
         match format_device(alloc, &mut device, plan, shape) {
@@ -131,10 +126,6 @@ impl<D: Disk, L: Law> Keeper<D, L> {
     /// `Damaged` of the head, `WrongPlan`, `Damaged` of the slots and `Damaged` of a cell, each where that is the first that
     /// the disk tells as it then reads, `Memory` and `Device`, and hands the disk back.
     pub fn recover(alloc: Global, disk: D, plan: &Plan) -> Result<Keeper<D, L>, (KeeperError, D)>
-        ensures size { IfOk result (λ k. D.capacity k.device ≡ D.capacity disk) }
-        ensures size_back { IfErr result (λ e. D.capacity e.1 ≡ D.capacity disk) }
-        ensures lawful { IfOk result (λ k. D.is_lawful disk ↔ D.is_lawful k.device) }
-        ensures lawful_back { IfErr result (λ e. D.is_lawful disk ↔ D.is_lawful e.1) }
         ensures plan { IfOk result (λ k. k.plan ≡ plan.now) }
         ensures fresh { IfOk result IsFreshlyOpened }
         ensures told { IfOk result (λ k. D.is_lawful disk → Told plan.now (D.state k.device).bytes (Stood k.standing)) }
@@ -145,18 +136,12 @@ impl<D: Disk, L: Law> Keeper<D, L> {
         ensures refused { IfErr result (λ e. (e.0 ≡ KeeperError.Device) ⊎ ((e.0 ≡ KeeperError.Memory)
             ⊎ (D.is_lawful disk
             → IsDurable (D.state e.1) × Told plan.now (D.state e.1).bytes (Refused e.0)))) }
-        ensures device { IfErr result (λ e. e.0 ≡ KeeperError.Device → Rises (D.failures disk) (D.failures e.1)) }
-
-        // A call of the disk that failed is never told as want of memory: with another answer the count of failures stays.
-        ensures stays { IfOk result (λ k. D.failures k.device ≡ D.failures disk) }
-        ensures stays_back { IfErr result (λ e. (e.0 ≡ KeeperError.Device) ⊎ (D.failures e.1 ≡ D.failures disk)) }
-        ensures later_back { IfErr result (λ e. D.failures disk ≤ D.failures e.1) }
 
         // What a crash may leave since the start of the call, it might have left then.
-        ensures crash_safe { IfOk result (λ k. D.is_lawful disk
-            → CrashSafe Unchanged (D.state disk) (D.state k.device)) }
-        ensures crash_safe_back { IfErr result (λ e. D.is_lawful disk
-            → CrashSafe Unchanged (D.state disk) (D.state e.1)) }
+        ensures crash_safe { D.is_lawful disk → CrashSafe Unchanged (D.state disk) (D.state (disk_in result)) }
+
+        // A call of the disk that failed is never told as want of memory.
+        ensures device { KeepsDevice D.capacity D.is_lawful D.failures Device (outcome result) disk (disk_in result) }
     {
         laws::told_in_parts();
         let mut device = disk;

@@ -1,16 +1,13 @@
 //! Submitting batches.
-ghost use Rattle.std.specs.Prelude.{◌≡◌, ◌⊎◌, ◌↔◌, ◌+◌, ◌≤◌, ℕ, max, [], ◌∷◌, length, false, true, Some, None, IfOk, IfErr, IfNone, OnOk};
-ghost use Rattle.td_disk.specs.Disk.{Rises};
-ghost use Rattle.td_gate.specs.CrashSafe.{CrashSafe, Unchanged};
+ghost use Rattle.std.specs.Prelude.{◌≡◌, ◌⊎◌, ◌+◌, ◌≤◌, ℕ, max, [], ◌∷◌, length, false, true, Some, None, IfOk, IfErr, IfNone, OnOk};
 ghost use Rattle.td_journal.specs.Cell.{is_batch};
 ghost use Rattle.td_standing.specs.Standing.{last_epoch, last_request, submission};
 ghost use Rattle.td_standing.specs.Told.{inputs_of};
 ghost use Rattle.td_standing.specs.Tells.{IsFresh};
-ghost use Rattle.td_standing.specs.Advanced.{SinceAdvance, AdvancesSince};
-ghost use Rattle.td_keeper.specs.Keeping.{with_batch, KeepsSince};
-ghost use Rattle.td_keeper.specs.Received.{IsReceived};
+ghost use Rattle.td_keeper.specs.Keeping.{with_batch};
 ghost use Rattle.td_keeper.specs.Refused.{is_new, submit_refusal, request_refusal, submit_as_refusal};
 ghost use Rattle.td_standing.specs.declared.error.KeeperError.TheVariants.{Memory, Device, Broken, OldVersion};
+ghost use Rattle.td_keeper.specs.Calls.{IsSubmitted, IsAnswered, IsRefused, CrashLeaves, KeepsDevice, outcome};
 
 use crate::keeper::Keeper;
 use crate::receipt::Receipt;
@@ -36,42 +33,13 @@ impl<D: Disk, L: Law> Keeper<D, L> {
     /// cases nothing is written. Then `Device`: the keeper is broken, and the epoch may stand on the disk or not. A batch without
     /// a number is one of number 0, put in the same way.
     pub fn submit(&mut self, batch: Batch) -> Result<u64, (KeeperError, Batch)>
-        ensures acknowledged { IfOk result (λ epoch. epoch ≡ last_epoch self.new.standing) }
-        ensures submitted { IfOk result (λ _. self.new ≡ with_batch self.old self.new.device 0 batch) }
-        ensures accepted { IfOk result (λ _. submit_refusal self.old batch ≡ None) }
-        ensures refused { IfErr result (λ e. (submit_refusal self.old batch ≡ Some e.0)
-            ⊎ ((submit_refusal self.old batch ≡ None) × ((e.0 ≡ Memory) ⊎ (e.0 ≡ Device)))) }
+        ensures submitted { IfOk result (λ epoch. IsSubmitted batch epoch self.old self.new) }
+        ensures refused { IfErr result (λ e. IsRefused D.is_lawful D.state L.answers Memory Device (submit_refusal self.old batch) e.0 self.old self.new) }
         ensures back { IfErr result (λ e. e.1 ≡ batch) }
-        ensures unchanged { IfErr result (λ e. (self.new ≡ self.old) ⊎ ((e.0 ≡ Memory) × (self.new ≡ record self.old { device = self.new.device }))
-            ⊎ ((e.0 ≡ Device) × (self.new ≡ record self.old { device = self.new.device; broken = true }))) }
-        ensures device { IfErr result (λ e. e.0 ≡ Device → Rises (D.failures self.old.device) (D.failures self.new.device)) }
-        ensures broken { IfErr result (λ e. e.0 ≡ Device → self.new.broken ≡ true) }
-        ensures counted { D.failures self.old.device ≤ D.failures self.new.device }
-        ensures stays { OnOk result (D.failures self.new.device ≡ D.failures self.old.device) }
-        ensures stays_back { IfErr result (λ e. (e.0 ≡ Device) ⊎ (D.failures self.new.device ≡ D.failures self.old.device)) }
-        ensures size { D.capacity self.new.device ≡ D.capacity self.old.device }
-        ensures lawful { D.is_lawful self.old.device ↔ D.is_lawful self.new.device }
-        ensures unwritten { IfErr result (λ e. e.0 ≡ Memory → D.is_lawful self.old.device
-            → CrashSafe Unchanged (D.state self.old.device) (D.state self.new.device)) }
 
-        // What a crash may leave after the call is among what it may leave since the start.
-        ensures later { D.is_lawful self.old.device → (D.state self.old.device).moment ≤ (D.state self.new.device).moment }
-
-        // In each image since the start of the call the disk tells an advance of the standing with this batch, which holds
-        // every epoch of the standing.
-        ensures images { D.is_lawful self.old.device → self.old.broken ≡ false
-            → SinceAdvance L.answers self.old.plan self.old.standing (submission 0 batch ∷ []) (last_epoch self.old.standing) (D.state self.old.device).moment (D.state self.new.device) }
-
-        // Each image since an earlier moment was one by the start of the call, or the disk tells such an advance in it.
-        ensures further { D.is_lawful self.old.device → self.old.broken ≡ false
-            → AdvancesSince L.answers self.old.plan self.old.standing (submission 0 batch ∷ []) (last_epoch self.old.standing) (D.state self.old.device) (D.state self.new.device) }
-
-        // Each such image was one by the start of the call, or it keeps nothing beyond the base.
-        ensures short { D.is_lawful self.old.device → KeepsSince self.old.plan self.old.base (D.state self.old.device) (D.state self.new.device) }
-
-        // After any refusal but `Device` it tells an advance without the batch.
-        ensures nothing { IfErr result (λ e. (e.0 ≡ Device) ⊎ (D.is_lawful self.old.device → self.old.broken ≡ false
-            → AdvancesSince L.answers self.old.plan self.old.standing [] (last_epoch self.old.standing) (D.state self.old.device) (D.state self.new.device))) }
+        // At every moment of the call a crash leaves what the disk stood for, or that with the batch; and all of it after Ok.
+        ensures crash { D.is_lawful self.old.device → CrashLeaves L.answers (submission 0 batch ∷ []) self.old (D.state self.old.device) (D.state self.new.device) }
+        ensures device { KeepsDevice D.capacity D.is_lawful D.failures Device (outcome result) self.old.device self.new.device }
 
         // The greatest request number stays, since this epoch has none.
         ensures last_request { last_request self.new.standing ≡ last_request self.old.standing }
@@ -95,44 +63,14 @@ impl<D: Disk, L: Law> Keeper<D, L> {
     /// A batch under 0 is never `Already`. To take it for a repeat would drop the first batch of a producer that counts from 0,
     /// without a word. Such a producer doubles it when it sends again.
     pub fn submit_as(&mut self, request: u64, batch: Batch) -> Result<Receipt, (KeeperError, Batch)>
-        ensures received { IfOk result (λ receipt. IsReceived request batch receipt self.old self.new) }
-        ensures accepted { IfOk result (λ _. submit_as_refusal self.old request batch ≡ None) }
-        ensures refused { IfErr result (λ e. (submit_as_refusal self.old request batch ≡ Some e.0)
-            ⊎ ((submit_as_refusal self.old request batch ≡ None) × ((e.0 ≡ Memory) ⊎ (e.0 ≡ Device)))) }
+        ensures answered { IfOk result (λ receipt. IsAnswered request batch receipt self.old self.new) }
+        ensures refused { IfErr result (λ e. IsRefused D.is_lawful D.state L.answers Memory Device (submit_as_refusal self.old request batch) e.0 self.old self.new) }
 
         // A request that is repeated is refused for these two causes alone.
         ensures repeated { is_new self.old.standing request ≡ false → IfErr result (λ e. (e.0 ≡ Broken) ⊎ (e.0 ≡ OldVersion)) }
         ensures back { IfErr result (λ e. e.1 ≡ batch) }
-        ensures unchanged { IfErr result (λ e. (self.new ≡ self.old) ⊎ ((e.0 ≡ Memory) × (self.new ≡ record self.old { device = self.new.device }))
-            ⊎ ((e.0 ≡ Device) × (self.new ≡ record self.old { device = self.new.device; broken = true }))) }
-        ensures device { IfErr result (λ e. e.0 ≡ Device → Rises (D.failures self.old.device) (D.failures self.new.device)) }
-        ensures broken { IfErr result (λ e. e.0 ≡ Device → self.new.broken ≡ true) }
-        ensures counted { D.failures self.old.device ≤ D.failures self.new.device }
-        ensures stays { OnOk result (D.failures self.new.device ≡ D.failures self.old.device) }
-        ensures stays_back { IfErr result (λ e. (e.0 ≡ Device) ⊎ (D.failures self.new.device ≡ D.failures self.old.device)) }
-        ensures size { D.capacity self.new.device ≡ D.capacity self.old.device }
-        ensures lawful { D.is_lawful self.old.device ↔ D.is_lawful self.new.device }
-        ensures unwritten { IfErr result (λ e. e.0 ≡ Memory → D.is_lawful self.old.device
-            → CrashSafe Unchanged (D.state self.old.device) (D.state self.new.device)) }
-
-        // What a crash may leave after the call is among what it may leave since the start.
-        ensures later { D.is_lawful self.old.device → (D.state self.old.device).moment ≤ (D.state self.new.device).moment }
-
-        // In each image since the start of the call the disk tells an advance of the standing with this batch, which holds
-        // every epoch of the standing.
-        ensures images { D.is_lawful self.old.device → self.old.broken ≡ false
-            → SinceAdvance L.answers self.old.plan self.old.standing (submission request batch ∷ []) (last_epoch self.old.standing) (D.state self.old.device).moment (D.state self.new.device) }
-
-        // Each image since an earlier moment was one by the start of the call, or the disk tells such an advance in it.
-        ensures further { D.is_lawful self.old.device → self.old.broken ≡ false
-            → AdvancesSince L.answers self.old.plan self.old.standing (submission request batch ∷ []) (last_epoch self.old.standing) (D.state self.old.device) (D.state self.new.device) }
-
-        // Each such image was one by the start of the call, or it keeps nothing beyond the base.
-        ensures short { D.is_lawful self.old.device → KeepsSince self.old.plan self.old.base (D.state self.old.device) (D.state self.new.device) }
-
-        // After any refusal but `Device` it tells an advance without the batch.
-        ensures nothing { IfErr result (λ e. (e.0 ≡ Device) ⊎ (D.is_lawful self.old.device → self.old.broken ≡ false
-            → AdvancesSince L.answers self.old.plan self.old.standing [] (last_epoch self.old.standing) (D.state self.old.device) (D.state self.new.device))) }
+        ensures crash { D.is_lawful self.old.device → CrashLeaves L.answers (submission request batch ∷ []) self.old (D.state self.old.device) (D.state self.new.device) }
+        ensures device { KeepsDevice D.capacity D.is_lawful D.failures Device (outcome result) self.old.device self.new.device }
 
         // The greatest request number never falls, and then it is at least this one.
         ensures never_falls { last_request self.old.standing ≤ last_request self.new.standing }
@@ -159,39 +97,10 @@ impl<D: Disk, L: Law> Keeper<D, L> {
         ensures acknowledged { IfOk result (λ epoch. epoch ≡ last_epoch self.new.standing) }
         ensures submitted { IfOk result (λ _. self.new ≡ with_batch self.old self.new.device request batch) }
         ensures accepted { IfOk result (λ _. submit_refusal self.old batch ≡ None) }
-        ensures refused { IfErr result (λ e. (submit_refusal self.old batch ≡ Some e.0)
-            ⊎ ((submit_refusal self.old batch ≡ None) × ((e.0 ≡ Memory) ⊎ (e.0 ≡ Device)))) }
+        ensures refused { IfErr result (λ e. IsRefused D.is_lawful D.state L.answers Memory Device (submit_refusal self.old batch) e.0 self.old self.new) }
         ensures back { IfErr result (λ e. e.1 ≡ batch) }
-        ensures unchanged { IfErr result (λ e. (self.new ≡ self.old) ⊎ ((e.0 ≡ Memory) × (self.new ≡ record self.old { device = self.new.device }))
-            ⊎ ((e.0 ≡ Device) × (self.new ≡ record self.old { device = self.new.device; broken = true }))) }
-        ensures device { IfErr result (λ e. e.0 ≡ Device → Rises (D.failures self.old.device) (D.failures self.new.device)) }
-        ensures broken { IfErr result (λ e. e.0 ≡ Device → self.new.broken ≡ true) }
-        ensures counted { D.failures self.old.device ≤ D.failures self.new.device }
-        ensures stays { OnOk result (D.failures self.new.device ≡ D.failures self.old.device) }
-        ensures stays_back { IfErr result (λ e. (e.0 ≡ Device) ⊎ (D.failures self.new.device ≡ D.failures self.old.device)) }
-        ensures size { D.capacity self.new.device ≡ D.capacity self.old.device }
-        ensures lawful { D.is_lawful self.old.device ↔ D.is_lawful self.new.device }
-        ensures unwritten { IfErr result (λ e. e.0 ≡ Memory → D.is_lawful self.old.device
-            → CrashSafe Unchanged (D.state self.old.device) (D.state self.new.device)) }
-
-        // What a crash may leave after the call is among what it may leave since the start.
-        ensures later { D.is_lawful self.old.device → (D.state self.old.device).moment ≤ (D.state self.new.device).moment }
-
-        // In each image since the start of the call the disk tells an advance of the standing with this batch, which holds
-        // every epoch of the standing.
-        ensures images { D.is_lawful self.old.device → self.old.broken ≡ false
-            → SinceAdvance L.answers self.old.plan self.old.standing (submission request batch ∷ []) (last_epoch self.old.standing) (D.state self.old.device).moment (D.state self.new.device) }
-
-        // Each image since an earlier moment was one by the start of the call, or the disk tells such an advance in it.
-        ensures further { D.is_lawful self.old.device → self.old.broken ≡ false
-            → AdvancesSince L.answers self.old.plan self.old.standing (submission request batch ∷ []) (last_epoch self.old.standing) (D.state self.old.device) (D.state self.new.device) }
-
-        // Each such image was one by the start of the call, or it keeps nothing beyond the base.
-        ensures short { D.is_lawful self.old.device → KeepsSince self.old.plan self.old.base (D.state self.old.device) (D.state self.new.device) }
-
-        // After any refusal but `Device` it tells an advance without the batch.
-        ensures nothing { IfErr result (λ e. (e.0 ≡ Device) ⊎ (D.is_lawful self.old.device → self.old.broken ≡ false
-            → AdvancesSince L.answers self.old.plan self.old.standing [] (last_epoch self.old.standing) (D.state self.old.device) (D.state self.new.device))) }
+        ensures crash { D.is_lawful self.old.device → CrashLeaves L.answers (submission request batch ∷ []) self.old (D.state self.old.device) (D.state self.new.device) }
+        ensures device { KeepsDevice D.capacity D.is_lawful D.failures Device (outcome result) self.old.device self.new.device }
         ensures last_request { OnOk result (last_request self.new.standing ≡ max (last_request self.old.standing) request) }
     {
         laws::told_in_parts();

@@ -1,6 +1,5 @@
 //! Submitting groups of batches.
-ghost use Rattle.std.specs.Prelude.{◌≡◌, ◌⊎◌, ◌↔◌, ◌+◌, ◌*◌, ◌^◌, ◌<◌, ◌≤◌, ◌++◌, [], ◌∷◌, length, false, true, Some, None, IfOk, IfErr, IfNone, IsTrue, OnOk};
-ghost use Rattle.std.specs.List.{list_all, list_any};
+ghost use Rattle.std.specs.Prelude.{◌≡◌, ◌⊎◌, ◌↔◌, ◌+◌, ◌^◌, ◌<◌, ◌≤◌, [], length, false, true, Some, None, IfOk, IfErr, IfNone, IsTrue, OnOk};
 ghost use Rattle.td_disk.specs.Disk.{Rises};
 ghost use Rattle.td_gate.specs.CrashSafe.{CrashSafe, Unchanged};
 ghost use Rattle.td_machine.specs.Steps.{accepts};
@@ -10,11 +9,12 @@ ghost use Rattle.td_group.specs.Groups.{AllFew, AreBatches, AreFresh, may_follow
 ghost use Rattle.td_standing.specs.Standing.{last_epoch, last_request};
 ghost use Rattle.td_standing.specs.Told.{inputs_of};
 ghost use Rattle.td_standing.specs.Advanced.{SinceAdvance, AdvancesSince};
-ghost use Rattle.td_keeper.specs.Keeping.{with_epochs, with_group, KeepsSince};
+ghost use Rattle.td_keeper.specs.Keeping.{with_epochs, KeepsSince};
 ghost use Rattle.td_keeper.specs.Grouped.{AllOrNone};
 ghost use Rattle.td_keeper.specs.Refused.{has_number, all_accepted, all_few, group_refusal};
 ghost use Rattle.td_standing.specs.declared.error.KeeperError.TheVariants.{Memory, Device};
 ghost use Rattle.td_keeper.specs.declared.group.GroupError.TheVariants.{Keeper as ByKeeper};
+ghost use Rattle.td_keeper.specs.Calls.{IsAllSubmitted, IsRefused, CrashLeaves, KeepsDevice, outcome};
 
 use crate::group::{Group, GroupError};
 use crate::keeper::Keeper;
@@ -44,46 +44,15 @@ impl<D: Disk, L: Law> Keeper<D, L> {
     /// all these cases nothing is written. Then `Device`: the keeper is broken, and all epochs of the group may stand on the disk, or
     /// none.
     pub fn submit_all(&mut self, group: Group) -> Result<u64, (GroupError, Group)>
-        ensures acknowledged { IfOk result (λ first. first ≡ last_epoch self.old.standing + 1) }
-        ensures submitted { IfOk result (λ _. self.new ≡ with_group self.old self.new.device group) }
-        ensures accepted { IfOk result (λ _. group_refusal self.old group ≡ None) }
-        ensures refused { IfErr result (λ e. (group_refusal self.old group ≡ Some e.0)
-            ⊎ ((group_refusal self.old group ≡ None) × ((e.0 ≡ ByKeeper Memory) ⊎ (e.0 ≡ ByKeeper Device)))) }
+        ensures submitted { IfOk result (λ first. IsAllSubmitted group first (last_epoch self.new.standing + 1) self.old self.new) }
+        ensures refused { IfErr result (λ e. IsRefused D.is_lawful D.state L.answers (ByKeeper Memory) (ByKeeper Device) (group_refusal self.old group) e.0 self.old self.new) }
         ensures back { IfErr result (λ e. e.1 ≡ group) }
-        ensures unchanged { IfErr result (λ e. (self.new ≡ self.old) ⊎ ((e.0 ≡ ByKeeper Memory) × (self.new ≡ record self.old { device = self.new.device }))
-            ⊎ ((e.0 ≡ ByKeeper Device) × (self.new ≡ record self.old { device = self.new.device; broken = true }))) }
-        ensures device { IfErr result (λ e. e.0 ≡ ByKeeper Device → Rises (D.failures self.old.device) (D.failures self.new.device)) }
-        ensures broken { IfErr result (λ e. e.0 ≡ ByKeeper Device → self.new.broken ≡ true) }
-        ensures counted { D.failures self.old.device ≤ D.failures self.new.device }
-        ensures stays { OnOk result (D.failures self.new.device ≡ D.failures self.old.device) }
-        ensures stays_back { IfErr result (λ e. (e.0 ≡ ByKeeper Device) ⊎ (D.failures self.new.device ≡ D.failures self.old.device)) }
-        ensures size { D.capacity self.new.device ≡ D.capacity self.old.device }
-        ensures lawful { D.is_lawful self.old.device ↔ D.is_lawful self.new.device }
-        ensures unwritten { IfErr result (λ e. e.0 ≡ ByKeeper Memory → D.is_lawful self.old.device
-            → CrashSafe Unchanged (D.state self.old.device) (D.state self.new.device)) }
 
-        // What a crash may leave after the call is among what it may leave since the start.
-        ensures later { D.is_lawful self.old.device → (D.state self.old.device).moment ≤ (D.state self.new.device).moment }
-
-        // In each image since the start of the call the disk tells the standing, or that with the whole group.
+        // At every moment of the call a crash leaves what the disk stood for, or that with the whole group.
         ensures all_or_none { D.is_lawful self.old.device → self.old.broken ≡ false
             → AllOrNone self.old.plan self.old.standing group (D.state self.old.device).moment (D.state self.new.device) }
-
-        // In each image since the start of the call the disk tells an advance of the standing with this group, which holds
-        // every epoch of the standing.
-        ensures images { D.is_lawful self.old.device → self.old.broken ≡ false
-            → SinceAdvance L.answers self.old.plan self.old.standing group (last_epoch self.old.standing) (D.state self.old.device).moment (D.state self.new.device) }
-
-        // Each image since an earlier moment was one by the start of the call, or the disk tells such an advance in it.
-        ensures further { D.is_lawful self.old.device → self.old.broken ≡ false
-            → AdvancesSince L.answers self.old.plan self.old.standing group (last_epoch self.old.standing) (D.state self.old.device) (D.state self.new.device) }
-
-        // Each such image was one by the start of the call, or it keeps nothing beyond the base.
-        ensures short { D.is_lawful self.old.device → KeepsSince self.old.plan self.old.base (D.state self.old.device) (D.state self.new.device) }
-
-        // After any refusal but `Device` it tells an advance without the group.
-        ensures nothing { IfErr result (λ e. (e.0 ≡ ByKeeper Device) ⊎ (D.is_lawful self.old.device → self.old.broken ≡ false
-            → AdvancesSince L.answers self.old.plan self.old.standing [] (last_epoch self.old.standing) (D.state self.old.device) (D.state self.new.device))) }
+        ensures crash { D.is_lawful self.old.device → CrashLeaves L.answers group self.old (D.state self.old.device) (D.state self.new.device) }
+        ensures device { KeepsDevice D.capacity D.is_lawful D.failures (ByKeeper Device) (outcome result) self.old.device self.new.device }
 
         // The greatest request number is raised by those of the group.
         ensures last_request { OnOk result (last_request self.new.standing ≡ greatest (last_request self.old.standing) group) }

@@ -1,6 +1,5 @@
 //! Raising a disk to the version of the format that has request numbers.
-ghost use Rattle.std.specs.Prelude.{◌≡◌, ◌⊎◌, ◌↔◌, ◌<◌, ◌≤◌, [], false, true, None, Some, Ok, IfErr, IsErrOf, List, ℕ};
-ghost use Rattle.td_disk.specs.Disk.{Rises};
+ghost use Rattle.std.specs.Prelude.{◌≡◌, ◌⊎◌, ◌<◌, ◌≤◌, [], false, true, None, Some, Ok, IfErr, IsErrOf, List, ℕ};
 ghost use Rattle.td_head.specs.Head.{raised};
 ghost use Rattle.td_standing.specs.Standing.{last_epoch};
 ghost use Rattle.td_standing.specs.Told.{Told};
@@ -8,6 +7,7 @@ ghost use Rattle.td_standing.specs.Read.{Stood};
 ghost use Rattle.td_standing.specs.Advanced.{AdvancesSince};
 ghost use Rattle.td_keeper.specs.Refused.{upgrade_refusal};
 ghost use Rattle.td_standing.specs.declared.error.KeeperError.TheVariants.{Memory, Device};
+ghost use Rattle.td_keeper.specs.Calls.{KeepsDevice};
 
 use crate::keeper::Keeper;
 use crate::submit::NUMBERED;
@@ -31,11 +31,7 @@ impl<D: Disk, L: Law> Keeper<D, L> {
             ⊎ ((upgrade_refusal self.old ≡ None) × (self.old.head.version < 2) × ((e ≡ Memory) ⊎ (e ≡ Device)))) }
         ensures unchanged { IfErr result (λ e. (e ≡ Device) ⊎ (self.new ≡ self.old)) }
         ensures broken { IsErrOf result Device → self.new ≡ record self.old { device = self.new.device; broken = true } }
-        ensures device { IsErrOf result Device → Rises (D.failures self.old.device) (D.failures self.new.device) }
-        ensures counted { D.failures self.old.device ≤ D.failures self.new.device }
-        ensures stays { IsErrOf result Device ⊎ (D.failures self.new.device ≡ D.failures self.old.device) }
-        ensures size { D.capacity self.new.device ≡ D.capacity self.old.device }
-        ensures lawful { D.is_lawful self.old.device ↔ D.is_lawful self.new.device }
+        ensures device { KeepsDevice D.capacity D.is_lawful D.failures Device result self.old.device self.new.device }
 
         // What a crash may leave after the call is among what it may leave since the start.
         ensures later { D.is_lawful self.old.device → self.old.broken ≡ false → (D.state self.old.device).moment ≤ (D.state self.new.device).moment }

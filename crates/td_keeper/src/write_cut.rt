@@ -1,14 +1,13 @@
 //! Writing cuts.
-ghost use Rattle.std.specs.Prelude.{◌≡◌, ◌⊎◌, ◌↔◌, ◌≤◌, [], false, true, length, take, drop, Some, None, Ok, IfOk};
-ghost use Rattle.std.specs.Prelude.{IfErr, IfSome, IfNone, IsErrOf};
-ghost use Rattle.td_disk.specs.Disk.{Rises};
-ghost use Rattle.td_standing.specs.Standing.{last_epoch, last_request};
+ghost use Rattle.std.specs.Prelude.{◌≡◌, ◌↔◌, ◌≤◌, [], false, true, length, take, drop, Some, None, Ok, IfOk};
+ghost use Rattle.std.specs.Prelude.{IfErr, IfSome, IfNone};
+ghost use Rattle.td_standing.specs.Standing.{last_request};
 ghost use Rattle.td_journal.specs.Numbers.{greatest};
 ghost use Rattle.td_standing.specs.Tells.{side_after};
-ghost use Rattle.td_standing.specs.Advanced.{SinceAdvance, AdvancesSince};
-ghost use Rattle.td_keeper.specs.Keeping.{is_waiting, with_checkpoint, KeepsSince};
-ghost use Rattle.td_keeper.specs.Refused.{write_refusal, waits_after};
+ghost use Rattle.td_keeper.specs.Keeping.{is_waiting};
+ghost use Rattle.td_keeper.specs.Refused.{waits_after};
 ghost use Rattle.td_standing.specs.declared.error.KeeperError.TheVariants.{Memory, Device, TooManyKeys};
+ghost use Rattle.td_keeper.specs.Calls.{IsWritten, IsUnwritten, CrashLeaves, KeepsDevice};
 
 use crate::keeper::{Keeper, Taken};
 use crate::watch::{publish, words_at};
@@ -28,37 +27,16 @@ impl<D: Disk, L: Law> Keeper<D, L> {
     /// nothing is written. Then `Device`: the keeper is broken, and the checkpoint on the disk is the old or the new. A cut with
     /// too many states stays the keeper's base, as it is the hall's.
     pub fn write_cut(&mut self) -> Result<Option<u64>, KeeperError>
-        ensures written { IfOk result (λ written. (written ≡ None) ⊎ ((written ≡ Some self.old.base) × (self.new ≡ with_checkpoint self.old self.new.device))) }
+        ensures written { IfOk result (λ written. IsWritten written self.old self.new) }
         ensures none { (result ≡ Ok None) ↔ ((self.old.broken ≡ false) × (self.old.waiting ≡ false)) }
-        ensures none_unchanged { result ≡ Ok None → self.new ≡ self.old }
-        ensures accepted { IfOk result (λ _. write_refusal self.old ≡ None) }
-        ensures refused { IfErr result (λ e. (write_refusal self.old ≡ Some e)
-            ⊎ ((write_refusal self.old ≡ None) × ((e ≡ Memory) ⊎ (e ≡ Device)))) }
-        ensures too_many { IsErrOf result TooManyKeys → self.new ≡ record self.old { waiting = false } }
-        ensures unchanged { IfErr result (λ e. (e ≡ TooManyKeys) ⊎ ((e ≡ Device) ⊎ (self.new ≡ self.old))) }
-        ensures broken { IsErrOf result Device → self.new ≡ record self.old { device = self.new.device; broken = true; waiting = false } }
-        ensures device { IsErrOf result Device → Rises (D.failures self.old.device) (D.failures self.new.device) }
-        ensures counted { D.failures self.old.device ≤ D.failures self.new.device }
-        ensures stays { IsErrOf result Device ⊎ (D.failures self.new.device ≡ D.failures self.old.device) }
-        ensures size { D.capacity self.new.device ≡ D.capacity self.old.device }
-        ensures lawful { D.is_lawful self.old.device ↔ D.is_lawful self.new.device }
+        ensures refused { IfErr result (λ e. IsUnwritten e self.old self.new) }
+
+        // At every moment of the call a crash leaves the old checkpoint or the new, and each epoch that was there.
+        ensures crash { D.is_lawful self.old.device → CrashLeaves L.answers [] self.old (D.state self.old.device) (D.state self.new.device) }
+        ensures device { KeepsDevice D.capacity D.is_lawful D.failures Device result self.old.device self.new.device }
 
         // The greatest request number stays.
         ensures last_request { last_request self.new.standing ≡ last_request self.old.standing }
-
-        // What a crash may leave after the call is among what it may leave since the start.
-        ensures later { D.is_lawful self.old.device → (D.state self.old.device).moment ≤ (D.state self.new.device).moment }
-
-        // In each image since the start of the call the disk tells an advance of the standing which holds every epoch of it.
-        ensures images { D.is_lawful self.old.device → self.old.broken ≡ false
-            → SinceAdvance L.answers self.old.plan self.old.standing [] (last_epoch self.old.standing) (D.state self.old.device).moment (D.state self.new.device) }
-
-        // Each image since an earlier moment was one by the start of the call, or the disk tells such an advance in it.
-        ensures further { D.is_lawful self.old.device → self.old.broken ≡ false
-            → AdvancesSince L.answers self.old.plan self.old.standing [] (last_epoch self.old.standing) (D.state self.old.device) (D.state self.new.device) }
-
-        // Each such image was one by the start of the call, or it keeps nothing beyond the base.
-        ensures short { D.is_lawful self.old.device → KeepsSince self.old.plan self.old.base (D.state self.old.device) (D.state self.new.device) }
     {
         laws::told_in_parts();
         laws::standings_advance::<L>();

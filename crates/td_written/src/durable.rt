@@ -10,13 +10,12 @@ use std::thread::Threads;
 use td_calls::{Closures, Law};
 use td_console::{Fault, Source};
 use td_disk::Disk;
-use td_feed as disk_engine;
-use td_feed::{Host, StreamOptions, Voice};
+use td_feed::{Host, Session, StreamOptions, Voice};
 use td_formula::{Beside, BesideCalls, Closure, Formulas, WrittenCalls};
 use td_plan::Plan;
 use td_watch::Writer;
 
-/// Feeds a disk from what it reads, as `td_feed::feed` does, by the law of `below` and of these closures beside it.
+/// Feeds a disk from what it reads, as `td_feed::Session::feed` does, by the law of `below` and of these closures beside it.
 pub fn feed<
     D: Disk + Drop,
     I: Source,
@@ -45,7 +44,7 @@ pub fn feed<
     )
 }
 
-/// Does what `feed` does as the input comes, as `td_feed::stream` does.
+/// Does what `feed` does as the input comes, as `td_feed::Session::stream` does.
 pub fn stream<
     D: Disk + Drop,
     I: Source + Drop,
@@ -107,8 +106,8 @@ fn feed_by<
 {
     let above = WrittenCalls::<F>::new(closures);
     let calls = BesideCalls { below, above };
-    disk_engine::feed::<D, I, W, Beside<L, F>, BesideCalls<C, F>, R>(
-        rt, alloc, disk, plan, workers, reader, writer, &calls,
+    Session::<Beside<L, F>, BesideCalls<C, F>, R>::new(rt, alloc, plan, workers, &calls).feed(
+        disk, reader, writer,
     )
 }
 
@@ -145,7 +144,7 @@ fn stream_by<
 {
     let above = WrittenCalls::<F>::new(closures);
     let calls = BesideCalls { below, above };
-    disk_engine::stream::<D, I, W, H, Beside<L, F>, BesideCalls<C, F>, R>(
-        rt, alloc, disk, plan, workers, options, reader, writer, watch, host, &calls,
+    Session::<Beside<L, F>, BesideCalls<C, F>, R>::new(rt, alloc, plan, workers, &calls).stream(
+        disk, options, reader, writer, watch, host,
     )
 }

@@ -9,7 +9,7 @@ use Rattle.td_feed.specs.Said.{IsAllOut}
 use Rattle.td_feed.specs.Session.{KeepsDisk, FeedsScript}
 use Rattle.td_feed.proofs.Carrying.{ok_only, ended_ok}
 use Rattle.td_feed.proofs.Counting.{memory_no_device, epochs_no_device}
-use Rattle.td_feed.proofs.Session.{in_some_is, disk_same, disk_ended, none_fed, fed_ended}
+use Rattle.td_feed.proofs.Sessions.{in_some_is, disk_same, disk_ended, none_fed, fed_ended}
 use Rattle.td_feed.specs.Held.{KeepsTo, TellsSeen, seen_at, then_seen}
 use Rattle.td_feed.proofs.SeenAsked.{seen_ended, tells_nothing}
 use Rattle.td_feed.proofs.Held.{base_itself, keeps_same}

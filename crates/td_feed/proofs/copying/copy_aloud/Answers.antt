@@ -6,7 +6,7 @@ use Rattle.td_feed.specs.Said.{copied_line, not_copied_line}
 use Rattle.td_feed.specs.Copied.{Copied, why_text}
 use Rattle.td_feed.specs.Session.{FeedsCopying}
 use Rattle.td_feed.proofs.Lines.{says_copied, says_not_copied}
-use Rattle.td_feed.proofs.Session.{fed_line, fed_uncopied}
+use Rattle.td_feed.proofs.Sessions.{fed_line, fed_uncopied}
 use Rattle.td_feed.proofs.Copies.{one_made}
 use Rattle.td_feed.proofs.copying.copy_aloud.Goals as goal
 

@@ -1,5 +1,4 @@
-use Rattle.std.proofs.Common.{◌≡◌, false, ℕ, List, [], ◌++◌, refl, sym, ap, ◌∙◌, subst, inl, inr, ⊎_elim}
-use Rattle.td_console.specs.Refusals.{keeper_fault}
+use Rattle.std.proofs.Common.{◌≡◌, false, ℕ, List, [], ◌++◌, refl, sym, ap, ◌∙◌, subst, inl}
 use Rattle.std.proofs.lemmas.Option.{IfSome_then}
 use Rattle.td_plan.specs.Lines.{Line}
 use Rattle.td_disk.specs.Disk.{Rises, IsDurable}
@@ -19,11 +18,11 @@ use Rattle.td_feed.specs.Said.{epochs_alone}
 use Rattle.td_feed.specs.Session.{KeepsDisk, Feeds}
 use Rattle.td_feed.proofs.Newness.{last_of_history}
 use Rattle.td_feed.proofs.Carrying.{in_some, ended_some, ended_all, none_more, still_each, found}
-use Rattle.td_feed.proofs.Counting.{as_err, fault_of, keeper_device, lack_no_device}
+use Rattle.td_feed.proofs.Counting.{as_err, fault_of, lack_no_device}
 use Rattle.td_feed.proofs.Lines.{fed_says}
 use Rattle.td_feed.proofs.Refused.{refused}
 use Rattle.std.proofs.lemmas.Result.{on_ok_weaker}
-use Rattle.td_feed.proofs.Session.{left_of, disk_same, disk_then, disk_recovered}
+use Rattle.td_feed.proofs.Sessions.{left_of, disk_same, disk_then, disk_recovered, disk_refused, refused_by}
 use Rattle.td_feed.proofs.feeding.feed.Goals as goal
 
 pub returns-in-Err-clause-disk : goal.returns-in-Err-clause-disk
@@ -33,16 +32,7 @@ pub returns-in-Err-clause-fed : goal.returns-in-Err-clause-fed
 returns-in-Err-clause-fed g c = λ none. absurd (let some = c.in-Err.ensures.err in cc)
 
 pub returns-in-Err-recover-clause-disk : goal.returns-in-Err-recover-clause-disk
-returns-in-Err-recover-clause-disk g c =
-    let recover = c.in-Err-recover.ensures in record {
-      size = recover.size_back;
-      lawful = recover.lawful_back;
-      counts = record {
-        later = recover.later_back;
-        rises = λ is. recover.device (keeper_device c.in-Err-recover.refusal (let from = c.from.ensures in let said = is in cc));
-        stays = ⊎_elim (λ device. inl (ap (as_err (Unit {0})) (c.from.ensures ∙ ap keeper_fault device))) inr recover.stays_back;
-      };
-    }
+returns-in-Err-recover-clause-disk g c = disk_refused c.in-Err-recover.refusal c.from.result c.from.ensures c.in-Err-recover.ensures.device
 
 pub returns-in-Err-recover-clause-fed : goal.returns-in-Err-recover-clause-fed
 returns-in-Err-recover-clause-fed g c = λ fits.
@@ -60,13 +50,13 @@ returns-in-Err-recover-clause-fed g c = λ fits.
           let old = c.args.disk in
           let new = c.in-Err-recover.disk in
           let plan = c.args.plan.now in
-          let safe : CrashSafe Unchanged (state old) (state new) = c.in-Err-recover.ensures.crash_safe_back lawful in
+          let safe : CrashSafe Unchanged (state old) (state new) = c.in-Err-recover.ensures.crash_safe lawful in
           none_more answers plan history (new_after (greatest 0 history) (submitted_by (orders_of plan input))) (state new)
           (still_each answers plan history (state old) (state new) safe
-          (λ i image. g.met.D.Disk.counts_now new (state old).moment i (c.in-Err-recover.ensures.lawful_back.0 lawful) safe.later image) told);
+          (λ i image. g.met.D.Disk.counts_now new (state old).moment i (c.in-Err-recover.ensures.device.lawful.0 lawful) safe.later image) told);
       said = inl (record {
-        refused = refused rose tells c.in-Err-recover.refusal c.from.result c.from.ensures recover.device recover.refused;
-        unwritten = recover.crash_safe_back;
+        refused = refused rose tells c.in-Err-recover.refusal c.from.result c.from.ensures (λ failed. recover.device.counts.rises (ap (refused_by (Keeping g.row.D.Denot)) failed)) recover.refused;
+        unwritten = recover.crash_safe;
         said = refl;
       });
     })
@@ -78,7 +68,7 @@ returns-clause-disk g c =
     let failures = g.D.Disk.failures in
     let r = c.obey-keeper.result.1 in
     subst (λ (d : g.row.D.Denot). KeepsDisk capacity is_lawful failures r c.args.disk d) (sym c.into_disk.ensures.disk)
-    (disk_then (disk_recovered c.in-Ok.ensures.size c.in-Ok.ensures.lawful c.in-Ok.ensures.stays) c.obey-keeper.ensures.disk)
+    (disk_then (disk_recovered c.in-Ok.ensures.device) c.obey-keeper.ensures.disk)
 
 pub returns-clause-fed : goal.returns-clause-fed
 returns-clause-fed g c = λ fits.
@@ -102,13 +92,13 @@ returns-clause-fed g c = λ fits.
     let stands = λ (lawful : is_lawful old) (history : List Submitted) (told : EachTellsHistory answers plan history (state old)).
     let safe : CrashSafe Unchanged (state old) (state keeper.device) = c.in-Ok.ensures.crash_safe lawful in
     found answers plan history (state old) (state keeper.device) safe
-    (λ i image. g.met.D.Disk.counts_now keeper.device (state old).moment i (c.in-Ok.ensures.lawful.0 lawful) safe.later image) told
-    c.told_in_parts.ensures.one_answer (g.met.D.Disk.reads_image keeper.device (c.in-Ok.ensures.lawful.0 lawful)) keeper.standing (c.in-Ok.ensures.told lawful) in
+    (λ i image. g.met.D.Disk.counts_now keeper.device (state old).moment i (c.in-Ok.ensures.device.lawful.0 lawful) safe.later image) told
+    c.told_in_parts.ensures.one_answer (g.met.D.Disk.reads_image keeper.device (c.in-Ok.ensures.device.lawful.0 lawful)) keeper.standing (c.in-Ok.ensures.told lawful) in
     let by_keeper = λ (history : List Submitted) (is : Stands (states_by answers plan) keeper.standing history).
     subst (λ (p : List Line). Stands (states_by answers p) keeper.standing history) (sym c.in-Ok.ensures.plan) is in
     let also : (history : List Submitted) → Stands (states_by answers plan) keeper.standing history → more ≡ new_after (greatest 0 history) (submitted_by (orders_of plan input)) =
     λ history is. ap (λ (q : ℕ). new_after q (submitted_by (orders_of plan input))) (last_of_history answers plan keeper.standing history is) in
-    let left_lawful : is_lawful old → is_lawful new.device = λ lawful. c.obey-keeper.ensures.disk.lawful.0 (c.in-Ok.ensures.lawful.0 lawful) in
+    let left_lawful : is_lawful old → is_lawful new.device = λ lawful. c.obey-keeper.ensures.disk.lawful.0 (c.in-Ok.ensures.device.lawful.0 lawful) in
     record {
       fed = on_ok_weaker r (λ (carries : Carries answers keeper new more) lawful history told.
           let is = stands lawful history told in
@@ -130,7 +120,7 @@ returns-clause-fed g c = λ fits.
             told = c.in-Ok.ensures.told;
             watch = c.in-Ok.keeper.watch;
             kept = c.each_is_kept.ensures;
-            lawful = c.in-Ok.ensures.lawful.0;
+            lawful = c.in-Ok.ensures.device.lawful.0;
             unwritten = c.in-Ok.ensures.crash_safe;
             found = c.in-Ok.ensures.kept;
             ended = new;

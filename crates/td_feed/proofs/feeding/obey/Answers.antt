@@ -12,7 +12,7 @@ use Rattle.td_feed.specs.Session.{FeedsNoting}
 use Rattle.td_feed.proofs.Accepted.{none_noted}
 use Rattle.td_feed.proofs.Carrying.{in_some}
 use Rattle.td_feed.proofs.Counting.{fault_of}
-use Rattle.td_feed.proofs.Session.{disk_same, unfed}
+use Rattle.td_feed.proofs.Sessions.{disk_same, unfed}
 use Rattle.td_feed.proofs.feeding.obey.Goals as goal
 
 abbrev as_read : List Order → Result (List Order) Fault

@@ -22,7 +22,7 @@ use Rattle.td_feed.proofs.Counting.{as_err, other_fault, memory_no_device}
 use Rattle.td_feed.proofs.Lines.{says_nothing, some_of_all, some_of_more, by_refusal, handed_on}
 use Rattle.td_feed.proofs.Obeyed.{HasObeyed, none_obeyed, some_obeyed, some_refused, some_held, held_there, some_seen, told_on, came_left, came_there, left_there, seen_there, is_sound, at_end_carried, at_end_left, at_end_said, at_end_came, at_end_copied, at_end_seen, none_left, none_of}
 use Rattle.td_feed.proofs.Placed.{script_at, next_script, script_same, next_there, AsksFrom, asks_there}
-use Rattle.td_feed.proofs.Session.{done, known, in_some_is, disk_same, disk_then, disk_handed, none_fed, err_fed}
+use Rattle.td_feed.proofs.Sessions.{done, known, in_some_is, disk_same, disk_then, disk_handed, none_fed, err_fed}
 use Rattle.td_feed.proofs.in_turn.obey_each.Goals as goal
 
 not_read : (f : Fault) → is_of_reader f ≡ true → f ≡ Keeper Device → ⊥

@@ -3,7 +3,7 @@ use Rattle.td_feed.specs.Held.{seen_at, told_seen}
 use Rattle.td_feed.specs.Session.{KeepsDisk}
 use Rattle.td_feed.proofs.Placed.{script_at}
 use Rattle.td_feed.proofs.Obeyed.{HasObeyed}
-use Rattle.td_feed.proofs.Session.{done}
+use Rattle.td_feed.proofs.Sessions.{done}
 use Rattle.td_feed.proofs.in_turn.obey_each.Given as goal
 
 -- the keeper has gone on with what the orders so far submit, the disk is kept, and the host is told what was seen

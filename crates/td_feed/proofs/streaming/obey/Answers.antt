@@ -8,7 +8,7 @@ use Rattle.td_feed.specs.Placed.{placed}
 use Rattle.td_feed.specs.Session.{limit_of, FeedsScript}
 use Rattle.td_feed.proofs.Carrying.{of_made}
 use Rattle.td_feed.proofs.Placed.{made_twice}
-use Rattle.td_feed.proofs.Session.{in_some_is, none_fed}
+use Rattle.td_feed.proofs.Sessions.{in_some_is, none_fed}
 use Rattle.td_feed.specs.declared.under_way.Pace.{Pace}
 use Rattle.td_feed.specs.Held.{KeepsTo, TellsSeen, seen_at, first_seen, then_seen}
 use Rattle.td_feed.proofs.SeenAsked.{tells_nothing}

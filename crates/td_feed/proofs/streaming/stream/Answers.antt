@@ -1,6 +1,5 @@
 use Rattle.std.proofs.Common.{◌≡◌, ◌==◌, eqb-true, Bool, true, false, ℕ, ◌≤◌, arith, List, [], ◌++◌, length, refl, sym, ap, ◌∙◌, subst, inl, inr, ⊎_elim}
 use Rattle.std.specs.Prelude.{Option, IfSome, Ok, All}
-use Rattle.td_console.specs.Refusals.{keeper_fault}
 use Rattle.td_plan.specs.Lines.{Line}
 use Rattle.td_disk.specs.Disk.{DiskState, Rises, IsDurable}
 use Rattle.td_gate.specs.CrashSafe.{CrashSafe, Unchanged}
@@ -28,12 +27,12 @@ use Rattle.td_feed.specs.Session.{limit_of, wanted_by, KeepsDisk, FeedsScript}
 use Rattle.td_feed.proofs.Newness.{last_of_history}
 use Rattle.td_feed.proofs.Placed.{still_sound, seen_placed}
 use Rattle.td_feed.proofs.Carrying.{as_long, in_some, ended_some, ended_all, none_more, still_each, found}
-use Rattle.td_feed.proofs.Counting.{as_err, fault_of, keeper_device, lack_no_device}
+use Rattle.td_feed.proofs.Counting.{as_err, fault_of, lack_no_device}
 use Rattle.td_feed.proofs.Lines.{fed_says, says_copies, always_driven}
 use Rattle.std.proofs.lemmas.List.Elements.{All-nil}
 use Rattle.td_feed.proofs.Refused.{refused}
 use Rattle.std.proofs.lemmas.Result.{on_ok_weaker}
-use Rattle.td_feed.proofs.Session.{known, in_some_is, left_of, disk_same, disk_then, disk_recovered}
+use Rattle.td_feed.proofs.Sessions.{known, in_some_is, left_of, disk_same, disk_then, disk_recovered, disk_refused, refused_by}
 use Rattle.td_feed.proofs.streaming.stream.Goals as goal
 
 -- the limit is that of the disk, where there is one
@@ -70,16 +69,7 @@ pub returns-in-Err-clause-fed : goal.returns-in-Err-clause-fed
 returns-in-Err-clause-fed g c = λ none. absurd (let some = c.in-Err.ensures.err in cc)
 
 pub returns-in-Err-recover-clause-disk : goal.returns-in-Err-recover-clause-disk
-returns-in-Err-recover-clause-disk g c =
-    let recover = c.in-Err-recover.ensures in record {
-      size = recover.size_back;
-      lawful = recover.lawful_back;
-      counts = record {
-        later = recover.later_back;
-        rises = λ is. recover.device (keeper_device c.in-Err-recover.refusal (let from = c.from.ensures in let said = is in cc));
-        stays = ⊎_elim (λ device. inl (ap (as_err (Unit {0})) (c.from.ensures ∙ ap keeper_fault device))) inr recover.stays_back;
-      };
-    }
+returns-in-Err-recover-clause-disk g c = disk_refused c.in-Err-recover.refusal c.from.result c.from.ensures c.in-Err-recover.ensures.device
 
 pub returns-in-Err-recover-clause-fed : goal.returns-in-Err-recover-clause-fed
 returns-in-Err-recover-clause-fed g c = λ fits.
@@ -103,24 +93,24 @@ returns-in-Err-recover-clause-fed g c = λ fits.
               let old = c.args.disk in
               let new = c.in-Err-recover.disk in
               let plan = c.args.plan.now in
-              let safe : CrashSafe Unchanged (state old) (state new) = c.in-Err-recover.ensures.crash_safe_back lawful in
+              let safe : CrashSafe Unchanged (state old) (state new) = c.in-Err-recover.ensures.crash_safe lawful in
               none_more answers plan history (new_after (greatest 0 history) (submissions (placed c.args.options.refuse (length history) (greatest 0 history) (script_of c.args.options.placing c.args.options.hold c.args.options.questions c.args.options.copies (limit_of c.args.options.refuse 0) plan input)).orders)) (state new)
               (still_each answers plan history (state old) (state new) safe
-              (λ i image. g.met.D.Disk.counts_now new (state old).moment i (c.in-Err-recover.ensures.lawful_back.0 lawful) safe.later image) told);
+              (λ i image. g.met.D.Disk.counts_now new (state old).moment i (c.in-Err-recover.ensures.device.lawful.0 lawful) safe.later image) told);
           said = inl (record {
-            refused = refused rose tells c.in-Err-recover.refusal c.from.result c.from.ensures recover.device recover.refused;
-            unwritten = recover.crash_safe_back;
+            refused = refused rose tells c.in-Err-recover.refusal c.from.result c.from.ensures (λ failed. recover.device.counts.rises (ap (refused_by (Keeping g.row.D.Denot)) failed)) recover.refused;
+            unwritten = recover.crash_safe;
             said = refl;
           });
         };
         held = λ hold lawful kept each.
-            let safe : CrashSafe Unchanged (state c.args.disk) (state new) = recover.crash_safe_back lawful in
+            let safe : CrashSafe Unchanged (state c.args.disk) (state new) = recover.crash_safe lawful in
             let orders = (script_of c.args.options.placing c.args.options.hold c.args.options.questions c.args.options.copies (limit_of c.args.options.refuse 0) c.args.plan.now input).orders in
             beyond c.args.plan.now (state c.args.disk) (state new) kept (seen_after kept orders) safe
-            (λ i image. g.met.D.Disk.counts_now new (state c.args.disk).moment i (recover.lawful_back.0 lawful) safe.later image) (seen_on kept orders) each;
+            (λ i image. g.met.D.Disk.counts_now new (state c.args.disk).moment i (recover.device.lawful.0 lawful) safe.later image) (seen_on kept orders) each;
         ever_held = λ hold lawful kept each.
             let orders = (script_of c.args.options.placing c.args.options.hold c.args.options.questions c.args.options.copies (limit_of c.args.options.refuse 0) c.args.plan.now input).orders in
-            ever c.args.plan.now (state c.args.disk) (state new) (state new) kept (seen_after kept orders) (seen_after kept orders) (recover.crash_safe_back lawful) (λ t i le left. inl left) (seen_on kept orders) (omega arith) each;
+            ever c.args.plan.now (state c.args.disk) (state new) (state new) kept (seen_after kept orders) (seen_after kept orders) (recover.crash_safe lawful) (λ t i le left. inl left) (seen_on kept orders) (omega arith) each;
       };
       copied = record {
         made = [];
@@ -145,7 +135,7 @@ returns-clause-disk g c =
     let failures = g.D.Disk.failures in
     let r = c.obey-keeper.result.1 in
     subst (λ (d : g.row.D.Denot). KeepsDisk capacity is_lawful failures r c.args.disk d) (sym c.into_disk.ensures.disk)
-    (disk_then (disk_recovered c.in-Ok.ensures.size c.in-Ok.ensures.lawful c.in-Ok.ensures.stays)
+    (disk_then (disk_recovered c.in-Ok.ensures.device)
     (subst (λ (d : g.row.D.Denot). KeepsDisk capacity is_lawful failures r d c.obey-keeper.result.0.device) c.watched-keeper.ensures.device c.obey-keeper.ensures.disk))
 
 pub returns-clause-fed : goal.returns-clause-fed
@@ -189,8 +179,8 @@ returns-clause-fed g c = λ fits.
     let stands = λ (lawful : is_lawful old) (history : List Submitted) (told : EachTellsHistory answers plan history (state old)).
     let safe : CrashSafe Unchanged (state old) (state keeper.device) = c.in-Ok.ensures.crash_safe lawful in
     found answers plan history (state old) (state keeper.device) safe
-    (λ i image. g.met.D.Disk.counts_now keeper.device (state old).moment i (c.in-Ok.ensures.lawful.0 lawful) safe.later image) told
-    c.told_in_parts.ensures.one_answer (g.met.D.Disk.reads_image keeper.device (c.in-Ok.ensures.lawful.0 lawful)) keeper.standing (c.in-Ok.ensures.told lawful) in
+    (λ i image. g.met.D.Disk.counts_now keeper.device (state old).moment i (c.in-Ok.ensures.device.lawful.0 lawful) safe.later image) told
+    c.told_in_parts.ensures.one_answer (g.met.D.Disk.reads_image keeper.device (c.in-Ok.ensures.device.lawful.0 lawful)) keeper.standing (c.in-Ok.ensures.told lawful) in
     let by_keeper = λ (history : List Submitted) (is : Stands (states_by answers plan) keeper.standing history).
     subst (λ (p : List Line). Stands (states_by answers p) keeper.standing history) (sym c.in-Ok.ensures.plan) is in
     let also : (history : List Submitted) → Stands (states_by answers plan) keeper.standing history
@@ -199,14 +189,14 @@ returns-clause-fed g c = λ fits.
     let first = last_of_history answers plan keeper.standing history is in
     let long = sym (as_long answers plan keeper.standing history is) in
     λ i. new_after (first i) (submissions (placed refuse (long i) (first i) raw).orders) in
-    let left_lawful : is_lawful old → is_lawful new.device = λ lawful. c.obey-keeper.ensures.disk.lawful.0 (subst is_lawful (sym c.watched-keeper.ensures.device) (c.in-Ok.ensures.lawful.0 lawful)) in
+    let left_lawful : is_lawful old → is_lawful new.device = λ lawful. c.obey-keeper.ensures.disk.lawful.0 (subst is_lawful (sym c.watched-keeper.ensures.device) (c.in-Ok.ensures.device.lawful.0 lawful)) in
     let driven = always_driven is_lawful state failures answers marks r u v keeper new more whole.fed.done feeds.said in
     let goes = λ (hold : c.args.options.hold ≡ true). held_by {old = keeper} {new = new} c.args.options.hold keeper.standing.epoch asked.orders hold keeps in
     let most = λ (hold : c.args.options.hold ≡ true) (lawful : is_lawful old) (kept : ℕ) (each : EachKeepsTo plan kept (state old)).
     let safe : CrashSafe Unchanged (state old) (state keeper.device) = c.in-Ok.ensures.crash_safe lawful in
     let there : EachKeepsTo plan kept (state keeper.device) = beyond plan (state old) (state keeper.device) kept kept safe
-    (λ i image. g.met.D.Disk.counts_now keeper.device (state old).moment i (c.in-Ok.ensures.lawful.0 lawful) safe.later image) (omega arith) each in
-    let low : keeper.standing.epoch ≤ kept = there (state keeper.device).bytes (g.met.D.Disk.reads_image keeper.device (c.in-Ok.ensures.lawful.0 lawful)) keeper.standing (c.in-Ok.ensures.told lawful) in
+    (λ i image. g.met.D.Disk.counts_now keeper.device (state old).moment i (c.in-Ok.ensures.device.lawful.0 lawful) safe.later image) (omega arith) each in
+    let low : keeper.standing.epoch ≤ kept = there (state keeper.device).bytes (g.met.D.Disk.reads_image keeper.device (c.in-Ok.ensures.device.lawful.0 lawful)) keeper.standing (c.in-Ok.ensures.told lawful) in
     let base : keeper.base ≡ keeper.standing.epoch = c.in-Ok.ensures.fresh.base in
     let on = seen_on kept asked.orders in
     let further = seen_further keeper.standing.epoch kept asked.orders low in
@@ -219,7 +209,7 @@ returns-clause-fed g c = λ fits.
       told = c.in-Ok.ensures.told;
       watch = c.watched-keeper.ensures.aside.0;
       kept = subst (λ (k : Keeping g.row.D.Denot). IsKeeping k answers) c.watched-keeper.ensures.aside.1 c.each_is_kept.ensures;
-      lawful = c.in-Ok.ensures.lawful.0;
+      lawful = c.in-Ok.ensures.device.lawful.0;
       unwritten = c.in-Ok.ensures.crash_safe;
       found = c.in-Ok.ensures.kept;
       ended = new;
@@ -264,7 +254,7 @@ returns-clause-fed g c = λ fits.
             (subst (λ (p : List Line). EachKeepsTo p (seen_after kept raw.orders) (state new.device)) ((goes hold).plan ∙ c.in-Ok.ensures.plan)
             (λ i image t told. let low = c.each_keeps_to_its_base.ensures (left_lawful lawful) i image t told in omega (arith, low, at_most, said)));
         ever_held = λ hold lawful kept each.
-            let short = (c.driven_keeps_to_its_base.ensures driven.commands driven.replies keeper new (c.in-Ok.ensures.lawful.0 lawful) driven.driven).1 in
+            let short = (c.driven_keeps_to_its_base.ensures driven.commands driven.replies keeper new (c.in-Ok.ensures.device.lawful.0 lawful) driven.driven).1 in
             let at_most = most hold lawful kept each in
             let said = seen_placed raw.is_sound refuse told last raw.orders kept in
             let far : new.base ≤ seen_after kept raw.orders = omega (arith, at_most, said) in
@@ -280,7 +270,7 @@ returns-clause-fed g c = λ fits.
             let is = stands lawful history told in
             subst (λ (l : List Submitted). All (IsCopyOf lawful_new state_new answers plan (history ++ l)) copied.made) (also history is)
             (subst (λ (p : List Line). All (IsCopyOf lawful_new state_new answers p (history ++ more)) copied.made) c.in-Ok.ensures.plan
-            (copied.each (c.in-Ok.ensures.lawful.0 lawful) history (by_keeper history is)));
+            (copied.each (c.in-Ok.ensures.device.lawful.0 lawful) history (by_keeper history is)));
       };
     })
 
@@ -306,7 +296,7 @@ returns-clause-seen g c = λ fits.
       standing = keeper.standing;
       told = λ lawful.
           let safe : CrashSafe Unchanged (state old) (state keeper.device) = c.in-Ok.ensures.crash_safe lawful in
-          let sound = c.in-Ok.ensures.lawful.0 lawful in
+          let sound = c.in-Ok.ensures.device.lawful.0 lawful in
           let was = safe.each (state keeper.device).bytes (g.met.D.Disk.counts_now keeper.device (state old).moment (state keeper.device).bytes sound safe.later (g.met.D.Disk.reads_image keeper.device sound)) in
           (was.0, was.1, subst (λ (i : List ℕ). Told plan i (Ok keeper.standing)) was.2 (c.in-Ok.ensures.told lawful));
       seen = subst (λ (k : Keeping g.row.D.Denot). TellsSeen r (first_seen hold k.standing.epoch) (orders_at k) before after) c.watched-keeper.ensures.aside.1 (known _ remaining input is c.obey-keeper.ensures.seen);

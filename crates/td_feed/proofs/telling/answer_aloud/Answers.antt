@@ -1,6 +1,6 @@
 use Rattle.std.proofs.Common.{◌≡◌, refl, ap}
 use Rattle.td_feed.proofs.Lines.{no_device_if}
-use Rattle.td_feed.proofs.Session.{disk_same, disk_then, disk_handed, fed_answer, fed_unanswered}
+use Rattle.td_feed.proofs.Sessions.{disk_same, disk_then, disk_handed, fed_answer, fed_unanswered}
 use Rattle.td_keeper.specs.declared.command.Command.TheVariants.{Answer}
 use Rattle.td_feed.proofs.telling.answer_aloud.Goals as goal
 

@@ -7,7 +7,7 @@ use Rattle.td_feed.specs.Carried.{batch_in, new_to, Carries}
 use Rattle.td_feed.proofs.Carrying.{at_ok, at_err, leaves_all}
 use Rattle.td_feed.proofs.Told.{submitted_is}
 use Rattle.td_feed.proofs.Lines.{said_by, no_device_if}
-use Rattle.td_feed.proofs.Session.{disk_same, disk_then, disk_handed, fed_refused}
+use Rattle.td_feed.proofs.Sessions.{disk_same, disk_then, disk_handed, fed_refused}
 use Rattle.td_feed.proofs.telling.tell_aloud.Goals as goal
 
 pub returns-in_err-reply-clause-disk : goal.returns-in_err-reply-clause-disk

@@ -1,6 +1,6 @@
 use Rattle.std.proofs.Common.{◌≡◌, refl, ap}
 use Rattle.td_feed.proofs.Lines.{no_device_if}
-use Rattle.td_feed.proofs.Session.{ok_no_device, disk_same, fed_nothing, fed_full}
+use Rattle.td_feed.proofs.Sessions.{ok_no_device, disk_same, fed_nothing, fed_full}
 use Rattle.td_feed.proofs.under_way.tell_full.Goals as goal
 
 pub returns-then-is_none-clause-disk : goal.returns-then-is_none-clause-disk

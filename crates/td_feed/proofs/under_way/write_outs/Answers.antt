@@ -9,7 +9,7 @@ use Rattle.td_feed.specs.Said.{line_of, out_lines}
 use Rattle.td_feed.proofs.Carrying.{unmoved, carries_after}
 use Rattle.td_feed.proofs.Counting.{other_fault}
 use Rattle.td_feed.proofs.Lines.{by_refusal, unheard, output_no_device, holding_nothing, holding_more, holding_piece, none_out, all_written, last_written}
-use Rattle.td_feed.proofs.Session.{ok_no_device, disk_same, fed_quiet}
+use Rattle.td_feed.proofs.Sessions.{ok_no_device, disk_same, fed_quiet}
 use Rattle.td_feed.proofs.Held.{base_itself, base_then}
 use Rattle.td_feed.proofs.under_way.write_outs.Goals as goal
 

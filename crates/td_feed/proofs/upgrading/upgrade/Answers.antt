@@ -35,9 +35,9 @@ returns-in-Err-clause-same g c lawful history told =
     let state = g.D.Disk.state in
     let old = c.args.disk in
     let new = c.in-Err.disk in
-    let safe : CrashSafe Unchanged (state old) (state new) = c.in-Err.ensures.crash_safe_back lawful in
+    let safe : CrashSafe Unchanged (state old) (state new) = c.in-Err.ensures.crash_safe lawful in
     still_each g.L.Law.answers c.args.plan.now history (state old) (state new) safe
-    (λ i image. g.met.D.Disk.counts_now new (state old).moment i (c.in-Err.ensures.lawful_back.0 lawful) safe.later image) told
+    (λ i image. g.met.D.Disk.counts_now new (state old).moment i (c.in-Err.ensures.device.lawful.0 lawful) safe.later image) told
 
 pub returns-in-Ok-upgrade-clause-same : goal.returns-in-Ok-upgrade-clause-same
 returns-in-Ok-upgrade-clause-same g c lawful history told image left =
@@ -47,7 +47,7 @@ returns-in-Ok-upgrade-clause-same g c lawful history told image left =
     let plan = c.args.plan.now in
     let keeper = c.in-Ok.keeper in
     let new = c.upgrade.new.self in
-    let now = c.in-Ok.ensures.lawful.0 lawful in
+    let now = c.in-Ok.ensures.device.lawful.0 lawful in
     let whole = c.in-Ok.ensures.fresh.whole in
     let safe : CrashSafe Unchanged (state old) (state keeper.device) = c.in-Ok.ensures.crash_safe lawful in
     let stands : Stands (states_by answers plan) keeper.standing history =
@@ -55,7 +55,7 @@ returns-in-Ok-upgrade-clause-same g c lawful history told image left =
     (λ i there. g.met.D.Disk.counts_now keeper.device (state old).moment i now safe.later there) told
     c.told_in_parts.ensures.one_answer (g.met.D.Disk.reads_image keeper.device now) keeper.standing (c.in-Ok.ensures.told lawful) in
     let here : (state new.device).images image = subst (λ (d : g.row.D.Denot). (state d).images image) c.into_disk.ensures.disk left in
-    let since = g.met.D.Disk.counts_now new.device (state keeper.device).moment image (c.upgrade.ensures.lawful.0 now) (c.upgrade.ensures.later now whole) here in
+    let since = g.met.D.Disk.counts_now new.device (state keeper.device).moment image (c.upgrade.ensures.device.lawful.0 now) (c.upgrade.ensures.later now whole) here in
     record {
       standing = keeper.standing;
       told = subst (λ (p : List Line). Told p image (Ok keeper.standing)) c.in-Ok.ensures.plan (c.upgrade.ensures.told now whole image since);
@@ -70,7 +70,7 @@ returns-in-Err-upgrade-clause-same g c lawful history told image left =
     let plan = c.args.plan.now in
     let keeper = c.in-Ok.keeper in
     let new = c.upgrade.new.self in
-    let now = c.in-Ok.ensures.lawful.0 lawful in
+    let now = c.in-Ok.ensures.device.lawful.0 lawful in
     let whole = c.in-Ok.ensures.fresh.whole in
     let safe : CrashSafe Unchanged (state old) (state keeper.device) = c.in-Ok.ensures.crash_safe lawful in
     let stands : Stands (states_by answers plan) keeper.standing history =
@@ -78,7 +78,7 @@ returns-in-Err-upgrade-clause-same g c lawful history told image left =
     (λ i there. g.met.D.Disk.counts_now keeper.device (state old).moment i now safe.later there) told
     c.told_in_parts.ensures.one_answer (g.met.D.Disk.reads_image keeper.device now) keeper.standing (c.in-Ok.ensures.told lawful) in
     let here : (state new.device).images image = subst (λ (d : g.row.D.Denot). (state d).images image) c.into_disk-in-Err-upgrade.ensures.disk left in
-    let since = g.met.D.Disk.counts_now new.device (state keeper.device).moment image (c.upgrade.ensures.lawful.0 now) (c.upgrade.ensures.later now whole) here in
+    let since = g.met.D.Disk.counts_now new.device (state keeper.device).moment image (c.upgrade.ensures.device.lawful.0 now) (c.upgrade.ensures.later now whole) here in
     record {
       standing = keeper.standing;
       told = subst (λ (p : List Line). Told p image (Ok keeper.standing)) c.in-Ok.ensures.plan (c.upgrade.ensures.told now whole image since);
@@ -93,7 +93,7 @@ returns-in-Ok-upgrade-clause-raised g c =
     let keeper = c.in-Ok.keeper in
     let new = c.upgrade.new.self in
     let facts = numbered keeper new c.in-Ok-upgrade._was_raised c.in-Ok.ensures.fresh.whole (λ e. c.in-Ok-upgrade.ensures.done (ap as_ok e)) (λ e. c.in-Ok-upgrade.ensures.already (ap as_ok e)) in
-    let holds : HeldWhere new.broken answers new.plan new.head new.side new.standing (state new.device) = c.each_disk_holds.ensures (c.upgrade.ensures.lawful.0 (c.in-Ok.ensures.lawful.0 lawful)) in
+    let holds : HeldWhere new.broken answers new.plan new.head new.side new.standing (state new.device) = c.each_disk_holds.ensures (c.upgrade.ensures.device.lawful.0 (c.in-Ok.ensures.device.lawful.0 lawful)) in
     let keeps : Keeps new.plan new.head new.side new.standing (state new.device) = subst (λ (b : Bool). HeldWhere b answers new.plan new.head new.side new.standing (state new.device)) facts.1 holds in
     record {
       head = new.head;

@@ -9,9 +9,9 @@ returns g c lawful =
     let state = g.D.Disk.state in
     let failures = g.D.Disk.failures in
     let answers = g.L.Law.answers in
-    let still = c.in-Ok.ensures.lawful.0 lawful in
+    let still = c.in-Ok.ensures.device.lawful.0 lawful in
     let view = c.watched-keeper.ensures.0 in
-    let first = c.watches_come_and_go.ensures.driven _ _ _ _ c.in-Ok-drive.ensures.driven in
+    let first = c.watches_come_and_go.ensures.driven _ _ _ _ c.in-Ok-drive.ensures.driven.driven in
     let second = c.watches_come_and_go.ensures.driven _ _ _ _ c.in-Some.ensures.driven in (
       c.in-Ok.keeper,
       λ more unseen ended left stopped crashed. record {

@@ -1,6 +1,6 @@
 use Rattle.std.proofs.Common.{refl}
 use Rattle.td_keeper.specs.declared.command.Command.TheVariants.{CloseFree}
-use Rattle.td_feed.proofs.Session.{ok_no_device, disk_same, disk_handed, disk_ok, fed_nothing, fed_refused, fed_quietly}
+use Rattle.td_feed.proofs.Sessions.{ok_no_device, disk_same, disk_handed, disk_ok, fed_nothing, fed_refused, fed_quietly}
 use Rattle.td_feed.proofs.under_way.Feeding.close_freed.Goals as goal
 
 pub returns-then-self-eq0-clause-disk : goal.returns-then-self-eq0-clause-disk

@@ -1,5 +1,5 @@
 use Rattle.std.proofs.Common.{◌∙◌, ap, subst}
-use Rattle.td_feed.proofs.Session.{disk_then, disk_handed, fed_after, fed_handed, fed_refused, fed_quietly}
+use Rattle.td_feed.proofs.Sessions.{disk_then, disk_handed, fed_after, fed_handed, fed_refused, fed_quietly}
 use Rattle.td_keeper.specs.declared.command.Command.{Command}
 use Rattle.td_feed.specs.Carried.{batch_in, new_to, is_resting}
 use Rattle.td_feed.specs.Held.{MovesBase}

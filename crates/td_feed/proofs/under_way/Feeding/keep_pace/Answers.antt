@@ -1,5 +1,5 @@
 use Rattle.std.proofs.Common.{refl}
-use Rattle.td_feed.proofs.Session.{ok_no_device, disk_same, disk_then, disk_handed, fed_nothing, fed_then, fed_handed}
+use Rattle.td_feed.proofs.Sessions.{ok_no_device, disk_same, disk_then, disk_handed, fed_nothing, fed_then, fed_handed}
 use Rattle.td_feed.proofs.Held.{base_itself, keeps_same, keeps_then}
 use Rattle.td_feed.proofs.under_way.Feeding.keep_pace.Goals as goal
 

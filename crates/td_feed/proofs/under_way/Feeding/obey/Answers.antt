@@ -9,7 +9,7 @@ use Rattle.td_keeper.specs.Keeping.{Keeping}
 use Rattle.td_feed.specs.Noted.Aside.{to_say, to_answer, to_copy}
 use Rattle.td_feed.specs.Session.{FeedsCopying}
 use Rattle.td_feed.proofs.Lines.{no_device_if, no_device_said}
-use Rattle.td_feed.proofs.Session.{ok_no_device, disk_same, fed_nothing, fed_note, fed_uncopied}
+use Rattle.td_feed.proofs.Sessions.{ok_no_device, disk_same, fed_nothing, fed_note, fed_uncopied}
 use Rattle.std.specs.Prelude.{Ok, None}
 use Rattle.td_feed.proofs.Held.{base_itself, keeps_same}
 use Rattle.td_feed.proofs.under_way.Feeding.obey.Goals as goal

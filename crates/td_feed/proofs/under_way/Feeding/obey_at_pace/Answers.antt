@@ -1,4 +1,4 @@
-use Rattle.td_feed.proofs.Session.{disk_then, disk_handed, copying_then, copying_handed}
+use Rattle.td_feed.proofs.Sessions.{disk_then, disk_handed, copying_then, copying_handed}
 use Rattle.td_feed.proofs.Held.{keeps_then}
 use Rattle.td_feed.proofs.under_way.Feeding.obey_at_pace.Goals as goal
 

@@ -1,6 +1,6 @@
 use Rattle.std.proofs.Common.{refl}
 use Rattle.td_keeper.specs.declared.command.Command.TheVariants.{Release}
-use Rattle.td_feed.proofs.Session.{disk_handed, disk_ok, fed_refused, fed_quietly, all_released}
+use Rattle.td_feed.proofs.Sessions.{disk_handed, disk_ok, fed_refused, fed_quietly, all_released}
 use Rattle.td_feed.proofs.under_way.Feeding.release.Goals as goal
 
 pub returns-in_err-tell-clause-disk : goal.returns-in_err-tell-clause-disk

@@ -1,4 +1,4 @@
-use Rattle.td_feed.proofs.Session.{disk_then, disk_handed, fed_then, fed_handed}
+use Rattle.td_feed.proofs.Sessions.{disk_then, disk_handed, fed_then, fed_handed}
 use Rattle.td_feed.proofs.Held.{moves_then}
 use Rattle.td_feed.proofs.under_way.Feeding.submit.Goals as goal
 

@@ -1,67 +1,20 @@
-use Rattle.std.proofs.Common.{◌≡◌, ℕ, ◌+◌, ◌≤◌, true, false, [], sym, subst}
+use Rattle.std.specs.Prelude.{Bool, Some, None, if◌then◌else◌}
+use Rattle.std.proofs.Common.{ap, refl, ◌≡◌, ℕ, ◌+◌, ◌≤◌, true, [], sym, subst}
 use Rattle.td_plan.specs.Tree.{tree_of}
 use Rattle.td_gate.specs.CrashSafe.{CrashSafe, Unchanged}
 use Rattle.td_head.specs.Layout.{size_of}
-use Rattle.td_standing.specs.Standing.{standing_from, last_epoch, with_more}
+use Rattle.td_standing.specs.Standing.{standing_from, with_more}
 use Rattle.td_standing.specs.Stops.{Advance}
 use Rattle.td_standing.specs.Told.{ring_of}
-use Rattle.td_standing.specs.Advanced.{AdvancesSince, states_by}
+use Rattle.td_standing.specs.Advanced.{states_by}
 use Rattle.td_group.specs.Groups.{AreFree}
-use Rattle.td_keeper.specs.Keeping.{Keeping, KeepsSince, FreeAreShut, keeping_of}
+use Rattle.td_keeper.specs.Keeping.{Keeping, FreeAreShut, keeping_of}
+use Rattle.td_keeper.specs.Calls.{CrashLeaves, IsClosed}
+use Rattle.td_standing.specs.declared.error.KeeperError.TheVariants.{Broken}
 use Rattle.td_keeper.proofs.Kept.{elsewhere}
-use Rattle.td_keeper.proofs.Since.{from_start, held, by_further, told_further, either_told, keeps_to, keeps_since, none_beyond}
+use Rattle.td_keeper.proofs.Since.{from_start, held, told_further, either_told, keeps_to, keeps_since, none_beyond}
 use Rattle.td_keeper.proofs.Submitting.{keeps_of, held_of, free_in, shut_in, shut_out}
 use Rattle.td_keeper.proofs.keeper.Keeper.close_free.Goals as goal
-
-pub returns-in-Ok-clause-further : goal.returns-in-Ok-clause-further
-returns-in-Ok-clause-further g c =
-    let state = g.D.Disk.state in
-    let answers = g.L.Law.answers in
-    let device = c.self.inside.device in
-    let plan = c.self.inside.plan in
-    let head = c.self.inside.head in
-    let side = c.self.inside.checkpoint.slot in
-    let s = standing_from c.self.inside.checkpoint c.self.inside.submitted.items in
-    let new = c.close_free.new.device in
-    let k = keeping_of device plan head c.self.inside.checkpoint c.self.inside.submitted.items c.self.inside.broken c.self.inside.taken c.self.inside.collected c.self.inside.queue.items c.self.inside.watch in
-    let still : Advance (states_by answers plan) (with_more s []) s = c.standings_advance.ensures.not_yet (tree_of plan) s [] in
-    let free : AreFree head.shape s (c.last_epoch-first.result + 1) c.min-count.result = free_in answers {k = k} c.last_epoch-first.result c.args.most c.free.result c.min-count.result c.self.view_is c.last_epoch-first.ensures c.free.ensures c.min-count.ensures c.self.invariant.1 in
-    let ring : c.ring_of-journal.result ≡ ring_of head.shape s.epoch = c.ring_of-journal.ensures.ring in
-    subst (λ (z : Keeping g.row.D.Denot). g.D.Disk.is_lawful z.device → z.broken ≡ false → AdvancesSince answers z.plan z.standing [] (last_epoch z.standing) (state z.device) (state new)) c.self.view_is
-    (λ old whole.
-    let keeps = keeps_of c.self.inside.broken answers plan head side s (state device) whole (c.self.invariant.2 old) in
-    told_further answers plan c.told_in_parts.ensures.together head head side s (state device) (state new) still (c.in-Ok.ensures.begun old plan head side s ring free keeps))
-
-pub returns-in-Ok-clause-images : goal.returns-in-Ok-clause-images
-returns-in-Ok-clause-images g c old whole =
-    let state = g.D.Disk.state in
-    by_further g.D.Disk.is_lawful state g.met.D.Disk.only_now g.L.Law.answers c.told_in_parts.ensures.together c.standings_advance.ensures.not_yet c.self.view_is c.self.invariant.2
-    [] (state c.close_free.new.device) old whole (returns-in-Ok-clause-further g c old whole)
-
-pub returns-in-Err-Device-clause-further : goal.returns-in-Err-Device-clause-further
-returns-in-Err-Device-clause-further g c =
-    let state = g.D.Disk.state in
-    let answers = g.L.Law.answers in
-    let device = c.self.inside.device in
-    let plan = c.self.inside.plan in
-    let head = c.self.inside.head in
-    let side = c.self.inside.checkpoint.slot in
-    let s = standing_from c.self.inside.checkpoint c.self.inside.submitted.items in
-    let new = c.close_free.new.device in
-    let k = keeping_of device plan head c.self.inside.checkpoint c.self.inside.submitted.items c.self.inside.broken c.self.inside.taken c.self.inside.collected c.self.inside.queue.items c.self.inside.watch in
-    let still : Advance (states_by answers plan) (with_more s []) s = c.standings_advance.ensures.not_yet (tree_of plan) s [] in
-    let free : AreFree head.shape s (c.last_epoch-first.result + 1) c.min-count.result = free_in answers {k = k} c.last_epoch-first.result c.args.most c.free.result c.min-count.result c.self.view_is c.last_epoch-first.ensures c.free.ensures c.min-count.ensures c.self.invariant.1 in
-    let ring : c.ring_of-journal.result ≡ ring_of head.shape s.epoch = c.ring_of-journal.ensures.ring in
-    subst (λ (z : Keeping g.row.D.Denot). g.D.Disk.is_lawful z.device → z.broken ≡ false → AdvancesSince answers z.plan z.standing [] (last_epoch z.standing) (state z.device) (state new)) c.self.view_is
-    (λ old whole.
-    let keeps = keeps_of c.self.inside.broken answers plan head side s (state device) whole (c.self.invariant.2 old) in
-    told_further answers plan c.told_in_parts.ensures.together head head side s (state device) (state new) still (c.in-Err-Device.ensures.begun old plan head side s ring free keeps))
-
-pub returns-in-Err-Device-clause-images : goal.returns-in-Err-Device-clause-images
-returns-in-Err-Device-clause-images g c old whole =
-    let state = g.D.Disk.state in
-    by_further g.D.Disk.is_lawful state g.met.D.Disk.only_now g.L.Law.answers c.told_in_parts.ensures.together c.standings_advance.ensures.not_yet c.self.view_is c.self.invariant.2
-    [] (state c.close_free.new.device) old whole (returns-in-Err-Device-clause-further g c old whole)
 
 pub invariant_of-self-in-Err-Device : goal.invariant_of-self-in-Err-Device
 invariant_of-self-in-Err-Device g c =
@@ -96,13 +49,6 @@ invariant_of-self-in-Err-Device g c =
           c.self.invariant.1.from_checkpoint c.self.invariant.1.from_checkpoint,
     )
 
-pub returns-in-Ok-clause-later : goal.returns-in-Ok-clause-later
-returns-in-Ok-clause-later g c =
-    let state = g.D.Disk.state in
-    let s = standing_from c.self.inside.checkpoint c.self.inside.submitted.items in
-    subst (λ (z : Keeping g.row.D.Denot). g.D.Disk.is_lawful z.device → (state z.device).moment ≤ (state c.close_free.new.device).moment) c.self.view_is
-    (λ old. c.in-Ok.ensures.later old (keeps_of c.self.inside.broken g.L.Law.answers c.self.inside.plan c.self.inside.head c.self.inside.checkpoint.slot s (state c.self.inside.device) c.if-self.false (c.self.invariant.2 old)).durable)
-
 pub returns-in-Ok-clause-idle : goal.returns-in-Ok-clause-idle
 returns-in-Ok-clause-idle g c =
     let state = g.D.Disk.state in
@@ -112,13 +58,6 @@ returns-in-Ok-clause-idle g c =
     (λ old shut. c.in-Ok.ensures.idle old
     (shut_in {k = k} c.ring_of-journal.result (state device).bytes c.last_epoch-first.result c.args.most c.free.result c.min-count.result c.self.view_is c.ring_of-journal.ensures.ring c.last_epoch-first.ensures c.free.ensures c.min-count.ensures shut))
 
-pub returns-in-Err-Device-clause-later : goal.returns-in-Err-Device-clause-later
-returns-in-Err-Device-clause-later g c =
-    let state = g.D.Disk.state in
-    let s = standing_from c.self.inside.checkpoint c.self.inside.submitted.items in
-    subst (λ (z : Keeping g.row.D.Denot). g.D.Disk.is_lawful z.device → (state z.device).moment ≤ (state c.close_free.new.device).moment) c.self.view_is
-    (λ old. c.in-Err-Device.ensures.later old (keeps_of c.self.inside.broken g.L.Law.answers c.self.inside.plan c.self.inside.head c.self.inside.checkpoint.slot s (state c.self.inside.device) c.if-self.false (c.self.invariant.2 old)).durable)
-
 pub returns-in-Err-Device-clause-idle : goal.returns-in-Err-Device-clause-idle
 returns-in-Err-Device-clause-idle g c =
     let state = g.D.Disk.state in
@@ -127,14 +66,6 @@ returns-in-Err-Device-clause-idle g c =
     subst (λ (z : Keeping g.row.D.Denot). g.D.Disk.is_lawful z.device → FreeAreShut z c.args.most (state z.device).bytes → CrashSafe Unchanged (state z.device) (state c.close_free.new.device)) c.self.view_is
     (λ old shut. c.in-Err-Device.ensures.idle old
     (shut_in {k = k} c.ring_of-journal.result (state device).bytes c.last_epoch-first.result c.args.most c.free.result c.min-count.result c.self.view_is c.ring_of-journal.ensures.ring c.last_epoch-first.ensures c.free.ensures c.min-count.ensures shut))
-
-pub returns-in-Ok-clause-closed : goal.returns-in-Ok-clause-closed
-returns-in-Ok-clause-closed g c =
-    let state = g.D.Disk.state in
-    let new = c.close_free.new.device in
-    let k = keeping_of c.self.inside.device c.self.inside.plan c.self.inside.head c.self.inside.checkpoint c.self.inside.submitted.items c.self.inside.broken c.self.inside.taken c.self.inside.collected c.self.inside.queue.items c.self.inside.watch in
-    subst (λ (z : Keeping g.row.D.Denot). g.D.Disk.is_lawful z.device → FreeAreShut z c.args.most (state new).bytes) c.self.view_is
-    (λ old. shut_out {k = k} c.ring_of-journal.result (state new).bytes c.last_epoch-first.result c.args.most c.free.result c.min-count.result c.self.view_is c.ring_of-journal.ensures.ring c.last_epoch-first.ensures c.free.ensures c.min-count.ensures (c.in-Ok.ensures.closed old))
 
 pub invariant_of-self : goal.invariant_of-self
 invariant_of-self g c =
@@ -159,8 +90,8 @@ invariant_of-self g c =
       λ l. none_beyond c.self.inside.broken plan k.base (state new) c.if-self.false,
     )
 
-pub returns-in-Ok-clause-short : goal.returns-in-Ok-clause-short
-returns-in-Ok-clause-short g c =
+pub returns-in-Ok-clause-crash : goal.returns-in-Ok-clause-crash
+returns-in-Ok-clause-crash g c =
     let state = g.D.Disk.state in
     let answers = g.L.Law.answers in
     let device = c.self.inside.device in
@@ -170,16 +101,25 @@ returns-in-Ok-clause-short g c =
     let s = standing_from c.self.inside.checkpoint c.self.inside.submitted.items in
     let new = c.close_free.new.device in
     let k = keeping_of device plan head c.self.inside.checkpoint c.self.inside.submitted.items c.self.inside.broken c.self.inside.taken c.self.inside.collected c.self.inside.queue.items c.self.inside.watch in
+    let still : Advance (states_by answers plan) (with_more s []) s = c.standings_advance.ensures.not_yet (tree_of plan) s [] in
     let free : AreFree head.shape s (c.last_epoch-first.result + 1) c.min-count.result = free_in answers {k = k} c.last_epoch-first.result c.args.most c.free.result c.min-count.result c.self.view_is c.last_epoch-first.ensures c.free.ensures c.min-count.ensures c.self.invariant.1 in
     let ring : c.ring_of-journal.result ≡ ring_of head.shape s.epoch = c.ring_of-journal.ensures.ring in
+    let together = c.told_in_parts.ensures.together in
     let low = c.self.invariant.1.from_checkpoint in
-    subst (λ (z : Keeping g.row.D.Denot). g.D.Disk.is_lawful z.device → KeepsSince z.plan z.base (state z.device) (state new)) c.self.view_is
+    subst (λ (z : Keeping g.row.D.Denot). g.D.Disk.is_lawful z.device → CrashLeaves answers [] z (state z.device) (state new)) c.self.view_is
     (λ old.
     let keeps = keeps_of c.self.inside.broken answers plan head side s (state device) c.if-self.false (c.self.invariant.2 old) in
-    keeps_since plan c.told_in_parts.ensures.one_answer k.base c.told_in_parts.ensures.together head head side side s s (state device) (state new) low low (c.in-Ok.ensures.begun old plan head side s ring free keeps))
+    let begun = c.in-Ok.ensures.begun old plan head side s ring free keeps in
+    let further = told_further answers plan together head head side s (state device) (state new) still begun in
+    record {
+      later = c.in-Ok.ensures.later old keeps.durable;
+      images = λ whole. from_start answers plan together head side s [] (state device) (state new) (λ d. g.met.D.Disk.only_now device d old) still keeps further;
+      further = λ whole. further;
+      short = keeps_since plan c.told_in_parts.ensures.one_answer k.base together head head side side s s (state device) (state new) low low begun;
+    })
 
-pub returns-in-Err-Device-clause-short : goal.returns-in-Err-Device-clause-short
-returns-in-Err-Device-clause-short g c =
+pub returns-in-Err-Device-clause-crash : goal.returns-in-Err-Device-clause-crash
+returns-in-Err-Device-clause-crash g c =
     let state = g.D.Disk.state in
     let answers = g.L.Law.answers in
     let device = c.self.inside.device in
@@ -189,10 +129,32 @@ returns-in-Err-Device-clause-short g c =
     let s = standing_from c.self.inside.checkpoint c.self.inside.submitted.items in
     let new = c.close_free.new.device in
     let k = keeping_of device plan head c.self.inside.checkpoint c.self.inside.submitted.items c.self.inside.broken c.self.inside.taken c.self.inside.collected c.self.inside.queue.items c.self.inside.watch in
+    let still : Advance (states_by answers plan) (with_more s []) s = c.standings_advance.ensures.not_yet (tree_of plan) s [] in
     let free : AreFree head.shape s (c.last_epoch-first.result + 1) c.min-count.result = free_in answers {k = k} c.last_epoch-first.result c.args.most c.free.result c.min-count.result c.self.view_is c.last_epoch-first.ensures c.free.ensures c.min-count.ensures c.self.invariant.1 in
     let ring : c.ring_of-journal.result ≡ ring_of head.shape s.epoch = c.ring_of-journal.ensures.ring in
+    let together = c.told_in_parts.ensures.together in
     let low = c.self.invariant.1.from_checkpoint in
-    subst (λ (z : Keeping g.row.D.Denot). g.D.Disk.is_lawful z.device → KeepsSince z.plan z.base (state z.device) (state new)) c.self.view_is
+    subst (λ (z : Keeping g.row.D.Denot). g.D.Disk.is_lawful z.device → CrashLeaves answers [] z (state z.device) (state new)) c.self.view_is
     (λ old.
     let keeps = keeps_of c.self.inside.broken answers plan head side s (state device) c.if-self.false (c.self.invariant.2 old) in
-    keeps_since plan c.told_in_parts.ensures.one_answer k.base c.told_in_parts.ensures.together head head side side s s (state device) (state new) low low (c.in-Err-Device.ensures.begun old plan head side s ring free keeps))
+    let begun = c.in-Err-Device.ensures.begun old plan head side s ring free keeps in
+    let further = told_further answers plan together head head side s (state device) (state new) still begun in
+    record {
+      later = c.in-Err-Device.ensures.later old keeps.durable;
+      images = λ whole. from_start answers plan together head side s [] (state device) (state new) (λ d. g.met.D.Disk.only_now device d old) still keeps further;
+      further = λ whole. further;
+      short = keeps_since plan c.told_in_parts.ensures.one_answer k.base together head head side side s s (state device) (state new) low low begun;
+    })
+
+pub returns-in-Ok-clause-closed : goal.returns-in-Ok-clause-closed
+returns-in-Ok-clause-closed g c =
+    let state = g.D.Disk.state in
+    let new = c.close_free.new.device in
+    let k = keeping_of c.self.inside.device c.self.inside.plan c.self.inside.head c.self.inside.checkpoint c.self.inside.submitted.items c.self.inside.broken c.self.inside.taken c.self.inside.collected c.self.inside.queue.items c.self.inside.watch in
+    let is = keeping_of new c.self.inside.plan c.self.inside.head c.self.inside.checkpoint c.self.inside.submitted.items c.self.inside.broken c.self.inside.taken c.self.inside.collected c.self.inside.queue.items c.self.inside.watch in
+    subst (λ (z : Keeping g.row.D.Denot). IsClosed g.D.Disk.is_lawful state c.args.most z is) c.self.view_is
+    (record {
+      accepted = ap (λ (b : Bool). if b then Some Broken else None) c.if-self.false;
+      same = refl;
+      closed = λ old. shut_out {k = k} c.ring_of-journal.result (state new).bytes c.last_epoch-first.result c.args.most c.free.result c.min-count.result c.self.view_is c.ring_of-journal.ensures.ring c.last_epoch-first.ensures c.free.ensures c.min-count.ensures (c.in-Ok.ensures.closed old);
+    })

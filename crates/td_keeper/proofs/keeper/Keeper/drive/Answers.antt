@@ -1,12 +1,11 @@
-use Rattle.std.proofs.Common.{◌≡◌, ◌+◌, ◌++◌, ◌∷◌, [], List, sym, ap, ◌∙◌, subst, arith, length, length-append}
+use Rattle.std.proofs.Common.{◌≡◌, false, ◌+◌, ◌++◌, ◌∷◌, [], List, sym, ap, ◌∙◌, subst, arith, length, length-append}
 use Rattle.std.proofs.lemmas.List.{map-id}
 use Rattle.std.proofs.lemmas.Iterator.Consumers.{YieldsList-end}
 use Rattle.std.proofs.lemmas.Iterator.Adapters.{YieldsList-from_vec}
 use Rattle.td_plan.specs.Tree.{tree_of}
-use Rattle.td_journal.specs.declared.submitted.Submitted.{Submitted}
 use Rattle.td_keeper.specs.declared.command.Command.{Command}
 use Rattle.td_keeper.specs.declared.command.Reply.{Reply}
-use Rattle.td_keeper.specs.Driven.{submitted_by, handed_out, HandsOn, Advances, Driven}
+use Rattle.td_keeper.specs.Driven.{submitted_by, Advances, Driven, Drives}
 use Rattle.td_keeper.proofs.Driving.{driven_more, driven_broken, driven_advances}
 use Rattle.td_keeper.proofs.Failing.{driven_counted, driven_failed, driven_whole}
 use Rattle.td_keeper.proofs.Handing.{driven_hands}
@@ -28,15 +27,6 @@ loop-command-preserved g c =
       lawful = (λ l. c.obey.ensures.lawful.0 (inv.lawful.0 l), λ l. inv.lawful.1 (c.obey.ensures.lawful.1 l));
     }
 
-pub returns-clause-device : goal.returns-clause-device
-returns-clause-device g c is =
-    let fails = driven_failed g.D.Disk.is_lawful g.D.Disk.state g.D.Disk.failures g.L.Law.answers c.loop-command.yielded c.loop-command.replies.items c.args.self.now c.loop-command.self c.loop-command.invariant.driven is in
-    (fails.broken, fails.risen)
-
-pub returns-clause-whole : goal.returns-clause-whole
-returns-clause-whole g c none =
-    driven_whole g.D.Disk.is_lawful g.D.Disk.state g.D.Disk.failures g.L.Law.answers c.loop-command.yielded c.loop-command.replies.items c.args.self.now c.loop-command.self c.loop-command.invariant.driven none
-
 pub returns-clause-counted : goal.returns-clause-counted
 returns-clause-counted g c =
     driven_counted g.D.Disk.is_lawful g.D.Disk.state g.D.Disk.failures g.L.Law.answers c.loop-command.yielded c.loop-command.replies.items c.args.self.now c.loop-command.self c.loop-command.invariant.driven
@@ -50,44 +40,33 @@ pub returns-clause-broken : goal.returns-clause-broken
 returns-clause-broken g c is =
     (driven_broken g.D.Disk.is_lawful g.D.Disk.state g.D.Disk.failures g.L.Law.answers c.loop-command.yielded c.loop-command.replies.items c.args.self.now c.loop-command.self c.loop-command.invariant.driven is).0
 
-pub returns-clause-further : goal.returns-clause-further
-returns-clause-further g c lawful whole =
+pub returns-clause-driven : goal.returns-clause-driven
+returns-clause-driven g c =
+    let state = g.D.Disk.state in
     let answers = g.L.Law.answers in
     let old = c.args.self.now in
     let new = c.loop-command.self in
     let all : List Command = c.args.commands.items in
     let yielded : List Command = c.loop-command.yielded in
     let replies = c.loop-command.replies.items in
+    let driven = c.loop-command.invariant.driven in
     let given = c.into_iter-command-iterator.ensures.into_iter_gives in
     let source = YieldsList-from_vec all given.0 (given.1 ∙ c.args.commands.ok.0) in
     let end = YieldsList-end source yielded c.loop-command.command-iterator c.loop-command.yielded_by c.next.result c.next.new.self c.in-None.is c.next.ensures.steps in
     let same : yielded ≡ all = sym (map-id yielded) ∙ end.0 in
     let join = c.advances_join.ensures in
-    subst (λ (l : List Command). Advances g.D.Disk.is_lawful g.D.Disk.state g.D.Disk.failures answers old new (submitted_by l replies)) same
-    (driven_advances g.D.Disk.is_lawful g.D.Disk.state g.D.Disk.failures answers join.submitted join.cut join.later join.last yielded replies old new c.each_is_kept.ensures c.loop-command.invariant.driven lawful whole)
-
-pub returns-clause-images : goal.returns-clause-images
-returns-clause-images g c lawful whole =
-    let state = g.D.Disk.state in
-    let answers = g.L.Law.answers in
-    let old = c.args.self.now in
-    let x : List Submitted = submitted_by c.args.commands.items c.loop-command.replies.items in
-    from_start answers old.plan c.told_in_parts.ensures.together old.head old.side old.standing x (state old.device) (state c.loop-command.self.device)
-    (λ d. g.met.D.Disk.only_now old.device d lawful) (c.standings_advance.ensures.not_yet (tree_of old.plan) old.standing x)
-    (keeps_of old.broken answers old.plan old.head old.side old.standing (state old.device) whole (c.each_disk_holds.ensures lawful))
-    ((returns-clause-further g c lawful whole).since whole)
-
-pub returns-clause-outputs : goal.returns-clause-outputs
-returns-clause-outputs g c =
-    let answers = g.L.Law.answers in
-    let old = c.args.self.now in
-    let new = c.loop-command.self in
-    let all : List Command = c.args.commands.items in
-    let yielded : List Command = c.loop-command.yielded in
-    let replies = c.loop-command.replies.items in
-    let given = c.into_iter-command-iterator.ensures.into_iter_gives in
-    let source = YieldsList-from_vec all given.0 (given.1 ∙ c.args.commands.ok.0) in
-    let end = YieldsList-end source yielded c.loop-command.command-iterator c.loop-command.yielded_by c.next.result c.next.new.self c.in-None.is c.next.ensures.steps in
-    let same : yielded ≡ all = sym (map-id yielded) ∙ end.0 in
-    subst (λ (l : List Command). HandsOn answers old new (submitted_by l replies) (handed_out replies)) same
-    (driven_hands g.D.Disk.is_lawful g.D.Disk.state g.D.Disk.failures answers c.run_joins.ensures.outs c.advances_join.ensures.last yielded replies old new c.each_is_kept.ensures c.loop-command.invariant.driven)
+    let further : g.D.Disk.is_lawful old.device → old.broken ≡ false → Advances g.D.Disk.is_lawful state g.D.Disk.failures answers old new (submitted_by yielded replies) =
+    driven_advances g.D.Disk.is_lawful state g.D.Disk.failures answers join.submitted join.cut join.later join.last yielded replies old new c.each_is_kept.ensures driven in
+    subst (λ (l : List Command). Drives g.D.Disk.is_lawful state g.D.Disk.failures answers l replies old new) same
+    (record {
+      driven = driven;
+      fails = driven_failed g.D.Disk.is_lawful state g.D.Disk.failures answers yielded replies old new driven;
+      whole = driven_whole g.D.Disk.is_lawful state g.D.Disk.failures answers yielded replies old new driven;
+      outputs = driven_hands g.D.Disk.is_lawful state g.D.Disk.failures answers c.run_joins.ensures.outs join.last yielded replies old new c.each_is_kept.ensures driven;
+      images = λ lawful whole.
+          from_start answers old.plan c.told_in_parts.ensures.together old.head old.side old.standing (submitted_by yielded replies) (state old.device) (state new.device)
+          (λ d. g.met.D.Disk.only_now old.device d lawful) (c.standings_advance.ensures.not_yet (tree_of old.plan) old.standing (submitted_by yielded replies))
+          (keeps_of old.broken answers old.plan old.head old.side old.standing (state old.device) whole (c.each_disk_holds.ensures lawful))
+          ((further lawful whole).since whole);
+      further = further;
+    })

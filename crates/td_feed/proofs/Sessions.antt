@@ -1,6 +1,6 @@
 -- How calls of a feed come together, one after another.
-use Rattle.std.proofs.Common.{◌≡◌, ◌⊎◌, inr, ℕ, Bool, true, false, List, [], ◌∷◌, refl, sym, ap, ◌∙◌, subst}
-use Rattle.std.specs.Prelude.{◌↔◌, Option, Some, None, Result, Ok, Err, OnOk, IfErr, IfSome}
+use Rattle.std.proofs.Common.{◌≡◌, ◌⊎◌, ⊎_elim, inl, inr, ℕ, Bool, true, false, List, [], ◌∷◌, refl, sym, ap, ◌∙◌, subst}
+use Rattle.std.specs.Prelude.{Option, Some, None, Result, Ok, Err, OnOk, IfErr, IfSome}
 use Rattle.std.specs.Result.{IsErrAnd}
 use Rattle.std.proofs.lemmas.Result.{on_ok_weaker, on_err_weaker}
 use Rattle.td_calls.specs.Answers.{Answers}
@@ -8,6 +8,8 @@ use Rattle.td_disk.specs.Disk.{DiskState}
 use Rattle.td_journal.specs.declared.submitted.Submitted.{Submitted}
 use Rattle.td_machine.specs.State.{HallState}
 use Rattle.td_machine.specs.Active.{unpassed}
+use Rattle.td_console.specs.Refusals.{keeper_fault}
+use Rattle.td_standing.specs.declared.error.KeeperError.{KeeperError}
 use Rattle.td_standing.specs.declared.error.KeeperError.TheVariants as error
 use Rattle.td_standing.specs.Standing.{last_epoch}
 use Rattle.td_keeper.specs.declared.command.Command.{Command}
@@ -15,6 +17,7 @@ use Rattle.td_keeper.specs.declared.command.Command.TheVariants.{Release, Settle
 use Rattle.td_keeper.specs.declared.command.Reply.{Reply}
 use Rattle.td_keeper.specs.declared.command.Reply.TheVariants.{Submitted as AsSubmitted, SubmittedAs, SubmittedAll, Released, Settled, Collected, Out, CutTaken, Answered, Written, Closed, Refused, RefusedAll}
 use Rattle.td_keeper.specs.Keeping.{Keeping, since_base}
+use Rattle.td_keeper.specs.Calls.{KeepsDevice}
 use Rattle.td_keeper.specs.Driven.{ComesOf}
 use Rattle.td_pool.specs.declared.error.PoolError.{PoolError}
 use Rattle.td_console.specs.declared.faults.Fault.{Fault}
@@ -33,7 +36,7 @@ use Rattle.td_feed.specs.Copied.{Copied, MakesCopies}
 use Rattle.td_feed.specs.Session.{KeepsDisk, FeedsNoting, Feeds, FeedsCopying, FeedsScript, IsObeyed, IsNotObeyed}
 use Rattle.td_feed.proofs.Copies.{as_they_ask, none_yet, none_made}
 use Rattle.td_feed.proofs.Carrying.{at_err, at_ok, ok_only, ended_ok, ended_err, unmoved, then_carries, carries_then, carries_after, leaves_none, leaves_all, leaves_then, leaves_after}
-use Rattle.td_feed.proofs.Counting.{counts_same, counts_handed, counts_after, same_count, ended_counts}
+use Rattle.td_feed.proofs.Counting.{keeper_device, counts_same, counts_handed, counts_after, same_count, ended_counts}
 use Rattle.td_feed.proofs.Lines.{EndedAs, is_quiet, says_nothing, then_quiet, then_by, quietly, noted_by, line_by, answered_by, unanswered, full_by, unsaid_none, refused_some, ended_says}
 
 -- what holds of the value, where it is known
@@ -54,6 +57,28 @@ ok_no_device x is = absurd (let not_so = is in cc)
 abbrev pub done : Result (Unit {0}) Fault
 done = Ok tt
 
+-- refusals, of a keeper's call and of a feed
+abbrev pub done_by : {T : Type 0} → T → Result T KeeperError
+done_by x = Ok x
+
+abbrev pub refused_by : (T : Type 0) → KeeperError → Result T KeeperError
+refused_by T e = Err e
+
+abbrev as_fault : (T : Type 0) → Fault → Result T Fault
+as_fault T f = Err f
+
+error_or : {T E : Type 0} → E → Result T E → E
+error_or none (Ok x) = none
+error_or none (Err e) = e
+
+keeper_in : {T : Type 0} (e d : KeeperError) → refused_by T e ≡ refused_by T d → e ≡ d
+unfolding error_or
+keeper_in e d is = ap (error_or d) is
+
+fault_in : {T : Type 0} (f d : Fault) → as_fault T f ≡ as_fault T d → f ≡ d
+unfolding error_or
+fault_in f d is = ap (error_or d) is
+
 -- THE DISK
 module _ {D : Type 0} {capacity : D → ℕ} {is_lawful : D → Type 0} {failures : D → ℕ} where
   -- nothing was done with it
@@ -70,9 +95,26 @@ module _ {D : Type 0} {capacity : D → ℕ} {is_lawful : D → Type 0} {failure
     counts = counts_after r (failures a) (failures b) (failures c) (same_count x (failures a) (failures b) first.counts) next.counts;
   }
 
-  -- a disk that was recovered
-  pub disk_recovered : {a b : D} → capacity b ≡ capacity a → (is_lawful a ↔ is_lawful b) → failures b ≡ failures a → KeepsDisk capacity is_lawful failures done a b
-  disk_recovered {a = a} {b = b} size lawful same = record { size = size; lawful = lawful; counts = counts_same done (failures a) (failures b) (ok_no_device tt) (sym same) }
+  -- a disk whose keeper was recovered
+  pub disk_recovered : {T : Type 0} {x : T} {a b : D} → KeepsDevice capacity is_lawful failures error.Device (done_by x) a b → KeepsDisk capacity is_lawful failures done a b
+  disk_recovered {x = x} {a = a} {b = b} kept = record {
+    size = kept.size;
+    lawful = kept.lawful;
+    counts = counts_same done (failures a) (failures b) (ok_no_device tt) (sym (⊎_elim (λ failed. absurd (let never : done_by x ≡ Err error.Device = failed in cc)) (λ same. same) kept.counts.stays));
+  }
+
+  -- one that came back
+  pub disk_refused : {S T : Type 0} {a b : D} (e : KeeperError) (f : Fault) → f ≡ keeper_fault e → KeepsDevice capacity is_lawful failures error.Device (refused_by T e) a b
+      → KeepsDisk {T = S} capacity is_lawful failures (Err f) a b
+  disk_refused {S = S} {T = T} {a = a} {b = b} e f is kept = record {
+    size = kept.size;
+    lawful = kept.lawful;
+    counts = record {
+      later = kept.counts.later;
+      rises = λ failed. kept.counts.rises (ap (refused_by T) (keeper_device e (sym is ∙ fault_in f (Keeper error.Device) failed)));
+      stays = ⊎_elim (λ device. inl (ap (as_fault S) (is ∙ ap keeper_fault (keeper_in e error.Device device)))) inr kept.counts.stays;
+    };
+  }
 
   -- the same fault is handed on
   pub disk_handed : {S T : Type 0} {e : Fault} {a b : D} (r : Result T Fault) → IsErrAnd r (λ f. f ≡ e) → KeepsDisk {T = S} capacity is_lawful failures (Err e) a b → KeepsDisk capacity is_lawful failures r a b

@@ -1,0 +1,118 @@
+-- What a call of a keeper comes to, of what is known of its parts.
+use Rattle.std.proofs.Common.{◌≡◌, ◌⊎◌, ◌↔◌, ⊎_elim, ℕ, ◌≤◌, false, List, inl, inr, refl, ap, arith}
+use Rattle.std.specs.Prelude.{Option, None, Some, Result, Ok, Err, OnOk, IfErr}
+use Rattle.td_calls.specs.Answers.{Answers}
+use Rattle.td_disk.specs.Disk.{DiskState, Rises}
+use Rattle.td_gate.specs.CrashSafe.{CrashSafe, Unchanged}
+use Rattle.td_journal.specs.declared.submitted.Submitted.{Submitted}
+use Rattle.td_standing.specs.Standing.{last_epoch}
+use Rattle.td_standing.specs.Advanced.{AdvancesSince, HeldWhere}
+use Rattle.td_keeper.specs.Calls.{CrashLeaves, KeepsDevice, IsRefused, outcome}
+use Rattle.td_keeper.specs.Driven.{MayWrite, is_failed}
+use Rattle.td_keeper.specs.declared.command.Reply.{Reply}
+use Rattle.td_keeper.specs.Keeping.{Keeping, KeepsSince}
+use Rattle.td_keeper.proofs.Since.{Together, NotYet, by_further}
+
+-- ---- what a crash leaves
+
+module _ {D : Type 0} (is_lawful : D → Type 0) (state : D → DiskState) (only : (d : D) (c : List ℕ) → is_lawful d → (state d).since (state d).moment c → (state d).images c)
+    (answers : Answers) (together : Together) (not_yet : NotYet answers) {k z : Keeping D} (is : k ≡ z)
+    (held : is_lawful k.device → HeldWhere k.broken answers k.plan k.head k.side k.standing (state k.device)) (x : List Submitted) (old : is_lawful z.device) where
+  -- of what is known of the images since an earlier moment
+  pub leaves : (new : DiskState) → (state z.device).moment ≤ new.moment → (z.broken ≡ false → AdvancesSince answers z.plan z.standing x (last_epoch z.standing) (state z.device) new)
+      → KeepsSince z.plan z.base (state z.device) new → CrashLeaves answers x z (state z.device) new
+  leaves new later further short = record {
+    later = later;
+    images = λ whole. by_further is_lawful state only answers together not_yet is held x new old whole (further whole);
+    further = further;
+    short = short;
+  }
+
+  -- where nothing was written
+  pub leaves_as_it_was : CrashLeaves answers x z (state z.device) (state z.device)
+  leaves_as_it_was = leaves (state z.device) (omega arith) (λ whole t i le left. inl left) (λ t i le left. inl left)
+
+-- ---- a refusal
+
+module _ {D E : Type 0} (is_lawful : D → Type 0) (state : D → DiskState) (only : (d : D) (c : List ℕ) → is_lawful d → (state d).since (state d).moment c → (state d).images c)
+    (answers : Answers) (memory device : E) (k : Keeping D) where
+  nothing_written : is_lawful k.device → CrashSafe Unchanged (state k.device) (state k.device)
+  nothing_written old = record { later = omega arith; each = λ c left. (c, only k.device c old left, refl); before = λ t c le left. inl left }
+
+  -- that left the keeper as it was
+  pub refused_as_it_was : (refusal : Option E) (error : E) → (refusal ≡ Some error) ⊎ ((refusal ≡ None) × ((error ≡ memory) ⊎ (error ≡ device))) → (error ≡ device → ⊥)
+      → IsRefused is_lawful state answers memory device refusal error k k
+  refused_as_it_was refusal error cause never = record {
+    cause = cause;
+    unchanged = inl refl;
+    broken = λ is. absurd (never is);
+    unwritten = λ is. nothing_written;
+    nothing = inr (λ old whole t i le left. inl left);
+  }
+
+-- ---- the device
+
+error_or : {T E : Type 0} → E → Result T E → E
+error_or none (Ok answer) = none
+error_or none (Err error) = error
+
+abbrev pub refused_by : (T : Type 0) {E : Type 0} → E → Result T E
+refused_by T e = Err e
+
+pub same_error : {T E : Type 0} (d e : E) → refused_by T e ≡ refused_by T d → e ≡ d
+unfolding error_or
+same_error d e is = ap (error_or d) is
+
+-- it was not called
+pub device_same : {D T E : Type 0} (capacity : D → ℕ) (is_lawful : D → Type 0) (failures : D → ℕ) (device : E) (result : Result T E) (d : D) → (result ≡ Err device → ⊥)
+    → KeepsDevice capacity is_lawful failures device result d d
+device_same capacity is_lawful failures device result d never = record {
+  size = refl;
+  lawful = (λ l. l, λ l. l);
+  counts = record { later = omega arith; rises = λ is. absurd (never is); stays = inr refl };
+}
+
+module _ {D T E B : Type 0} (capacity : D → ℕ) (is_lawful : D → Type 0) (failures : D → ℕ) (device : E) (old new : D) where
+  -- by the clauses of the disk alone
+  pub device_kept : (result : Result T (E × B)) → capacity new ≡ capacity old → (is_lawful old ↔ is_lawful new) → failures old ≤ failures new
+      → OnOk result (failures new ≡ failures old) → IfErr result (λ e. e.0 ≡ device → Rises (failures old) (failures new))
+      → IfErr result (λ e. (e.0 ≡ device) ⊎ (failures new ≡ failures old)) → KeepsDevice capacity is_lawful failures device (outcome result) old new
+  device_kept (Ok answer) size lawful counted stays rises back = record {
+    size = size;
+    lawful = lawful;
+    counts = record { later = counted; rises = λ is. absurd (let never : Ok answer ≡ Err device = is in cc); stays = inr stays };
+  }
+  device_kept (Err e) size lawful counted stays rises back = record {
+    size = size;
+    lawful = lawful;
+    counts = record { later = counted; rises = λ is. rises (same_error device e.0 is); stays = either back };
+  }
+    where
+      either : (e.0 ≡ device) ⊎ (failures new ≡ failures old) → (refused_by T e.0 ≡ refused_by T device) ⊎ (failures new ≡ failures old)
+      either (inl is) = inl (ap (refused_by T) is)
+      either (inr same) = inr same
+
+-- ---- a command that may write
+
+module _ {D T E : Type 0} {capacity : D → ℕ} {is_lawful : D → Type 0} {state : D → DiskState} {failures : D → ℕ} {answers : Answers} {device : E} (reply : Reply) (old new : Keeping D) where
+  -- it was done
+  pub writes_done : {answer : T} (x : List Submitted) → KeepsDevice capacity is_lawful failures device (Ok answer) old.device new.device
+      → (is_lawful old.device → CrashLeaves answers x old (state old.device) (state new.device)) → MayWrite is_lawful state failures answers reply old new x
+  writes_done {answer = answer} x kept crash = record {
+    counted = kept.counts.later;
+    stays = λ quiet. ⊎_elim (λ failed. absurd (let never : Ok answer ≡ Err device = failed in cc)) (λ same. same) kept.counts.stays;
+    advances = λ lawful. let leaves = crash lawful in record { lawful = kept.lawful.0 lawful; later = leaves.later; since = leaves.further };
+    short = λ lawful. (crash lawful).short;
+  }
+
+  -- it was refused: of what the command asked for, this was perhaps submitted
+  pub writes_refused : (x y : List Submitted) (error : E) → (error ≡ device → is_failed reply ≡ false → ⊥) → KeepsDevice capacity is_lawful failures device (refused_by T error) old.device new.device
+      → (is_lawful old.device → CrashLeaves answers x old (state old.device) (state new.device))
+      → (is_lawful old.device → old.broken ≡ false → AdvancesSince answers old.plan old.standing y (last_epoch old.standing) (state old.device) (state new.device))
+      → MayWrite is_lawful state failures answers reply old new y
+  writes_refused x y error said kept crash since = record {
+    counted = kept.counts.later;
+    stays = λ quiet. ⊎_elim (λ failed. absurd (said (same_error device error failed) quiet)) (λ same. same) kept.counts.stays;
+    advances = λ lawful. record { lawful = kept.lawful.0 lawful; later = (crash lawful).later; since = since lawful };
+    short = λ lawful. (crash lawful).short;
+  }
