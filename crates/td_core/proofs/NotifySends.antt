@@ -21,10 +21,11 @@ use Rattle.td_machine.specs.Steps.{sending_times, posts, stamped, notified_sends
 use Rattle.td_core.specs.declared.floor.Floor.{Floor}
 use Rattle.td_core.specs.Floor.{state_of}
 use Rattle.td_core.specs.declared.raising.Rise.{Rise}
-use Rattle.td_core.specs.declared.sites.Outlet.{Outlet}
+use Rattle.td_shard.specs.declared.outlet.Outlet.{Outlet}
 use Rattle.td_core.specs.declared.sites.Sites.{Sites}
 use Rattle.td_core.specs.Sites.{IsSites}
-use Rattle.td_core.specs.Posted.{on_each, stamp_on_outlet, stamps_on}
+use Rattle.td_core.specs.Posted.{stamp_on_outlet, stamps_on}
+use Rattle.td_shard.specs.Messages.{on_each}
 use Rattle.td_core.specs.Given.{outlets_for}
 use Rattle.td_core.proofs.Sending.{posted_on, active_on, outlets_of_plan}
 

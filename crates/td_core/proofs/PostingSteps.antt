@@ -1,11 +1,10 @@
 -- What is posted to the shards comes to the bag of all messages, each shard keeps its own, and what waits is as it was.
-use Rattle.std.proofs.Common.{◌≡◌, ℕ, suc, ◌+◌, ◌*◌, ◌<◌, ◌≤◌, ◌==◌, ◌%◌, Bool, true, false, cond, List, [], ◌∷◌, ◌++◌, map, flat_map, length, refl, ap, sym, ◌∙◌, subst, append_assoc, append-nil, arith}
+use Rattle.std.proofs.Common.{◌≡◌, ℕ, suc, ◌+◌, ◌<◌, ◌≤◌, ◌==◌, ◌%◌, Bool, true, false, cond, List, [], ◌∷◌, ◌++◌, map, flat_map, length, refl, ap, sym, ◌∙◌, subst, append_assoc, append-nil, arith}
 use Rattle.std.specs.List.{AllByRecursion, enumerate_from}
 use Rattle.std.specs.List.Sorted.{IsStrictlySortedBy}
 use Rattle.std.specs.Map.{keys_of}
 use Rattle.std.proofs.lemmas.Bool.Decides.{nat_tests}
 use Rattle.std.proofs.lemmas.List.Elements.{filter-append}
-use Rattle.td_stamp.specs.declared.values.Rec.{Rec}
 use Rattle.td_stamp.specs.Bag.{bag_insert, bag_of, join}
 use Rattle.td_stamp.specs.BagLaws.{BagLaws}
 use Rattle.td_machine.specs.declared.records.Message.{Message}
@@ -13,7 +12,7 @@ use Rattle.td_machine.specs.State.{message_cmp, shard_of_key}
 use Rattle.td_shard.specs.Asked.{noted_cmp}
 use Rattle.td_shard.specs.declared.shard.Shard.{Shard}
 use Rattle.td_core.specs.Floor.{in_mailboxes, waiting_in, asked_in, asked_of_shard, waiting_at, IsShard}
-use Rattle.td_core.specs.Posted.{of_shard, mails, mails_with, waits, IsPosted, HasNoLess, IsRoomier, count_of, HasRoom, HaveRoom}
+use Rattle.td_core.specs.Posted.{of_shard, mails, mails_with, waits, IsPosted, HasNoLess, IsRoomier}
 
 -- the mailboxes of shards from a number on
 abbrev pub posted_from : ℕ → ℕ → List Message → List Shard → List (List Message)
@@ -86,24 +85,6 @@ posted_then cs ds a b c x y =
 
 pub roomier_then_posted : (cs : List Message) (a b c : List Shard) → IsRoomier a b → IsPosted cs b c → IsPosted cs a c
 roomier_then_posted cs a b c x y = posted_then [] cs a b c (posted_roomier a b x) y
-
--- ROOM stays where nothing has less
-pub room_stays : (workers k : ℕ) (recs : List Rec) (edges : ℕ) (a b : List Shard) → HasNoLess a b
-    → AllByRecursion (λ p. HasRoom (count_of workers recs p.0 * edges) p.1) (enumerate_from k a) → AllByRecursion (λ p. HasRoom (count_of workers recs p.0 * edges) p.1) (enumerate_from k b)
-room_stays workers k recs edges [] [] x h = tt
-room_stays workers k recs edges [] (t ∷ b) x h = absurd x
-room_stays workers k recs edges (s ∷ a) [] x h = absurd x
-room_stays workers k recs edges (s ∷ a) (t ∷ b) x h =
-    let rooms = x.0 in
-    let runs = x.1 in
-    let had = h.0.0 in
-    let had_runs = h.0.1 in
-    ((omega (arith, rooms, had), omega (arith, runs, had_runs)), room_stays workers (k + 1) recs edges a b x.2 h.1)
-
-pub still_room : (recs : List Rec) (edges : ℕ) (a b : List Shard) → IsRoomier a b → HaveRoom recs edges a → HaveRoom recs edges b
-still_room recs edges a b is h =
-    let many = as_many_mails a b is.mails in
-    subst (λ w. AllByRecursion (λ p. HasRoom (count_of w recs p.0 * edges) p.1) (enumerate_from 0 b)) (sym many) (room_stays (length a) 0 recs edges a b is.room h)
 
 -- THE BAG OF ALL MESSAGES
 module _ (laws : BagLaws message_cmp) where

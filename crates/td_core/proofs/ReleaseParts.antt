@@ -25,9 +25,10 @@ use Rattle.td_machine.specs.Moves.{stamps_of}
 use Rattle.td_machine.specs.ByEdge.{stamp_on, stamps_by_edge, StampsByEdge}
 use Rattle.td_machine.specs.Sends.{SentOfPlan}
 use Rattle.td_core.specs.declared.raising.Rise.{Rise}
-use Rattle.td_core.specs.declared.sites.Outlet.{Outlet}
+use Rattle.td_shard.specs.declared.outlet.Outlet.{Outlet}
 use Rattle.td_core.specs.declared.sites.Sites.{Sites}
-use Rattle.td_core.specs.Posted.{on_outlet, on_each, stamp_on_outlet, risen}
+use Rattle.td_core.specs.Posted.{stamp_on_outlet, risen}
+use Rattle.td_shard.specs.Messages.{on_outlet, on_each}
 use Rattle.td_core.specs.Released.{loads_in, messages_of, rises_of, start_of}
 use Rattle.td_core.specs.Sites.{IsSites, outlet_of, outlets_of, outlets_in}
 use Rattle.td_core.proofs.BatchParts.{of_input, batch_in_parts, inputs_are}

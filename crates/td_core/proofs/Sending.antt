@@ -1,6 +1,6 @@
 -- Records that a vertex sends in answer to a time: what is posted on each outlet, and what is active.
 use Rattle.std.proofs.Common.{◌≡◌, ℕ, ◌+◌, ◌-◌, ◌*◌, ◌≤◌, ◌==◌, Bool, true, false, cond, List, [], ◌∷◌, ◌++◌, map, filter, flat_map, length, replicate, refl, ap, sym, ◌∙◌, subst, append-nil, arith}
-use Rattle.std.specs.List.{AllByRecursion, enumerate_from}
+use Rattle.std.specs.List.{AllByRecursion}
 use Rattle.std.proofs.Math.Nat.{mul-le-mul_right}
 use Rattle.std.proofs.lemmas.List.{replicate-append-replicate}
 use Rattle.td_stamp.specs.declared.values.Rec.{Rec}
@@ -18,17 +18,18 @@ use Rattle.td_machine.specs.AtOnce.{fresh, stamped_at}
 use Rattle.td_machine.specs.ByEdge.{times_from, stamps_by_edge, stamp_on}
 use Rattle.td_shard.specs.declared.shard.Shard.{Shard}
 use Rattle.td_core.specs.declared.floor.Floor.{Floor}
-use Rattle.td_core.specs.declared.sites.Outlet.{Outlet}
+use Rattle.td_shard.specs.declared.outlet.Outlet.{Outlet}
 use Rattle.td_core.specs.declared.sites.Sites.{Sites}
 use Rattle.td_core.specs.Sites.{IsSites, outlet_of, outlets_of, kind_in, bound_in}
-use Rattle.td_core.specs.Posted.{on_each, on_outlet, stamp_on_outlet, stamps_on, mails_with, IsPosted, IsRoomier, HaveRoom, HasRoom, count_of}
+use Rattle.td_core.specs.Posted.{stamp_on_outlet, stamps_on, mails_with, IsPosted, IsRoomier, HaveRoom, count_of, runs_of}
+use Rattle.td_shard.specs.Messages.{on_each, on_outlet}
 use Rattle.td_core.specs.Given.{IsUntouched}
 use Rattle.td_core.specs.Delivered.{IsSent}
 use Rattle.td_core.proofs.CloseSteps.{CountsAppend}
 use Rattle.td_core.proofs.PostingSteps.{roomier_then_posted, none_posted as none_posts}
 use Rattle.td_core.specs.declared.raising.Rise.{Rise}
 use Rattle.td_core.proofs.Rises.{rise_on}
-use Rattle.td_core.proofs.WaitsSorted.{weaker}
+use Rattle.td_core.proofs.PostRuns.{room_weaker}
 
 map_map : {X Y Z : Type 0} (f : X → Y) (g : Y → Z) (xs : List X) → map g (map f xs) ≡ map (λ x. g (f x)) xs
 map_map f g [] = refl
@@ -109,15 +110,19 @@ fewer_of workers s seen v t (r ∷ rs) =
     by true there new = more (shard_of_key workers r.key == s) (mine (fresh seen v t rs)) (mine rs) there
     by false there new = first (shard_of_key workers r.key == s) (mine after) (mine rs) new
 
+-- and no more runs
+fewer_runs : (workers s : ℕ) (seen : List Stamped) (v : ℕ) (t : Timestamp) (recs : List Rec) (edges : ℕ) → runs_of workers (fresh seen v t recs) edges s ≤ runs_of workers recs edges s
+fewer_runs workers s seen v t recs edges = by (workers == 1) (mul-le-mul_right edges (fewer_of workers s seen v t recs))
+  where
+    by : (b : Bool) {new all : ℕ} → new ≤ all → cond b edges new ≤ cond b edges all
+    by true less = omega arith
+    by false less = less
+
 -- room for all of them is room for those that are new
 pub room_for_new : (seen : List Stamped) (v : ℕ) (t : Timestamp) (recs : List Rec) (edges : ℕ) (ss : List Shard) → HaveRoom recs edges ss → HaveRoom (fresh seen v t recs) edges ss
 room_for_new seen v t recs edges ss h =
-    weaker (λ p. HasRoom (count_of (length ss) recs p.0 * edges) p.1) (λ p. HasRoom (count_of (length ss) (fresh seen v t recs) p.0 * edges) p.1)
-    (λ p k.
-    let less = mul-le-mul_right edges (fewer_of (length ss) p.0 seen v t recs) in
-    let room = k.0 in
-    let runs = k.1 in
-    (omega (arith, less, room), omega (arith, less, runs))) (enumerate_from 0 ss) h
+    room_weaker (runs_of (length ss) recs edges) (λ s. count_of (length ss) recs s * edges) (runs_of (length ss) (fresh seen v t recs) edges) (λ s. count_of (length ss) (fresh seen v t recs) s * edges)
+    (λ s. fewer_runs (length ss) s seen v t recs edges) (λ s. mul-le-mul_right edges (fewer_of (length ss) s seen v t recs)) 0 ss h
 
 -- OCCURRENCES on outlets
 module _ (append : CountsAppend) (outs : List Outlet) (t : Timestamp) where

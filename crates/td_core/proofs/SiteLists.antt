@@ -1,7 +1,7 @@
 -- The look-ups of a plan: a plan has few edges, and what is looked up of each vertex in turn is what the plan has.
 use Rattle.std.proofs.Common.{◌≡◌, ℕ, zero, suc, ◌+◌, ◌<◌, ◌≤◌, ◌==◌, Bool, true, false, ◌&&◌, ◌||◌, cond, List, [], ◌∷◌, ◌++◌, map, filter, take, get_or, length, append-nil, sum_by, fold, find, nat_le, nat_lt, Option, Some, None, option_map, unwrap_or, reverse, ◌-◌, refl, ap, sym, ◌∙◌, subst, arith}
 use Rattle.std.specs.Prelude.{is_none}
-use Rattle.std.specs.List.{slice_get, enumerate_from}
+use Rattle.std.specs.List.{AllByRecursion, slice_get, enumerate_from}
 use Rattle.std.proofs.lemmas.Bool.Decides.{nat_tests}
 use Rattle.std.proofs.lemmas.List.{take_all, take_more, map-append, length-reverse, get_or-reverse}
 use Rattle.std.proofs.lemmas.List.Concat.{length-flat_map}
@@ -20,7 +20,8 @@ use Rattle.td_reach.specs.declared.stamp.Place.TheVariants as places
 use Rattle.td_reach.specs.Paths.{IsOf}
 use Rattle.td_machine.specs.Active.{kind_or, kind_of, bound_of}
 use Rattle.td_machine.specs.Steps.{edges_from}
-use Rattle.td_core.specs.declared.sites.Outlet.{Outlet}
+use Rattle.td_shard.specs.declared.outlet.Outlet.{Outlet}
+use Rattle.td_shard.specs.Messages.{AreApart}
 use Rattle.td_core.specs.declared.sites.Site.{Site}
 use Rattle.td_core.specs.declared.sites.Sites.{Sites}
 use Rattle.td_core.specs.Sites.{outlet_of, outlets_of, IsSite, IsSites}
@@ -173,7 +174,39 @@ none_passes : (p : Edge → Bool) (es : List Edge) → ((i : ℕ) (e : Edge) →
 none_passes p [] h = refl
 none_passes p (e ∷ es) h = ap (λ b. cond b (e ∷ filter p es) (filter p es)) (h 0 e refl) ∙ none_passes p es (λ i x there. h (suc i) x there)
 
-module _ (sources : SourcesByNumber) (read : ReadThere) (plan : List Line) (is : IsPlan plan) where
+-- NO TWO EDGES lead to one port of one vertex, since each has the number of its own place
+abbrev pub EdgesByNumber : Type 0
+EdgesByNumber = (plan : List Line) → IsPlan plan → (i : ℕ) (e : Edge) → slice_get (edges plan) i ≡ Some e → edge_at plan e.reader e.port ≡ i
+
+module _ (plan : List Line) (p : Edge → Bool) where
+  abbrev AreNumbered : ℕ → List Edge → Type 0
+  AreNumbered k es = (i : ℕ) (e : Edge) → slice_get es i ≡ Some e → edge_at plan e.reader e.port ≡ k + i
+
+  next_numbers : (k : ℕ) (x : Edge) (es : List Edge) → AreNumbered k (x ∷ es) → AreNumbered (k + 1) es
+  next_numbers k x es n i e there = n (suc i) e there ∙ omega arith
+
+  later_apart : (x : Edge) (k : ℕ) (es : List Edge) → edge_at plan x.reader x.port < k → AreNumbered k es
+      → AllByRecursion (λ q. x.reader ≡ q.reader → x.port ≡ q.port → ⊥) (map (outlet_of plan) (filter p es))
+  later_apart x k [] l n = tt
+  later_apart x k (e ∷ es) l n = by (p e) (later_apart x (k + 1) es (omega (arith, l)) (next_numbers k e es n))
+    where
+      other : x.reader ≡ e.reader → x.port ≡ e.port → ⊥
+      other r o = let same : edge_at plan x.reader x.port ≡ edge_at plan e.reader e.port = λ i. edge_at plan (r i) (o i) in let at = n 0 e refl in omega (arith, l, same, at)
+
+      by : (b : Bool) → AllByRecursion (λ q. x.reader ≡ q.reader → x.port ≡ q.port → ⊥) (map (outlet_of plan) (filter p es))
+          → AllByRecursion (λ q. x.reader ≡ q.reader → x.port ≡ q.port → ⊥) (map (outlet_of plan) (cond b (e ∷ filter p es) (filter p es)))
+      by true rest = (other, rest)
+      by false rest = rest
+
+  all_apart : (k : ℕ) (es : List Edge) → AreNumbered k es → AreApart (map (outlet_of plan) (filter p es))
+  all_apart k [] n = tt
+  all_apart k (x ∷ es) n = by (p x) (all_apart (k + 1) es (next_numbers k x es n))
+    where
+      by : (b : Bool) → AreApart (map (outlet_of plan) (filter p es)) → AreApart (map (outlet_of plan) (cond b (x ∷ filter p es) (filter p es)))
+      by true rest = (let at = n 0 x refl in later_apart x (k + 1) es (omega (arith, at)) (next_numbers k x es n), rest)
+      by false rest = rest
+
+module _ (numbers : EdgesByNumber) (sources : SourcesByNumber) (read : ReadThere) (plan : List Line) (is : IsPlan plan) where
   none_out : (v : ℕ) → slice_get (vertices plan) v ≡ None → edges_from plan v ≡ []
   none_out v none = none_passes (out_of v) (edges plan) (λ i e there. not_equal e.source v (λ same. nowhere e (read plan is e.reader e.port e.source (sources plan is i e there)) same))
     where
@@ -222,4 +255,5 @@ module _ (sources : SourcesByNumber) (read : ReadThere) (plan : List Line) (is :
       bound = λ v. (finds v (slice_get sites.sites.items v) refl).bound;
       outlets = λ v. (finds v (slice_get sites.sites.items v) refl).outlets;
       edge = λ v port. (finds v (slice_get sites.sites.items v) refl).edge port;
+      apart = λ v. subst AreApart (sym (finds v (slice_get sites.sites.items v) refl).outlets) (all_apart plan (out_of v) 0 (edges plan) (λ i e there. numbers plan is i e there ∙ omega arith));
     }

@@ -15,7 +15,7 @@ use Rattle.td_shard.specs.Asked.{AskedList, without_items}
 use Rattle.td_shard.specs.declared.shard.Shard.{Shard}
 use Rattle.td_core.specs.declared.floor.Floor.{Floor}
 use Rattle.td_core.specs.declared.raising.Rise.{Rise}
-use Rattle.td_core.specs.declared.sites.Outlet.{Outlet}
+use Rattle.td_shard.specs.declared.outlet.Outlet.{Outlet}
 use Rattle.td_core.specs.declared.sites.Sites.{Sites}
 use Rattle.td_core.specs.Floor.{state_of}
 use Rattle.td_core.specs.Delivered.{IsDelivered}

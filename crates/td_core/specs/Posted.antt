@@ -9,7 +9,7 @@ use Rattle.td_machine.specs.declared.records.Message.{Message}
 use Rattle.td_machine.specs.State.{shard_of_key}
 use Rattle.td_shard.specs.Asked.{AskedList}
 use Rattle.td_shard.specs.declared.shard.Shard.{Shard}
-use Rattle.td_core.specs.declared.sites.Outlet.{Outlet}
+use Rattle.td_shard.specs.declared.outlet.Outlet.{Outlet}
 use Rattle.td_core.specs.declared.raising.Rise.{Rise}
 
 -- the messages of a shard
@@ -49,29 +49,30 @@ pub record IsRoomier (old new : List Shard) : Type 0 where
 abbrev pub count_of : ℕ → List Rec → ℕ → ℕ
 count_of workers recs s = length (filter (λ r. shard_of_key workers r.key == s) recs)
 
--- a mailbox has room for so many messages, in as many runs
-abbrev pub HasRoom : ℕ → Shard → Type 0
-HasRoom many s = (many ≤ s.mailbox.room) × (many ≤ s.mailbox.runs)
+-- how many runs records on each of so many edges make in a shard at most: one on each edge where there is one shard, else one for each
+-- message
+abbrev pub runs_of : ℕ → List Rec → ℕ → ℕ → ℕ
+runs_of workers recs edges s = cond (workers == 1) edges (count_of workers recs s * edges)
+
+-- a mailbox has room for so many messages, in so many runs
+abbrev pub HasRoom : ℕ → ℕ → Shard → Type 0
+HasRoom runs many s = (many ≤ s.mailbox.room) × (runs ≤ s.mailbox.runs)
 
 -- in each shard for so many
-abbrev pub HaveRoomFor : (ℕ → ℕ) → List Shard → Type 0
-HaveRoomFor many shards = AllByRecursion (λ p. HasRoom (many p.0) p.1) (enumerate_from 0 shards)
+abbrev pub HaveRoomFor : (ℕ → ℕ) → (ℕ → ℕ) → List Shard → Type 0
+HaveRoomFor runs many shards = AllByRecursion (λ p. HasRoom (runs p.0) (many p.0) p.1) (enumerate_from 0 shards)
 
 -- ROOM FOR RECORDS on each of so many edges, in the shards to which they belong
 abbrev pub HaveRoom : List Rec → ℕ → List Shard → Type 0
-HaveRoom recs edges shards = HaveRoomFor (λ s. count_of (length shards) recs s * edges) shards
+HaveRoom recs edges shards = HaveRoomFor (runs_of (length shards) recs edges) (λ s. count_of (length shards) recs s * edges) shards
+
+-- the same, with a run for each message
+abbrev pub HaveRoomApart : List Rec → ℕ → List Shard → Type 0
+HaveRoomApart recs edges shards = HaveRoomFor (λ s. count_of (length shards) recs s * edges) (λ s. count_of (length shards) recs s * edges) shards
 
 -- so many in one shard alone
 abbrev pub only_in : ℕ → ℕ → ℕ → ℕ
 only_in shard many s = cond (s == shard) many 0
-
--- a record that goes out at a time
-abbrev pub on_outlet : Timestamp → Rec → Outlet → Message
-on_outlet t r o = record { vertex = o.reader; port = o.port; time = t; rec = r }
-
--- RECORDS ON EACH OF SOME OUTLETS: record by record, and then outlet by outlet
-abbrev pub on_each : List Outlet → Timestamp → List Rec → List Message
-on_each outlets t recs = flat_map (λ r. map (on_outlet t r) outlets) recs
 
 -- the pointstamp of messages that go out
 abbrev pub stamp_on_outlet : Timestamp → Outlet → Stamp

@@ -1,5 +1,5 @@
 -- A batch that is released, input by input.
-use Rattle.std.specs.Prelude.{◌≡◌, ℕ, ◌+◌, ◌<◌, List, [], ◌∷◌, ◌++◌, map, flat_map, length}
+use Rattle.std.specs.Prelude.{◌≡◌, ℕ, ◌+◌, ◌*◌, ◌<◌, List, [], ◌∷◌, ◌++◌, map, length}
 use Rattle.std.specs.VecDeque.{deque_len, deque_capacity}
 use Rattle.td_stamp.specs.declared.values.Rec.{Rec}
 use Rattle.td_stamp.specs.declared.values.Entry.{Entry}
@@ -9,12 +9,14 @@ use Rattle.td_progress.specs.Bag.{IsSameBag, input_stamp}
 use Rattle.td_machine.specs.declared.records.Message.{Message}
 use Rattle.td_machine.specs.Steps.{posts, entered}
 use Rattle.td_machine.specs.Moves.{come_released}
+use Rattle.td_shard.specs.declared.shard.Shard.{Shard}
 use Rattle.td_core.specs.declared.floor.Floor.{Floor}
 use Rattle.td_core.specs.declared.raising.Rise.{Rise}
 use Rattle.td_core.specs.declared.release.Load.{Load}
 use Rattle.td_core.specs.declared.sites.Sites.{Sites}
 use Rattle.td_core.specs.Floor.{state_of}
-use Rattle.td_core.specs.Posted.{IsPosted, IsRoomier, on_each, stamp_on_outlet}
+use Rattle.td_core.specs.Posted.{IsPosted, IsRoomier, HaveRoomFor, count_of, runs_of, stamp_on_outlet}
+use Rattle.td_shard.specs.Messages.{on_each}
 use Rattle.td_core.specs.Sites.{outlets_in}
 
 -- an input with the records that a batch gives it
@@ -29,9 +31,18 @@ loads_in inputs batch = map (λ i. (i, records_for i batch)) inputs
 abbrev pub start_of : ℕ → Timestamp
 start_of epoch = record { epoch = epoch; turns = [] }
 
--- the records, each as often as there are edges out of its input
-abbrev pub recs_out : Sites → ℕ × List Rec → List Rec
-recs_out sites load = flat_map (λ o. load.1) (outlets_in sites load.0)
+-- how many messages of loads come to a shard, and how many runs they make at most
+abbrev pub messages_in : Sites → ℕ → List (ℕ × List Rec) → ℕ → ℕ
+messages_in sites workers [] s = 0
+messages_in sites workers (load ∷ loads) s = count_of workers load.1 s * length (outlets_in sites load.0) + messages_in sites workers loads s
+
+abbrev pub runs_in : Sites → ℕ → List (ℕ × List Rec) → ℕ → ℕ
+runs_in sites workers [] s = 0
+runs_in sites workers (load ∷ loads) s = runs_of workers load.1 (length (outlets_in sites load.0)) s + runs_in sites workers loads s
+
+-- room for loads on each edge out of their inputs
+abbrev pub HaveRoomForLoads : Sites → List (ℕ × List Rec) → List Shard → Type 0
+HaveRoomForLoads sites loads shards = HaveRoomFor (runs_in sites (length shards) loads) (messages_in sites (length shards) loads) shards
 
 -- the messages: on each edge out of its input one of each record
 abbrev pub messages_of : Sites → ℕ → ℕ × List Rec → List Message

@@ -7,7 +7,8 @@ use Rattle.td_plan.specs.Lines.{Line}
 use Rattle.td_plan.specs.Blocks.{edge_at}
 use Rattle.td_machine.specs.Active.{kind_or, kind_of, bound_of}
 use Rattle.td_machine.specs.Steps.{edges_from}
-use Rattle.td_core.specs.declared.sites.Outlet.{Outlet}
+use Rattle.td_shard.specs.declared.outlet.Outlet.{Outlet}
+use Rattle.td_shard.specs.Messages.{AreApart}
 use Rattle.td_core.specs.declared.sites.Site.{Site}
 use Rattle.td_core.specs.declared.sites.Sites.{Sites}
 
@@ -48,3 +49,5 @@ pub record IsSites (plan : List Line) (sites : Sites) : Type 0 where
   pub bound : (v : ℕ) → bound_in sites v ≡ bound_of plan v
   pub outlets : (v : ℕ) → outlets_in sites v ≡ outlets_of plan v
   pub edge : (v port : ℕ) → edge_in sites v port ≡ edge_at plan v port
+  -- no two edges lead to one port
+  pub apart : (v : ℕ) → AreApart (outlets_in sites v)

@@ -18,7 +18,6 @@ use crate::error::HallError;
 use crate::floor::Floor;
 use crate::posting::{make_room, post};
 use crate::raising::{Rise, lower, raise, rises_on};
-use crate::sites::Outlet;
 use std::alloc::Global;
 use td_calls::Law;
 use td_machine::laws::{bags_of_states, in_parts, reached_in_order, sends_of_plan, turns_of_plan};
@@ -26,7 +25,7 @@ use td_plan::Kind;
 use td_progress::Table;
 use td_progress::laws::counted;
 use td_reach::{Place, Stamp};
-use td_shard::Shard;
+use td_shard::{Outlet, Shard};
 use td_stamp::{Rec, Time};
 use td_task::Done;
 

@@ -1,18 +1,38 @@
 //! Posting messages to the mailboxes of the shards.
-ghost use Rattle.std.specs.Prelude.{◌≡◌, ◌+◌, ◌-◌, ◌*◌, ◌≤◌, ◌<◌, ℕ, length, map, get_or, take, drop, IfErr, OnOk, OnErr};
+ghost use Rattle.std.specs.Prelude.{◌≡◌, ◌+◌, ◌-◌, ◌*◌, ◌≤◌, ◌<◌, ℕ, length, get_or, take, drop, IfErr, OnOk, OnErr};
 ghost use Rattle.std.specs.List.{AllByRecursion};
 ghost use Rattle.td_stamp.specs.declared.values.Rec.{Rec as AnyRec};
 ghost use Rattle.td_machine.specs.State.{shard_of_key};
-ghost use Rattle.td_core.specs.Posted.{IsPosted, IsRoomier, HaveRoom, HaveRoomFor, count_of, only_in, on_outlet, on_each};
+ghost use Rattle.td_core.specs.Posted.{IsPosted, IsRoomier, HaveRoom, HaveRoomFor, HaveRoomApart, count_of, runs_of, only_in};
+ghost use Rattle.td_shard.specs.Messages.{on_each, AreApart};
 ghost use Rattle.td_core.specs.declared.error.HallError.TheVariants.{Memory};
 
 use crate::error::HallError;
-use crate::sites::Outlet;
-use td_shard::Shard;
+use td_shard::{Outlet, Shard};
 use td_stamp::{Rec, Time};
 
 /// The most shards of a hall.
 pub(crate) const SHARDS: usize = 16;
+
+/// How many messages come to each shard, and how many runs they make at most.
+#[derive(Drop)]
+pub(crate) struct Counts {
+    messages: [usize; SHARDS],
+    runs: [usize; SHARDS],
+}
+
+impl Counts {
+    /// None.
+    pub fn new() -> Counts
+        ensures messages { (s : ℕ) → get_or result.messages s 0 ≡ 0 }
+        ensures runs { (s : ℕ) → get_or result.runs s 0 ≡ 0 }
+    {
+        Counts {
+            messages: [0; SHARDS],
+            runs: [0; SHARDS],
+        }
+    }
+}
 
 /// Makes room for records on each of so many edges, in the shards to which they belong. What room there is counts. Refusal:
 /// `Memory`, with nothing changed but for more room.
@@ -27,14 +47,35 @@ pub(crate) fn make_room(
     ensures room { OnOk result (HaveRoom recs.now edges shards.new.items) }
     ensures memory { IfErr result (λ e. e ≡ Memory) }
 {
-    let mut counts = [0; SHARDS];
+    let mut counts = Counts::new();
     count(&mut counts, recs, edges, shards.len() as u8)?;
     make_room_for(shards, &counts)
 }
 
-/// Counts records on each of so many edges, beside what was counted: so many are of each of so many shards. Refusal: `Memory`,
-/// where there is no such number.
+/// Counts the messages of records on each of so many edges, and their runs, beside what was counted. Refusal: `Memory`, where there is
+/// no such number.
 pub(crate) fn count(
+    counts: &mut Counts,
+    recs: &[Rec],
+    edges: usize,
+    workers: u8,
+) -> Result<(), HallError>
+    requires some { 1 ≤ workers }
+    requires few { workers ≤ 16 }
+    ensures messages { OnOk result ((s : ℕ) → s < workers → get_or counts.new.messages s 0 ≡ get_or counts.old.messages s 0 + count_of workers recs.now s * edges) }
+    ensures runs { OnOk result ((s : ℕ) → s < workers → get_or counts.new.runs s 0 ≡ get_or counts.old.runs s 0 + runs_of workers recs.now edges s) }
+    ensures memory { IfErr result (λ e. e ≡ Memory) }
+{
+    count_each(&mut counts.messages, recs, edges, workers)?;
+    if workers == 1 {
+        count_once(&mut counts.runs, edges)
+    } else {
+        count_each(&mut counts.runs, recs, edges, workers)
+    }
+}
+
+/// Counts so many for each record, at its shard. Refusal: `Memory`, where there is no such number.
+fn count_each(
     counts: &mut [usize; SHARDS],
     recs: &[Rec],
     edges: usize,
@@ -55,56 +96,68 @@ pub(crate) fn count(
     Ok(())
 }
 
-/// Makes room for so many messages in each shard. Refusal: `Memory`, with nothing changed but for more room.
-pub(crate) fn make_room_for(
-    shards: &mut Vec<Shard>,
-    counts: &[usize; SHARDS],
-) -> Result<(), HallError>
+/// Counts so many at the first shard. Refusal: `Memory`, where there is no such number.
+fn count_once(counts: &mut [usize; SHARDS], edges: usize) -> Result<(), HallError>
+    ensures count { OnOk result (get_or counts.new 0 0 ≡ get_or counts.old 0 0 + edges) }
+    ensures memory { IfErr result (λ e. e ≡ Memory) }
+{
+    let Some(more) = counts[0].checked_add(edges) else {
+        return Err(HallError::Memory);
+    };
+    counts[0] = more;
+    Ok(())
+}
+
+/// Makes room in each shard for what was counted. Refusal: `Memory`, with nothing changed but for more room.
+pub(crate) fn make_room_for(shards: &mut Vec<Shard>, counts: &Counts) -> Result<(), HallError>
     requires few { length shards.old.items ≤ 16 }
     ensures same { IsRoomier shards.old.items shards.new.items }
-    ensures room { OnOk result (HaveRoomFor (λ s. get_or counts.now s 0) shards.new.items) }
+    ensures room { OnOk result (HaveRoomFor (λ s. get_or counts.now.runs s 0) (λ s. get_or counts.now.messages s 0) shards.new.items) }
     ensures memory { IfErr result (λ e. e ≡ Memory) }
 {
     for shard in 0..shards.len() {
-        let many = counts[shard];
-        shards[shard].mailbox.reserve(many, many)?;
+        let (runs, messages) = (counts.runs[shard], counts.messages[shard]);
+        shards[shard].mailbox.reserve(runs, messages)?;
     }
     Ok(())
 }
 
-/// Posts records to each of some outlets at a time, record by record. Takes no memory: room was made by `make_room`. Records go
-/// to one outlet in runs of one shard. To several they go one by one on each, since a mailbox keeps the order by record and then
-/// by edge. Each message is then a run of its own.
+/// Posts records to each of some outlets at a time, record by record. Takes no memory: room was made by `make_room`. Records of one
+/// shard that follow one another go to all outlets at once: where there is one shard, these are all.
 pub(crate) fn post(shards: &mut Vec<Shard>, outlets: &[Outlet], time: &Time, recs: &[Rec])
     requires some { 1 ≤ length shards.old.items }
     requires few { length shards.old.items ≤ 16 }
+    requires apart { AreApart outlets.now }
     requires room { HaveRoom recs.now (length outlets.now) shards.old.items }
     ensures messages { IsPosted (on_each outlets.now time.now recs.now) shards.old.items shards.new.items }
-    ensures room { (many : ℕ → ℕ) → HaveRoomFor (λ s. count_of (length shards.old.items) recs.now s * length outlets.now + many s) shards.old.items
-        → HaveRoomFor many shards.new.items }
+    ensures room { (runs many : ℕ → ℕ)
+        → HaveRoomFor (λ s. runs_of (length shards.old.items) recs.now (length outlets.now) s + runs s) (λ s. count_of (length shards.old.items) recs.now s * length outlets.now + many s) shards.old.items
+        → HaveRoomFor runs many shards.new.items }
 {
-    if outlets.len() == 1 {
-        post_runs(shards, &outlets[0], time, recs);
+    if shards.len() == 1 {
+        post_run(shards, 0, outlets, time, recs);
     } else {
-        post_each(shards, outlets, time, recs);
+        post_runs(shards, outlets, time, recs);
     }
 }
 
-/// Posts records to one outlet: those of one shard that follow one another at once.
-fn post_runs(shards: &mut Vec<Shard>, outlet: &Outlet, time: &Time, recs: &[Rec])
+/// Posts records to each of some outlets: those of one shard that follow one another at once.
+fn post_runs(shards: &mut Vec<Shard>, outlets: &[Outlet], time: &Time, recs: &[Rec])
     requires some { 1 ≤ length shards.old.items }
     requires few { length shards.old.items ≤ 16 }
-    requires room { HaveRoom recs.now 1 shards.old.items }
-    ensures posted { IsPosted (map (λ r. on_outlet time.now r outlet.now) recs.now) shards.old.items shards.new.items }
-    ensures room { (many : ℕ → ℕ) → HaveRoomFor (λ s. count_of (length shards.old.items) recs.now s * 1 + many s) shards.old.items
-        → HaveRoomFor many shards.new.items }
+    requires apart { AreApart outlets.now }
+    requires room { HaveRoomApart recs.now (length outlets.now) shards.old.items }
+    ensures posted { IsPosted (on_each outlets.now time.now recs.now) shards.old.items shards.new.items }
+    ensures room { (runs many : ℕ → ℕ)
+        → HaveRoomFor (λ s. count_of (length shards.old.items) recs.now s * length outlets.now + runs s) (λ s. count_of (length shards.old.items) recs.now s * length outlets.now + many s) shards.old.items
+        → HaveRoomFor runs many shards.new.items }
 {
     let workers = shards.len() as u8;
     let mut done = 0;
     while done < recs.len() {
         let shard = recs[done].shard(workers);
         let end = run_end(recs, done, shard, workers);
-        post_run(shards, shard, outlet, time, &recs[done..end]);
+        post_run(shards, shard, outlets, time, &recs[done..end]);
         done = end;
     }
 }
@@ -126,43 +179,17 @@ fn run_end(recs: &[Rec], begin: usize, shard: u8, workers: u8) -> usize
     recs.len()
 }
 
-/// Posts records to each of some outlets, record by record.
-fn post_each(shards: &mut Vec<Shard>, outlets: &[Outlet], time: &Time, recs: &[Rec])
-    requires some { 1 ≤ length shards.old.items }
-    requires few { length shards.old.items ≤ 16 }
-    requires room { HaveRoom recs.now (length outlets.now) shards.old.items }
-    ensures posted { IsPosted (on_each outlets.now time.now recs.now) shards.old.items shards.new.items }
-    ensures room { (many : ℕ → ℕ) → HaveRoomFor (λ s. count_of (length shards.old.items) recs.now s * length outlets.now + many s) shards.old.items
-        → HaveRoomFor many shards.new.items }
-{
-    let workers = shards.len() as u8;
-    for rec in recs {
-        post_everywhere(shards, rec.shard(workers), outlets, time, *rec);
-    }
-}
-
-/// Posts a record of a shard to each of some outlets.
-fn post_everywhere(shards: &mut Vec<Shard>, shard: u8, outlets: &[Outlet], time: &Time, rec: Rec)
+/// Posts records of one shard to each of some outlets, in one run on each.
+fn post_run(shards: &mut Vec<Shard>, shard: u8, outlets: &[Outlet], time: &Time, recs: &[Rec])
     requires there { shard < length shards.old.items }
-    requires own { shard_of_key (length shards.old.items) rec.key ≡ shard }
-    requires room { HaveRoomFor (only_in shard (length outlets.now)) shards.old.items }
-    ensures posted { IsPosted (map (on_outlet time.now rec) outlets.now) shards.old.items shards.new.items }
-    ensures room { (many : ℕ → ℕ) → HaveRoomFor (λ s. only_in shard (length outlets.now) s + many s) shards.old.items → HaveRoomFor many shards.new.items }
-{
-    for outlet in outlets {
-        post_run(shards, shard, outlet, time, &[rec]);
-    }
-}
-
-/// Posts records of one shard, of which there is one at least, to an outlet.
-fn post_run(shards: &mut Vec<Shard>, shard: u8, outlet: &Outlet, time: &Time, recs: &[Rec])
-    requires there { shard < length shards.old.items }
-    requires some { 0 < length recs.now }
     requires own { AllByRecursion (λ r. shard_of_key (length shards.old.items) r.key ≡ shard) recs.now }
-    requires room { HaveRoomFor (only_in shard (length recs.now)) shards.old.items }
-    ensures posted { IsPosted (map (λ r. on_outlet time.now r outlet.now) recs.now) shards.old.items shards.new.items }
-    ensures room { (many : ℕ → ℕ) → HaveRoomFor (λ s. only_in shard (length recs.now) s + many s) shards.old.items → HaveRoomFor many shards.new.items }
+    requires apart { AreApart outlets.now }
+    requires room { HaveRoomFor (only_in shard (length outlets.now)) (only_in shard (length recs.now * length outlets.now)) shards.old.items }
+    ensures posted { IsPosted (on_each outlets.now time.now recs.now) shards.old.items shards.new.items }
+    ensures room { (runs many : ℕ → ℕ)
+        → HaveRoomFor (λ s. only_in shard (length outlets.now) s + runs s) (λ s. only_in shard (length recs.now * length outlets.now) s + many s) shards.old.items
+        → HaveRoomFor runs many shards.new.items }
 {
     let shard = &mut shards[usize::from(shard)];
-    shard.mailbox.post(outlet.reader, outlet.port, time, recs);
+    shard.mailbox.post_each(outlets, time, recs);
 }

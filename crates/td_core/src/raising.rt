@@ -9,11 +9,11 @@ ghost use Rattle.td_core.specs.Posted.{risen, stamps_on, stamp_on_outlet};
 ghost use Rattle.td_core.specs.declared.error.HallError.TheVariants.{Memory};
 
 use crate::error::HallError;
-use crate::sites::Outlet;
 use std::alloc::Global;
 use td_progress::Table;
 use td_progress::laws::counted;
 use td_reach::{Place, Stamp};
+use td_shard::Outlet;
 use td_stamp::Time;
 
 /// A pointstamp, and how many times more it occurs.

@@ -1,20 +1,22 @@
 //! Releasing a batch into the inputs.
-ghost use Rattle.std.specs.Prelude.{◌≡◌, ◌+◌, ◌^◌, ◌<◌, ◌≤◌, ◌++◌, false, true, map, flat_map, length, IfOk, IfErr, OnOk, OnErr};
+ghost use Rattle.std.specs.Prelude.{◌≡◌, ◌+◌, ◌^◌, ◌<◌, ◌≤◌, ◌++◌, false, true, ℕ, map, flat_map, length, IfOk, IfErr, OnOk, OnErr};
 ghost use Rattle.td_stamp.specs.Batch.{records_for};
 ghost use Rattle.td_progress.specs.Bag.{input_stamp};
 ghost use Rattle.td_machine.specs.Steps.{accepts, ends, release_step};
 ghost use Rattle.td_machine.specs.Steps.Answer.{has_released};
 ghost use Rattle.td_core.specs.Floor.{IsHall};
-ghost use Rattle.td_core.specs.Posted.{IsPosted, IsRoomier, HaveRoom};
+ghost use Rattle.td_core.specs.Posted.{IsPosted, IsRoomier};
 ghost use Rattle.td_core.specs.Refusals.{IsRefused};
-ghost use Rattle.td_core.specs.Released.{IsIn, IsAsBefore, load_of, loads_in, recs_out, messages_of, rises_of};
+ghost use Rattle.td_core.specs.Released.{IsIn, IsAsBefore, HaveRoomForLoads, load_of, loads_in, messages_of, rises_of};
+ghost use Rattle.td_shard.specs.Messages.{AreApart};
+ghost use Rattle.td_core.specs.Sites.{outlets_in};
 ghost use Rattle.td_core.specs.declared.error.HallError.TheVariants.{Memory};
 
 use crate::close::take_off_inputs;
 use crate::error::HallError;
 use crate::floor::Floor;
 use crate::hall::Hall;
-use crate::posting::{SHARDS, count, make_room_for, post};
+use crate::posting::{Counts, count, make_room_for, post};
 use crate::raising::{Rise, raise, rises_on};
 use crate::sites::Sites;
 use std::alloc::{AllocError, Global};
@@ -134,11 +136,11 @@ fn make_room_for_loads(
     requires some { 1 ≤ length shards.old.items }
     requires few { length shards.old.items ≤ 16 }
     ensures same { IsRoomier shards.old.items shards.new.items }
-    ensures room { OnOk result (HaveRoom (flat_map (recs_out sites.now) (map load_of loads.now)) 1 shards.new.items) }
+    ensures room { OnOk result (HaveRoomForLoads sites.now (map load_of loads.now) shards.new.items) }
     ensures memory { IfErr result (λ e. e ≡ Memory) }
 {
     let workers = shards.len() as u8;
-    let mut counts = [0; SHARDS];
+    let mut counts = Counts::new();
     for load in loads {
         let edges = sites.outlets(load.input).len();
         count(&mut counts, load.recs.as_slice(), edges, workers)?;
@@ -185,7 +187,8 @@ fn rise_of_input(input: u8, epoch: u64) -> Rise
 fn post_loads(shards: &mut Vec<Shard>, sites: &Sites, loads: &[Load], epoch: u64)
     requires some { 1 ≤ length shards.old.items }
     requires few { length shards.old.items ≤ 16 }
-    requires room { HaveRoom (flat_map (recs_out sites.now) (map load_of loads.now)) 1 shards.old.items }
+    requires apart { (v : ℕ) → AreApart (outlets_in sites.now v) }
+    requires room { HaveRoomForLoads sites.now (map load_of loads.now) shards.old.items }
     ensures { IsPosted (flat_map (messages_of sites.now epoch) (map load_of loads.now)) shards.old.items shards.new.items }
 {
     let time = Time::new(epoch);

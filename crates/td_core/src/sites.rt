@@ -13,15 +13,8 @@ ghost use Rattle.td_core.specs.Sites.{IsSite, IsSites, outlets_of, kind_in, boun
 use std::alloc::{AllocError, Global};
 use td_plan::laws::{edges_by_number, look_ups, read_there};
 use td_plan::{Kind, Plan, Vertex};
+use td_shard::Outlet;
 use td_stamp::Time;
-
-/// An edge out of a vertex: its number, and the vertex and port to which it leads.
-#[derive(Clone, Copy, Debug, PartialEq, Eq)]
-pub(crate) struct Outlet {
-    pub number: u8,
-    pub reader: u8,
-    pub port: u8,
-}
 
 /// What is looked up of a vertex.
 #[derive(Drop)]

@@ -1,21 +1,22 @@
 -- The first run, once its records are taken, is let go.
-use Rattle.std.proofs.Common.{◌≡◌, ℕ, ◌+◌, ◌<◌, Bool, true, false, ◌==◌, ◌&&◌, cond, List, [], ◌∷◌, ◌++◌, length, get_or, drop, Option, Some, None, refl, sym, ap, ◌∙◌, arith}
+use Rattle.std.proofs.Common.{◌≡◌, ℕ, ◌+◌, ◌<◌, Bool, true, false, ◌==◌, ◌&&◌, cond, List, [], ◌∷◌, ◌++◌, map, length, get_or, drop, Option, Some, None, filter, refl, sym, ap, ◌∙◌, subst, arith}
 use Rattle.std.specs.Option.{option_map}
 use Rattle.std.specs.Cmp.{IsEquivalence}
 use Rattle.std.proofs.lemmas.Bool.{eqb-true, eq-eqb}
-use Rattle.td_stamp.specs.declared.values.Rec.{Rec}
-use Rattle.td_machine.specs.Steps.{coming}
+use Rattle.td_shard.specs.declared.rows.Numbered.{Numbered}
 use Rattle.td_shard.specs.declared.lane.Lane.{Lane}
-use Rattle.td_shard.specs.Runs.{Part, messages_of, ahead_of, last_by, first_on, last_on, AreLinked}
+use Rattle.td_shard.specs.Runs.{Part, on_lane, all_of, ahead_of, last_by, first_on, last_on, AreLinked, AreNumbered}
+use Rattle.td_shard.specs.Messages.{same_edge}
+use Rattle.td_shard.specs.Order.{AreAscending}
 use Rattle.td_shard.proofs.Linked.{none_on, first_none}
 
 pub linked-rest : (same : Lane → Lane → Bool) (ps : List Part) → AreLinked same ps → AreLinked same (drop 1 ps)
 linked-rest same [] h = h
 linked-rest same (p ∷ ps) h = h.1
 
-pub messages-rest : (ps : List Part) (d : Part) → 0 < length ps → (get_or ps 0 d).recs ≡ [] → messages_of (drop 1 ps) ≡ messages_of ps
+pub messages-rest : (ps : List Part) (d : Part) → 0 < length ps → (get_or ps 0 d).recs ≡ [] → all_of (drop 1 ps) ≡ all_of ps
 messages-rest [] d h e = refl
-messages-rest (p ∷ ps) d h e = ap (λ (l : List Rec). coming p.lane.vertex p.lane.port p.lane.time l ++ messages_of ps) (sym e)
+messages-rest (p ∷ ps) d h e = ap (λ (l : List Numbered). map (on_lane p.lane) l ++ all_of ps) (sym e)
 
 module _ (same : Lane → Lane → Bool) (laws : IsEquivalence same) where
   none_ahead : (o : Option ℕ) (a : ℕ) → a ≡ ahead_of o → (a == 0) ≡ true → o ≡ None
@@ -46,3 +47,12 @@ module _ (same : Lane → Lane → Bool) (laws : IsEquivalence same) where
       → now ≡ cond (((get_or ps 0 d).ahead == 0) && same (get_or ps 0 d).lane q) None was → now ≡ option_map (λ i. f + 1 + i) (last_on same q (drop 1 ps))
   numbers f q [] d was now l h e n = absurd (omega (arith, h))
   numbers f q (s ∷ ps) d was now l h e n = numbers-by f q s ps (last_on same q ps) (same s.lane q) was now l refl refl e n
+
+-- NUMBERS, when the first goes
+pub numbered-rest : (next : ℕ) (ps : List Part) (d : Part) → 0 < length ps → (get_or ps 0 d).recs ≡ [] → AreNumbered next ps → AreNumbered next (drop 1 ps)
+numbered-rest next [] d h e is = is
+numbered-rest next (p ∷ ps) d h e is = record {
+  older = is.older.1;
+  ascending = λ c. subst (λ xs. AreAscending (filter (λ x. same_edge c x.1) xs)) (sym (messages-rest (p ∷ ps) d h e)) (is.ascending c);
+  grouped = is.grouped.2;
+}

@@ -1,7 +1,9 @@
 -- Records that are read, let go and moved in one list.
-use Rattle.std.proofs.Common.{◌≡◌, ℕ, zero, suc, ◌+◌, ◌-◌, ◌<◌, ◌≤◌, List, [], ◌∷◌, ◌++◌, length, get_or, take, drop, sym, ap, ◌∙◌, arith, length-drop}
+use Rattle.std.proofs.Common.{◌≡◌, ℕ, zero, suc, ◌+◌, ◌-◌, ◌<◌, ◌≤◌, List, [], ◌∷◌, ◌++◌, length, get_or, take, drop, refl, sym, ap, ◌∙◌, arith, length-drop}
 use Rattle.std.proofs.lemmas.List.{take_more, drop_more, get_or-drop, drop-drop}
 use Rattle.std.specs.List.{remove}
+use Rattle.td_stamp.specs.declared.values.Rec.{Rec}
+use Rattle.td_shard.specs.Runs.{numbered}
 
 module _ {X : Type 0} where
   -- one more is read
@@ -32,3 +34,17 @@ module _ {X : Type 0} where
   moved (suc to) count i [] x e h f = absurd (omega (arith, h))
   moved (suc to) count zero (y ∷ ys) x e h f = absurd (omega (arith, e))
   moved (suc to) count (suc i) (y ∷ ys) x e h f = ap (λ l. y ∷ l) (moved to count i ys x (omega (arith, e)) (omega (arith, h)) f)
+
+pub length-numbered : (n : ℕ) (rs : List Rec) → length (numbered n rs) ≡ length rs
+length-numbered n [] = refl
+length-numbered n (r ∷ rs) = ap suc (length-numbered (n + 1) rs)
+
+-- a numbered record more
+pub number_more : (n i : ℕ) (rs : List Rec) (d : Rec) → i < length rs → take (i + 1) (numbered n rs) ≡ take i (numbered n rs) ++ record { number = n + i; rec = get_or rs i d } ∷ []
+number_more n i [] d h = absurd (omega (arith, h))
+number_more n zero (r ∷ rs) d h = let here : n ≡ n + 0 = omega arith in ap (λ m. record { number = m; rec = r } ∷ []) here
+number_more n (suc i) (r ∷ rs) d h =
+    let next : suc i + 1 ≡ suc (i + 1) = omega arith in
+    let at : n + 1 + i ≡ n + suc i = omega arith in
+    ap (λ m. take m (numbered n (r ∷ rs))) next
+    ∙ ap (λ l. record { number = n; rec = r } ∷ l) (number_more (n + 1) i rs d (omega (arith, h)) ∙ ap (λ m. take i (numbered (n + 1) rs) ++ record { number = m; rec = get_or rs i d } ∷ []) at)

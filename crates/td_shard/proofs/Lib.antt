@@ -1,3 +1,6 @@
+pub mod Numbers
+pub mod Together
+pub mod Search
 pub mod Lanes
 pub mod Linked
 pub mod TakenUp

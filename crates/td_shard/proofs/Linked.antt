@@ -1,15 +1,10 @@
 -- Runs that are linked, and one more at the end.
-use Rattle.std.proofs.Common.{◌≡◌, ℕ, zero, suc, ◌+◌, ◌<◌, Bool, true, false, cond, List, [], ◌∷◌, ◌++◌, length, Option, Some, None, refl, sym, ap, ◌∙◌, subst, arith, append_assoc, append-nil}
+use Rattle.std.proofs.Common.{◌≡◌, ℕ, zero, suc, ◌+◌, ◌<◌, ◌≤◌, inl, Bool, true, false, cond, List, [], ◌∷◌, ◌++◌, length, Option, Some, None, refl, sym, ap, ◌∙◌, subst, arith, append_assoc, append-nil}
 use Rattle.std.specs.Option.{option_map}
+use Rattle.std.specs.List.{AllByRecursion}
 use Rattle.std.specs.Cmp.{IsEquivalence}
 use Rattle.td_shard.specs.declared.lane.Lane.{Lane}
-use Rattle.td_machine.specs.declared.records.Message.{Message}
-use Rattle.td_machine.specs.Steps.{coming}
-use Rattle.td_shard.specs.Runs.{Part, messages_of, changed_at, linked_to, ahead_of, last_by, FrontWaits, first_on, last_on, AreLinked}
-
--- the messages of a run
-abbrev pub its : Part → List Message
-its p = coming p.lane.vertex p.lane.port p.lane.time p.recs
+use Rattle.td_shard.specs.Runs.{Part, its, all_of, changed_at, linked_to, ahead_of, last_by, FrontWaits, IsUpTo, AreUpTo, IsOlder, AreOlder, AreGrouped, first_on, last_on, AreLinked}
 
 -- the runs with that at a place linked to one that comes behind the last
 abbrev pub to_end : ℕ → List Part → List Part
@@ -26,7 +21,7 @@ abbrev or_then : Option ℕ → Option ℕ → Option ℕ
 or_then None b = b
 or_then (Some i) b = Some i
 
-pub messages-to_end : (i : ℕ) (ss : List Part) → messages_of (to_end i ss) ≡ messages_of ss
+pub messages-to_end : (i : ℕ) (ss : List Part) → all_of (to_end i ss) ≡ all_of ss
 messages-to_end i [] = refl
 messages-to_end zero (s ∷ ss) = refl
 messages-to_end (suc i) (s ∷ ss) = ap (λ ms. its s ++ ms) (messages-to_end i ss)
@@ -47,9 +42,9 @@ linked-to_end i n [] h e = absurd (omega (arith, h))
 linked-to_end zero n (s ∷ ss) h e = let e2 : n ≡ suc (length ss) = omega (arith, e) in ap (λ a. record s { ahead = a } ∷ ss) e2
 linked-to_end (suc i) n (s ∷ ss) h e = ap (λ l. s ∷ l) (linked-to_end i n ss (omega (arith, h)) (omega (arith, e)))
 
-pub messages-append : (ss : List Part) (x : Part) → messages_of (ss ++ x ∷ []) ≡ messages_of ss ++ its x
+pub messages-append : (ss : List Part) (x : Part) → all_of (ss ++ x ∷ []) ≡ all_of ss ++ its x
 messages-append [] x = append-nil (its x)
-messages-append (s ∷ ss) x = ap (λ ms. its s ++ ms) (messages-append ss x) ∙ sym (append_assoc (its s) (messages_of ss) (its x))
+messages-append (s ∷ ss) x = ap (λ ms. its s ++ ms) (messages-append ss x) ∙ sym (append_assoc (its s) (all_of ss) (its x))
 
 front-append : (ss : List Part) (x : Part) → 0 < length x.recs → FrontWaits ss → FrontWaits (ss ++ x ∷ [])
 front-append [] x h f = h
@@ -176,10 +171,44 @@ module _ (same : Lane → Lane → Bool) where
   last-appended q None ss x = last-append q ss x
   last-appended q (Some i) ss x = last-append q (to_end i ss) x ∙ (ap (λ n. cond (same q x.lane) (Some n) (last_on same q (to_end i ss))) (length-to_end i ss) ∙ ap (cond (same q x.lane) (Some (length ss))) (last-to_end q i ss))
 
-pub messages-appended : (o : Option ℕ) (ss : List Part) (x : Part) → messages_of (appended o ss x) ≡ messages_of ss ++ its x
+pub messages-appended : (o : Option ℕ) (ss : List Part) (x : Part) → all_of (appended o ss x) ≡ all_of ss ++ its x
 messages-appended None ss x = messages-append ss x
 messages-appended (Some i) ss x = messages-append (to_end i ss) x ∙ ap (λ ms. ms ++ its x) (messages-to_end i ss)
 
 pub front-appended : (o : Option ℕ) (ss : List Part) (x : Part) → 0 < length x.recs → FrontWaits ss → FrontWaits (appended o ss x)
 front-appended None ss x h f = front-append ss x h f
 front-appended (Some i) ss x h f = front-append (to_end i ss) x h (front-to_end i ss f)
+
+-- THEIR NUMBERS, with one more at the end
+module _ (P : Part → Type 0) (alike : (p : Part) (a : ℕ) → P p → P (linked_to a p)) where
+  all-to_end : (i : ℕ) (ss : List Part) → AllByRecursion P ss → AllByRecursion P (to_end i ss)
+  all-to_end i [] h = tt
+  all-to_end zero (s ∷ ss) h = (alike s (suc (length ss)) h.0, h.1)
+  all-to_end (suc i) (s ∷ ss) h = (h.0, all-to_end i ss h.1)
+
+  all-append : (ss : List Part) (x : Part) → P x → AllByRecursion P ss → AllByRecursion P (ss ++ x ∷ [])
+  all-append [] x it h = (it, tt)
+  all-append (s ∷ ss) x it h = (h.0, all-append ss x it h.1)
+
+  pub all-appended : (o : Option ℕ) (ss : List Part) (x : Part) → P x → AllByRecursion P ss → AllByRecursion P (appended o ss x)
+  all-appended None ss x it h = all-append ss x it h
+  all-appended (Some i) ss x it h = all-append (to_end i ss) x it (all-to_end i ss h)
+
+pub up_to-appended : (n : ℕ) (o : Option ℕ) (ss : List Part) (x : Part) → x.base ≡ n → AreUpTo n ss → AreUpTo n (appended o ss x)
+up_to-appended n o ss x e h = all-appended (IsUpTo n) (λ p a it. it) o ss x (inl e) h
+
+pub older-appended : (n : ℕ) (o : Option ℕ) (ss : List Part) (x : Part) → IsOlder n x → AreOlder n ss → AreOlder n (appended o ss x)
+older-appended n o ss x it h = all-appended (IsOlder n) (λ p a i. i) o ss x it h
+
+grouped-to_end : (i : ℕ) (ss : List Part) → AreGrouped ss → AreGrouped (to_end i ss)
+grouped-to_end i [] h = tt
+grouped-to_end zero (s ∷ ss) h = h
+grouped-to_end (suc i) (s ∷ ss) h = (h.0, all-to_end (λ q. IsUpTo q.base s) (λ p a it. it) i ss h.1, grouped-to_end i ss h.2)
+
+grouped-append : (ss : List Part) (x : Part) → AllByRecursion (λ r. x.base ≤ r.number) x.recs → AreUpTo x.base ss → AreGrouped ss → AreGrouped (ss ++ x ∷ [])
+grouped-append [] x from u h = (from, tt, tt)
+grouped-append (s ∷ ss) x from u h = (h.0, all-append (λ q. IsUpTo q.base s) (λ p a it. it) ss x u.0 h.1, grouped-append ss x from u.1 h.2)
+
+pub grouped-appended : (o : Option ℕ) (ss : List Part) (x : Part) → AllByRecursion (λ r. x.base ≤ r.number) x.recs → AreUpTo x.base ss → AreGrouped ss → AreGrouped (appended o ss x)
+grouped-appended None ss x from u h = grouped-append ss x from u h
+grouped-appended (Some i) ss x from u h = grouped-append (to_end i ss) x from (all-to_end (IsUpTo x.base) (λ p a it. it) i ss u) (grouped-to_end i ss h)

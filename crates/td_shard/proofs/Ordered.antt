@@ -2,7 +2,7 @@
 use Rattle.std.proofs.Common.{◌≡◌, ℕ, zero, suc, ◌+◌, ◌-◌, ◌<◌, ◌≤◌, ◌⊎◌, inl, inr, min, List, [], ◌∷◌, ◌++◌, map, length, get_or, set, take, drop, refl, sym, ap, ◌∙◌, subst, arith, append_assoc, length-take, length-drop, length-append}
 use Rattle.std.proofs.lemmas.List.{drop-take, take-take, drop-drop, take_all, take_at, drop_at, take-append-le, drop-append-le, take-append-drop, length-take-le, map_push}
 use Rattle.std.specs.List.{remove}
-use Rattle.td_stamp.specs.declared.values.Rec.{Rec}
+use Rattle.td_shard.specs.declared.rows.Numbered.{Numbered}
 use Rattle.td_shard.specs.declared.runs.Run.{Run}
 use Rattle.td_shard.specs.Runs.{Part, part, InOrder, changed_at, without_front, with_more}
 
@@ -130,11 +130,11 @@ order-grow f e g (t ∷ u ∷ rs) zero r s d h at same some high l = absurd (ome
 order-grow f e g (t ∷ rs) (suc i) r s d h at same some high l = (l.0, l.1, order-grow t.end e g rs i r s d (omega (arith, h)) at same some high l.2)
 
 -- THEIR RECORDS
-part_same : (s t : ℕ) (xs ys : List Rec) (r : Run) → take (r.end - r.at) (drop (r.at - s) xs) ≡ take (r.end - r.at) (drop (r.at - t) ys) → part s xs r ≡ part t ys r
-part_same s t xs ys r e = ap (λ (l : List Rec). record { lane = r.lane; ahead = r.ahead; recs = l }) e
+part_same : (s t : ℕ) (xs ys : List Numbered) (r : Run) → take (r.end - r.at) (drop (r.at - s) xs) ≡ take (r.end - r.at) (drop (r.at - t) ys) → part s xs r ≡ part t ys r
+part_same s t xs ys r e = ap (λ (l : List Numbered). record { lane = r.lane; base = r.base; ahead = r.ahead; recs = l }) e
 
 -- records that stand before others
-pub before : (s f e n : ℕ) (rs : List Run) (xs ys : List Rec) → s ≤ f → e ≤ s + n → InOrder f rs e → take n xs ≡ take n ys → map (part s xs) rs ≡ map (part s ys) rs
+pub before : (s f e n : ℕ) (rs : List Run) (xs ys : List Numbered) → s ≤ f → e ≤ s + n → InOrder f rs e → take n xs ≡ take n ys → map (part s xs) rs ≡ map (part s ys) rs
 before s f e n [] xs ys hs he l same = refl
 before s f e n (r ∷ rs) xs ys hs he l same =
     let high = in_order-le r.end e rs l.2 in
@@ -142,19 +142,19 @@ before s f e n (r ∷ rs) xs ys hs he l same =
     (before s r.end e n rs xs ys (omega (arith, hs, l.0, l.1)) he l.2 same)
 
 -- and behind them
-pub after : (s t f e : ℕ) (rs : List Run) (xs ys : List Rec) → s ≤ f → t ≤ f → InOrder f rs e → drop (f - s) xs ≡ drop (f - t) ys → map (part s xs) rs ≡ map (part t ys) rs
+pub after : (s t f e : ℕ) (rs : List Run) (xs ys : List Numbered) → s ≤ f → t ≤ f → InOrder f rs e → drop (f - s) xs ≡ drop (f - t) ys → map (part s xs) rs ≡ map (part t ys) rs
 after s t f e [] xs ys hs ht l same = refl
 after s t f e (r ∷ rs) xs ys hs ht l same =
     cons_same (part_same s t xs ys r (ap (take (r.end - r.at)) (later s t f r.at xs ys hs ht l.0 same)))
     (after s t r.end e rs xs ys (omega (arith, hs, l.0, l.1)) (omega (arith, ht, l.0, l.1)) l.2 (later s t f r.end xs ys hs ht (omega (arith, l.0, l.1)) same))
 
 -- how many wait
-pub length-part : (s f : ℕ) (xs : List Rec) (r : Run) → s ≤ f → Stands f (s + length xs) r → length (part s xs r).recs ≡ r.end - r.at
+pub length-part : (s f : ℕ) (xs : List Numbered) (r : Run) → s ≤ f → Stands f (s + length xs) r → length (part s xs r).recs ≡ r.end - r.at
 length-part s f xs r hs h = length-take-le (r.end - r.at) (drop (r.at - s) xs) (omega (arith, hs, h.low, h.some, h.high, length-drop (r.at - s) xs))
 
 -- one more run
-pub pushed : (s : ℕ) (rs : List Run) (xs new : List Rec) (r : Run) → InOrder s rs (s + length xs) → r.at ≡ s + length xs → r.end ≡ r.at + length new
-    → map (part s (xs ++ new)) (rs ++ r ∷ []) ≡ map (part s xs) rs ++ record { lane = r.lane; ahead = r.ahead; recs = new } ∷ []
+pub pushed : (s : ℕ) (rs : List Run) (xs new : List Numbered) (r : Run) → InOrder s rs (s + length xs) → r.at ≡ s + length xs → r.end ≡ r.at + length new
+    → map (part s (xs ++ new)) (rs ++ r ∷ []) ≡ map (part s xs) rs ++ record { lane = r.lane; base = r.base; ahead = r.ahead; recs = new } ∷ []
 pushed s rs xs new r l begin end =
     let at : r.at - s ≡ length xs = omega (arith, begin) in
     let many : r.end - r.at ≡ length new = omega (arith, end) in
@@ -162,10 +162,10 @@ pushed s rs xs new r l begin end =
     let its : take (r.end - r.at) (drop (r.at - s) (xs ++ new)) ≡ new = ap (λ n. take n (drop (r.at - s) (xs ++ new))) many ∙ (ap (λ n. take (length new) (drop n (xs ++ new))) at ∙ (ap (take (length new)) (drop_at xs new (length xs) refl) ∙ take_all (length new) new (omega arith))) in
     map_push (part s (xs ++ new)) rs r
     ∙ (ap (λ l. l ++ part s (xs ++ new) r ∷ []) old
-    ∙ ap (λ (l : List Rec). map (part s xs) rs ++ record { lane = r.lane; ahead = r.ahead; recs = l } ∷ []) its)
+    ∙ ap (λ (l : List Numbered). map (part s xs) rs ++ record { lane = r.lane; base = r.base; ahead = r.ahead; recs = l } ∷ []) its)
 
 -- records that no run has are let go
-pub trimmed : (s n : ℕ) (rs : List Run) (xs : List Rec) (e : ℕ) → InOrder (s + n) rs e → map (part (s + n) (drop n xs)) rs ≡ map (part s xs) rs
+pub trimmed : (s n : ℕ) (rs : List Run) (xs : List Numbered) (e : ℕ) → InOrder (s + n) rs e → map (part (s + n) (drop n xs)) rs ≡ map (part s xs) rs
 trimmed s n rs xs e l =
     let none : s + n - (s + n) ≡ 0 = omega arith in
     let some : s + n - s ≡ n = omega arith in
@@ -178,17 +178,17 @@ changed g f (t ∷ rs) zero r s d h at e = cons_same (e ∙ ap (λ x. f (g x)) a
 changed g f (t ∷ rs) (suc i) r s d h at e = cons_same refl (changed g f rs i r s d (omega (arith, h)) at e)
 
 -- a run that begins later has lost its first records
-pub advanced : (s f e n : ℕ) (xs : List Rec) (r : Run) → s ≤ f → Stands f e r → n ≤ r.end - r.at → part s xs (record r { at = r.at + n }) ≡ without_front n (part s xs r)
+pub advanced : (s f e n : ℕ) (xs : List Numbered) (r : Run) → s ≤ f → Stands f e r → n ≤ r.end - r.at → part s xs (record r { at = r.at + n }) ≡ without_front n (part s xs r)
 advanced s f e n xs r hs h few =
     let rest = r.end - (r.at + n) in
     let many : n + rest ≡ r.end - r.at = omega (arith, few, h.some) in
     let at : r.at - s + n ≡ r.at + n - s = omega (arith, hs, h.low) in
     let its : take rest (drop (r.at + n - s) xs) ≡ drop n (take (r.end - r.at) (drop (r.at - s) xs)) =
     ap (λ i. take rest (drop i xs)) (sym at) ∙ (ap (take rest) (sym (drop-drop n (r.at - s) xs)) ∙ (sym (drop-take n rest (drop (r.at - s) xs)) ∙ ap (λ i. drop n (take i (drop (r.at - s) xs))) many)) in
-    ap (λ (l : List Rec). record { lane = r.lane; ahead = r.ahead; recs = l }) its
+    ap (λ (l : List Numbered). record { lane = r.lane; base = r.base; ahead = r.ahead; recs = l }) its
 
 -- the last run with more records behind its others
-pub grown : (s : ℕ) (rs : List Run) (xs new : List Rec) (i e : ℕ) (r d : Run) → InOrder s rs (s + length xs) → suc i ≡ length rs → r ≡ get_or rs i d → s ≤ r.at → r.at ≤ r.end → r.end ≡ s + length xs → e ≡ r.end + length new
+pub grown : (s : ℕ) (rs : List Run) (xs new : List Numbered) (i e : ℕ) (r d : Run) → InOrder s rs (s + length xs) → suc i ≡ length rs → r ≡ get_or rs i d → s ≤ r.at → r.at ≤ r.end → r.end ≡ s + length xs → e ≡ r.end + length new
     → map (part s (xs ++ new)) (set rs i (record r { end = e })) ≡ changed_at (with_more new) i (map (part s xs) rs)
 grown s rs xs new i e r d l h at low some high end =
     let ys = xs ++ new in
@@ -201,11 +201,11 @@ grown s rs xs new i e r d l h at low some high end =
     let its : take m (drop n ys) ≡ zs = ap (take m) behind ∙ take_at zs new m long in
     let more : take (e - r.at) (drop n ys) ≡ take m (drop n ys) ++ new = all ∙ ap (λ l. l ++ new) (sym its) in
     let old : map (part s ys) rs ≡ map (part s xs) rs = before s s (s + length xs) (length xs) rs ys xs (omega arith) (omega arith) l (take-append-le (length xs) xs new (omega arith)) in
-    changed (part s ys) (with_more new) rs i r (record r { end = e }) d (omega (arith, h)) at (ap (λ (l : List Rec). record { lane = r.lane; ahead = r.ahead; recs = l }) more)
+    changed (part s ys) (with_more new) rs i r (record r { end = e }) d (omega (arith, h)) at (ap (λ (l : List Numbered). record { lane = r.lane; base = r.base; ahead = r.ahead; recs = l }) more)
     ∙ ap (changed_at (with_more new) i) old
 
 -- a run whose records are moved among themselves
-pub moved_within : (s f e i : ℕ) (g : Part → Part) (rs : List Run) (xs ys : List Rec) (r d : Run) → s ≤ f → i < length rs → r ≡ get_or rs i d → InOrder f rs e
+pub moved_within : (s f e i : ℕ) (g : Part → Part) (rs : List Run) (xs ys : List Numbered) (r d : Run) → s ≤ f → i < length rs → r ≡ get_or rs i d → InOrder f rs e
     → take (r.at - s) ys ≡ take (r.at - s) xs → drop (r.end - s) ys ≡ drop (r.end - s) xs → part s ys r ≡ g (part s xs r) → map (part s ys) rs ≡ changed_at g i (map (part s xs) rs)
 moved_within s f e i g [] xs ys r d hs h at l front back its = refl
 moved_within s f e zero g (t ∷ rs) xs ys r d hs h at l front back its =
@@ -218,7 +218,7 @@ moved_within s f e (suc i) g (t ∷ rs) xs ys r d hs h at l front back its =
     (moved_within s t.end e i g rs xs ys r d (omega (arith, hs, l.0, l.1)) (omega (arith, h)) at l.2 front back its)
 
 -- what is read of a run
-pub read-part : (s f : ℕ) (xs : List Rec) (r : Run) (from to many room : ℕ) → s ≤ f → Stands f (s + length xs) r → from ≤ to → to ≤ r.end - r.at → many ≡ min (to - from) room
+pub read-part : (s f : ℕ) (xs : List Numbered) (r : Run) (from to many room : ℕ) → s ≤ f → Stands f (s + length xs) r → from ≤ to → to ≤ r.end - r.at → many ≡ min (to - from) room
     → take many (drop (r.at - s + from) xs) ≡ take room (take (to - from) (drop from (part s xs r).recs))
 read-part s f xs r from to many room hs h range within few =
     let ys = drop (r.at - s) xs in

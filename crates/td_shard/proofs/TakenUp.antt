@@ -1,17 +1,16 @@
 -- Runs of a lane whose records are taken.
 use Rattle.std.proofs.Common.{◌≡◌, ℕ, zero, suc, ◌+◌, ◌-◌, ◌<◌, ◌≤◌, Bool, true, false, cond, List, [], ◌∷◌, ◌++◌, length, get_or, take, drop, Option, Some, None, refl, sym, ap, ◌∙◌, subst, arith, append_assoc, ◌⊎◌, inl, inr, length-take, length-drop, length-append}
-use Rattle.std.proofs.lemmas.List.{get_or-drop, take-append-drop, drop-drop, take_more, drop_more, length-map}
+use Rattle.std.proofs.lemmas.List.{get_or-drop, take-append-drop, drop-drop, drop_more, length-map}
 use Rattle.std.proofs.Math.Seq.{take-add}
 use Rattle.std.specs.Option.{option_map, IsSome}
 use Rattle.std.specs.Cmp.{IsEquivalence}
-use Rattle.td_stamp.specs.declared.values.Rec.{Rec}
+use Rattle.td_shard.specs.declared.rows.Numbered.{Numbered}
 use Rattle.td_shard.specs.declared.lane.Lane.{Lane}
-use Rattle.td_shard.specs.Runs.{Part, messages_of, changed_at, without_front, ahead_of, last_by, first_on, last_on, AreLinked, taken_on, lane_recs}
-use Rattle.td_shard.proofs.Linked.{its, messages-append}
+use Rattle.td_shard.specs.Runs.{Part, its, all_of, changed_at, without_front, ahead_of, last_by, first_on, last_on, AreLinked, taken_on, lane_recs}
 
 -- any run
 pub nothing : Part
-nothing = record { lane = record { vertex = 0; port = 0; time = record { epoch = 0; turns = [] } }; ahead = 0; recs = [] }
+nothing = record { lane = record { vertex = 0; port = 0; time = record { epoch = 0; turns = [] } }; base = 0; ahead = 0; recs = [] }
 
 -- LISTS
 module _ {X : Type 0} where
@@ -91,13 +90,13 @@ module _ (f : Part → Part) where
         linked-changed_at (suc i) (p ∷ ps) h = (h.0 ∙ ap ahead_of (sym (first-changed_at p.lane i ps)), linked-changed_at i ps h.1)
 
 -- with records of a run taken the messages are fewer by these
-pub less : (n i : ℕ) (ps : List Part) (d : Part) → i < length ps → length (messages_of (changed_at (without_front n) i ps)) + length (take n (get_or ps i d).recs) ≡ length (messages_of ps)
+pub less : (n i : ℕ) (ps : List Part) (d : Part) → i < length ps → length (all_of (changed_at (without_front n) i ps)) + length (take n (get_or ps i d).recs) ≡ length (all_of ps)
 less n i [] d h = absurd (omega (arith, h))
 less n zero (p ∷ ps) d h =
-    omega (arith, length-append (its p) (messages_of ps), length-append (its (without_front n p)) (messages_of ps), length-its p, length-its (without_front n p), length-take n p.recs, length-drop n p.recs)
+    omega (arith, length-append (its p) (all_of ps), length-append (its (without_front n p)) (all_of ps), length-its p, length-its (without_front n p), length-take n p.recs, length-drop n p.recs)
 less n (suc i) (p ∷ ps) d h =
     let rest = less n i ps d (omega (arith, h)) in
-    omega (arith, rest, length-append (its p) (messages_of ps), length-append (its p) (messages_of (changed_at (without_front n) i ps)))
+    omega (arith, rest, length-append (its p) (all_of ps), length-append (its p) (all_of (changed_at (without_front n) i ps)))
 
 -- LANES
 module _ (same : Lane → Lane → Bool) where
@@ -228,7 +227,7 @@ module _ (same : Lane → Lane → Bool) (laws : IsEquivalence same) where
       let none = none_ahead (first_on same k (drop (suc p) ps)) a e h in
       (ap (λ l. take (suc p) ps ++ l) (skip_all same k n (drop (suc p) ps) none) ∙ take-append-drop (suc p) ps, ap (take n) (skip_all-recs same k (drop (suc p) ps) none) ∙ take-none n)
     where
-      take-none : (n : ℕ) → ◌≡◌ {A = List Rec} (take n []) []
+      take-none : (n : ℕ) → ◌≡◌ {A = List Numbered} (take n []) []
       take-none zero = refl
       take-none (suc n) = refl
   ended k ps p a n e (inr h) = (
@@ -241,22 +240,7 @@ module _ (same : Lane → Lane → Bool) (laws : IsEquivalence same) where
   next_ahead f k ps at s d h e g l =
       linked-at same at ps s d h e l ∙ ap ahead_of (first-congr s.lane k (drop (suc at) ps) (laws.symm s.lane k ∙ g) ∙ ap (first_on same k) (sym (drop-changed_at f at ps)))
 
--- THE RUN OF A PICKED MESSAGE
--- how many messages wait before a place, and before the next
-pub before_next : (ps : List Part) (p : ℕ) (d : Part) → p < length ps → length (messages_of (take (p + 1) ps)) ≡ length (messages_of (take p ps)) + length (get_or ps p d).recs
-before_next ps p d h =
-    let s = get_or ps p d in
-    ap (λ l. length (messages_of l)) (take_more ps p d h) ∙ (ap length (messages-append (take p ps) s) ∙ omega (arith, length-append (messages_of (take p ps)) (its s), length-its s))
-
--- a place with more messages behind it is within the runs
-pub place-below : (p : ℕ) (ps : List Part) → length (messages_of (take p ps)) < length (messages_of ps) → p < length ps
-place-below zero [] h = h
-place-below (suc p) [] h = absurd (omega (arith, h))
-place-below zero (s ∷ ps) h = omega arith
-place-below (suc p) (s ∷ ps) h =
-    let g = place-below p ps (omega (arith, h, length-append (its s) (messages_of (take p ps)), length-append (its s) (messages_of ps))) in
-    omega (arith, g)
-
+-- THE FIRST RUN OF A LANE
 module _ (same : Lane → Lane → Bool) (k : Lane) where
   -- the first of a lane is not here, but further on
   pub not_here : (ps : List Part) (p : ℕ) (s d : Part) → p < length ps → s ≡ get_or ps p d → same k s.lane ≡ false → option_map (λ i. p + i) (first_on same k (drop p ps)) ≡ option_map (λ i. p + 1 + i) (first_on same k (drop (p + 1) ps))

@@ -1,19 +1,19 @@
 -- Records that are let go, and where those that are kept begin.
 use Rattle.std.proofs.Common.{◌≡◌, ℕ, zero, suc, ◌+◌, ◌-◌, ◌<◌, ◌≤◌, List, [], ◌∷◌, ◌++◌, map, length, get_or, set, drop, refl, sym, ap, ◌∙◌, subst, arith, length-drop}
-use Rattle.td_stamp.specs.declared.values.Rec.{Rec}
+use Rattle.td_shard.specs.declared.rows.Numbered.{Numbered}
 use Rattle.td_shard.specs.declared.runs.Run.{Run}
 use Rattle.td_shard.specs.Runs.{part, InOrder, BeginsAt, begin_of, taken_of}
 use Rattle.td_shard.proofs.Ordered.{in_order-le, trimmed}
 
 -- records of runs, and those that are kept of them from a number on
-pub record Trimmed (s n t k : ℕ) (rs : List Run) (xs ys : List Rec) : Type 0 where
+pub record Trimmed (s n t k : ℕ) (rs : List Run) (xs ys : List Numbered) : Type 0 where
   pub begins : BeginsAt t k rs
   pub ordered : InOrder t rs (t + k)
   pub parts : map (part t ys) rs ≡ map (part s xs) rs
   pub fewer : k ≤ n
   pub numbers : t + k ≤ s + n
 
-is_trimmed : (s : ℕ) (rs : List Run) (xs : List Rec) → InOrder s rs (s + length xs)
+is_trimmed : (s : ℕ) (rs : List Run) (xs : List Numbered) → InOrder s rs (s + length xs)
     → let ys = drop (taken_of s (length xs) rs) xs in Trimmed s (length xs) (begin_of rs) (length ys) rs xs ys
 is_trimmed s [] xs l =
     let none = length-drop (length xs) xs in
@@ -38,7 +38,7 @@ is_trimmed s (r ∷ rs) xs l =
       numbers = omega (arith, end);
     }
 
-pub trimmed_so : (s n t k count : ℕ) (rs : List Run) (xs ys : List Rec) → n ≡ length xs → k ≡ length ys → InOrder s rs (s + n) → count ≡ taken_of s n rs → t ≡ begin_of rs → ys ≡ drop count xs → Trimmed s n t k rs xs ys
+pub trimmed_so : (s n t k count : ℕ) (rs : List Run) (xs ys : List Numbered) → n ≡ length xs → k ≡ length ys → InOrder s rs (s + n) → count ≡ taken_of s n rs → t ≡ begin_of rs → ys ≡ drop count xs → Trimmed s n t k rs xs ys
 trimmed_so s n t k count rs xs ys long many l taken first its =
     let whole = subst (λ i. InOrder s rs (s + i)) long l in
     let all : ys ≡ drop (taken_of s (length xs) rs) xs = its ∙ ap (λ i. drop i xs) (taken ∙ ap (λ i. taken_of s i rs) long) in

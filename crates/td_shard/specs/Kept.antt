@@ -4,7 +4,7 @@ use Rattle.std.specs.Option.{option_map}
 use Rattle.std.specs.HashMap.{get, spare}
 use Rattle.td_shard.specs.declared.lane.Lane.{Lane}
 use Rattle.td_shard.specs.declared.mailbox.Mailbox.TheInside.{Inside}
-use Rattle.td_shard.specs.Runs.{messages_of, FrontWaits, AreLinked, last_on, lane_eq}
+use Rattle.td_shard.specs.Runs.{messages_of, FrontWaits, AreNumbered, AreLinked, last_on, lane_eq}
 
 pub record IsMailbox (m : Inside) : Type 0 where
   pub linked : AreLinked lane_eq m.runs.parts
@@ -14,3 +14,5 @@ pub record IsMailbox (m : Inside) : Type 0 where
   pub len : m.len ≡ length (messages_of m.runs.parts)
   pub lasts_room : m.runs.runs ≤ spare m.lasts
   pub counted : length (messages_of m.runs.parts) + m.runs.room < 2 ^ 64
+  pub numbers : AreNumbered m.next m.runs.parts
+  pub next : m.next + m.runs.room < 2 ^ 64

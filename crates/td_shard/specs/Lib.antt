@@ -1,4 +1,5 @@
 pub mod Messages
+pub mod Order
 pub mod Runs
 pub mod KeptRuns
 pub mod Kept

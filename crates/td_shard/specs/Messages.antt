@@ -1,10 +1,12 @@
 -- The messages of a shard, in the order in which they were posted, and the tasks that are taken of them.
-use Rattle.std.specs.Prelude.{◌≡◌, ℕ, zero, suc, ◌-◌, ◌==◌, Bool, ◌&&◌, cond, List, [], ◌∷◌, filter, take, reverse, Option, Some, None}
-use Rattle.std.specs.List.{remove, slice_get}
+use Rattle.std.specs.Prelude.{◌≡◌, ℕ, zero, suc, ◌-◌, ◌==◌, Bool, ◌&&◌, cond, List, [], ◌∷◌, map, flat_map, filter, take, reverse, Option, Some, None}
+use Rattle.std.specs.List.{AllByRecursion, remove, slice_get}
 use Rattle.std.specs.Cmp.Lexicographic.{pointwise}
 use Rattle.td_stamp.specs.Time.{Timestamp}
+use Rattle.td_stamp.specs.declared.values.Rec.{Rec}
 use Rattle.td_machine.specs.declared.records.Message.{Message}
 use Rattle.td_machine.specs.Steps.{task_size}
+use Rattle.td_shard.specs.declared.outlet.Outlet.{Outlet}
 
 -- What a mailbox holds: how many more runs of messages, and how many more messages in all, may be posted without memory; and the
 -- messages that were posted and not taken, in the order posted
@@ -51,3 +53,16 @@ task_at pick messages = task_by (slice_get messages pick) (remove messages pick)
 
 abbrev pub left_at : ℕ → List Message → List Message
 left_at pick messages = left_by (slice_get messages pick) (remove messages pick)
+
+-- a record that goes out at a time
+abbrev pub on_outlet : Timestamp → Rec → Outlet → Message
+on_outlet t r o = record { vertex = o.reader; port = o.port; time = t; rec = r }
+
+-- RECORDS ON EACH OF SOME OUTLETS: record by record, and then outlet by outlet
+abbrev pub on_each : List Outlet → Timestamp → List Rec → List Message
+on_each outlets t recs = flat_map (λ r. map (on_outlet t r) outlets) recs
+
+-- no two outlets lead to one port of one vertex
+abbrev pub AreApart : List Outlet → Type 0
+AreApart [] = Unit {0}
+AreApart (o ∷ os) = AllByRecursion (λ q. o.reader ≡ q.reader → o.port ≡ q.port → ⊥) os × AreApart os

@@ -1,6 +1,8 @@
 //! Where a message is going, and when.
 ghost use Rattle.std.specs.Prelude.{◌≡◌};
+ghost use Rattle.td_shard.specs.Runs.{lane_to};
 
+use crate::outlet::Outlet;
 use td_stamp::Time;
 
 /// The edge to a port of a vertex, and a time. The hash map compares lanes by the derived `==`, and `laws::edges` says what that
@@ -13,6 +15,17 @@ pub(crate) struct Lane {
 }
 
 impl Lane {
+    /// The lane to an outlet, at a time.
+    pub fn to(outlet: &Outlet, time: &Time) -> Lane
+        ensures { result ≡ lane_to time.now outlet.now }
+    {
+        Lane {
+            vertex: outlet.reader,
+            port: outlet.port,
+            time: time.copy(),
+        }
+    }
+
     /// The same lane.
     pub fn copy(&self) -> Lane
         ensures { result ≡ self.now }

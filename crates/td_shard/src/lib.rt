@@ -13,6 +13,7 @@ mod lane;
 pub mod laws;
 mod mailbox;
 mod noted;
+mod outlet;
 mod place;
 mod rows;
 mod runs;
@@ -27,6 +28,7 @@ pub use after::{StatesAfter, StatesAfterIterator, StatesInOrder, UnorderedAfter}
 pub use error::ShardError;
 pub use mailbox::{Mailbox, Taken};
 pub use noted::Noted;
+pub use outlet::Outlet;
 pub use seen::Seen;
 pub use shard::Shard;
 pub use versions::Versions;

@@ -1,14 +1,12 @@
 //! The mailbox of a shard.
-ghost use Rattle.std.specs.Prelude.{◌≡◌, ◌+◌, ◌-◌, ◌<◌, ◌≤◌, ◌++◌, [], ℕ, length, max, IfOk, OnOk, OnErr};
-ghost use Rattle.std.specs.Option.{option_map};
-ghost use Rattle.std.specs.HashMap.{get};
-ghost use Rattle.td_shard.specs.Messages.{task_at, left_at};
+ghost use Rattle.std.specs.Prelude.{◌≡◌, ◌*◌, ◌-◌, ◌<◌, ◌≤◌, ◌++◌, [], length, max, IfOk, OnOk, OnErr};
+ghost use Rattle.td_shard.specs.Messages.{task_at, left_at, on_each, AreApart};
 ghost use Rattle.td_machine.specs.Steps.{coming};
-ghost use Rattle.td_shard.specs.Runs.{lane_eq};
 
-use crate::append::{append, extend};
+use crate::append::{append_each, put};
 use crate::error::ShardError;
 use crate::lane::Lane;
+use crate::outlet::Outlet;
 use crate::runs::Runs;
 use crate::take::{let_go, read_task, take_task};
 use std::alloc::Global;
@@ -29,9 +27,10 @@ pub struct Taken {
 /// The messages of a shard that wait to be taken, in the order in which they were posted (Naiad, section 2.3).
 ///
 /// They stand in runs: one run has what was posted on one edge and of one time, with nothing else between. Its edge and time are
-/// kept once, and of each message only the record, in one list for all runs. A run knows how far ahead the next of its edge and
-/// time stands, and a hash map knows the last of each: messages are posted by two look-ups at most, however many, and by none
-/// where they go on with the last run; a task's records are found without one.
+/// kept once, and of each message only the record and its number, in one list for all runs. What is posted to several edges at once
+/// stands in a run for each, and its messages come in the order of the records' numbers. A run knows how far ahead the next of its
+/// edge and time stands, and a hash map knows the last of each: messages are posted by two look-ups at most for each edge, however
+/// many, and by none where they go on with the last run; a task's records are found without one.
 #[derive(Drop)]
 pub struct Mailbox {
     runs: Runs,
@@ -39,6 +38,8 @@ pub struct Mailbox {
     lasts: HashMap<Lane, usize>,
     // How many messages wait.
     len: usize,
+    // The number of the record that is posted next.
+    next: usize,
     alloc: Global,
 }
 
@@ -64,6 +65,7 @@ impl Mailbox {
             runs: Runs::new(alloc),
             lasts: HashMap::new(alloc),
             len: 0,
+            next: 0,
             alloc,
         }
     }
@@ -84,6 +86,9 @@ impl Mailbox {
         let Some(_messages) = self.len.checked_add(room) else {
             return Err(ShardError::Memory);
         };
+        let Some(_numbers) = self.next.checked_add(room) else {
+            return Err(ShardError::Memory);
+        };
         self.lasts.reserve(runs)?;
         self.runs.reserve(runs, room)
     }
@@ -97,22 +102,45 @@ impl Mailbox {
         ensures room { self.new.room ≡ self.old.room - length recs.now }
     {
         if recs.is_empty() {
-            self.runs.give_up_run();
+            self.runs.give_up_runs(1);
         } else {
             let time = time.copy();
             self.post_run(Lane { vertex, port, time }, recs);
         }
     }
 
+    /// Posts these records to each of some outlets at a time: record by record, and then outlet by outlet. It uses a run for each outlet.
+    /// Takes no memory: room was made by `reserve`.
+    pub fn post_each(&mut self, outlets: &[Outlet], time: &Time, recs: &[Rec])
+        requires apart { AreApart outlets.now }
+        requires runs { length outlets.now ≤ self.old.runs }
+        requires room { length recs.now * length outlets.now ≤ self.old.room }
+        ensures messages { self.new.messages ≡ self.old.messages ++ on_each outlets.now time.now recs.now }
+        ensures runs { self.new.runs ≡ self.old.runs - length outlets.now }
+        ensures room { self.new.room ≡ self.old.room - length recs.now * length outlets.now }
+    {
+        if outlets.len() == 1 {
+            self.post(outlets[0].reader, outlets[0].port, time, recs);
+        } else if recs.is_empty() {
+            self.runs.give_up_runs(outlets.len());
+        } else if !outlets.is_empty() {
+            let next = self.next;
+            append_each(&mut self.runs, &mut self.lasts, outlets, time, next, recs);
+            self.len += recs.len() * outlets.len();
+            self.next += recs.len();
+        }
+    }
+
     /// The task of the message at `pick`, in the order posted: that message, and then the first of the others on its edge and of
-    /// its time, 64 messages at most. They stay where they are. With pick 0 it costs O(1) for each message; another pick walks
-    /// over the messages. Refusal: `Memory`.
+    /// its time, 64 messages at most. They stay where they are. With pick 0 it costs O(1) for each message, and for each run that
+    /// was posted with the first; another pick looks at all runs, once more for each bit of how many records were posted with it.
+    /// Refusal: `Memory`.
     pub fn task(&self, pick: usize) -> Result<Taken, ShardError>
         requires { pick < length self.now.messages }
         ensures { IfOk result (λ t. coming t.vertex t.port t.time t.recs.items ≡ task_at pick self.now.messages) }
     {
         let mut recs = Vec::with_capacity(self.alloc, TASK_SIZE)?;
-        let Lane { vertex, port, time } = read_task(&self.runs, pick, &mut recs);
+        let Lane { vertex, port, time } = read_task(&self.runs, self.next, pick, &mut recs);
         Ok(Taken {
             vertex,
             port,
@@ -126,8 +154,11 @@ impl Mailbox {
         requires { pick < length self.old.messages }
         ensures { self.new ≡ record self.old { messages = left_at pick self.old.messages } }
     {
-        self.len -= take_task(&mut self.runs, pick);
+        self.len -= take_task(&mut self.runs, self.next, pick);
         let_go(&mut self.runs, &mut self.lasts);
+        if self.len == 0 {
+            self.next = 0;
+        }
     }
 
     /// Posts these records, of which there is one at least.
@@ -139,36 +170,8 @@ impl Mailbox {
         ensures runs { self.new.runs ≡ self.old.runs - 1 }
         ensures room { self.new.room ≡ self.old.room - length recs.now }
     {
-        if extend(&mut self.runs, &lane, recs) {
-            self.len += recs.len();
-        } else {
-            self.post_apart(lane, recs);
-        }
-    }
-
-    /// Posts these records, of which there is one at least, as a run of their own.
-    fn post_apart(&mut self, lane: Lane, recs: &[Rec])
-        requires some { 0 < length recs.now }
-        requires runs { 0 < self.old.runs }
-        requires room { length recs.now ≤ self.old.room }
-        ensures messages { self.new.messages ≡ self.old.messages ++ coming lane.vertex lane.port lane.time recs.now }
-        ensures runs { self.new.runs ≡ self.old.runs - 1 }
-        ensures room { self.new.room ≡ self.old.room - length recs.now }
-    {
-        let first = self.runs.first();
-        let last = last_place(&self.lasts, first, &lane);
-        let number = first + self.runs.len();
-        let _ = self.lasts.insert(lane.copy(), number);
-        append(&mut self.runs, lane, last, recs);
+        put(&mut self.runs, &mut self.lasts, lane, self.next, recs);
         self.len += recs.len();
+        self.next += recs.len();
     }
-}
-
-/// The place of the last run of a lane, if any, by its number, where `first` is that of the first run.
-fn last_place(lasts: &HashMap<Lane, usize>, first: usize, lane: &Lane) -> Option<usize>
-    requires { (number : ℕ) → get lane_eq lasts.now lane.now ≡ Some number → first ≤ number }
-    ensures { option_map (λ place. first + place) result ≡ get lane_eq lasts.now lane.now }
-{
-    let number = lasts.get(lane)?;
-    Some(*number - first)
 }

@@ -4,27 +4,29 @@
 //! So a post after `reserve` cannot be refused, and what contracts see is the list of messages itself.
 //!
 //! A message that is picked in the middle of its run is first moved before the run's others. A run whose records are all taken
-//! stays until it is the first. Where each message is a run of its own, it costs 64 bytes beside its record.
+//! stays until it is the first. A message costs 24 bytes, and a run 72 beside.
 ghost use Rattle.std.specs.Prelude.{◌≡◌, ◌+◌, ◌-◌, ◌^◌, ◌<◌, ◌≤◌, ◌++◌, [], ℕ, length, take, drop, max, vec_len, vec_capacity};
 ghost use Rattle.std.specs.Prelude.{◌↔◌, OnOk, OnErr, IsTrue, false, map};
 ghost use Rattle.std.specs.List.{HoldsAt};
 ghost use Rattle.std.specs.VecDeque.{deque_len, deque_capacity};
-ghost use Rattle.td_shard.specs.Runs.{InOrder, BeginsAt, begin_of, taken_of, part, changed_at, extended, linked_to, pushed, with_first, without_front};
+ghost use Rattle.td_shard.specs.Runs.{InOrder, BeginsAt, begin_of, taken_of, part, changed_at, extended, linked_to, pushed, rec_of, with_first, without_front};
 
 use crate::error::ShardError;
 use crate::lane::Lane;
-use crate::rows::{move_down, pop_rows, push_rows, read_rows};
+use crate::rows::{Numbered, move_down, pop_rows, push_rows, read_rows};
 use std::alloc::Global;
 use std::collections::VecDeque;
 use std::marker::Model;
 use td_machine::TASK_SIZE;
 use td_stamp::Rec;
 
-/// Records that were posted together on one lane. Records are numbered in the order posted.
+/// Records that were posted together on one lane. Their places in the list of all are numbered.
 #[derive(Debug, Drop)]
 pub(crate) struct Run {
     pub lane: Lane,
-    /// The number of the first that waits, and the one past the last.
+    /// The number of the first record that was posted with it.
+    pub base: usize,
+    /// The place of the first that waits, and the one past the last.
     pub at: usize,
     pub end: usize,
     /// How many runs ahead the next of its lane stands; 0 where there is none.
@@ -35,8 +37,8 @@ pub(crate) struct Run {
 #[derive(Drop)]
 pub(crate) struct Runs {
     runs: VecDeque<Run>,
-    recs: VecDeque<Rec>,
-    // The number of the first run, and of the first record.
+    recs: VecDeque<Numbered>,
+    // The number of the first run, and the place of the first record.
     first: usize,
     start: usize,
     // How many more runs and records may be posted.
@@ -104,6 +106,24 @@ impl Runs {
         self.runs[place].ahead
     }
 
+    /// The number of the first record that was posted with the run at a place.
+    pub fn base(&self, place: usize) -> usize
+        requires { place < length self.now.parts }
+        ensures { HoldsAt (λ p. result ≡ p.base) self.now.parts place }
+    {
+        self.runs[place].base
+    }
+
+    /// The number of a record that waits in the run at a place.
+    pub fn number(&self, place: usize, offset: usize) -> usize
+        requires place { place < length self.now.parts }
+        requires offset { HoldsAt (λ p. offset < length p.recs) self.now.parts place }
+        ensures { HoldsAt (λ p. HoldsAt (λ r. result ≡ r.number) p.recs offset) self.now.parts place }
+    {
+        let begin = self.runs[place].at - self.start;
+        self.recs[begin + offset].number
+    }
+
     /// How many records of the run at a place wait.
     pub fn waiting(&self, place: usize) -> usize
         requires { place < length self.now.parts }
@@ -121,7 +141,7 @@ impl Runs {
         requires within { HoldsAt (λ p. to ≤ length p.recs) self.now.parts place }
         requires few { vec_len recs.old ≤ 64 }
         requires room { vec_capacity recs.old ≡ 64 }
-        ensures recs { HoldsAt (λ p. recs.new.items ≡ recs.old.items ++ take (64 - vec_len recs.old) (take (to - from) (drop from p.recs))) self.now.parts place }
+        ensures recs { HoldsAt (λ p. recs.new.items ≡ recs.old.items ++ map rec_of (take (64 - vec_len recs.old) (take (to - from) (drop from p.recs)))) self.now.parts place }
         ensures capacity { vec_capacity recs.new ≡ vec_capacity recs.old }
     {
         let begin = self.runs[place].at - self.start + from;
@@ -159,17 +179,19 @@ impl Runs {
         move_down(&mut self.recs, to, offset);
     }
 
-    /// Puts one more run at the end. Takes no memory.
-    pub fn push(&mut self, lane: Lane, recs: &[Rec])
+    /// Puts one more run at the end, with records that are numbered from a number on. Takes no memory.
+    pub fn push(&mut self, lane: Lane, number: usize, recs: &[Rec])
         requires runs { 0 < self.old.runs }
         requires room { length recs.now ≤ self.old.room }
-        ensures { self.new ≡ pushed lane recs.now self.old }
+        requires numbers { number + length recs.now < 2 ^ 64 }
+        ensures { self.new ≡ pushed lane number recs.now self.old }
     {
         let at = self.start + self.recs.len();
         let end = at + recs.len();
-        push_rows(&mut self.recs, recs);
+        push_rows(&mut self.recs, number, recs);
         self.runs.push_back_reserved(Run {
             lane,
+            base: number,
             at,
             end,
             ahead: 0,
@@ -178,14 +200,16 @@ impl Runs {
         self.room -= recs.len();
     }
 
-    /// Puts records behind those of the last run, where it is on this lane. Answers whether it did. Takes no memory.
-    pub fn extend_last(&mut self, lane: &Lane, recs: &[Rec]) -> bool
+    /// Puts records, numbered from a number on, behind those of the last run, where it is on this lane. Answers whether it did. Takes no
+    /// memory.
+    pub fn extend_last(&mut self, lane: &Lane, number: usize, recs: &[Rec]) -> bool
         requires runs { 0 < self.old.runs }
         requires room { length recs.now ≤ self.old.room }
+        requires numbers { number + length recs.now < 2 ^ 64 }
         ensures unchanged { result ≡ false → self.new ≡ self.old }
         ensures some { IsTrue result → 0 < length self.old.parts }
         ensures lane { IsTrue result → HoldsAt (λ p. p.lane ≡ lane.now) self.old.parts (length self.old.parts - 1) }
-        ensures extended { IsTrue result → self.new ≡ extended recs.now self.old }
+        ensures extended { IsTrue result → self.new ≡ extended number recs.now self.old }
     {
         let end = self.start + self.recs.len();
         if !ends_on(&self.runs, lane, end) {
@@ -194,18 +218,18 @@ impl Runs {
         let last = self.runs.len() - 1;
         let run = &mut self.runs[last];
         run.end = end + recs.len();
-        push_rows(&mut self.recs, recs);
+        push_rows(&mut self.recs, number, recs);
         self.runs_room -= 1;
         self.room -= recs.len();
         true
     }
 
-    /// One run fewer may be posted.
-    pub fn give_up_run(&mut self)
-        requires { 0 < self.old.runs }
-        ensures { self.new ≡ record self.old { runs = self.old.runs - 1 } }
+    /// So many runs fewer may be posted.
+    pub fn give_up_runs(&mut self, many: usize)
+        requires { many ≤ self.old.runs }
+        ensures { self.new ≡ record self.old { runs = self.old.runs - many } }
     {
-        self.runs_room -= 1;
+        self.runs_room -= many;
     }
 
     /// Lets go of the first run, with all records before the first that waits in the next.
@@ -249,7 +273,7 @@ impl Runs {
 
 /// Lets go of the records before the first that waits in the first run. Where there is no run, all go, and records are numbered
 /// from 0 on.
-fn trim(runs: &VecDeque<Run>, start: &mut usize, recs: &mut VecDeque<Rec>)
+fn trim(runs: &VecDeque<Run>, start: &mut usize, recs: &mut VecDeque<Numbered>)
     requires { InOrder start.old runs.now.items (start.old + deque_len recs.old) }
     ensures begins { BeginsAt start.new (deque_len recs.new) runs.now.items }
     ensures ordered { InOrder start.new runs.now.items (start.new + deque_len recs.new) }

@@ -4,6 +4,7 @@ use Rattle.td_reach.specs.Paths.{IsOf}
 use Rattle.td_stamp.specs.Bag.{join}
 use Rattle.td_machine.specs.State.{output_at_cmp}
 use Rattle.td_core.specs.Came.{output_at}
+use Rattle.td_shard.specs.Messages.{AreApart}
 use Rattle.td_core.specs.Posted.{stamp_on_outlet}
 use Rattle.td_core.proofs.Sending.{sent_then, outlets_of_plan, all_off, untouched}
 use Rattle.td_core.proofs.Keeping.{at_ok, at_err}
@@ -35,3 +36,6 @@ returns-clause-ok c =
     c.outlets-outlets.result.now (c.outlets-outlets.ensures ∙ c.requires.can.sites.outlets c.args.vertex) c.args.recs.now floor.seen came c.prepare.new.shards.items
     (λ i. record floor { table = c.prepare.new.table; shards = c.post.new.shards; outputs = comes i })
     c.in_ok-prepare.ensures.plan c.in_ok-prepare.ensures.stamps c.in_ok-prepare.ensures.shards c.post.ensures.messages
+
+pub post-requires-clause-apart : goal.post-requires-clause-apart
+post-requires-clause-apart c = subst AreApart (sym c.outlets-outlets.ensures) (c.requires.can.sites.apart c.args.vertex)

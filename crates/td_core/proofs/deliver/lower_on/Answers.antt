@@ -1,7 +1,7 @@
 use Rattle.std.proofs.Common.{◌≤◌, ◌<◌, ◌++◌, ◌∙◌, ap, sym, subst, map, length, replicate, slice_index_or}
 use Rattle.std.proofs.lemmas.List.{take_all, get_or-map, length-map}
 use Rattle.td_progress.specs.Bag.{occurrences}
-use Rattle.td_core.specs.declared.sites.Outlet.{Outlet}
+use Rattle.td_shard.specs.declared.outlet.Outlet.{Outlet}
 use Rattle.td_core.specs.Posted.{risen, stamp_on_outlet}
 use Rattle.td_core.proofs.Rises.{rise_on, risen_on, next_off, are_there}
 use Rattle.td_core.proofs.deliver.lower_on.Goals as goal

@@ -2,6 +2,7 @@ use Rattle.std.proofs.Common.{◌≡◌, ◌∙◌, [], ◌∷◌, sym, subst, r
 use Rattle.std.specs.List.{AllByRecursion}
 use Rattle.td_reach.specs.Paths.{IsOf}
 use Rattle.td_machine.specs.ByEdge.{times_from}
+use Rattle.td_shard.specs.Messages.{AreApart}
 use Rattle.td_core.specs.Posted.{stamp_on_outlet}
 use Rattle.td_core.proofs.Sending.{looked_up, none_sent, sent_then, outlets_of_plan}
 use Rattle.td_core.proofs.deliver.send.Goals as goal
@@ -25,3 +26,6 @@ returns-clause-ok c =
     sent_then floor (record floor { table = c.prepare.new.table; shards = c.post.new.shards }) c.args.vertex c.args.time.now c.in-Some.later times c.outlets-outlets.result.now
     (c.outlets-outlets.ensures ∙ c.requires.sites.outlets c.args.vertex) c.args.recs.now floor.seen floor.outputs c.prepare.new.shards.items refl c.in_ok-prepare.ensures.plan c.in_ok-prepare.ensures.stamps
     c.in_ok-prepare.ensures.shards c.post.ensures.messages
+
+pub post-requires-clause-apart : goal.post-requires-clause-apart
+post-requires-clause-apart c = subst AreApart (sym c.outlets-outlets.ensures) (c.requires.sites.apart c.args.vertex)

@@ -6,7 +6,9 @@ use Rattle.td_progress.specs.Bag.{occurrences}
 use Rattle.td_machine.specs.State.{stamped_cmp}
 use Rattle.td_machine.specs.Steps.{stamped}
 use Rattle.td_machine.specs.AtOnce.{fresh}
-use Rattle.td_core.specs.Posted.{stamp_on_outlet, stamps_on, on_each, IsPosted, HaveRoom}
+use Rattle.td_shard.specs.Messages.{AreApart}
+use Rattle.td_core.specs.Posted.{stamp_on_outlet, stamps_on, IsPosted, HaveRoom}
+use Rattle.td_shard.specs.Messages.{on_each}
 use Rattle.td_core.proofs.Sending.{sent_then, outlets_of_plan, fewer, room_for_new, enough_on, surplus_off, all_off, untouched}
 use Rattle.td_core.proofs.deliver.send_new.Goals as goal
 
@@ -64,3 +66,6 @@ returns-clause-ok c =
     (λ p. stamps p ∙ ap (λ n. occurrences p (stamps_on outs t n ++ floor.table.stamps)) many)
     c.in_ok-prepare.ensures.shards
     (subst (λ new. IsPosted (on_each outs t new) c.prepare.new.shards.items c.post.new.shards.items) (c.as_slice.ensures.value ∙ c.in-Ok.ensures.answer) c.post.ensures.messages)
+
+pub post-requires-clause-apart : goal.post-requires-clause-apart
+post-requires-clause-apart c = subst AreApart (sym c.outlets-outlets.ensures) (c.requires.can.sites.apart c.args.vertex)

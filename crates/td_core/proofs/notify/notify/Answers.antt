@@ -1,4 +1,4 @@
-use Rattle.std.proofs.Common.{◌≡◌, ◌≤◌, map, length, sym, ap, ◌∙◌, subst, arith}
+use Rattle.std.proofs.Common.{◌≡◌, ◌≤◌, List, [], ◌∷◌, map, length, sym, ap, ◌∙◌, subst, arith}
 use Rattle.std.specs.List.{AllByRecursion, enumerate_from}
 use Rattle.td_stamp.specs.Bag.{join}
 use Rattle.td_stamp.specs.Time.{Timestamp}
@@ -12,7 +12,10 @@ use Rattle.td_machine.specs.Steps.{IsContent}
 use Rattle.td_task.specs.Answered.{left_for}
 use Rattle.td_core.specs.Floor.{state_of}
 use Rattle.td_core.specs.Given.{outlets_for, waiting_without}
-use Rattle.td_core.specs.Posted.{mails_with, on_each, risen, stamp_on_outlet, stamps_on}
+use Rattle.td_stamp.specs.declared.values.Rec.{Rec}
+use Rattle.td_shard.specs.Messages.{AreApart}
+use Rattle.td_core.specs.Posted.{mails_with, risen, stamp_on_outlet, stamps_on}
+use Rattle.td_shard.specs.Messages.{on_each}
 use Rattle.td_core.proofs.OutTasks.{of_one}
 use Rattle.td_core.proofs.PostingSteps.{as_many_mails, as_many_waits, roomier_then_posted}
 use Rattle.td_core.proofs.NotifySends.{all_rise, are_of_plan, mail_is, come_is}
@@ -41,6 +44,13 @@ pub post-requires-clause-some : goal.post-requires-clause-some
 post-requires-clause-some g c =
     subst (λ n. 1 ≤ n) (sym (as_many_mails c.args.floor.now.shards.items c.make_room.new.shards.items c.make_room.ensures.same.mails))
     (c.reached_in_order.ensures.numbers _ c.requires.hall.reached).workers
+
+pub post-requires-clause-apart : goal.post-requires-clause-apart
+post-requires-clause-apart g c = subst AreApart (sym c.outlets_for-outlets.ensures) (by c.sent-sent.result.now)
+  where
+    by : (recs : List Rec) → AreApart (outlets_for c.args.floor.now.sites c.vertex.result recs)
+    by [] = tt
+    by (r ∷ recs) = c.requires.hall.sites.apart c.vertex.result
 
 pub take_waiting-requires : goal.take_waiting-requires
 take_waiting-requires g c =

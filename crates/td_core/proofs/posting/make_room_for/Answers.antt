@@ -15,7 +15,8 @@ loop-shard-preserved c =
     let old = c.args.shards.now.items in
     let now = c.loop-shard.shards.items in
     let have = c.args.shards.now.ok in
-    let many = get_or c.args.counts.now i 0 in
+    let many = get_or c.args.counts.now.messages i 0 in
+    let most = get_or c.args.counts.now.runs i 0 in
     let x = c.index_mut.result.now in
     let s : Shard = record { mailbox = c.reserve.new.self; waiting = x.waiting } in
     let made = c.in_ok-reserve.ensures.ok in
@@ -23,14 +24,14 @@ loop-shard-preserved c =
     let test = c.loop-shard-test.true in
     let within : i < length now = omega (arith, test, same, have, c.len-shard-end.ensures) in
     let room : s.mailbox.room ≡ max x.mailbox.room many = ap (λ m. m.room) made in
-    let runs : s.mailbox.runs ≡ max x.mailbox.runs many = ap (λ m. m.runs) made in
+    let runs : s.mailbox.runs ≡ max x.mailbox.runs most = ap (λ m. m.runs) made in
     let value = c.index_mut.ensures.value in
     let was_room = ap (λ y. y.mailbox.room) value in
     let was_runs = ap (λ y. y.mailbox.runs) value in
     record {
       same = roomier_then old now (set now i s) inv.same
           (one_roomier i now s x within (ap (λ m. m.messages) made ∙ ap (λ y. y.mailbox.messages) value) (ap (λ y. y.waiting) value) (omega (arith, room, was_room)) (omega (arith, runs, was_runs)));
-      room = one_more_room (λ k. get_or c.args.counts.now k 0) i now s within inv.room (omega (arith, room), omega (arith, runs));
+      room = one_more_room (λ k. get_or c.args.counts.now.runs k 0) (λ k. get_or c.args.counts.now.messages k 0) i now s within inv.room (omega (arith, room), omega (arith, runs));
     }
 
 pub returns-clause-room : goal.returns-clause-room
@@ -41,5 +42,5 @@ returns-clause-room c =
     let have = c.args.shards.now.ok in
     let same = as_many_mails old now inv.same.mails in
     let test = c.loop-shard-test.false in
-    room_by_place (λ k. get_or c.args.counts.now k 0) 0 now
-    (λ k d l. let on : k ≡ 0 + k = omega arith in subst (λ n. HasRoom (get_or c.args.counts.now n 0) (get_or now k d)) on (inv.room k d (omega (arith, l, same, test, have, c.len-shard-end.ensures))))
+    room_by_place (λ k. get_or c.args.counts.now.runs k 0) (λ k. get_or c.args.counts.now.messages k 0) 0 now
+    (λ k d l. let on : k ≡ 0 + k = omega arith in subst (λ n. HasRoom (get_or c.args.counts.now.runs n 0) (get_or c.args.counts.now.messages n 0) (get_or now k d)) on (inv.room k d (omega (arith, l, same, test, have, c.len-shard-end.ensures))))

@@ -6,5 +6,5 @@ use Rattle.td_core.proofs.posting.make_room_for.Given as goal
 abbrev pub invariant-loop-shard : goal.invariant-loop-shard
 invariant-loop-shard l = record {
   same : IsRoomier l.fn.shards.items l.shards.items;
-  room : (k : ℕ) (d : Shard) → k < l.shard → HasRoom (get_or l.counts k 0) (get_or l.shards.items k d);
+  room : (k : ℕ) (d : Shard) → k < l.shard → HasRoom (get_or l.counts.runs k 0) (get_or l.counts.messages k 0) (get_or l.shards.items k d);
 }

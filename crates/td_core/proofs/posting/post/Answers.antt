@@ -1,14 +1,21 @@
-use Rattle.std.proofs.Common.{◌+◌, ◌*◌, length, subst}
-use Rattle.td_core.specs.Posted.{IsPosted, HaveRoomFor, count_of}
-use Rattle.td_core.proofs.PostRuns.{single}
+use Rattle.std.proofs.Common.{length, sym, ◌∙◌}
+use Rattle.td_core.proofs.PostRuns.{room_apart, more_room_apart, all_of_one, room_together, more_room_together}
 use Rattle.td_core.proofs.posting.post.Goals as goal
 
-pub returns-then-outlets-eq1-clause-messages : goal.returns-then-outlets-eq1-clause-messages
-returns-then-outlets-eq1-clause-messages c =
-    subst (λ cs. IsPosted cs c.args.shards.now.items c.post_runs.new.shards.items) (single c.args.outlets.now (record { number = 0; reader = 0; port = 0 }) c.args.time.now c.args.recs.now c.if-outlets-eq1.true)
-    c.post_runs.ensures.posted
+pub post_run-requires-clause-own : goal.post_run-requires-clause-own
+post_run-requires-clause-own c = all_of_one (length c.args.shards.now.items) (sym (c.len.ensures ∙ c.args.shards.now.ok.0) ∙ c.if-len-eq1.true) c.args.recs.now
 
-pub returns-then-outlets-eq1-clause-room : goal.returns-then-outlets-eq1-clause-room
-returns-then-outlets-eq1-clause-room c many h =
-    c.post_runs.ensures.room many
-    (subst (λ n. HaveRoomFor (λ s. count_of (length c.args.shards.now.items) c.args.recs.now s * n + many s) c.args.shards.now.items) c.if-outlets-eq1.true h)
+pub post_run-requires-clause-room : goal.post_run-requires-clause-room
+post_run-requires-clause-room c = room_together c.args.recs.now (length c.args.outlets.now) c.args.shards.now.items (sym (c.len.ensures ∙ c.args.shards.now.ok.0) ∙ c.if-len-eq1.true) c.requires.room
+
+pub returns-then-len-eq1-clause-room : goal.returns-then-len-eq1-clause-room
+returns-then-len-eq1-clause-room c runs many h =
+    c.post_run.ensures.room runs many (more_room_together c.args.recs.now (length c.args.outlets.now) c.args.shards.now.items (sym (c.len.ensures ∙ c.args.shards.now.ok.0) ∙ c.if-len-eq1.true) runs many h)
+
+pub post_runs-requires-clause-room : goal.post_runs-requires-clause-room
+post_runs-requires-clause-room c = room_apart c.args.recs.now (length c.args.outlets.now) c.args.shards.now.items (λ one. c.if-len-eq1.false (c.len.ensures ∙ (c.args.shards.now.ok.0 ∙ one))) c.requires.room
+
+pub returns-else-len-eq1-clause-room : goal.returns-else-len-eq1-clause-room
+returns-else-len-eq1-clause-room c runs many h =
+    c.post_runs.ensures.room runs many
+    (more_room_apart c.args.recs.now (length c.args.outlets.now) c.args.shards.now.items runs many (λ one. c.if-len-eq1.false (c.len.ensures ∙ (c.args.shards.now.ok.0 ∙ one))) h)

@@ -8,8 +8,8 @@ use Rattle.td_reach.specs.Paths.{IsOf}
 use Rattle.td_progress.specs.Bag.{occurrences, IsSameBag, input_stamp}
 use Rattle.td_machine.specs.Active.{inputs_of}
 use Rattle.td_core.specs.Floor.{state_of}
-use Rattle.td_core.specs.Posted.{HaveRoom, IsPosted, risen}
-use Rattle.td_core.specs.Released.{load_of, loads_in, recs_out, messages_of, rises_of}
+use Rattle.td_core.specs.Posted.{IsPosted, risen}
+use Rattle.td_core.specs.Released.{HaveRoomForLoads, load_of, loads_in, messages_of, rises_of}
 use Rattle.td_core.proofs.PostingSteps.{as_many_waits, roomier_then_posted}
 use Rattle.td_core.proofs.ReleaseSteps.{untouched, on_err, rises_are_of_plan, still_enough, stamps_then, posts_then}
 use Rattle.td_core.proofs.release.bring_in.Goals as goal
@@ -43,11 +43,13 @@ post_loads-requires-clause-some g c =
     let many = as_many_waits floor.shards.items c.make_room_for_loads.new.shards.items c.in_ok-make_room_for_loads.ensures.same.waiting in
     omega (arith, some, many)
 
+pub post_loads-requires-clause-apart : goal.post_loads-requires-clause-apart
+post_loads-requires-clause-apart g c = c.requires.hall.sites.apart
+
 pub post_loads-requires-clause-room : goal.post_loads-requires-clause-room
 post_loads-requires-clause-room g c =
     let floor = c.args.floor.now in
-    let loads = ap (λ l. flat_map (recs_out floor.sites) (map load_of l)) (c.as_slice-3.ensures.value ∙ sym c.as_slice-5.ensures.value) in
-    subst (λ l. HaveRoom l 1 c.make_room_for_loads.new.shards.items) loads c.in_ok-make_room_for_loads.ensures.room
+    subst (λ l. HaveRoomForLoads floor.sites (map load_of l) c.make_room_for_loads.new.shards.items) (c.as_slice-3.ensures.value ∙ sym c.as_slice-5.ensures.value) c.in_ok-make_room_for_loads.ensures.room
 
 pub take_off_inputs-requires : goal.take_off_inputs-requires
 take_off_inputs-requires g c p =

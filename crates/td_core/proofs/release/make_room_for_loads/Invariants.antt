@@ -1,7 +1,9 @@
-use Rattle.std.proofs.Common.{◌≡◌, ◌<◌, ℕ, flat_map, get_or, map, take}
-use Rattle.td_core.specs.Posted.{count_of}
-use Rattle.td_core.specs.Released.{load_of, recs_out}
+use Rattle.std.proofs.Common.{◌≡◌, ◌+◌, ◌<◌, ℕ, drop, get_or, map}
+use Rattle.td_core.specs.Released.{load_of, messages_in, runs_in}
 use Rattle.td_core.proofs.release.make_room_for_loads.Given as goal
 
 abbrev pub invariant-loop-load : goal.invariant-loop-load
-invariant-loop-load l = (s : ℕ) → s < l.workers → get_or l.counts s 0 ≡ count_of l.workers (flat_map (recs_out l.sites) (map load_of (take l.load-index l.loads))) s
+invariant-loop-load l = record {
+  messages : (s : ℕ) → s < l.workers → get_or l.counts.messages s 0 + messages_in l.sites l.workers (map load_of (drop l.load-index l.loads)) s ≡ messages_in l.sites l.workers (map load_of l.loads) s;
+  runs : (s : ℕ) → s < l.workers → get_or l.counts.runs s 0 + runs_in l.sites l.workers (map load_of (drop l.load-index l.loads)) s ≡ runs_in l.sites l.workers (map load_of l.loads) s;
+}

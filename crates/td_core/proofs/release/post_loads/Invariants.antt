@@ -1,10 +1,10 @@
 use Rattle.std.proofs.Common.{flat_map, map, take, drop}
-use Rattle.td_core.specs.Posted.{IsPosted, HaveRoom}
-use Rattle.td_core.specs.Released.{load_of, recs_out, messages_of}
+use Rattle.td_core.specs.Posted.{IsPosted}
+use Rattle.td_core.specs.Released.{HaveRoomForLoads, load_of, messages_of}
 use Rattle.td_core.proofs.release.post_loads.Given as goal
 
 abbrev pub invariant-loop-load : goal.invariant-loop-load
 invariant-loop-load l = record {
   posted : IsPosted (flat_map (messages_of l.sites l.epoch) (map load_of (take l.load-index l.loads))) l.fn.shards.items l.shards.items;
-  room : HaveRoom (flat_map (recs_out l.sites) (map load_of (drop l.load-index l.loads))) 1 l.shards.items;
+  room : HaveRoomForLoads l.sites (map load_of (drop l.load-index l.loads)) l.shards.items;
 }

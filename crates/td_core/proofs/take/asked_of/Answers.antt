@@ -1,8 +1,7 @@
-use Rattle.std.proofs.Common.{◌≡◌, ℕ, false, Option, Some, None, cond, is_some, sym, ap, ◌∙◌}
+use Rattle.std.proofs.Common.{◌≡◌, ℕ, false, Some, None, cond, sym, ap, ◌∙◌}
 use Rattle.td_calls.specs.Callbacks.{is_notified}
 use Rattle.td_machine.specs.Active.{kind_of}
 use Rattle.td_reach.specs.declared.stamp.Place.{Place}
-use Rattle.td_shard.specs.declared.noted.Noted.{Noted}
 use Rattle.td_shard.specs.Asked.{noted_at}
 use Rattle.td_core.specs.Taking.{asked_of}
 use Rattle.td_core.proofs.NextReady.{none_asked}

@@ -1,5 +1,5 @@
-use Rattle.std.proofs.Common.{arith, ◌≡◌, ◌-◌, ◌<◌, ◌++◌, length, get_or, take, vec_len, sym, ap, ◌∙◌}
-use Rattle.td_shard.specs.Runs.{Part, changed_at, without_at}
+use Rattle.std.proofs.Common.{arith, ◌≡◌, ◌-◌, ◌<◌, ◌++◌, map, length, get_or, take, vec_len, sym, ap, ◌∙◌}
+use Rattle.td_shard.specs.Runs.{Part, rec_of, changed_at, without_at}
 use Rattle.td_shard.proofs.OneRun.{two_reads, whole_read}
 use Rattle.td_shard.proofs.TakenUp.{nothing, changed_at-here, changed_at-apart}
 use Rattle.td_shard.proofs.take.read_run.Goals as goal
@@ -35,9 +35,9 @@ returns-clause-recs c d =
           let mid = w.read.new.recs in
           ap (λ v. v.items) w.recs-is
           ∙ (two_reads old.items mid.items w.read-then-place-picked.new.recs.items s.recs o n (vec_len old) (vec_len mid) old.ok.0 mid.ok.0 c.requires.few within (c.waiting-waiting.ensures.count d) (w.read.ensures.recs d) (w.read-then-place-picked.ensures.recs d)
-          ∙ ap (λ (p : Part). old.items ++ take (64 - vec_len old) p.recs) (sym here))
+          ∙ ap (λ (p : Part). old.items ++ map rec_of (take (64 - vec_len old) p.recs)) (sym here))
       | else-place-picked w ↦
           ap (λ v. v.items) w.recs-is
           ∙ (whole_read old.items w.read-else-place-picked.new.recs.items s.recs n (64 - vec_len old) (c.waiting-waiting.ensures.count d) (w.read-else-place-picked.ensures.recs d)
-          ∙ ap (λ (p : Part). old.items ++ take (64 - vec_len old) p.recs) (sym (changed_at-apart (without_at o) picked place ps d w.if-place-picked.false)))
+          ∙ ap (λ (p : Part). old.items ++ map rec_of (take (64 - vec_len old) p.recs)) (sym (changed_at-apart (without_at o) picked place ps d w.if-place-picked.false)))
     ]

@@ -1,6 +1,6 @@
 use Rattle.std.proofs.Common.{arith, ◌≡◌, ◌+◌, ◌-◌, ◌<◌, ◌≤◌, ◌++◌, ◌⊎◌, inl, inr, ℕ, suc, true, length, take, drop, get_or, List, refl, sym, ap, ◌∙◌, subst}
 use Rattle.td_shard.specs.declared.lane.Lane.{Lane}
-use Rattle.td_shard.specs.Runs.{Part, Parts, lane_eq, first_on, ahead_of, AreLinked, messages_of, changed_at, without_front, taken_on}
+use Rattle.td_shard.specs.Runs.{Part, Parts, lane_eq, first_on, ahead_of, AreLinked, all_of, changed_at, without_front, taken_on}
 use Rattle.td_shard.proofs.Lanes.{lane_equiv}
 use Rattle.td_shard.proofs.TakenUp.{nothing, length-changed_at, linked-changed_at, still, full, skip, first-below, first-same, visit, next_ahead, moved, ended, less}
 use Rattle.td_shard.proofs.take.take_lane.Goals as goal
@@ -8,7 +8,7 @@ use Rattle.td_shard.proofs.take.take_lane.Goals as goal
 -- the runs, and how many are counted, after a run of the lane was visited
 record Visited (k : Lane) (ps : List Part) (m at : ℕ) (ps2 : List Part) (m2 a : ℕ) : Type 0 where
   parts : take at ps ++ taken_on lane_eq k (64 - m) (drop at ps) ≡ take (suc at) ps2 ++ taken_on lane_eq k (64 - m2) (drop (suc at) ps2)
-  count : length (messages_of ps2) + m2 ≡ length (messages_of ps) + m
+  count : length (all_of ps2) + m2 ≡ length (all_of ps) + m
   ahead : a ≡ ahead_of (first_on lane_eq k (drop (suc at) ps2))
   linked : AreLinked lane_eq ps2
   long : length ps2 ≡ length ps
@@ -25,7 +25,7 @@ visited k ps m at ps2 m2 a d h on low l is counted ahead =
       parts = visit lane_eq k (64 - m) at ps s d h refl on
           ∙ (ap (λ i. take (suc at) qs ++ taken_on lane_eq k i (drop (suc at) qs)) (sym left)
           ∙ ap (λ t. take (suc at) t ++ taken_on lane_eq k (64 - m2) (drop (suc at) t)) (sym is));
-      count = let fewer = less (64 - m) at ps d h in let same = ap (λ t. length (messages_of t)) is in omega (arith, fewer, same, counted);
+      count = let fewer = less (64 - m) at ps d h in let same = ap (λ t. length (all_of t)) is in omega (arith, fewer, same, counted);
       ahead = ahead ∙ (next_ahead lane_eq lane_equiv f k ps at s d h refl on l ∙ ap (λ t. ahead_of (first_on lane_eq k (drop (suc at) t))) (sym is));
       linked = subst (AreLinked lane_eq) (sym is) (linked-changed_at f (λ p. refl) lane_eq (λ p. refl) at ps l);
       long = ap length is ∙ length-changed_at f at ps;

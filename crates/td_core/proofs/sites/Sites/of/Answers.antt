@@ -64,5 +64,5 @@ returns c =
     let past : length vs ≤ n = omega (arith, within, end) in
     let before = c.loop-vertex.auto.vertex-index-end in
     let all : n ≡ length vs = omega (arith, past, before, within) in
-    all_found c.edges_by_number.ensures.source c.read_there.ensures plan c.vertices-vertices.ensures.lawful (record { sites = c.loop-vertex.sites; edges = c.loop-vertex.first })
+    all_found c.edges_by_number.ensures.number c.edges_by_number.ensures.source c.read_there.ensures plan c.vertices-vertices.ensures.lawful (record { sites = c.loop-vertex.sites; edges = c.loop-vertex.first })
     inv.sites (inv.many ∙ all) (inv.first ∙ ap edge_count (take_all n vs past))

@@ -14,7 +14,7 @@ invariant_of-self-2 c =
     let was = c.self.invariant in
     let m = c.self.inside in
     let map = c.in_ok-reserve.ensures in
-    let kept = λ (v : Parts). IsMailbox (record { runs = v; lasts = c.reserve.new.self; len = m.len; alloc = m.alloc }) in
+    let kept = λ (v : Parts). IsMailbox (record { runs = v; lasts = c.reserve.new.self; len = m.len; next = m.next; alloc = m.alloc }) in
     either c.reserve-2.result c.reserve-2.ensures.ok c.reserve-2.ensures.err
     (λ e. subst kept (sym e) (record {
       linked = was.linked;
@@ -23,6 +23,8 @@ invariant_of-self-2 c =
       len = was.len;
       lasts_room = omega (arith, was.lasts_room, map.spare, map.ok);
       counted = omega (arith, was.len, was.counted);
+      numbers = was.numbers;
+      next = omega (arith, was.next);
     }))
     (λ e. subst kept (sym e) (record {
       linked = was.linked;
@@ -31,4 +33,6 @@ invariant_of-self-2 c =
       len = was.len;
       lasts_room = omega (arith, was.lasts_room, map.spare);
       counted = was.counted;
+      numbers = was.numbers;
+      next = was.next;
     }))

@@ -1,5 +1,5 @@
 use Rattle.std.proofs.Common.{arith, suc, ◌≡◌, ◌+◌, ◌-◌, List, drop, length, sym, ap, ◌∙◌, subst}
-use Rattle.td_stamp.specs.declared.values.Rec.{Rec}
+use Rattle.td_shard.specs.declared.rows.Numbered.{Numbered}
 use Rattle.td_shard.specs.Runs.{InOrder, BeginsAt, changed_at, with_first}
 use Rattle.td_shard.proofs.Ordered.{Brought, is_brought, moved_within}
 use Rattle.td_shard.proofs.Placed.{placed, enough, viewed, as_changed}
@@ -50,4 +50,4 @@ returns c =
     as_changed (viewed m) c.args.self.now (changed_at (with_first c.args.offset) c.args.place) _ c.self.view_is
     (moved_within s s (s + length old) c.args.place (with_first c.args.offset) m.runs.items old new r r (omega arith) at.within c.index.ensures c.self.invariant.ordered
     (its c).front (ap (λ n. drop n new) end ∙ ((its c).back ∙ ap (λ n. drop n old) (sym end)))
-    (ap (λ (l : List Rec). record { lane = r.lane; ahead = r.ahead; recs = l }) (its c).mid))
+    (ap (λ (l : List Numbered). record { lane = r.lane; base = r.base; ahead = r.ahead; recs = l }) (its c).mid))

@@ -1,7 +1,8 @@
-use Rattle.std.proofs.Common.{arith, ◌≡◌, ◌+◌, ◌++◌, ◌∷◌, [], List, map, length, refl, sym, ap, ◌∙◌, subst, length-append}
-use Rattle.td_stamp.specs.declared.values.Rec.{Rec}
+use Rattle.std.proofs.Common.{arith, ◌≡◌, ◌+◌, ◌++◌, ◌∷◌, [], List, map, length, sym, ap, ◌∙◌, subst, length-append}
+use Rattle.td_shard.specs.declared.rows.Numbered.{Numbered}
 use Rattle.td_shard.specs.declared.runs.Run.{Run}
-use Rattle.td_shard.specs.Runs.{part, InOrder, BeginsAt}
+use Rattle.td_shard.specs.Runs.{numbered, part, InOrder, BeginsAt}
+use Rattle.td_shard.proofs.InOneList.{length-numbered}
 use Rattle.td_shard.proofs.Ordered.{order-push, pushed}
 use Rattle.td_shard.proofs.Trimmed.{begins-push}
 use Rattle.td_shard.proofs.Placed.{viewed, as_posted}
@@ -12,8 +13,8 @@ invariant_of-self c =
     let was = c.self.invariant in
     let m = c.self.inside in
     let rows = c.push_rows.new.rows in
-    let run : Run = record { lane = c.args.lane; at = c.self.inside.start + c.len.result; end = c.self.inside.start + c.len.result + length c.args.recs.now; ahead = 0 } in
-    let longer : length rows.items ≡ length m.recs.items + length c.args.recs.now = ap length c.push_rows.ensures.items ∙ length-append m.recs.items c.args.recs.now in
+    let run : Run = record { lane = c.args.lane; base = c.args.number; at = c.self.inside.start + c.len.result; end = c.self.inside.start + c.len.result + length c.args.recs.now; ahead = 0 } in
+    let longer : length rows.items ≡ length m.recs.items + length c.args.recs.now = ap length c.push_rows.ensures.items ∙ (length-append m.recs.items (numbered c.args.number c.args.recs.now) ∙ ap (λ n. length m.recs.items + n) (length-numbered c.args.number c.args.recs.now)) in
     let runs = c.push_back_reserved.new.self in
     record {
       ordered = subst (λ l. InOrder m.start l (m.start + length rows.items)) (sym c.push_back_reserved.ensures.items)
@@ -30,8 +31,8 @@ pub returns : goal.returns
 returns c =
     let m = c.self.inside in
     let rows = c.push_rows.new.rows.items in
-    let run : Run = record { lane = c.args.lane; at = c.self.inside.start + c.len.result; end = c.self.inside.start + c.len.result + length c.args.recs.now; ahead = 0 } in
-    as_posted (viewed m) c.args.self.now (length c.args.recs.now) (λ l. l ++ record { lane = c.args.lane; ahead = 0; recs = c.args.recs.now } ∷ []) _ c.self.view_is
+    let run : Run = record { lane = c.args.lane; base = c.args.number; at = c.self.inside.start + c.len.result; end = c.self.inside.start + c.len.result + length c.args.recs.now; ahead = 0 } in
+    as_posted (viewed m) c.args.self.now (length c.args.recs.now) (λ l. l ++ record { lane = c.args.lane; base = c.args.number; ahead = 0; recs = numbered c.args.number c.args.recs.now } ∷ []) _ c.self.view_is
     (ap (map (part m.start rows)) c.push_back_reserved.ensures.items
-    ∙ (ap (λ (l : List Rec). map (part m.start l) (m.runs.items ++ run ∷ [])) c.push_rows.ensures.items
-    ∙ pushed m.start m.runs.items m.recs.items c.args.recs.now run c.self.invariant.ordered (omega (arith, c.len.ensures, m.recs.ok.0)) refl))
+    ∙ (ap (λ (l : List Numbered). map (part m.start l) (m.runs.items ++ run ∷ [])) c.push_rows.ensures.items
+    ∙ pushed m.start m.runs.items m.recs.items (numbered c.args.number c.args.recs.now) run c.self.invariant.ordered (omega (arith, c.len.ensures, m.recs.ok.0)) (omega (arith, length-numbered c.args.number c.args.recs.now))))

@@ -1,6 +1,6 @@
-use Rattle.std.proofs.Common.{arith, ◌≡◌, ◌+◌, ◌-◌, ◌++◌, List, take, drop, vec_len, sym, ap, ◌∙◌}
-use Rattle.td_stamp.specs.declared.values.Rec.{Rec}
-use Rattle.td_shard.specs.Runs.{Part}
+use Rattle.std.proofs.Common.{arith, ◌≡◌, ◌+◌, ◌-◌, ◌++◌, List, map, take, drop, vec_len, sym, ap, ◌∙◌}
+use Rattle.td_shard.specs.declared.rows.Numbered.{Numbered}
+use Rattle.td_shard.specs.Runs.{Part, rec_of}
 use Rattle.td_shard.proofs.Ordered.{read-part}
 use Rattle.td_shard.proofs.Placed.{placed, enough}
 use Rattle.td_shard.proofs.runs.Runs.read.Goals as goal
@@ -39,6 +39,6 @@ returns-clause-recs c d =
     let many = c.min-many.result in
     let n : begin + many - begin ≡ many = omega arith in
     c.read_rows.ensures.recs
-    ∙ (ap (λ i. old.items ++ take i (drop begin xs)) n
-    ∙ (ap (λ (l : List Rec). old.items ++ l) (read-part c.self.inside.start c.self.inside.start xs r c.args.from c.args.to many (64 - vec_len old) (omega arith) at.where_it c.requires.range there (c.min-many.ensures ∙ omega (arith, c.len.ensures)))
-    ∙ ap (λ (p : Part). old.items ++ take (64 - vec_len old) (take (c.args.to - c.args.from) (drop c.args.from p.recs))) (sym (at.its d))))
+    ∙ (ap (λ i. old.items ++ map rec_of (take i (drop begin xs))) n
+    ∙ (ap (λ (l : List Numbered). old.items ++ map rec_of l) (read-part c.self.inside.start c.self.inside.start xs r c.args.from c.args.to many (64 - vec_len old) (omega arith) at.where_it c.requires.range there (c.min-many.ensures ∙ omega (arith, c.len.ensures)))
+    ∙ ap (λ (p : Part). old.items ++ map rec_of (take (64 - vec_len old) (take (c.args.to - c.args.from) (drop c.args.from p.recs)))) (sym (at.its d))))

@@ -2,7 +2,7 @@ use Rattle.std.proofs.Common.{◌≡◌, ◌<◌, ◌+◌, ◌*◌, ◌%◌, len
 use Rattle.std.proofs.lemmas.List.{length-set, drop_all}
 use Rattle.td_core.specs.Posted.{count_of, only_in}
 use Rattle.td_core.proofs.PostRuns.{count_next, count_after}
-use Rattle.td_core.proofs.posting.count.Goals as goal
+use Rattle.td_core.proofs.posting.count_each.Goals as goal
 
 pub loop-rec-preserved : goal.loop-rec-preserved
 loop-rec-preserved c =

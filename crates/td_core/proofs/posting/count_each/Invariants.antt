@@ -1,6 +1,6 @@
 use Rattle.std.proofs.Common.{◌≡◌, ◌+◌, ◌*◌, ◌<◌, ℕ, drop, get_or, length}
 use Rattle.td_core.specs.Posted.{count_of}
-use Rattle.td_core.proofs.posting.count.Given as goal
+use Rattle.td_core.proofs.posting.count_each.Given as goal
 
 abbrev pub invariant-loop-rec : goal.invariant-loop-rec
 invariant-loop-rec l = record {
